@@ -1,0 +1,14 @@
+pub mod Limits
+pub mod Status
+pub mod Refusal
+pub mod Rules
+pub mod Checks
+pub mod Packet
+pub mod Unwinding
+pub mod Stacks
+pub mod State
+pub mod Descent
+pub mod Refusals
+pub mod Steps
+pub mod Histories
+pub mod Standing

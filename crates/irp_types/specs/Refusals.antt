@@ -1,0 +1,88 @@
+-- Which check of a call fails first.
+use Rattle.std.specs.Prelude.{ℕ, ◌+◌, ◌-◌, ◌==◌, Bool, true, false, not, ◌||◌, nat_lt, nat_le, is_some, List, [], ◌∷◌, ◌++◌, length, Option, Some, None}
+use Rattle.std.specs.Option.{option_map_or}
+use Rattle.std.specs.FinMap as fin
+use Rattle.irp_types.specs.Limits.{most_locations, most_live, last_use}
+use Rattle.irp_types.specs.Status.{is_completable}
+use Rattle.irp_types.specs.Checks.{Check, first_failing, or_else}
+use Rattle.irp_types.specs.Packet.{PacketValue, location_check, skip_check, preparation_check, set_next_refusal}
+use Rattle.irp_types.specs.Stacks.{DevicesValue, stack_size_of, lower_of, device_checks, create_checks}
+use Rattle.irp_types.specs.State.{StateValue, Fixed, live_at, packet_at, packet_of}
+use Rattle.irp_types.specs.declared.status.Status.{Status}
+use Rattle.irp_types.specs.declared.names.IrpRef.{IrpRef}
+use Rattle.irp_types.specs.declared.location.Owner.{Owner}
+use Rattle.irp_types.specs.declared.location.Owner.TheVariants.{Originator, Device, Ended}
+use Rattle.irp_types.specs.declared.call.Party.{Party}
+use Rattle.irp_types.specs.declared.call.Party.TheVariants.{Originator as ByOriginator, Device as ByDevice}
+use Rattle.irp_types.specs.declared.call.Call.{Call}
+use Rattle.irp_types.specs.declared.call.Call.TheVariants.{CreateDevice, Allocate, SetNext, CallDriver, Complete, Look}
+use Rattle.irp_types.specs.declared.refusal.Refusal.{Refusal}
+use Rattle.irp_types.specs.declared.refusal.Refusal.TheVariants.{NoIrp, Stale, NotOwner, TooShort, WrongTarget, BadStatus, CancelRoutineSet, Full, BadSize, NoDriver, Ended as HasEnded, NoLock}
+
+abbrev pub has_ended : Owner → Bool
+has_ended Originator = false
+has_ended (Device device) = false
+has_ended Ended = true
+
+abbrev pub is_owned_by_device : Owner → Bool
+is_owned_by_device Originator = false
+is_owned_by_device (Device device) = true
+is_owned_by_device Ended = false
+
+-- whether the party is the owner
+abbrev pub is_owner : Party → Owner → Bool
+is_owner ByOriginator Originator = true
+is_owner ByOriginator (Device device) = false
+is_owner ByOriginator Ended = false
+is_owner (ByDevice party) Originator = false
+is_owner (ByDevice party) (Device device) = party.0 == device.0
+is_owner (ByDevice party) Ended = false
+
+-- the checks of a call that names a packet
+abbrev pub packet_checks : StateValue → IrpRef → List Check
+packet_checks state irp =
+    (not (is_some (live_at state irp.slot)), NoIrp)
+    ∷ (not ((packet_at state irp.slot).use_no == irp.use_no), Stale) ∷ []
+
+abbrev pub packet_refusal : StateValue → IrpRef → Option Refusal
+packet_refusal state irp = first_failing (packet_checks state irp)
+
+-- the checks of a call that names a packet and a party
+abbrev pub party_refusal : StateValue → Party → IrpRef → Option Refusal
+party_refusal state party irp =
+    let owner = (packet_of state irp).owner in
+    first_failing (packet_checks state irp ++ (has_ended owner, HasEnded) ∷ (not (is_owner party owner), NotOwner) ∷ [])
+
+-- a device sends elsewhere than to the device below it
+abbrev pub is_wrong_target : DevicesValue → Party → ℕ → Bool
+is_wrong_target devices ByOriginator target = false
+is_wrong_target devices (ByDevice sender) target = option_map_or (λ lower. not (lower == target)) (lower_of devices sender.0) true
+
+abbrev pub send_refusal : DevicesValue → Party → PacketValue → ℕ → Option Refusal
+send_refusal devices party packet target = first_failing (
+    device_checks devices target
+    ++ (is_wrong_target devices party target, WrongTarget)
+    ∷ preparation_check packet
+    ∷ (nat_lt (packet.current - 1) (stack_size_of devices target), TooShort)
+    ∷ (is_some packet.cancel_routine, CancelRoutineSet) ∷ [])
+
+abbrev pub complete_refusal : PacketValue → Status → Option Refusal
+complete_refusal packet status = first_failing (
+    location_check packet ∷ skip_check packet
+    ∷ (not (is_completable status), BadStatus)
+    ∷ (is_some packet.cancel_routine, CancelRoutineSet) ∷ [])
+
+-- the refusal that a call is answered, or none
+abbrev pub first_refusal : Fixed → StateValue → Bool → Call → Option Refusal
+first_refusal fixed state drained (CreateDevice driver lock) = first_failing (
+    (nat_le (length fixed.tables.drivers) driver.0, NoDriver) ∷ (nat_le fixed.locks lock.0, NoLock) ∷ create_checks state.devices)
+first_refusal fixed state drained (Allocate size) = first_failing (
+    ((size == 0) || nat_lt most_locations size, BadSize)
+    ∷ (nat_le most_live (fin.len state.live) || nat_le last_use state.next_use, Full) ∷ [])
+first_refusal fixed state drained (SetNext party irp major word) =
+    or_else (party_refusal state party irp) (set_next_refusal (packet_of state irp) major)
+first_refusal fixed state drained (CallDriver party irp target) =
+    or_else (party_refusal state party irp) (send_refusal state.devices party (packet_of state irp) target.0)
+first_refusal fixed state drained (Complete party irp status information) =
+    or_else (party_refusal state party irp) (complete_refusal (packet_of state irp) status)
+first_refusal fixed state drained (Look irp) = packet_refusal state irp

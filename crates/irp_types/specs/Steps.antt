@@ -1,0 +1,71 @@
+-- One step of the manager.
+use Rattle.std.specs.Prelude.{ℕ, ◌≡◌, ◌+◌, Bool, true, false, if◌then◌else◌, List, [], ◌∷◌, ◌++◌, map, length, Option, Some, None, MatchOption}
+use Rattle.std.specs.FinMap as fin
+use Rattle.irp_types.specs.Packet.{PacketValue, location_at, new_packet, with_status, after_set_next, is_above_top}
+use Rattle.irp_types.specs.Unwinding.{Asking, as_asked, Unwound}
+use Rattle.irp_types.specs.Stacks.{after_create}
+use Rattle.irp_types.specs.State.{StateValue, Fixed, live_at, packet_of, with_packet}
+use Rattle.irp_types.specs.Descent.{Descended}
+use Rattle.irp_types.specs.Refusals.{first_refusal}
+use Rattle.irp_types.specs.declared.status.Status.{Status}
+use Rattle.irp_types.specs.declared.names.IrpRef.{IrpRef}
+use Rattle.irp_types.specs.declared.names.DeviceId.{DeviceId}
+use Rattle.irp_types.specs.declared.asked.Asked.{Asked}
+use Rattle.irp_types.specs.declared.call.Call.{Call}
+use Rattle.irp_types.specs.declared.call.Call.TheVariants.{CreateDevice, Allocate, SetNext, CallDriver, Complete, Look}
+use Rattle.irp_types.specs.declared.reply.Seen.{Seen}
+use Rattle.irp_types.specs.declared.reply.Reply.{Reply}
+use Rattle.irp_types.specs.declared.reply.Reply.TheVariants.{Done, Device, Irp, Status as StatusIs, Seen as SeenAs, Refused}
+
+-- what Look shows of a packet
+abbrev pub seen_of : PacketValue → Seen
+seen_of packet = record {
+  owner = packet.owner;
+  current = packet.current;
+  status = packet.status;
+  information = packet.information;
+  cancel = packet.cancel;
+  cancel_routine = packet.cancel_routine;
+  pending_returned = packet.pending_returned;
+  marked = if is_above_top packet then false else (location_at packet packet.current).pending;
+}
+
+-- the state with a new packet at this slot, which draws the next use number
+abbrev pub with_new_packet : StateValue → ℕ → PacketValue → StateValue
+with_new_packet state slot packet = record state {
+  live = fin.insert state.live slot (record { packet = packet; use_no = state.next_use });
+  next_use = state.next_use + 1;
+}
+
+-- nothing is asked, this is the reply, and the state becomes this one
+abbrev pub Unasked : List Asked → Reply → StateValue → Reply → StateValue → Type 0
+Unasked asked reply new this_reply this_state = (asked ≡ []) × (reply ≡ this_reply) × (new ≡ this_state)
+
+-- a packet is unwound from its current location
+abbrev pub Completes : IrpRef → PacketValue → List Asked → PacketValue → Type 0
+Completes irp old asked new = (asking : List Asking) × Unwound irp old asking new × (asked ≡ map as_asked asking)
+
+-- what a call does that no check refuses
+abbrev pub Effect : Fixed → StateValue → Call → List Asked → Reply → StateValue → Type 0
+Effect fixed old (CreateDevice driver lock) asked reply new =
+    Unasked asked reply new (Device (record { 0 = length old.devices.facts })) (record old { devices = after_create old.devices driver lock })
+Effect fixed old (Allocate size) asked reply new =
+    (slot : ℕ) × (live_at old slot ≡ None)
+    × Unasked asked reply new (Irp (record { slot = slot; use_no = old.next_use })) (with_new_packet old slot (new_packet size))
+Effect fixed old (SetNext party irp major word) asked reply new =
+    Unasked asked reply new Done (with_packet old irp.slot (after_set_next (packet_of old irp) major word))
+Effect fixed old (CallDriver party irp target) asked reply new =
+    (packet : PacketValue) × (status : Status)
+    × Descended fixed.tables irp old.devices (packet_of old irp) target.0 asked packet status
+    × (reply ≡ StatusIs status) × (new ≡ with_packet old irp.slot packet)
+Effect fixed old (Complete party irp status information) asked reply new =
+    (packet : PacketValue)
+    × Completes irp (with_status (packet_of old irp) status information) asked packet
+    × (reply ≡ Done) × (new ≡ with_packet old irp.slot packet)
+Effect fixed old (Look irp) asked reply new = Unasked asked reply new (SeenAs (seen_of (packet_of old irp))) old
+
+-- one step: the first check that fails refuses the call, which changes nothing; else the call has its effect
+abbrev pub Step : Fixed → StateValue → Bool → Call → List Asked → Reply → StateValue → Type 0
+Step fixed old drained call asked reply new =
+    MatchOption (first_refusal fixed old drained call) (Effect fixed old call asked reply new)
+    (λ refusal. Unasked asked reply new (Refused refusal) old)

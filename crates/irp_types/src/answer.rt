@@ -1,0 +1,46 @@
+//! What closures answer.
+
+use crate::names::CancelId;
+use crate::routine::Setting;
+use crate::status::Status;
+
+/// A status and information that take the place of a packet's own.
+#[derive(Clone, Copy, PartialEq, Eq, Debug)]
+pub struct Replacement {
+    pub status: Status,
+    pub information: u64,
+}
+
+/// What a completion routine answers (WDK: "Implementing an IoCompletion Routine").
+#[derive(Clone, Copy, PartialEq, Eq, Debug)]
+pub struct Answer {
+    /// STATUS_MORE_PROCESSING_REQUIRED: unwinding stops, and the packet is the routine's device's again.
+    pub keep: bool,
+    /// Whether the routine called IoMarkIrpPending.
+    pub mark: bool,
+    pub replacement: Option<Replacement>,
+}
+
+/// What a cancel routine answers (WDK: "Implementing a Cancel Routine").
+#[derive(Clone, Copy, PartialEq, Eq, Debug)]
+pub enum CancelAnswer {
+    /// The packet is finished with CANCELLED and this information.
+    Finish { information: u64 },
+    /// The packet stays with its owner.
+    Leave,
+}
+
+/// What a dispatch routine does with the packet (WDK: "Writing Dispatch Routines").
+#[derive(Clone, Copy, PartialEq, Eq, Debug)]
+pub enum Plan {
+    /// Completes it with this status and information.
+    Finish { status: Status, information: u64 },
+    /// Marks it pending and keeps it, with this cancel routine.
+    Hold { cancel: Option<CancelId> },
+    /// Passes it down in the dispatch's own location.
+    Skip,
+    /// Passes it down in the next lower location, with this completion routine.
+    Forward { set: Option<Setting> },
+    /// Marks it pending, and passes it down as Forward does.
+    ForwardPend { set: Option<Setting> },
+}

@@ -1,0 +1,26 @@
+//! Questions that were asked of closures.
+
+use crate::answer::{Answer, CancelAnswer, Plan};
+use crate::names::{CancelId, DispatchId};
+use crate::routine::RoutineId;
+use crate::shown::Shown;
+
+/// One question: which closure, what it was shown, and what it answered.
+#[derive(Clone, Copy, PartialEq, Eq, Debug)]
+pub enum Asked {
+    Dispatch {
+        id: DispatchId,
+        shown: Shown,
+        plan: Plan,
+    },
+    Completion {
+        id: RoutineId,
+        shown: Shown,
+        answer: Answer,
+    },
+    Cancel {
+        id: CancelId,
+        shown: Shown,
+        answer: CancelAnswer,
+    },
+}

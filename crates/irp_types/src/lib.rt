@@ -1,0 +1,32 @@
+//! The values of the I/O manager: statuses, references, rules, what closures are shown and answer, calls, replies and
+//! the entries of a history. `specs/` has the definitions that every contract of the workspace cites.
+#![tactic(auto)]
+
+mod answer;
+mod asked;
+mod call;
+mod entry;
+mod laws;
+mod location;
+mod names;
+mod refusal;
+mod reply;
+mod routine;
+mod row;
+mod shown;
+mod status;
+
+
+pub use answer::{Answer, CancelAnswer, Plan, Replacement};
+pub use asked::Asked;
+pub use call::{Call, Party};
+pub use entry::Entry;
+pub use laws::{entry_settles_next_state, history_goes_on};
+pub use location::{Location, Owner, Preparation};
+pub use names::{CancelId, DeviceId, DispatchId, DriverId, IrpRef, LockNo};
+pub use refusal::Refusal;
+pub use reply::{Reply, Seen};
+pub use routine::{CancelRule, Known, RoutineId, Rule, Setting};
+pub use row::Row;
+pub use shown::Shown;
+pub use status::Status;
