@@ -1,10 +1,10 @@
 -- Descent: which devices a sent packet came to, in which location, what each planned, and what is left of the packet.
-use Rattle.std.specs.Prelude.{ℕ, ◌≡◌, ◌+◌, ◌-◌, ◌<◌, ◌≤◌, ◌==◌, Bool, true, false, not, ◌&&◌, ◌||◌, if◌then◌else◌, is_some, List, [], ◌∷◌, ◌++◌, map, filter, length, take, reverse, count_by, slice_index_or, Option, Some, None, MatchOption, EachIndex, unwrap_or}
+use Rattle.std.specs.Prelude.{ℕ, ◌≡◌, ◌+◌, ◌-◌, ◌<◌, ◌≤◌, ◌==◌, Bool, true, false, ◌&&◌, ◌||◌, if◌then◌else◌, is_some, List, [], ◌∷◌, ◌++◌, map, filter, length, take, reverse, count_by, slice_index_or, Option, Some, None, MatchOption, EachIndex, unwrap_or}
 use Rattle.std.specs.List.{list_any, flat_map, last_or, AllByRecursion}
 use Rattle.std.specs.Option.{option_map_or}
 use Rattle.irp_types.specs.Status.{pending, invalid_device_request}
 use Rattle.irp_types.specs.Rules.{is_plan_allowed}
-use Rattle.irp_types.specs.Packet.{PacketValue, size_of, location_at, location_with, with_status}
+use Rattle.irp_types.specs.Packet.{PacketValue, size_of, location_at, with_status}
 use Rattle.irp_types.specs.Unwinding.{Asking, as_asked, Unwound}
 use Rattle.irp_types.specs.Stacks.{DevicesValue, stack_of, stack_size_of, lower_of, facts_of}
 use Rattle.irp_types.specs.State.{Tables, dispatch_for, known_of}

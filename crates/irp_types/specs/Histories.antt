@@ -1,5 +1,5 @@
 -- Histories: which the sequential manager could have made, and what is read off one.
-use Rattle.std.specs.Prelude.{ℕ, ◌≡◌, ◌+◌, ◌-◌, ◌==◌, Bool, true, false, not, ◌&&◌, List, [], ◌∷◌, ◌++◌, length, filter, find, slice_get, slice_index_or, Option, Some, None}
+use Rattle.std.specs.Prelude.{ℕ, ◌≡◌, ◌+◌, ◌-◌, ◌==◌, Bool, false, not, ◌&&◌, List, [], ◌∷◌, ◌++◌, length, filter, find, slice_get, slice_index_or, Option, Some, None}
 use Rattle.std.specs.Option.{option_map_or}
 use Rattle.std.specs.List.{range_with_len}
 use Rattle.std.specs.FinMap as fin
@@ -27,11 +27,11 @@ pub record LeadsThrough (fixed : Fixed) (history : List Entry) (states : List St
   pub longer : length states ≡ length history + 1
   pub opens : slice_get states 0 ≡ Some opening_state
   pub follows :
-    (number : ℕ) (entry : Entry) (old new : StateValue)
-    → slice_get history number ≡ Some entry
-    → slice_get states number ≡ Some old
-    → slice_get states (number + 1) ≡ Some new
-    → IsEntryAt fixed number old entry new
+      (number : ℕ) (entry : Entry) (old new : StateValue)
+      → slice_get history number ≡ Some entry
+      → slice_get states number ≡ Some old
+      → slice_get states (number + 1) ≡ Some new
+      → IsEntryAt fixed number old entry new
 
 -- a history that the sequential manager could have made, and the state that it ends in
 abbrev pub LeadsTo : Fixed → List Entry → StateValue → Type 0

@@ -1,6 +1,6 @@
 -- What a closure may answer to what it is shown. Each is a test, so that a value can hold the fact that it passes.
 use mathlib.Core.Bool.{beq}
-use Rattle.std.specs.Prelude.{ℕ, ◌<◌, ◌≤◌, ◌^◌, Bool, true, false, not, ◌&&◌, is_some, is_none, nat_lt, IfSome, Option, Some, None}
+use Rattle.std.specs.Prelude.{ℕ, ◌<◌, ◌≤◌, ◌^◌, Bool, true, false, not, ◌&&◌, is_some, is_none, nat_lt, IfSome}
 use Rattle.std.specs.Option.{option_map_or}
 use Rattle.irp_types.specs.Status.{is_success, is_completable}
 use Rattle.irp_types.specs.declared.names.CancelId.{CancelId}

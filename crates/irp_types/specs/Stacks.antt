@@ -1,8 +1,7 @@
 -- Device stacks. A stack is a list of device numbers, bottom first; beside each device stands the whole stack that
 -- it is in, so that equal devices are equal values.
-use Rattle.std.specs.Prelude.{ℕ, ◌≡◌, ◌+◌, ◌-◌, ◌<◌, ◌≤◌, ◌==◌, Bool, true, false, not, if◌then◌else◌, nat_lt, nat_le, is_some, List, [], ◌∷◌, ◌++◌, length, take, drop, fold, position, slice_get, slice_set, slice_index_or, Option, Some, None, unwrap_or}
+use Rattle.std.specs.Prelude.{ℕ, ◌≡◌, ◌+◌, ◌-◌, ◌<◌, ◌≤◌, ◌==◌, Bool, true, false, not, if◌then◌else◌, nat_lt, nat_le, is_some, List, [], ◌∷◌, ◌++◌, length, take, drop, fold, position, slice_get, slice_set, slice_index_or, Option, None, unwrap_or}
 use Rattle.std.specs.List.{list_any}
-use Rattle.std.specs.Option.{option_map_or}
 use Rattle.irp_types.specs.Limits.{most_locations, most_devices}
 use Rattle.irp_types.specs.Checks.{Check}
 use Rattle.irp_types.specs.declared.names.LockNo.{LockNo}

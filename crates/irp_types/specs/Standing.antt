@@ -1,5 +1,5 @@
 -- The standing facts: what holds of each state that a legal history leads through.
-use Rattle.std.specs.Prelude.{ℕ, ◌≡◌, ◌≢◌, ◌+◌, ◌-◌, ◌<◌, ◌≤◌, Bool, true, false, if◌then◌else◌, is_some, Option, Some, None}
+use Rattle.std.specs.Prelude.{ℕ, ◌≡◌, ◌+◌, ◌-◌, ◌<◌, ◌≤◌, Bool, true, false, if◌then◌else◌, is_some, Some}
 use Rattle.irp_types.specs.Limits.{most_locations}
 use Rattle.irp_types.specs.Rules.{is_known}
 use Rattle.irp_types.specs.Packet.{PacketValue, size_of, location_at, is_nothing, is_skipped}
@@ -42,31 +42,26 @@ pub record IsSound (counts : Known) (packet : PacketValue) : Type 0 where
   pub placed : 1 ≤ packet.current
   pub within : packet.current ≤ size_of packet + 1
   pub prepared : is_nothing packet.preparation ≡ false → 2 ≤ packet.current
-
   -- a packet that a device owns is marked pending in the device's own location
   pub marked : is_owned_by_device packet.owner ≡ true → (location_at packet (own_location packet)).pending ≡ true
-
   -- each location from the current one up has a device, and what the originator owns stands above the top
   pub devices : (number : ℕ) → packet.current ≤ number → number ≤ size_of packet → is_some (location_at packet number).device ≡ true
   pub originator : packet.owner ≡ Originator → packet.current ≡ size_of packet + 1
-
   -- each routine that the packet names is there
   pub routines : (number : ℕ) (setting : Setting) → (location_at packet number).setting ≡ Some setting → is_known counts setting ≡ true
   pub cancel : (routine : CancelId) → packet.cancel_routine ≡ Some routine → IsCancellable counts packet routine
-
   -- above a routine that may keep the packet, the location is marked
   pub keepers :
-    (number : ℕ) (setting : Setting)
-    → lowest_location packet ≤ number
-    → number < size_of packet
-    → (location_at packet number).setting ≡ Some setting
-    → is_keeping setting.routine.rule ≡ true
-    → (location_at packet (number + 1)).pending ≡ true
+      (number : ℕ) (setting : Setting)
+      → lowest_location packet ≤ number
+      → number < size_of packet
+      → (location_at packet number).setting ≡ Some setting
+      → is_keeping setting.routine.rule ≡ true
+      → (location_at packet (number + 1)).pending ≡ true
 
 -- the standing facts of a state, where these many routines are there
 pub record StandingFacts (counts : Known) (state : StateValue) : Type 0 where
   pub packets : (slot : ℕ) (live : LivePacket) → live_at state slot ≡ Some live → IsSound counts live.packet
-
   -- live use numbers were drawn, and differ
   pub drawn : (slot : ℕ) (live : LivePacket) → live_at state slot ≡ Some live → live.use_no < state.next_use
   pub apart : (slot other : ℕ) (live another : LivePacket) → live_at state slot ≡ Some live → live_at state other ≡ Some another → live.use_no ≡ another.use_no → slot ≡ other

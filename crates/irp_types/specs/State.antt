@@ -1,5 +1,6 @@
 -- The manager's state, and what is fixed while a manager lives.
-use Rattle.std.specs.Prelude.{ℕ, ◌≡◌, ◌<◌, ◌==◌, Bool, List, [], ◌∷◌, map, length, find, slice_get, slice_index_or, All, IsStrictlyIncreasing, Option, Some, None, unwrap_or}
+use Rattle.std.specs.Prelude.{ℕ, ◌≡◌, ◌<◌, ◌==◌, List, [], map, length, find, slice_get, slice_index_or, All, Option, unwrap_or}
+use Rattle.std.specs.List.Sorted.{IsStrictlyIncreasing}
 use Rattle.std.specs.Ordering.{nat_cmp}
 use Rattle.std.specs.Option.{option_map}
 use Rattle.std.specs.FinMap as fin

@@ -1,5 +1,5 @@
 -- Statuses and their classes.
-use Rattle.std.specs.Prelude.{ℕ, Bool, nat_lt, ◌==◌, not, ◌&&◌}
+use Rattle.std.specs.Prelude.{Bool, nat_lt, ◌==◌, not, ◌&&◌}
 use Rattle.irp_types.specs.declared.status.Status.{Status}
 
 abbrev pub success : Status

@@ -1,5 +1,5 @@
 -- One step of the manager.
-use Rattle.std.specs.Prelude.{ℕ, ◌≡◌, ◌+◌, Bool, true, false, if◌then◌else◌, List, [], ◌∷◌, ◌++◌, map, length, Option, Some, None, MatchOption}
+use Rattle.std.specs.Prelude.{ℕ, ◌≡◌, ◌+◌, Bool, false, if◌then◌else◌, List, [], map, length, None, MatchOption}
 use Rattle.std.specs.FinMap as fin
 use Rattle.irp_types.specs.Packet.{PacketValue, location_at, new_packet, with_status, after_set_next, is_above_top}
 use Rattle.irp_types.specs.Unwinding.{Asking, as_asked, Unwound}
@@ -9,7 +9,6 @@ use Rattle.irp_types.specs.Descent.{Descended}
 use Rattle.irp_types.specs.Refusals.{first_refusal}
 use Rattle.irp_types.specs.declared.status.Status.{Status}
 use Rattle.irp_types.specs.declared.names.IrpRef.{IrpRef}
-use Rattle.irp_types.specs.declared.names.DeviceId.{DeviceId}
 use Rattle.irp_types.specs.declared.asked.Asked.{Asked}
 use Rattle.irp_types.specs.declared.call.Call.{Call}
 use Rattle.irp_types.specs.declared.call.Call.TheVariants.{CreateDevice, Allocate, SetNext, CallDriver, Complete, Look}

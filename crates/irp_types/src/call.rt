@@ -14,9 +14,14 @@ pub enum Party {
 #[derive(Clone, Copy, PartialEq, Eq, Debug)]
 pub enum Call {
     /// A new device of this driver, alone in its stack (WDK: "IoCreateDevice").
-    CreateDevice { driver: DriverId, lock: LockNo },
+    CreateDevice {
+        driver: DriverId,
+        lock: LockNo,
+    },
     /// A new packet with this many locations, 1 to 16 (WDK: "IoAllocateIrp").
-    Allocate { size: u8 },
+    Allocate {
+        size: u8,
+    },
     /// Fills the next lower location with this major function code and word (WDK: "IoGetNextIrpStackLocation").
     SetNext {
         party: Party,
@@ -38,5 +43,7 @@ pub enum Call {
         information: u64,
     },
     /// Reads the packet and changes nothing (this project's own call).
-    Look { irp: IrpRef },
+    Look {
+        irp: IrpRef,
+    },
 }

@@ -5,11 +5,9 @@ ghost use Rattle.irp_types.specs.Histories.{HistoryGoesOn, EntrySettlesNextState
 /// A history goes on by one entry that follows from its last state.
 pub fn history_goes_on()
     ensures { HistoryGoesOn }
-{
-}
+{}
 
 /// An entry settles the state that it leads to, so a legal history leads through one list of states.
 pub fn entry_settles_next_state()
     ensures { EntrySettlesNextState }
-{
-}
+{}

@@ -15,7 +15,8 @@ mod routine;
 mod row;
 mod shown;
 mod status;
-
+#[cfg(test)]
+mod tests;
 
 pub use answer::{Answer, CancelAnswer, Plan, Replacement};
 pub use asked::Asked;

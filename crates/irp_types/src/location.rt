@@ -24,8 +24,8 @@ pub enum Preparation {
     Skipped,
 }
 
-/// An I/O stack location (WDK: "I/O Stack Locations").
-#[derive(Clone, Copy, PartialEq, Eq, Debug)]
+/// An I/O stack location (WDK: "I/O Stack Locations"). The default is a cleared one.
+#[derive(Clone, Copy, PartialEq, Eq, Debug, Default)]
 pub struct Location {
     /// Who was sent the packet in this location.
     pub device: Option<DeviceId>,

@@ -1,0 +1,9 @@
+//! One packet: its locations and what stands beside them, with the calls that look at nothing but the packet.
+#![tactic(auto)]
+
+mod packet;
+
+pub use packet::Packet;
+
+#[cfg(test)]
+mod tests;

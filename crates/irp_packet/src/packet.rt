@@ -1,0 +1,430 @@
+//! A packet, its readers, the calls that a packet answers by itself, and the steps that the layers above take.
+
+ghost use Rattle.std.specs.Prelude.{◌≡◌, ◌+◌, ◌<◌, ◌≤◌, ◌==◌, ◌||◌, if◌then◌else◌, nat_lt, false};
+ghost use Rattle.irp_types.specs.Limits.{most_locations};
+ghost use Rattle.irp_types.specs.Checks.{answer_unless, value_unless};
+ghost use Rattle.irp_types.specs.Packet.{size_of, cleared, location_at, found_location, with_location, with_status, new_packet, is_nothing, set_next_refusal, copy_to_next_refusal, skip_refusal, set_routine_refusal, mark_pending_refusal, after_set_next, after_copy, after_skip, after_set_routine, after_mark, after_enter, after_rise, after_reset};
+ghost use Rattle.irp_types.specs.declared.refusal.Refusal.TheVariants.{BadSize};
+
+use arrayvec::ArrayVec;
+use irp_types::{CancelId, DeviceId, Location, Owner, Preparation, Refusal, Setting, Status};
+use std::alloc::Global;
+use std::marker::Model;
+
+/// How many locations a packet may have.
+const MOST_LOCATIONS: usize = 16;
+
+/// The greatest major function code (WDK: "IRP Major Function Codes").
+const LAST_MAJOR: u8 = 0x1b;
+
+/// A location that nobody was sent a packet in.
+const CLEARED: Location = Location {
+    device: None,
+    major: 0,
+    word: 0,
+    setting: None,
+    pending: false,
+};
+
+/// An I/O request packet: 1 to 16 stack locations, numbered from 1 at the bottom, and what stands beside them
+/// (WDK: "I/O Stack Locations"; owner and preparation are this project's own).
+///
+/// Contracts see it as the record `PacketValue` of `irp_types`, whatever it is stored as.
+#[derive(Drop)]
+pub struct Packet {
+    locations: ArrayVec<Location, MOST_LOCATIONS>,
+    current: u32,
+    status: Status,
+    information: u64,
+    pending_returned: bool,
+    cancel: bool,
+    cancel_routine: Option<CancelId>,
+    owner: Owner,
+    preparation: Preparation,
+}
+
+impl Model for Packet {
+    ghost use Rattle.std.specs.Prelude.{◌≡◌, ◌≤◌, ◌+◌, length, false};
+    ghost use Rattle.irp_types.specs.Limits.{most_locations};
+    ghost use Rattle.irp_types.specs.Packet.{PacketValue, is_nothing};
+
+    ghost Value = { PacketValue };
+
+    ghost view = { λ packet. record {
+      locations = packet.locations.items;
+      current = packet.current;
+      status = packet.status;
+      information = packet.information;
+      pending_returned = packet.pending_returned;
+      cancel = packet.cancel;
+      cancel_routine = packet.cancel_routine;
+      owner = packet.owner;
+      preparation = packet.preparation;
+    } };
+
+    // a prepared packet has a location below the owner's, which the next device is to use
+    ghost invariant = { λ packet. record {
+      some : 1 ≤ length packet.locations.items;
+      few : length packet.locations.items ≤ most_locations;
+      placed : 1 ≤ packet.current;
+      within : packet.current ≤ length packet.locations.items + 1;
+      prepared : is_nothing packet.preparation ≡ false → 2 ≤ packet.current;
+    } };
+}
+
+impl Packet {
+    /// A packet of `size` locations, as it is allocated: every location cleared, status and information 0, no flag
+    /// and no cancel routine set, owned by the originator and not prepared. It stands above its highest location,
+    /// so `current` is `size + 1`. It takes no memory (WDK: "IoAllocateIrp").
+    ///
+    /// # Errors
+    ///
+    /// `BadSize` exactly where `size` is 0 or above 16 (this project's own rule).
+    pub fn new(alloc: Global, size: u8) -> Result<Packet, Refusal>
+        ensures { result
+            ≡ (if (size == 0) || nat_lt most_locations size then Err BadSize else Ok (new_packet size)) }
+    {
+        if size == 0 || size as usize > MOST_LOCATIONS {
+            return Err(Refusal::BadSize);
+        }
+        let mut locations = ArrayVec::from([CLEARED; MOST_LOCATIONS]);
+        locations.truncate(size as usize);
+        Ok(Packet {
+            locations,
+            current: size as u32 + 1,
+            status: Status::SUCCESS,
+            information: 0,
+            pending_returned: false,
+            cancel: false,
+            cancel_routine: None,
+            owner: Owner::Originator,
+            preparation: Preparation::Nothing,
+        })
+    }
+
+    /// How many locations it has, from 1 to 16.
+    pub fn size(&self) -> u32
+        ensures size { result ≡ size_of self.now }
+        ensures some { 1 ≤ result }
+        ensures few { result ≤ 16 }
+    {
+        self.locations.len() as u32
+    }
+
+    /// The number of the location in use, from 1 to `size + 1`. At `size + 1` the packet stands above its highest
+    /// location (WDK: "I/O Stack Locations").
+    pub fn current(&self) -> u32
+        ensures current { result ≡ self.now.current }
+        ensures placed { 1 ≤ result }
+        ensures within { result ≤ size_of self.now + 1 }
+        ensures few { result ≤ 17 }
+    {
+        self.current
+    }
+
+    /// The status in its I/O status block (WDK: "IO_STATUS_BLOCK").
+    pub fn status(&self) -> Status
+        ensures { result ≡ self.now.status }
+    {
+        self.status
+    }
+
+    /// The information in its I/O status block, any number of 64 bits (WDK: "IO_STATUS_BLOCK").
+    pub fn information(&self) -> u64
+        ensures { result ≡ self.now.information }
+    {
+        self.information
+    }
+
+    /// PendingReturned, which completion routines are shown (WDK: "IRP").
+    pub fn pending_returned(&self) -> bool
+        ensures { result ≡ self.now.pending_returned }
+    {
+        self.pending_returned
+    }
+
+    /// Whether the packet was cancelled (WDK: "IRP").
+    pub fn cancel(&self) -> bool
+        ensures { result ≡ self.now.cancel }
+    {
+        self.cancel
+    }
+
+    /// Its cancel routine, if one is set (WDK: "IoSetCancelRoutine").
+    pub fn cancel_routine(&self) -> Option<CancelId>
+        ensures { result ≡ self.now.cancel_routine }
+    {
+        self.cancel_routine
+    }
+
+    /// Who owns it (this project's own rule).
+    pub fn owner(&self) -> Owner
+        ensures { result ≡ self.now.owner }
+    {
+        self.owner
+    }
+
+    /// How far it is prepared for the next lower device (this project's own rule). A packet that is prepared at all
+    /// has a `current` of 2 or more.
+    pub fn preparation(&self) -> Preparation
+        ensures preparation { result ≡ self.now.preparation }
+        ensures prepared { is_nothing result ≡ false → 2 ≤ self.now.current }
+    {
+        self.preparation
+    }
+
+    /// The content of location `number`, counted from 1 at the bottom: nothing where `number` is 0 or above `size`.
+    pub fn location(&self, number: u32) -> Option<Location>
+        ensures { result ≡ found_location self.now number }
+    {
+        if number == 0 {
+            return None;
+        }
+        self.locations.get(number as usize - 1).copied()
+    }
+
+    /// The content of location `number`, which the packet has.
+    pub fn location_at(&self, number: u32) -> Location
+        requires some { 1 ≤ number }
+        requires within { number ≤ size_of self.now }
+        ensures { result ≡ location_at self.now number }
+    {
+        self.locations[number as usize - 1]
+    }
+}
+
+// The calls that a packet answers by itself. The first check that fails is the answer, and then nothing changes.
+impl Packet {
+    /// Clears the next lower location, puts a major function code, from 0x00 to 0x1b, and a word there, and makes the
+    /// packet Filled (WDK: "IoGetNextIrpStackLocation").
+    ///
+    /// # Errors
+    ///
+    /// In this order (this project's own rule), and then the packet stays as it was: `AfterSkip` where the owner gave
+    /// its location away, `TooShort` where `current` is 1, `BadMajor` where `major` is above 0x1b.
+    pub fn set_next(&mut self, major: u8, word: u64) -> Result<(), Refusal>
+        ensures answer { result ≡ answer_unless (set_next_refusal self.old major) tt }
+        ensures changed { self.new
+            ≡ value_unless (set_next_refusal self.old major) self.old (after_set_next self.old major word) }
+    {
+        if matches!(self.preparation, Preparation::Skipped) {
+            return Err(Refusal::AfterSkip);
+        }
+        if self.current <= 1 {
+            return Err(Refusal::TooShort);
+        }
+        if major > LAST_MAJOR {
+            return Err(Refusal::BadMajor);
+        }
+        let next = self.current as usize - 2;
+        self.locations[next] = Location {
+            major,
+            word,
+            ..CLEARED
+        };
+        self.preparation = Preparation::Filled;
+        Ok(())
+    }
+
+    /// Copies the current location to the next lower one, without its completion routine and its pending bit, and
+    /// makes the packet Filled (WDK: "IoCopyCurrentIrpStackLocationToNext").
+    ///
+    /// # Errors
+    ///
+    /// In this order (this project's own rule), and then the packet stays as it was: `NoLocation` where the packet
+    /// stands above its highest location and nothing was skipped, `AfterSkip` where the owner gave its location away,
+    /// `TooShort` where `current` is 1.
+    pub fn copy_to_next(&mut self) -> Result<(), Refusal>
+        ensures answer { result ≡ answer_unless (copy_to_next_refusal self.old) tt }
+        ensures changed { self.new
+            ≡ value_unless (copy_to_next_refusal self.old) self.old (after_copy self.old None) }
+    {
+        self.check_location()?;
+        if self.current <= 1 {
+            return Err(Refusal::TooShort);
+        }
+        self.copy(None);
+        Ok(())
+    }
+
+    /// Gives the owner's location to the next lower device: `current` is raised by one, and the packet is Skipped.
+    /// A next lower location that was filled is cleared (WDK: "IoSkipCurrentIrpStackLocation").
+    ///
+    /// # Errors
+    ///
+    /// In this order (this project's own rule), and then the packet stays as it was: `NoLocation` where the packet
+    /// stands above its highest location and nothing was skipped, `AfterSkip` where the owner gave its location away.
+    pub fn skip(&mut self) -> Result<(), Refusal>
+        ensures answer { result ≡ answer_unless (skip_refusal self.old) tt }
+        ensures changed { self.new
+            ≡ value_unless (skip_refusal self.old) self.old (after_skip self.old) }
+    {
+        self.check_location()?;
+        if matches!(self.preparation, Preparation::Filled) {
+            let next = self.current as usize - 2;
+            self.locations[next] = CLEARED;
+        }
+        self.current += 1;
+        self.preparation = Preparation::Skipped;
+        Ok(())
+    }
+
+    /// Puts a completion routine, with its context and flags, into the next lower location, in place of what was set
+    /// there (WDK: "IoSetCompletionRoutine").
+    ///
+    /// # Errors
+    ///
+    /// In this order (this project's own rule), and then the packet stays as it was: `AfterSkip` where the owner gave
+    /// its location away, `NotPrepared` where the next lower location wasn't filled.
+    pub fn set_routine(&mut self, setting: Setting) -> Result<(), Refusal>
+        ensures answer { result ≡ answer_unless (set_routine_refusal self.old) tt }
+        ensures changed { self.new
+            ≡ value_unless (set_routine_refusal self.old) self.old (after_set_routine self.old setting) }
+    {
+        match self.preparation {
+            Preparation::Skipped => Err(Refusal::AfterSkip),
+            Preparation::Nothing => Err(Refusal::NotPrepared),
+            Preparation::Filled => {
+                let next = self.current as usize - 2;
+                self.locations[next].setting = Some(setting);
+                Ok(())
+            }
+        }
+    }
+
+    /// Marks the current location pending (WDK: "IoMarkIrpPending").
+    ///
+    /// # Errors
+    ///
+    /// In this order (this project's own rule), and then the packet stays as it was: `NoLocation` where the packet
+    /// stands above its highest location and nothing was skipped, `AfterSkip` where the owner gave its location away.
+    pub fn mark_pending(&mut self) -> Result<(), Refusal>
+        ensures answer { result ≡ answer_unless (mark_pending_refusal self.old) tt }
+        ensures changed { self.new
+            ≡ value_unless (mark_pending_refusal self.old) self.old (after_mark self.old self.old.current) }
+    {
+        self.check_location()?;
+        let current = self.current;
+        self.mark(current);
+        Ok(())
+    }
+
+    // whether the owner has a location of its own, which it did not give away
+    fn check_location(&self) -> Result<(), Refusal>
+        ensures { result ≡ answer_unless (skip_refusal self.now) tt }
+    {
+        if matches!(self.preparation, Preparation::Skipped) {
+            return Err(Refusal::AfterSkip);
+        }
+        if self.current as usize > self.locations.len() {
+            return Err(Refusal::NoLocation);
+        }
+        Ok(())
+    }
+}
+
+// The steps of which a descent, an unwinding and the manager's calls are made.
+impl Packet {
+    /// Lowers `current` by one, and writes into that location which device was sent the packet. The packet is not
+    /// prepared then; the location keeps the rest (WDK: "IoCallDriver").
+    pub fn enter(&mut self, device: DeviceId)
+        requires { 1 < self.old.current }
+        ensures { self.new ≡ after_enter self.old device }
+    {
+        self.current -= 1;
+        let here = self.current as usize - 1;
+        self.locations[here].device = Some(device);
+        self.preparation = Preparation::Nothing;
+    }
+
+    /// Copies the current location to the next lower one, without its pending bit and with this completion routine or
+    /// none in place of its own, and makes the packet Filled (WDK: "IoCopyCurrentIrpStackLocationToNext").
+    pub fn copy(&mut self, setting: Option<Setting>)
+        requires lower { 1 < self.old.current }
+        requires within { self.old.current ≤ size_of self.old }
+        ensures { self.new ≡ after_copy self.old setting }
+    {
+        let here = self.current as usize - 1;
+        let Location { major, word, .. } = self.locations[here];
+        self.locations[here - 1] = Location {
+            major,
+            word,
+            setting,
+            ..CLEARED
+        };
+        self.preparation = Preparation::Filled;
+    }
+
+    /// Marks location `number` pending (WDK: "IoMarkIrpPending").
+    pub fn mark(&mut self, number: u32)
+        requires some { 1 ≤ number }
+        requires within { number ≤ size_of self.old }
+        ensures { self.new ≡ after_mark self.old number }
+    {
+        self.locations[number as usize - 1].pending = true;
+    }
+
+    /// Clears location `number`, as unwinding leaves each that it has done with (WDK: "IoCompleteRequest").
+    pub fn clear(&mut self, number: u32)
+        requires some { 1 ≤ number }
+        requires within { number ≤ size_of self.old }
+        ensures { self.new ≡ with_location self.old number cleared }
+    {
+        self.locations[number as usize - 1] = CLEARED;
+    }
+
+    /// Raises `current` by one, to the next higher location or above the highest. The packet is not prepared then
+    /// (WDK: "IoCompleteRequest").
+    pub fn rise(&mut self)
+        requires { self.old.current ≤ size_of self.old }
+        ensures { self.new ≡ after_rise self.old }
+    {
+        self.current += 1;
+        self.preparation = Preparation::Nothing;
+    }
+
+    /// Writes the I/O status block (WDK: "IO_STATUS_BLOCK").
+    pub fn set_status(&mut self, status: Status, information: u64)
+        ensures { self.new ≡ with_status self.old status information }
+    {
+        self.status = status;
+        self.information = information;
+    }
+
+    /// Writes PendingReturned (WDK: "IRP").
+    pub fn set_returned(&mut self, pending: bool)
+        ensures { self.new ≡ record self.old { pending_returned = pending } }
+    {
+        self.pending_returned = pending;
+    }
+
+    /// Writes who owns the packet (this project's own rule).
+    pub fn set_owner(&mut self, owner: Owner)
+        ensures { self.new ≡ record self.old { owner = owner } }
+    {
+        self.owner = owner;
+    }
+
+    /// Writes the cancel flag and the cancel routine, or none (WDK: "IoSetCancelRoutine", "IoCancelIrp").
+    pub fn set_cancel(&mut self, cancel: bool, routine: Option<CancelId>)
+        ensures { self.new ≡ record self.old { cancel = cancel; cancel_routine = routine } }
+    {
+        self.cancel = cancel;
+        self.cancel_routine = routine;
+    }
+
+    /// Makes the packet as newly allocated, of the same size, with this status (WDK: "IoReuseIrp").
+    pub fn reset(&mut self, status: Status)
+        ensures { self.new ≡ after_reset self.old status }
+    {
+        self.locations.fill(CLEARED);
+        self.current = self.locations.len() as u32 + 1;
+        self.status = status;
+        self.information = 0;
+        self.pending_returned = false;
+        self.cancel = false;
+        self.cancel_routine = None;
+        self.owner = Owner::Originator;
+        self.preparation = Preparation::Nothing;
+    }
+}

@@ -1,0 +1,48 @@
+-- An entry settles its next state.
+use Rattle.std.proofs.Common.{◌≡◌, List, sym, ◌∙◌, ap, Option, Some, None, MatchOption}
+use Rattle.irp_types.specs.Packet.{new_packet, with_status}
+use Rattle.irp_types.specs.State.{StateValue, Fixed, packet_of, with_packet}
+use Rattle.irp_types.specs.Refusals.{first_refusal}
+use Rattle.irp_types.specs.Steps.{Unasked, with_new_packet, Effect}
+use Rattle.irp_types.specs.Histories.{EntrySettlesNextState}
+use Rattle.irp_types.specs.declared.names.IrpRef.{IrpRef}
+use Rattle.irp_types.specs.declared.refusal.Refusal.{Refusal}
+use Rattle.irp_types.specs.declared.asked.Asked.{Asked}
+use Rattle.irp_types.specs.declared.call.Call.{Call}
+use Rattle.irp_types.specs.declared.call.Call.TheVariants.{CreateDevice, Allocate, SetNext, CallDriver, Complete, Look}
+use Rattle.irp_types.specs.declared.reply.Reply.{Reply}
+use Rattle.irp_types.specs.declared.reply.Reply.TheVariants.{Irp, Refused}
+use Rattle.irp_types.proofs.SettledUnwinding.{same_askings, same_unwound}
+use Rattle.irp_types.proofs.SettledDescent.{same_descent}
+
+same_effect : (fixed : Fixed) (old : StateValue) (call : Call) (asked : List Asked) (reply : Reply) (new other : StateValue)
+    → Effect fixed old call asked reply new → Effect fixed old call asked reply other → new ≡ other
+same_effect fixed old (CreateDevice driver lock) asked reply new other first second = first.2 ∙ sym second.2
+same_effect fixed old (Allocate size) asked reply new other first second =
+    let one : IrpRef = record { slot = first.0; use_no = old.next_use } in
+    let two : IrpRef = record { slot = second.0; use_no = old.next_use } in
+    let replies : Irp one ≡ Irp two = sym first.2.1 ∙ second.2.1 in
+    let references : one ≡ two = cc in
+    let slot : first.0 ≡ second.0 = ap (λ (irp : IrpRef). irp.slot) references in
+    first.2.2 ∙ ap (λ at. with_new_packet old at (new_packet size)) slot ∙ sym second.2.2
+same_effect fixed old (SetNext party irp major word) asked reply new other first second = first.2 ∙ sym second.2
+same_effect fixed old (CallDriver party irp target) asked reply new other first second =
+    let packet = same_descent fixed.tables irp old.devices (packet_of old irp) target.0 asked first.0 second.0 first.1 second.1 first.2 second.2 in
+    first.4 ∙ ap (with_packet old irp.slot) packet ∙ sym second.4
+same_effect fixed old (Complete party irp status information) asked reply new other first second =
+    let asking : first.1.0 ≡ second.1.0 = same_askings first.1.0 second.1.0 (sym first.1.2 ∙ second.1.2) in
+    let packet : first.0 ≡ second.0 =
+    same_unwound irp (with_status (packet_of old irp) status information) first.0 second.0 first.1.0 second.1.0 asking first.1.1 second.1.1 in
+    first.3 ∙ ap (with_packet old irp.slot) packet ∙ sym second.3
+same_effect fixed old (Look irp) asked reply new other first second = first.2 ∙ sym second.2
+
+same_step : (fixed : Fixed) (old : StateValue) (call : Call) (asked : List Asked) (reply : Reply) (new other : StateValue) (refusal : Option Refusal)
+    → MatchOption refusal (Effect fixed old call asked reply new) (λ given. Unasked asked reply new (Refused given) old)
+    → MatchOption refusal (Effect fixed old call asked reply other) (λ given. Unasked asked reply other (Refused given) old)
+    → new ≡ other
+same_step fixed old call asked reply new other None first second = same_effect fixed old call asked reply new other first second
+same_step fixed old call asked reply new other (Some refusal) first second = first.2 ∙ sym second.2
+
+pub entry_settles_next_state : EntrySettlesNextState
+entry_settles_next_state fixed number old entry new other first second =
+    same_step fixed old entry.call entry.asked entry.reply new other (first_refusal fixed old entry.drained entry.call) first.step second.step

@@ -1,0 +1,74 @@
+//! What no clause says: the named statuses and majors, and each public function once.
+
+use super::*;
+use std::test::Fail;
+
+#[test]
+fn statuses_have_their_numbers(rt: HostRuntime) {
+    assert_eq!(rt; Status::SUCCESS.0, 0);
+    assert_eq!(rt; Status::PENDING.0, 259);
+    assert_eq!(rt; Status::UNSUCCESSFUL.0, 3221225473);
+    assert_eq!(rt; Status::INVALID_DEVICE_REQUEST.0, 3221225488);
+    assert_eq!(rt; Status::MORE_PROCESSING_REQUIRED.0, 3221225494);
+    assert_eq!(rt; Status::DELETE_PENDING.0, 3221225558);
+    assert_eq!(rt; Status::CANCELLED.0, 3221225760);
+}
+
+#[test]
+fn informational_statuses_are_successes(rt: HostRuntime) {
+    assert!(rt; Status::PENDING.is_success());
+    assert!(rt; Status(0x7FFF_FFFF).is_success());
+    assert!(rt; !Status(0x8000_0000).is_success());
+    assert!(rt; Status::CANCELLED.is_completable());
+    assert!(rt; !Status::PENDING.is_completable());
+    assert!(rt; !Status::MORE_PROCESSING_REQUIRED.is_completable());
+}
+
+#[test]
+fn refusals_are_numbered(rt: HostRuntime) {
+    assert_eq!(rt; Refusal::NoIrp.number(), 1);
+    assert_eq!(rt; Refusal::Full.number(), 19);
+    assert_eq!(rt; Refusal::NotSlotHeld.number(), 29);
+}
+
+#[test]
+fn a_row_has_the_items_of_its_vector(rt: HostRuntime) -> Result<(), Fail> {
+    let row = Row::from_vec([Status::PENDING, Status::SUCCESS].to_vec(rt.alloc())?);
+    assert_eq!(rt;
+        row.as_slice(),
+        [Status::PENDING, Status::SUCCESS].as_slice()
+    );
+    Ok(())
+}
+
+#[test]
+fn the_default_location_is_cleared(rt: HostRuntime) {
+    let cleared = Location {
+        device: None,
+        major: 0,
+        word: 0,
+        setting: None,
+        pending: false,
+    };
+    assert_eq!(rt; Location::default(), cleared);
+}
+
+#[test]
+fn what_is_shown_is_in_range_and_the_laws_hold() {
+    let shown = Shown {
+        device: None,
+        irp: IrpRef { slot: 0, use_no: 1 },
+        major: 3,
+        location: 1,
+        word: 7,
+        status: Status::SUCCESS,
+        information: 0,
+        pending_returned: false,
+        cancel: false,
+        context: 0,
+        has_lower: false,
+    };
+    shown.in_range();
+    history_goes_on();
+    entry_settles_next_state();
+}
