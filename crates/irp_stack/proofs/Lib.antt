@@ -1,0 +1,13 @@
+pub mod Regrouped
+pub mod Walks
+pub mod Looks
+pub mod Refusing
+pub mod Tidying
+pub mod Attached
+pub mod Attaching
+pub mod Renumbered
+pub mod Detached
+pub mod Detaching
+pub mod Deleting
+pub mod Creating
+pub mod Reading

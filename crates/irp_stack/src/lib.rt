@@ -1,0 +1,10 @@
+//! Devices and their stacks: which devices there are, and which stands on which.
+#![tactic(auto)]
+
+mod device;
+mod stacks;
+
+pub use stacks::{Facts, NotCreated, Stacks};
+
+#[cfg(test)]
+mod tests;
