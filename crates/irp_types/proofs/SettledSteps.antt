@@ -9,7 +9,7 @@ use Rattle.irp_types.specs.declared.names.IrpRef.{IrpRef}
 use Rattle.irp_types.specs.declared.refusal.Refusal.{Refusal}
 use Rattle.irp_types.specs.declared.asked.Asked.{Asked}
 use Rattle.irp_types.specs.declared.call.Call.{Call}
-use Rattle.irp_types.specs.declared.call.Call.TheVariants.{CreateDevice, Allocate, SetNext, CallDriver, Complete, Look}
+use Rattle.irp_types.specs.declared.call.Call.TheVariants.{CreateDevice, Attach, Detach, Allocate, SetNext, CallDriver, Complete, Look}
 use Rattle.irp_types.specs.declared.reply.Reply.{Reply}
 use Rattle.irp_types.specs.declared.reply.Reply.TheVariants.{Irp, Refused}
 use Rattle.irp_types.proofs.SettledUnwinding.{same_askings, same_unwound}
@@ -18,6 +18,8 @@ use Rattle.irp_types.proofs.SettledDescent.{same_descent}
 same_effect : (fixed : Fixed) (old : StateValue) (call : Call) (asked : List Asked) (reply : Reply) (new other : StateValue)
     → Effect fixed old call asked reply new → Effect fixed old call asked reply other → new ≡ other
 same_effect fixed old (CreateDevice driver lock) asked reply new other first second = first.2 ∙ sym second.2
+same_effect fixed old (Attach device to) asked reply new other first second = first.2 ∙ sym second.2
+same_effect fixed old (Detach lower) asked reply new other first second = first.2 ∙ sym second.2
 same_effect fixed old (Allocate size) asked reply new other first second =
     let one : IrpRef = record { slot = first.0; use_no = old.next_use } in
     let two : IrpRef = record { slot = second.0; use_no = old.next_use } in

@@ -6,7 +6,7 @@ use Rattle.irp_types.specs.Limits.{most_locations, most_live, last_use}
 use Rattle.irp_types.specs.Status.{is_completable}
 use Rattle.irp_types.specs.Checks.{Check, first_failing, or_else}
 use Rattle.irp_types.specs.Packet.{PacketValue, location_check, skip_check, preparation_check, set_next_refusal}
-use Rattle.irp_types.specs.Stacks.{DevicesValue, stack_size_of, lower_of, device_checks, create_checks}
+use Rattle.irp_types.specs.Stacks.{DevicesValue, stack_size_of, lower_of, device_checks, create_checks, attach_checks, detach_checks}
 use Rattle.irp_types.specs.State.{StateValue, Fixed, live_at, packet_at, packet_of}
 use Rattle.irp_types.specs.declared.status.Status.{Status}
 use Rattle.irp_types.specs.declared.names.IrpRef.{IrpRef}
@@ -15,7 +15,7 @@ use Rattle.irp_types.specs.declared.location.Owner.TheVariants.{Originator, Devi
 use Rattle.irp_types.specs.declared.call.Party.{Party}
 use Rattle.irp_types.specs.declared.call.Party.TheVariants.{Originator as ByOriginator, Device as ByDevice}
 use Rattle.irp_types.specs.declared.call.Call.{Call}
-use Rattle.irp_types.specs.declared.call.Call.TheVariants.{CreateDevice, Allocate, SetNext, CallDriver, Complete, Look}
+use Rattle.irp_types.specs.declared.call.Call.TheVariants.{CreateDevice, Attach, Detach, Allocate, SetNext, CallDriver, Complete, Look}
 use Rattle.irp_types.specs.declared.refusal.Refusal.{Refusal}
 use Rattle.irp_types.specs.declared.refusal.Refusal.TheVariants.{NoIrp, Stale, NotOwner, TooShort, WrongTarget, BadStatus, CancelRoutineSet, Full, BadSize, NoDriver, Ended as HasEnded, NoLock}
 
@@ -76,6 +76,8 @@ complete_refusal packet status = first_failing (
 abbrev pub first_refusal : Fixed → StateValue → Bool → Call → Option Refusal
 first_refusal fixed state drained (CreateDevice driver lock) = first_failing (
     (nat_le (length fixed.tables.drivers) driver.0, NoDriver) ∷ (nat_le fixed.locks lock.0, NoLock) ∷ create_checks state.devices)
+first_refusal fixed state drained (Attach device to) = first_failing (attach_checks state.devices device.0 to.0)
+first_refusal fixed state drained (Detach lower) = first_failing (detach_checks state.devices lower.0)
 first_refusal fixed state drained (Allocate size) = first_failing (
     ((size == 0) || nat_lt most_locations size, BadSize)
     ∷ (nat_le most_live (fin.len state.live) || nat_le last_use state.next_use, Full) ∷ [])

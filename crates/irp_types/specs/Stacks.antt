@@ -43,6 +43,10 @@ lower_of devices device =
 abbrev pub upper_of : DevicesValue → ℕ → Option ℕ
 upper_of devices device = slice_get (stack_of devices device) (depth_of devices device + 1)
 
+-- the device that a cut above this one cuts off
+abbrev pub cut_off_by : DevicesValue → ℕ → ℕ
+cut_off_by devices lower = unwrap_or (upper_of devices lower) 0
+
 -- the highest device of a device's stack
 abbrev pub top_of : DevicesValue → ℕ → ℕ
 top_of devices device = slice_index_or (stack_of devices device) (length (stack_of devices device) - 1) device

@@ -3,7 +3,7 @@ use Rattle.std.specs.Prelude.{ℕ, ◌≡◌, ◌+◌, Bool, false, if◌then◌
 use Rattle.std.specs.FinMap as fin
 use Rattle.irp_types.specs.Packet.{PacketValue, location_at, new_packet, with_status, after_set_next, is_above_top}
 use Rattle.irp_types.specs.Unwinding.{Asking, as_asked, Unwound}
-use Rattle.irp_types.specs.Stacks.{after_create}
+use Rattle.irp_types.specs.Stacks.{top_of, cut_off_by, after_create, after_attach, after_detach}
 use Rattle.irp_types.specs.State.{StateValue, Fixed, live_at, packet_of, with_packet}
 use Rattle.irp_types.specs.Descent.{Descended}
 use Rattle.irp_types.specs.Refusals.{first_refusal}
@@ -11,7 +11,7 @@ use Rattle.irp_types.specs.declared.status.Status.{Status}
 use Rattle.irp_types.specs.declared.names.IrpRef.{IrpRef}
 use Rattle.irp_types.specs.declared.asked.Asked.{Asked}
 use Rattle.irp_types.specs.declared.call.Call.{Call}
-use Rattle.irp_types.specs.declared.call.Call.TheVariants.{CreateDevice, Allocate, SetNext, CallDriver, Complete, Look}
+use Rattle.irp_types.specs.declared.call.Call.TheVariants.{CreateDevice, Attach, Detach, Allocate, SetNext, CallDriver, Complete, Look}
 use Rattle.irp_types.specs.declared.reply.Seen.{Seen}
 use Rattle.irp_types.specs.declared.reply.Reply.{Reply}
 use Rattle.irp_types.specs.declared.reply.Reply.TheVariants.{Done, Device, Irp, Status as StatusIs, Seen as SeenAs, Refused}
@@ -48,6 +48,10 @@ Completes irp old asked new = (asking : List Asking) × Unwound irp old asking n
 abbrev pub Effect : Fixed → StateValue → Call → List Asked → Reply → StateValue → Type 0
 Effect fixed old (CreateDevice driver lock) asked reply new =
     Unasked asked reply new (Device (record { 0 = length old.devices.facts })) (record old { devices = after_create old.devices driver lock })
+Effect fixed old (Attach device to) asked reply new =
+    Unasked asked reply new (Device (record { 0 = top_of old.devices to.0 })) (record old { devices = after_attach old.devices device.0 to.0 })
+Effect fixed old (Detach lower) asked reply new =
+    Unasked asked reply new (Device (record { 0 = cut_off_by old.devices lower.0 })) (record old { devices = after_detach old.devices lower.0 })
 Effect fixed old (Allocate size) asked reply new =
     (slot : ℕ) × (live_at old slot ≡ None)
     × Unasked asked reply new (Irp (record { slot = slot; use_no = old.next_use })) (with_new_packet old slot (new_packet size))

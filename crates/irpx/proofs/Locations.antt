@@ -1,0 +1,35 @@
+-- One location is written, and the others stay.
+use Rattle.std.proofs.Common.{◌≡◌, ℕ, ◌+◌, ◌-◌, ◌<◌, ◌≤◌, zero, suc, List, [], ◌∷◌, length, replicate, Option, None, refl, ap, sym, ◌∙◌, arith, ◌⊎◌, inl, inr}
+use Rattle.std.specs.Prelude.{slice_index_or, slice_set}
+use Rattle.std.proofs.lemmas.List.{get_or-set_same, get_or-set_other}
+use Rattle.irp_types.specs.Packet.{PacketValue, size_of, location_at, with_location, cleared}
+use Rattle.irp_types.specs.declared.location.Location.{Location}
+
+pub at_written : (packet : PacketValue) (number : ℕ) (location : Location) → 1 ≤ number → number ≤ size_of packet → location_at (with_location packet number location) number ≡ location
+at_written packet number location some within = get_or-set_same packet.locations (number - 1) location cleared (omega arith)
+
+pub at_other : (packet : PacketValue) (number other : ℕ) (location : Location) → (other - 1 ≡ number - 1 → ⊥) → location_at (with_location packet number location) other ≡ location_at packet other
+at_other packet number other location apart = get_or-set_other packet.locations (number - 1) (other - 1) location cleared apart
+
+-- each location of a packet whose locations are all cleared is a cleared one
+pub at_cleared : (size place : ℕ) → slice_index_or (replicate size cleared) place cleared ≡ cleared
+at_cleared zero place = refl
+at_cleared (suc size) zero = refl
+at_cleared (suc size) (suc place) = at_cleared size place
+
+written_or_same : (locations : List Location) (place other : ℕ) (location : Location)
+    → (slice_index_or (slice_set locations place location) other cleared ≡ location) ⊎ (slice_index_or (slice_set locations place location) other cleared ≡ slice_index_or locations other cleared)
+written_or_same [] place other location = inr refl
+written_or_same (first ∷ others) zero zero location = inl refl
+written_or_same (first ∷ others) zero (suc other) location = inr refl
+written_or_same (first ∷ others) (suc place) zero location = inr refl
+written_or_same (first ∷ others) (suc place) (suc other) location = written_or_same others place other location
+
+-- where a location without a routine is written, none comes
+pub still_none : (packet : PacketValue) (number : ℕ) (location : Location) → location.setting ≡ None
+    → ((other : ℕ) → (location_at packet other).setting ≡ None) → (other : ℕ) → (location_at (with_location packet number location) other).setting ≡ None
+still_none packet number location none before other =
+    elim (written_or_same packet.locations (number - 1) (other - 1) location) as (λ _. (location_at (with_location packet number location) other).setting ≡ None) [
+      | inl written ↦ ap (λ (given : Location). given.setting) written ∙ none
+      | inr same ↦ ap (λ (given : Location). given.setting) same ∙ before other
+    ]

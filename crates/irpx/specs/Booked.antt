@@ -1,0 +1,59 @@
+-- A book, a seat and a receipt as callers see them, and what recording a call does.
+use Rattle.std.specs.Prelude.{ℕ, ◌≡◌, ◌<◌, ◌≤◌, Bool, List, [], ◌∷◌, ◌++◌, length, Option}
+use Rattle.irp_types.specs.State.{Fixed}
+use Rattle.irp_types.specs.Histories.{IsLegal}
+use Rattle.irp_types.specs.declared.names.LockNo.{LockNo}
+use Rattle.irp_types.specs.declared.call.Call.{Call}
+use Rattle.irp_types.specs.declared.reply.Reply.{Reply}
+use Rattle.irp_types.specs.declared.entry.Entry.{Entry}
+use Rattle.irpx.specs.Answers.{AreInMay}
+use Rattle.irpx.specs.Notes.{known_by}
+use Rattle.irpx.specs.PlanTables.{IsPlanAt}
+use Rattle.irpx.specs.declared.irp_routines.fixed_plan.FixedPlan.{FixedPlan}
+
+-- entries that a history may have
+abbrev pub most_entries : ℕ
+most_entries = 1000000
+
+-- what is fixed, the plans that are asked, and the history
+pub record Booked : Type 0 where
+  pub fixed : Fixed
+  pub plans : List FixedPlan
+  pub history : List Entry
+
+-- the seat's number, and how much of the history it has seen
+pub record Seated : Type 0 where
+  pub number : ℕ
+  pub seen : ℕ
+
+-- what a receipt tells of an entry
+pub record Receipted : Type 0 where
+  pub number : ℕ
+  pub seat : ℕ
+  pub call : Call
+  pub lock : Option LockNo
+  pub drained : Bool
+  pub reply : Reply
+
+abbrev pub receipt_of : Entry → Receipted
+receipt_of entry = record {
+  number = entry.number;
+  seat = entry.seat;
+  call = entry.call;
+  lock = entry.lock;
+  drained = entry.drained;
+  reply = entry.reply;
+}
+
+-- the history grew by one entry: it is this seat's and this call's, it stands after all that the seat had seen, what it
+-- knew of the lock is what the note told, its questions were answered as they may be, and the receipt tells of it
+pub record Records (seat : Seated) (call : Call) (knows : LockNo → Bool) (receipt : Receipted) (old new : Booked) : Type 0 where
+  pub entry : Entry
+  pub appended : new.history ≡ old.history ++ entry ∷ []
+  pub numbered : entry.number ≡ length old.history
+  pub after : seat.seen ≤ entry.number
+  pub by : entry.seat ≡ seat.number
+  pub asks : entry.call ≡ call
+  pub noted : entry.drained ≡ known_by knows entry.lock
+  pub answered : AreInMay (λ dispatch shown plan. IsPlanAt old.plans dispatch plan) entry.asked
+  pub told : receipt ≡ receipt_of entry

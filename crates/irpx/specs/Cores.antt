@@ -1,0 +1,24 @@
+-- The state of a core, and what a call makes of it.
+use Rattle.std.specs.Prelude.{ℕ, ◌≡◌, Bool, List}
+use Rattle.irp_types.specs.State.{StateValue, Fixed, Tables}
+use Rattle.irp_types.specs.Steps.{Step}
+use Rattle.irp_types.specs.declared.asked.Asked.{Asked}
+use Rattle.irp_types.specs.declared.call.Call.{Call}
+use Rattle.irp_types.specs.declared.reply.Reply.{Reply}
+use Rattle.irpx.specs.Plain.{StandsPlain}
+use Rattle.irpx.specs.Slots.{live_of}
+use Rattle.irpx.specs.declared.irp_manager.sequential.Core.{Core}
+
+-- the state that a core stands for
+abbrev pub state_of : Core → StateValue
+state_of core = record { live = live_of core.slots.places.items; devices = core.stacks; next_use = core.next_use }
+
+-- a call was answered by its step, and the standing facts are kept
+pub record Stepped (tables : Tables) (drained : Bool) (old : Core) (call : Call) (asked : List Asked) (reply : Reply) (new : Core) : Type 0 where
+  pub step : (fixed : Fixed) → fixed.tables ≡ tables → fixed.locks ≡ old.locks → Step fixed (state_of old) drained call asked reply (state_of new)
+  pub stands : StandsPlain tables.counts (state_of new)
+  pub locks : new.locks ≡ old.locks
+
+-- so it was with any tables, where the standing facts held
+abbrev pub SteppedAny : Core → Call → List Asked → Reply → Core → Type 0
+SteppedAny old call asked reply new = (tables : Tables) (drained : Bool) → StandsPlain tables.counts (state_of old) → Stepped tables drained old call asked reply new

@@ -1,0 +1,9 @@
+pub mod PlanTables
+pub mod PlanTableLaws
+pub mod Plain
+pub mod Answers
+pub mod Slots
+pub mod Calls
+pub mod Notes
+pub mod Cores
+pub mod Booked

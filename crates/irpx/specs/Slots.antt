@@ -1,0 +1,26 @@
+-- Live packets in a list of places, as the map from slots to packets.
+use Rattle.std.specs.Prelude.{ℕ, ◌+◌, List, Option, Some, None, length, suc, zero, slice_index_or}
+use Rattle.std.specs.Ordering.{nat_cmp}
+use Rattle.std.specs.FinMap as fin
+use Rattle.irp_types.specs.State.{LivePacket}
+
+abbrev pub Slots : Type 0
+Slots = fin.FinMap nat_cmp LivePacket
+
+-- what stands at a place, if there is one
+abbrev pub place_at : List (Option LivePacket) → ℕ → Option LivePacket
+place_at places slot = slice_index_or places slot None
+
+-- a map with the packet of one more slot, if there is one
+abbrev pub put_if : Slots → ℕ → Option LivePacket → Slots
+put_if slots slot None = slots
+put_if slots slot (Some live) = fin.insert slots slot live
+
+-- the packets of the first places
+abbrev pub kept : List (Option LivePacket) → ℕ → Slots
+kept places zero = fin.empty
+kept places (suc count) = put_if (kept places count) count (place_at places count)
+
+-- the packets of all places
+abbrev pub live_of : List (Option LivePacket) → Slots
+live_of places = kept places (length places)

@@ -1,0 +1,134 @@
+//! The manager with its history.
+
+ghost use Rattle.std.specs.Prelude.{◌≡◌, ℕ, ◌<◌, ◌≤◌, [], length, Err, IfOk, OnErr};
+ghost use Rattle.irp_types.specs.Histories.{IsLegal};
+ghost use Rattle.irpx.specs.PlanTables.{tables_of};
+ghost use Rattle.irpx.specs.Booked.{most_entries, Records};
+ghost use Rattle.irpx.specs.declared.irp_manager.not_recorded.NotRecorded.TheVariants.{Behind, HistoryFull};
+
+use crate::irp_manager::not_recorded::NotRecorded;
+use crate::irp_manager::note::DrainNote;
+use crate::irp_manager::receipt::Receipt;
+use crate::irp_manager::seat::Seat;
+use crate::irp_manager::sequential::Core;
+use crate::irp_routines::PlanTable;
+use irp_types::{Call, Entry, Row, history_goes_on};
+use std::alloc::Global;
+use std::marker::Model;
+
+/// How many entries a history may have.
+const MOST_ENTRIES: usize = 1_000_000;
+
+/// The manager, the plans that it asks, and the history of the calls that it was given: one that the sequential manager
+/// could have made, and that ends in the manager's state (this project's own rule).
+#[derive(Drop)]
+pub struct Book {
+    table: PlanTable,
+    core: Core,
+    history: Vec<Entry>,
+}
+
+impl Model for Book {
+    ghost use Rattle.std.specs.Prelude.{◌≤◌, length};
+    ghost use Rattle.irp_types.specs.Histories.{LeadsTo};
+    ghost use Rattle.irpx.specs.PlanTables.{tables_of, no_routines};
+    ghost use Rattle.irpx.specs.Plain.{StandsPlain};
+    ghost use Rattle.irpx.specs.Booked.{Booked, most_entries};
+    ghost use Rattle.irpx.specs.Cores.{state_of};
+
+    ghost Value = { Booked };
+
+    ghost view = { λ book. record {
+      fixed = record { locks = book.core.locks; tables = tables_of book.table.drivers book.table.plans };
+      plans = book.table.plans;
+      history = book.history.items;
+    } };
+
+    ghost invariant = { λ book. record {
+      leads : LeadsTo (record { locks = book.core.locks; tables = tables_of book.table.drivers book.table.plans }) book.history.items (state_of book.core);
+      stands : StandsPlain no_routines (state_of book.core);
+      few : length book.history.items ≤ most_entries;
+    } };
+}
+
+impl Book {
+    /// A manager with these plans and this many remove locks, and no history. It takes no memory.
+    pub fn new(alloc: Global, table: PlanTable, locks: u32) -> Book
+        ensures { result ≡ record { fixed = record { locks = locks; tables = tables_of table.drivers table.plans }; plans = table.plans; history = [] } }
+    {
+        Book {
+            table,
+            core: Core::new(alloc, locks),
+            history: Vec::new(alloc),
+        }
+    }
+
+    /// How many entries the history has, at most 1,000,000.
+    pub fn length(&self) -> usize
+        ensures length { result ≡ length self.now.history }
+        ensures few { result ≤ most_entries }
+    {
+        self.history.len()
+    }
+
+    /// Makes a call and records it.
+    ///
+    /// # Errors
+    ///
+    /// `Behind` exactly where the history is shorter than what the seat has seen, else `HistoryFull` exactly where it
+    /// has 1,000,000 entries; `Memory` where a growth was refused. None of them changes anything.
+    pub fn record<N: DrainNote>(
+        &mut self,
+        alloc: Global,
+        seat: &Seat,
+        call: Call,
+        note: &N,
+    ) -> Result<Receipt, NotRecorded>
+        ensures recorded { IfOk result (λ receipt. Records seat.now call (N.knows_drained note.now) receipt self.old self.new) }
+        ensures kept { (self.new.fixed ≡ self.old.fixed) × (self.new.plans ≡ self.old.plans) }
+        ensures legal { IsLegal self.new.fixed self.new.history }
+        ensures err { OnErr result (self.new ≡ self.old) }
+
+        ensures behind { length self.old.history < seat.now.seen → result ≡ Err (Behind (length self.old.history)) }
+        ensures only_behind { (told : ℕ) → result ≡ Err (Behind told) → (told ≡ length self.old.history) × (told < seat.now.seen) }
+        ensures full { seat.now.seen ≤ length self.old.history → length self.old.history ≡ most_entries → result ≡ Err HistoryFull }
+        ensures only_full { result ≡ Err HistoryFull → length self.old.history ≡ most_entries }
+    {
+        let length = self.history.len();
+        if (length as u64) < seat.seen() {
+            return Err(NotRecorded::Behind {
+                length: length as u64,
+            });
+        }
+        if length >= MOST_ENTRIES {
+            return Err(NotRecorded::HistoryFull);
+        }
+        if self.history.reserve(1).is_err() {
+            return Err(NotRecorded::Memory);
+        }
+        let Ok(applied) = self.core.apply(alloc, &self.table, call, note) else {
+            return Err(NotRecorded::Memory);
+        };
+        let entry = Entry {
+            number: length as u64,
+            seat: seat.number(),
+            call,
+            lock: applied.lock,
+            drained: applied.drained,
+            asked: Row::from_vec(applied.asked),
+            reply: applied.reply,
+        };
+        let receipt = Receipt::of(&entry);
+        self.history.push_reserved(entry);
+        history_goes_on();
+        Ok(receipt)
+    }
+
+    /// The history, at its end.
+    pub fn end(self) -> Row<Entry>
+        ensures history { result ≡ self.history }
+        ensures legal { IsLegal self.fixed self.history }
+    {
+        Row::from_vec(self.history)
+    }
+}

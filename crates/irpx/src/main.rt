@@ -1,0 +1,8 @@
+//! The program.
+#![tactic(auto)]
+
+mod irp_manager;
+mod irp_routines;
+mod irp_unwind;
+
+fn main() {}
