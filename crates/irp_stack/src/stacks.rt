@@ -4,7 +4,7 @@ ghost use Rattle.std.specs.Prelude.{◌≡◌, ℕ, ◌+◌, ◌<◌, ◌≤◌,
 ghost use Rattle.std.specs.Option.{option_map};
 ghost use Rattle.irp_types.specs.Limits.{most_locations};
 ghost use Rattle.irp_types.specs.Checks.{first_failing, answer_unless, value_unless};
-ghost use Rattle.irp_types.specs.Stacks.{no_devices, AreStacks, create_checks, attach_checks, detach_checks, delete_checks, after_create, after_attach, after_detach, after_delete, top_of, upper_of, lower_of, stack_size_of};
+ghost use Rattle.irp_types.specs.Stacks.{no_devices, AreStacks, create_checks, attach_checks, detach_checks, delete_checks, after_create, after_attach, after_detach, after_delete, top_of, cut_off_by, lower_of, stack_size_of};
 ghost use Rattle.irp_types.specs.declared.refusal.Refusal.TheVariants.{Full};
 ghost use Rattle.irp_stack.specs.Records.{id, facts_shown};
 ghost use Rattle.irp_stack.specs.declared.stacks.NotCreated.TheVariants.{Full as NotCreated_Full, Memory as NotCreated_Memory};
@@ -141,7 +141,7 @@ impl Stacks {
     /// `lower` was never created, `DeviceGone` if it was deleted, `NothingAttached` if it is the top of its stack. It
     /// goes once over the devices above the cut.
     pub fn detach(&mut self, lower: DeviceId) -> Result<DeviceId, Refusal>
-        ensures answer { result ≡ answer_unless (first_failing (detach_checks self.old lower.0)) (id (unwrap_or (upper_of self.old lower.0) 0)) }
+        ensures answer { result ≡ answer_unless (first_failing (detach_checks self.old lower.0)) (id (cut_off_by self.old lower.0)) }
         ensures changed { self.new ≡ value_unless (first_failing (detach_checks self.old lower.0)) self.old (after_detach self.old lower.0) }
     {
         let below = live_device(&self.devices, lower)?;

@@ -12,3 +12,5 @@ pub mod Turns
 pub mod Fresh
 pub mod Handed
 pub mod Recording
+pub mod Puts
+pub mod CommandLine

@@ -7,3 +7,11 @@ pub mod Calls
 pub mod Notes
 pub mod Cores
 pub mod Booked
+pub mod Out
+pub mod Json
+pub mod Lines
+pub mod Whole
+pub mod Puts
+pub mod CommandLine
+pub mod Demo
+pub mod Ending

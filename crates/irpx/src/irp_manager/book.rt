@@ -124,11 +124,17 @@ impl Book {
         Ok(receipt)
     }
 
-    /// The history, at its end.
-    pub fn end(self) -> Row<Entry>
-        ensures history { result ≡ self.history }
+    /// Ends it, and gives the plans and the history.
+    pub fn end(self) -> (PlanTable, Row<Entry>)
+        ensures tables { tables_of result.0.drivers result.0.plans ≡ self.fixed.tables }
+        ensures history { result.1 ≡ self.history }
         ensures legal { IsLegal self.fixed self.history }
     {
-        Row::from_vec(self.history)
+        let Book {
+            table,
+            core: _,
+            history,
+        } = self;
+        (table, Row::from_vec(history))
     }
 }

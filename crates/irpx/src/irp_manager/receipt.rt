@@ -1,14 +1,14 @@
 //! What a caller is given for a recorded call.
 
 ghost use Rattle.std.specs.Prelude.{◌≡◌, ◌<◌};
-ghost use Rattle.irpx.specs.Booked.{receipt_of};
+ghost use Rattle.irpx.specs.Booked.{most_entries, receipt_of};
 
 use irp_types::{Call, Entry, LockNo, Reply};
 use std::marker::Model;
 
 /// What an entry of the history says, without what was asked. Only recording a call makes one (this project's own
 /// rule).
-#[derive(Clone, Copy, Debug)]
+#[derive(Drop)]
 pub struct Receipt {
     number: u64,
     seat: u32,
@@ -19,7 +19,8 @@ pub struct Receipt {
 }
 
 impl Model for Receipt {
-    ghost use Rattle.irpx.specs.Booked.{Receipted};
+    ghost use Rattle.std.specs.Prelude.{◌<◌};
+    ghost use Rattle.irpx.specs.Booked.{Receipted, most_entries};
 
     ghost Value = { Receipted };
 
@@ -32,19 +33,13 @@ impl Model for Receipt {
       reply = receipt.reply;
     } };
 
-    ghost inverse = { λ value. record {
-      number = value.number;
-      seat = value.seat;
-      call = value.call;
-      lock = value.lock;
-      drained = value.drained;
-      reply = value.reply;
-    } };
+    ghost invariant = { λ receipt. receipt.number < most_entries };
 }
 
 impl Receipt {
     /// What tells of this entry.
     pub(super) fn of(entry: &Entry) -> Receipt
+        requires { entry.now.number < most_entries }
         ensures { result ≡ receipt_of entry.now }
     {
         Receipt {
@@ -57,9 +52,10 @@ impl Receipt {
         }
     }
 
-    /// The entry's number.
+    /// The entry's number, below 1,000,000.
     pub fn number(&self) -> u64
-        ensures { result ≡ self.now.number }
+        ensures number { result ≡ self.now.number }
+        ensures few { result < most_entries }
     {
         self.number
     }

@@ -81,6 +81,13 @@ impl PlanTable {
         }
         Some(PlanTable { drivers, plans })
     }
+
+    /// Gives the drivers and the plans back.
+    pub fn into_parts(self) -> (Row<Row<(u8, DispatchId)>>, Row<FixedPlan>)
+        ensures { (result.0 ≡ self.drivers) × (result.1 ≡ self.plans) }
+    {
+        (self.drivers, self.plans)
+    }
 }
 
 impl Ask for PlanTable {

@@ -1,0 +1,55 @@
+-- The words `NAME demo` are taken, and stand for the subcommand `demo`.
+use Rattle.std.proofs.Common.{◌≡◌, ℕ, List, [], ◌∷◌, Some, None, Result, Ok, Err, OnOk, IfErr, is_ok, true, codes, option_map, refl, sym, ap, ap₂, ◌∙◌, rules}
+use Rattle.std.specs.Box.{box_value}
+use Rattle.clap.specs.Matches.{subcommand_name_of}
+use Rattle.clap.specs.Simple.{App, HasMatchesOf, subcommand_rows, subcommand_rows_of}
+use Rattle.clap.specs.Words.{fault_of, is_simple, is_simple_and_free, subcommand_of, takes}
+use Rattle.clap.specs.declared.parser.matches.ArgMatches.{ArgMatches}
+use Rattle.clap.specs.declared.parser.matches.ArgMatches.TheViews.{out-ArgMatches, out-SubCommand}
+use Rattle.clap.proofs.OnLiterals.{clap_on_literals}
+use Rattle.irpx.specs.CommandLine.{command_line}
+
+demo_is_taken : (name : List ℕ) → takes command_line (name ∷ codes "demo" ∷ []) ≡ true
+unfolding clap_on_literals
+demo_is_taken name = refl
+
+demo_is_met : (name : List ℕ) → option_map (λ found. found.0) (subcommand_of command_line (name ∷ codes "demo" ∷ [])) ≡ Some (codes "demo")
+unfolding clap_on_literals
+demo_is_met name = refl
+
+command_line_is_simple : is_simple command_line ≡ true
+unfolding clap_on_literals
+command_line_is_simple = refl
+
+command_line_is_free : is_simple_and_free command_line ≡ true
+unfolding clap_on_literals
+command_line_is_free = refl
+
+-- the subcommand's name, by itself and beside its matches
+met_name : (matches : ArgMatches) → option_map (λ found. found.0) (subcommand_rows_of matches) ≡ subcommand_name_of matches
+met_name matches =
+    elim (out-ArgMatches matches).subcommand as (λ found. option_map (λ pair. pair.0) (subcommand_rows found) ≡ option_map (λ inner. (out-SubCommand (box_value inner)).name.now) found)
+    [ None ↦ refl | Some inner ↦ refl ]
+
+-- clap's matches of `NAME demo` have the subcommand `demo`
+pub demo_is_named : (app : App) (matches : ArgMatches) (name : List ℕ) (words : List (List ℕ)) → app ≡ command_line → words ≡ name ∷ codes "demo" ∷ [] → HasMatchesOf app words matches → subcommand_name_of matches ≡ Some (codes "demo")
+demo_is_named app matches name words app_is words_are has =
+    sym (met_name matches)
+    ∙ ap (option_map (λ found. found.0)) ((has (ap is_simple app_is ∙ command_line_is_simple)).1 ∙ ap₂ subcommand_of app_is words_are)
+    ∙ demo_is_met name
+
+-- clap finds no fault in words that it takes
+pub no_fault : (app : App) (words : List (List ℕ)) → app ≡ command_line → (is_simple_and_free app ≡ true → fault_of app words ≡ []) → fault_of command_line words ≡ []
+no_fault app words app_is free = ap (λ this. fault_of this words) (sym app_is) ∙ free (ap is_simple_and_free app_is ∙ command_line_is_free)
+
+-- clap takes `NAME demo`
+pub takes_demo : (app : App) (name : List ℕ) (words : List (List ℕ)) → app ≡ command_line → words ≡ name ∷ codes "demo" ∷ [] → takes app words ≡ true
+takes_demo app name words app_is words_are = ap₂ takes app_is words_are ∙ demo_is_taken name
+
+pub on_ok : {T E P : Type 0} (result : Result T E) → P → OnOk result P
+on_ok (Ok value) holds = holds
+on_ok (Err error) holds = tt
+
+pub no_error : {T E : Type 0} (P : E → Type 0) (result : Result T E) → is_ok result ≡ true → IfErr result P
+no_error P (Ok value) is = tt
+no_error P (Err error) is = absurd (search rules)

@@ -1,0 +1,168 @@
+-- Texts that go out one after another: what was sent and where it stopped, for two texts and for the lines of values.
+use Rattle.std.proofs.Common.{◌≡◌, ℕ, zero, suc, ◌+◌, ◌-◌, ◌^◌, ◌<◌, ◌≤◌, ◌==◌, false, List, [], ◌∷◌, ◌++◌, map, length, take, drop, get_or, Option, Some, None, Ok, refl, sym, ap, ◌∙◌, subst, append_assoc, append-nil, arith, length-append, length-drop}
+use Rattle.std.proofs.Math.Seq.{take-add, take-length}
+use Rattle.std.proofs.lemmas.List.{take-append-drop, length-take-le}
+use Rattle.std.proofs.lemmas.Grind.{common_steps}
+use Rattle.std.proofs.lemmas.Bool.Decides.{nat_tests}
+use Rattle.std.specs.Io.KnownBytes.{Appends, Keeps}
+use Rattle.serde_json.specs.Data.{Data}
+use Rattle.irpx.specs.Out.{counted}
+use Rattle.irpx.specs.Json.{line_text}
+use Rattle.irpx.specs.Lines.{text_of}
+use Rattle.irpx.specs.Puts.{told, Sent, Stopped, Begins}
+
+-- what a slice from a place on holds
+slice_rest : {T : Type 0} (done : ℕ) (items : List T) → take (length items - done) (drop done items) ≡ drop done items
+slice_rest done items = rw (← length-drop done items) (take-length (drop done items))
+
+told_on : (before first second count : ℕ) → count ≡ told (before + first) → told (count + second) ≡ told (before + (first + second))
+told_on before first second count same = rw same (omega arith)
+
+-- ---- what went out
+
+pub appends_none : (old : Option (List ℕ)) → Appends old old []
+appends_none None = tt
+appends_none (Some bytes) = sym (append-nil bytes)
+
+pub appends_then : (first second : List ℕ) (old mid new : Option (List ℕ)) → Appends old mid first → Appends mid new second → Appends old new (first ++ second)
+appends_then first second None mid new before after = tt
+appends_then first second (Some a) None new before after = absurd before
+appends_then first second (Some a) (Some b) None before after = absurd after
+appends_then first second (Some a) (Some b) (Some c) before after = after ∙ ap (λ bytes. bytes ++ second) before ∙ append_assoc a first second
+
+pub appends_kept : (text : List ℕ) (old mid new : Option (List ℕ)) → Appends old mid text → Keeps mid new → Appends old new text
+appends_kept text None mid new before after = tt
+appends_kept text (Some a) None new before after = absurd before
+appends_kept text (Some a) (Some b) None before after = absurd after
+appends_kept text (Some a) (Some b) (Some c) before after = after ∙ before
+
+-- a front of a text, and then a front of the rest
+pub front_then : (text : List ℕ) (done taken : ℕ) (old mid new : Option (List ℕ)) → Appends old mid (take done text) → Appends mid new (take taken (take (length text - done) (drop done text))) → Appends old new (take (done + taken) text)
+front_then text done taken old mid new before after =
+    subst (λ bytes. Appends old new bytes)
+    (ap (λ rest. take done text ++ take taken rest) (slice_rest done text) ∙ sym (take-add done taken text))
+    (appends_then _ _ old mid new before after)
+
+-- what was taken of the rest is within the text
+pub front_within : (text : List ℕ) (done taken : ℕ) → done < length text → taken ≤ length (take (length text - done) (drop done text)) → done + taken ≤ length text
+front_within text done taken within bound =
+    let bound_here : taken ≤ length text - done = subst (λ size. taken ≤ size) (ap length (slice_rest done text) ∙ length-drop done text) bound in
+    omega arith
+
+-- a put that took something is no failure
+pub counted_taken : (taken : ℕ) (piece : List ℕ) (count : ℕ) → ¬ (taken ≡ 0) → counted (Ok taken) piece count ≡ count
+counted_taken taken piece count more =
+    let some : (taken == 0) ≡ false = grind (arith, nat_tests) in
+    rw some refl
+
+-- ---- two texts
+
+pub sent_then : (first second : List ℕ) (before middle after : ℕ) (old mid new : Option (List ℕ)) → Sent first before old mid middle → Sent second middle mid new after → Sent (first ++ second) before old new after
+sent_then first second before middle after old mid new one two = record {
+  gone = appends_then first second old mid new one.gone two.gone;
+  count = two.count ∙ told_on before (length first) (length second) middle one.count ∙ ap (λ size. told (before + size)) (sym (length-append first second));
+}
+
+pub stopped_then : (first second : List ℕ) (before middle after : ℕ) (old mid new : Option (List ℕ)) → Sent first before old mid middle → Stopped second middle mid new after → Stopped (first ++ second) before old new after
+stopped_then first second before middle after old mid new one two = record {
+  front = first ++ two.front;
+  rest = two.rest;
+  whole = ap (λ text. first ++ text) two.whole ∙ sym (append_assoc first two.front two.rest);
+  gone = appends_then first two.front old mid new one.gone two.gone;
+  count = two.count ∙ told_on before (length first) (length two.front) middle one.count ∙ ap (λ size. told (before + size)) (sym (length-append first two.front));
+}
+
+pub stopped_more : (first second : List ℕ) (before after : ℕ) (old new : Option (List ℕ)) → Stopped first before old new after → Stopped (first ++ second) before old new after
+stopped_more first second before after old new one = record {
+  front = one.front;
+  rest = one.rest ++ second;
+  whole = ap (λ text. text ++ second) one.whole ∙ append_assoc one.front one.rest second;
+  gone = one.gone;
+  count = one.count;
+}
+
+-- the first bytes of a text
+pub stopped_at : (text : List ℕ) (before done : ℕ) (old new : Option (List ℕ)) → done ≤ length text → Appends old new (take done text) → Stopped text before old new (told (before + done))
+stopped_at text before done old new within gone = record {
+  front = take done text;
+  rest = drop done text;
+  whole = sym (take-append-drop done text);
+  gone = gone;
+  count = ap (λ size. told (before + size)) (sym (length-take-le done text within));
+}
+
+-- ---- the lines of values
+
+take_all : {T : Type 0} (count : ℕ) (items : List T) → length items ≤ count → take count items ≡ items
+take_all count items within = grind (arith, common_steps)
+
+text_next : {T : Type 0} (form : T → Data) (items : List T) (index : ℕ) (item : T) → index < length items → item ≡ get_or items index item → text_of (map form (take (index + 1) items)) ≡ text_of (map form (take index items)) ++ line_text (form item)
+unfolding text_of
+text_next form [] index item within is = absurd (omega arith)
+text_next form (first ∷ others) zero item within is = ap (λ value. line_text (form value) ++ []) (sym is) ∙ append-nil (line_text (form item))
+text_next form (first ∷ others) (suc index) item within is =
+    ap (λ count. text_of (map form (take count (first ∷ others)))) (let same : suc index + 1 ≡ suc (index + 1) = omega arith in same)
+    ∙ ap (λ text. line_text (form first) ++ text) (text_next form others index item (omega arith) is)
+    ∙ sym (append_assoc (line_text (form first)) (text_of (map form (take index others))) (line_text (form item)))
+
+text_rest : {T : Type 0} (form : T → Data) (items : List T) (index : ℕ) → text_of (map form items) ≡ text_of (map form (take index items)) ++ text_of (map form (drop index items))
+unfolding text_of
+text_rest form [] zero = refl
+text_rest form [] (suc index) = refl
+text_rest form (first ∷ others) zero = refl
+text_rest form (first ∷ others) (suc index) =
+    ap (λ text. line_text (form first) ++ text) (text_rest form others index)
+    ∙ sym (append_assoc (line_text (form first)) (text_of (map form (take index others))) (text_of (map form (drop index others))))
+
+-- no line yet
+pub sent_none : (before : ℕ) (old : Option (List ℕ)) → before < 2 ^ 64 → Sent (text_of []) before old old before
+unfolding text_of
+sent_none before old fits = record { gone = appends_none old; count = omega arith }
+
+-- one more line
+pub sent_next : {T : Type 0} (form : T → Data) (items : List T) (index : ℕ) (item : T) (before middle after : ℕ) (old mid new : Option (List ℕ)) → index < length items → item ≡ get_or items index item
+    → Sent (text_of (map form (take index items))) before old mid middle → Sent (line_text (form item)) middle mid new after → Sent (text_of (map form (take (index + 1) items))) before old new after
+sent_next form items index item before middle after old mid new within is one two =
+    subst (λ text. Sent text before old new after) (sym (text_next form items index item within is)) (sent_then _ _ before middle after old mid new one two)
+
+-- the lines up to a fault
+pub stopped_next : {T : Type 0} (form : T → Data) (items : List T) (index : ℕ) (item : T) (before middle after : ℕ) (old mid new : Option (List ℕ)) → index < length items → item ≡ get_or items index item
+    → Sent (text_of (map form (take index items))) before old mid middle → Stopped (line_text (form item)) middle mid new after → Stopped (text_of (map form items)) before old new after
+stopped_next form items index item before middle after old mid new within is one two =
+    let more = text_of (map form (drop (index + 1) items)) in
+    let whole = text_rest form items (index + 1) ∙ ap (λ text. text ++ more) (text_next form items index item within is) in
+    subst (λ text. Stopped text before old new after) (sym whole) (stopped_more _ more before after old new (stopped_then _ _ before middle after old mid new one two))
+
+-- every line
+pub sent_all : {T : Type 0} (form : T → Data) (items : List T) (index before after : ℕ) (old new : Option (List ℕ)) → length items ≤ index → Sent (text_of (map form (take index items))) before old new after → Sent (text_of (map form items)) before old new after
+sent_all form items index before after old new within sent = subst (λ these. Sent (text_of (map form these)) before old new after) (take_all index items within) sent
+
+-- ---- a first line and the others
+
+text_cons : (first : Data) (others : List Data) → text_of (first ∷ others) ≡ line_text first ++ text_of others
+unfolding text_of
+text_cons first others = refl
+
+begins : (text : List ℕ) (after : ℕ) (old new : Option (List ℕ)) → Stopped text 0 old new after → Begins text old new after
+begins text after old new stopped = record {
+  front = stopped.front;
+  rest = stopped.rest;
+  whole = stopped.whole;
+  gone = stopped.gone;
+  count = stopped.count ∙ omega arith;
+}
+
+-- the first line and the others went out
+pub all_sent : (first : Data) (others : List Data) (middle after : ℕ) (old mid new : Option (List ℕ)) → Sent (line_text first) 0 old mid middle → Sent (text_of others) middle mid new after → Appends old new (text_of (first ∷ others))
+all_sent first others middle after old mid new one two =
+    subst (λ text. Appends old new text) (sym (text_cons first others)) (sent_then _ _ 0 middle after old mid new one two).gone
+
+-- the first line stopped
+pub first_stopped : (first : Data) (others : List Data) (after : ℕ) (old new : Option (List ℕ)) → Stopped (line_text first) 0 old new after → Begins (text_of (first ∷ others)) old new after
+first_stopped first others after old new one =
+    subst (λ text. Begins text old new after) (sym (text_cons first others)) (begins _ after old new (stopped_more _ (text_of others) 0 after old new one))
+
+-- the others stopped
+pub others_stopped : (first : Data) (others : List Data) (middle after : ℕ) (old mid new : Option (List ℕ)) → Sent (line_text first) 0 old mid middle → Stopped (text_of others) middle mid new after → Begins (text_of (first ∷ others)) old new after
+others_stopped first others middle after old mid new one two =
+    subst (λ text. Begins text old new after) (sym (text_cons first others)) (begins _ after old new (stopped_then _ _ 0 middle after old mid new one two))

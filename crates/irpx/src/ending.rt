@@ -1,0 +1,48 @@
+//! How the program ends.
+
+ghost use Rattle.std.specs.Prelude.{◌≡◌};
+ghost use Rattle.irpx.specs.Ending.{status_of};
+
+use std::process::ExitCode;
+
+/// How the program ends: its exit status, and the line for standard error (this project's own command line, README.md).
+#[derive(Clone, Copy, Debug, PartialEq, Eq)]
+pub enum Ending {
+    /// All was done: status 0, and no line.
+    Done,
+    /// Memory ran out: status 3.
+    NoMemory,
+    /// The words are none that the program takes: status 4.
+    OtherWords,
+    /// Standard input or output failed: status 5.
+    Failed,
+}
+
+impl Ending {
+    /// The exit status.
+    pub fn status(self) -> u8
+        ensures { result ≡ status_of self }
+    {
+        match self {
+            Ending::Done => 0,
+            Ending::NoMemory => 3,
+            Ending::OtherWords => 4,
+            Ending::Failed => 5,
+        }
+    }
+
+    /// The exit status, as a process ends with it.
+    pub fn code(self) -> ExitCode {
+        ExitCode::from(self.status())
+    }
+
+    /// The line for standard error, which is empty where all was done.
+    pub fn line(self) -> &'static str {
+        match self {
+            Ending::Done => "",
+            Ending::NoMemory => "irpx: out of memory",
+            Ending::OtherWords => "irpx: usage: irpx demo, run [--workers N] or check",
+            Ending::Failed => "irpx: input or output failed",
+        }
+    }
+}

@@ -1,0 +1,91 @@
+//! What the command line asks for.
+
+ghost use Rattle.std.specs.Prelude.{◌≡◌, ◌↔◌, [], Some, codes, map, IfErr, IfOk, IsSome, OnOk};
+ghost use Rattle.clap.specs.Matches.{subcommand_name_of};
+ghost use Rattle.clap.specs.Values.{kind_of};
+ghost use Rattle.clap.specs.Words.{app_of, fault_of};
+ghost use Rattle.irpx.specs.CommandLine.{IsDemo, command_line};
+
+use crate::orders::{Order, Unread};
+use clap::error::ErrorKind;
+use clap::{ArgMatches, Command, Error};
+use std::alloc::{AllocError, Global};
+use std::convert::AsStr;
+
+/// The command line that the program takes.
+fn command<'a>(alloc: Global) -> Result<Command<'a>, AllocError>
+    ensures { IfOk result (λ command. app_of command ≡ command_line) }
+{
+    let command = Command::new(alloc, "irpx").subcommand_required(true);
+    command.subcommand(Command::new(alloc, "demo"))
+}
+
+/// What clap's matches ask for.
+fn order_of(matches: &ArgMatches<'_>) -> Option<Order>
+    ensures { IsSome result ↔ (subcommand_name_of matches.now ≡ Some (codes "demo")) }
+{
+    let (name, _) = matches.subcommand()?;
+    if name == "demo" {
+        Some(Order::Demo)
+    } else {
+        None
+    }
+}
+
+/// Why clap refused the words.
+fn unread_of(error: &Error) -> Unread
+    ensures { (result ≡ Unread.Memory) ↔ (kind_of error.now ≡ ErrorKind.OutOfMemory) }
+{
+    if error.kind() == ErrorKind::OutOfMemory {
+        Unread::Memory
+    } else {
+        Unread::Usage
+    }
+}
+
+/// What the words ask for; the first is the program's name (this project's own command line, README.md).
+///
+/// # Errors
+///
+/// `Usage` for words that the program doesn't take, and for a request for help; `Memory` where memory ran out.
+pub fn order<'a, S: AsStr>(alloc: Global, words: &'a [S]) -> Result<Order, Unread>
+    // No order comes of words in which clap finds a fault, as a help flag or any further word is one.
+    ensures ok { OnOk result (fault_of command_line (map S.text words.entry.now) ≡ []) }
+    ensures demo { IsDemo (map S.text words.entry.now) → IfErr result (λ unread. unread ≡ Unread.Memory) }
+{
+    let command = command(alloc)?;
+    match command.try_get_matches_from(words) {
+        Ok(matches) => order_of(&matches).ok_or(Unread::Usage),
+        Err(error) => Err(unread_of(&error)),
+    }
+}
+
+#[cfg(test)]
+mod tests {
+    use super::*;
+    use std::test::Fail;
+
+    #[test]
+    fn demo_is_an_order(rt: HostRuntime) {
+        assert_eq!(rt; order(rt.alloc(), &["irpx", "demo"]), Ok(Order::Demo));
+    }
+
+    #[test]
+    fn other_words_are_none(rt: HostRuntime) -> Result<(), Fail> {
+        let none: [&str; 0] = [];
+        assert_eq!(rt; order(rt.alloc(), none.as_slice()), Err(Unread::Usage));
+        assert_eq!(rt; order(rt.alloc(), &["irpx"]), Err(Unread::Usage));
+        assert_eq!(rt;
+            order(rt.alloc(), &["irpx", "demo", "x"]),
+            Err(Unread::Usage)
+        );
+        for word in ["help", "--help", "-h", "run", "check", "dem", "Demo", ""] {
+            assert_eq!(rt;
+                order(rt.alloc(), &["irpx", word]),
+                Err(Unread::Usage),
+                "{word}"
+            );
+        }
+        Ok(())
+    }
+}
