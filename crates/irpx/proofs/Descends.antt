@@ -50,11 +50,11 @@ ends_at tables irp devices old target driver shown plan asked new at stops ends 
     let right = shown_to irp old devices (sent_to old target None) in
     let own = (facts_of devices target).driver in
     let planned : IsPlanned tables irp old devices (sent_to old target plan) =
-      subst (λ (given : DriverId × Shown). MatchOption (dispatch_for tables given.0 given.1.major) (plan ≡ None) (λ dispatch. IsPlanOf tables dispatch given.1 plan))
-      (λ i. (at.driver_is i, at.shown_is i)) at.planned in
+    subst (λ (given : DriverId × Shown). MatchOption (dispatch_for tables given.0 given.1.major) (plan ≡ None) (λ dispatch. IsPlanOf tables dispatch given.1 plan))
+    (λ i. (at.driver_is i, at.shown_is i)) at.planned in
     let listed : as_question right (dispatch_for tables own right.major) plan ++ [] ≡ asked =
-      append-nil (as_question right (dispatch_for tables own right.major) plan)
-      ∙ sym (at.listed ∙ (λ i. as_question (at.shown_is i) (dispatch_for tables (at.driver_is i) (at.shown_is i).major) plan)) in
+    append-nil (as_question right (dispatch_for tables own right.major) plan)
+    ∙ sym (at.listed ∙ (λ i. as_question (at.shown_is i) (dispatch_for tables (at.driver_is i) (at.shown_is i).major) plan)) in
     subst (λ list. Descended tables irp devices old target list new (replied_status (sent_to old target plan ∷ []))) listed
     (sent_alone tables irp devices old target plan new [] at.lower at.within (target_first devices target at.stacks at.created) planned stops ends)
 
@@ -117,11 +117,10 @@ pub held_alone : (tables : Tables) (irp : IrpRef) (devices : DevicesValue) (old 
 held_alone tables irp devices old target driver shown plan asked new cancel at is none left =
     let holds : plan ≡ Some (Hold None) = is ∙ ap (λ given. Some (Hold given)) none in
     let bare : new ≡ held_by old target =
-      left ∙ (λ i. record (after_mark (after_enter old (record { 0 = target })) (first_location old)) { owner = Device (record { 0 = target }); cancel_routine = none i }) ∙ held_is old target at.lower at.within in
-    (
+    left ∙ (λ i. record (after_mark (after_enter old (record { 0 = target })) (first_location old)) { owner = Device (record { 0 = target }); cancel_routine = none i }) ∙ held_is old target at.lower at.within in (
       ends_at tables irp devices old target driver shown (Some (Hold None)) asked new
-      (subst (λ given. IsAskedAt tables irp devices old target driver shown given asked) holds at) refl
-      (refl, bare),
+          (subst (λ given. IsAskedAt tables irp devices old target driver shown given asked) holds at) refl
+          (refl, bare),
       bare,
     )
 

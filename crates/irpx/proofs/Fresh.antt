@@ -50,22 +50,22 @@ stands_new counts state slot packet plain sound stands = record {
       | inr old ↦ let drawn = stands.facts.drawn other there old in omega (arith, drawn)
     ];
     apart = λ one two first second at_one at_two same.
-      elim (new_or_old state slot packet one first at_one) as (λ _. one ≡ two) [
-        | inl new_one ↦ elim (new_or_old state slot packet two second at_two) as (λ _. one ≡ two) [
-          | inl new_two ↦ new_one.0 ∙ sym new_two.0
-          | inr old_two ↦
-              let drawn = stands.facts.drawn two second old_two in
-              let number : first.use_no ≡ state.next_use = ap (λ (live : LivePacket). live.use_no) new_one.1 in
-              absurd (omega (arith, drawn, number, same))
-        ]
-        | inr old_one ↦ elim (new_or_old state slot packet two second at_two) as (λ _. one ≡ two) [
-          | inl new_two ↦
-              let drawn = stands.facts.drawn one first old_one in
-              let number : second.use_no ≡ state.next_use = ap (λ (live : LivePacket). live.use_no) new_two.1 in
-              absurd (omega (arith, drawn, number, same))
-          | inr old_two ↦ stands.facts.apart one two first second old_one old_two same
-        ]
-      ];
+        elim (new_or_old state slot packet one first at_one) as (λ _. one ≡ two) [
+          | inl new_one ↦ elim (new_or_old state slot packet two second at_two) as (λ _. one ≡ two) [
+            | inl new_two ↦ new_one.0 ∙ sym new_two.0
+            | inr old_two ↦
+                let drawn = stands.facts.drawn two second old_two in
+                let number : first.use_no ≡ state.next_use = ap (λ (live : LivePacket). live.use_no) new_one.1 in
+                absurd (omega (arith, drawn, number, same))
+          ]
+          | inr old_one ↦ elim (new_or_old state slot packet two second at_two) as (λ _. one ≡ two) [
+            | inl new_two ↦
+                let drawn = stands.facts.drawn one first old_one in
+                let number : second.use_no ≡ state.next_use = ap (λ (live : LivePacket). live.use_no) new_two.1 in
+                absurd (omega (arith, drawn, number, same))
+            | inr old_two ↦ stands.facts.apart one two first second old_one old_two same
+          ]
+        ];
     stacks = stands.facts.stacks;
   };
   plain = λ other there at. elim (new_or_old state slot packet other there at) as (λ _. IsPlain there.packet) [

@@ -34,7 +34,7 @@ GoesOn refusal becomes old slot asked reply new =
 goes_here : (state : StateValue) (slot : ℕ) (refusal : Option Refusal) (becomes : PacketValue → Type 0) (live new : LivePacket) (asked : List Asked) (reply : Reply)
     → live_at state slot ≡ Some live → Goes refusal becomes live new asked reply
     → MatchOption refusal ((packet : PacketValue) × becomes packet × (putting state slot new ≡ putting state slot (record live { packet = packet })))
-      (λ given. Unasked asked reply (putting state slot new) (Refused given) state)
+    (λ given. Unasked asked reply (putting state slot new) (Refused given) state)
 goes_here state slot None becomes live new asked reply at goes = (goes.0, goes.1, ap (putting state slot) goes.2)
 goes_here state slot (Some refusal) becomes live new asked reply at goes =
     let same : putting state slot live ≡ state = λ i. record state { live = insert_same state.live slot live at i } in
@@ -49,9 +49,9 @@ goes_on state irp party refusal becomes live new asked reply slots none at put g
     let is = found state irp.slot live at in
     let after : putting state irp.slot new ≡ record state { live = slots } = λ i. record state { live = (sym (put_back state.live irp.slot new) ∙ sym put) i } in
     subst (λ (given : Option Refusal × LivePacket × StateValue).
-      MatchOption (or_else given.0 (refusal given.1.packet))
-        ((packet : PacketValue) × becomes given.1.packet packet × (given.2 ≡ putting state irp.slot (record given.1 { packet = packet })))
-        (λ refused. Unasked asked reply given.2 (Refused refused) state))
+    MatchOption (or_else given.0 (refusal given.1.packet))
+    ((packet : PacketValue) × becomes given.1.packet packet × (given.2 ≡ putting state irp.slot (record given.1 { packet = packet })))
+    (λ refused. Unasked asked reply given.2 (Refused refused) state))
     (λ i. (sym none i, sym is i, after i))
     (goes_here state irp.slot (refusal live.packet) (becomes live.packet) live new asked reply at goes)
 
@@ -92,9 +92,9 @@ stands_put counts state slot live new at number_same plain sound stands =
         packets = each_live (λ (given : LivePacket). IsSound counts given.packet) state.live slot new sound (λ other there apart found. stands.facts.packets other there found);
         drawn = λ other there found. let was = before other there found in subst (λ number. number < state.next_use) (sym was.2) (stands.facts.drawn other was.0 was.1);
         apart = λ one two first second at_one at_two same.
-          let was_one = before one first at_one in
-          let was_two = before two second at_two in
-          stands.facts.apart one two was_one.0 was_two.0 was_one.1 was_two.1 (sym was_one.2 ∙ same ∙ was_two.2);
+            let was_one = before one first at_one in
+            let was_two = before two second at_two in
+            stands.facts.apart one two was_one.0 was_two.0 was_one.1 was_two.1 (sym was_one.2 ∙ same ∙ was_two.2);
         stacks = stands.facts.stacks;
       };
       plain = each_live (λ (given : LivePacket). IsPlain given.packet) state.live slot new plain (λ other there apart found. stands.plain other there found);

@@ -63,9 +63,9 @@ passed_by_one packet target plan some within =
       size = length-set packet.locations (first - 1) left;
       lowest = omega arith;
       used = λ number from to.
-        let at : first ≡ number = omega arith in
-        subst (λ given. location_at (reached_by packet target plan) given ≡ used_location packet (sent_to packet target plan ∷ []) given) at
-        (at_written packet first left (omega arith) (omega arith) ∙ used_by_one packet target plan);
+          let at : first ≡ number = omega arith in
+          subst (λ given. location_at (reached_by packet target plan) given ≡ used_location packet (sent_to packet target plan ∷ []) given) at
+          (at_written packet first left (omega arith) (omega arith) ∙ used_by_one packet target plan);
       below = λ number one under. at_other packet first number left (λ same. omega arith);
       above = λ number over. at_other packet first number left (λ same. omega arith);
       others = refl;
@@ -94,7 +94,7 @@ pub sent_alone : (tables : Tables) (irp : IrpRef) (devices : DevicesValue) (old 
     → plans is_passing (sent_to old target plan) ≡ false
     → Ends irp (sent_to old target plan) (reached_by old target plan) unwinding new plan
     → Descended tables irp devices old target (question_at tables devices (sent_to old target plan) (shown_to irp old devices (sent_to old target plan)) ++ map as_asked unwinding) new
-      (replied_status (sent_to old target plan ∷ []))
+    (replied_status (sent_to old target plan ∷ []))
 sent_alone tables irp devices old target plan new unwinding some within down planned stops ends = record {
   frames = sent_to old target plan ∷ [];
   reached = reached_by old target plan;

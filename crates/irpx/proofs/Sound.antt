@@ -107,7 +107,7 @@ sound_set_next counts packet major word plain none sound =
     let location = location_with major word in
     let size : size_of (after_set_next packet major word) ≡ size_of packet = length-set packet.locations (packet.current - 1 - 1) location in
     let above : (number : ℕ) → packet.current ≤ number → location_at (after_set_next packet major word) number ≡ location_at packet number =
-      λ number from. at_other packet (packet.current - 1) number location (λ same. omega arith) in
+    λ number from. at_other packet (packet.current - 1) number location (λ same. omega arith) in
     sound_plain counts (after_set_next packet major word) (plain_set_next packet major word plain) (record {
       some = omega (arith, size, sound.some);
       few = omega (arith, size, sound.few);
@@ -126,7 +126,7 @@ held_by packet target = record (reached_by packet target (Some (Hold None))) { o
 pub plain_held : (packet : PacketValue) (target : ℕ) → IsPlain packet → IsPlain (held_by packet target)
 plain_held packet target plain = record {
   completion = still_none packet (first_location packet) (record (location_at packet (first_location packet)) { device = Some (record { 0 = target }); pending = (location_at packet (first_location packet)).pending || true })
-    (plain.completion (first_location packet)) plain.completion;
+      (plain.completion (first_location packet)) plain.completion;
   cancel = refl;
 }
 
@@ -145,12 +145,12 @@ sound_held counts packet target plain two sound =
       prepared = λ no. absurd (true≢false no);
       marked = λ _. ap (λ (given : Location). given.pending) here ∙ or-true (location_at packet first).pending;
       devices = λ number from to.
-        elim (cases_eq number first) as (λ _. is_some (location_at (held_by packet target) number).device ≡ true) [
-          | inl is ↦ ap (λ given. is_some (location_at (held_by packet target) given).device) is ∙ ap (λ (given : Location). is_some given.device) here
-          | inr other ↦
-              ap (λ (given : Location). is_some given.device) (at_other packet first number location (λ same. omega arith))
-              ∙ sound.devices number (omega arith) (omega (arith, size, to))
-        ];
+          elim (cases_eq number first) as (λ _. is_some (location_at (held_by packet target) number).device ≡ true) [
+            | inl is ↦ ap (λ given. is_some (location_at (held_by packet target) given).device) is ∙ ap (λ (given : Location). is_some given.device) here
+            | inr other ↦
+                ap (λ (given : Location). is_some given.device) (at_other packet first number location (λ same. omega arith))
+                ∙ sound.devices number (omega arith) (omega (arith, size, to))
+          ];
       originator = λ is. absurd (cc);
     })
 
@@ -158,22 +158,22 @@ sound_held counts packet target plain two sound =
 pub plain_reached : (packet : PacketValue) (target : ℕ) (plan : Option Plan) (status : Status) (information : ℕ) → IsPlain packet → IsPlain (with_status (reached_by packet target plan) status information)
 plain_reached packet target plan status information plain = record {
   completion = still_none packet (first_location packet) (record (location_at packet (first_location packet)) { device = Some (record { 0 = target }); pending = (location_at packet (first_location packet)).pending || plans is_pending (sent_to packet target plan) })
-    (plain.completion (first_location packet)) plain.completion;
+      (plain.completion (first_location packet)) plain.completion;
   cancel = plain.cancel;
 }
 
 pub plain_unwound : (packet : PacketValue) → IsPlain packet → IsPlain (unwound_packet packet [])
 plain_unwound packet plain = record {
   completion = λ number.
-    ap (λ locations. (slice_index_or locations (number - 1) cleared).setting) (ap (λ rest. replicate (size_of packet) cleared ++ rest) (drop-length packet.locations) ∙ append-nil (replicate (size_of packet) cleared))
-    ∙ ap (λ (location : Location). location.setting) (at_cleared (size_of packet) (number - 1));
+      ap (λ locations. (slice_index_or locations (number - 1) cleared).setting) (ap (λ rest. replicate (size_of packet) cleared ++ rest) (drop-length packet.locations) ∙ append-nil (replicate (size_of packet) cleared))
+      ∙ ap (λ (location : Location). location.setting) (at_cleared (size_of packet) (number - 1));
   cancel = plain.cancel;
 }
 
 pub sound_unwound : (counts : Known) (packet : PacketValue) → IsPlain packet → 1 ≤ size_of packet → size_of packet ≤ most_locations → IsSound counts (unwound_packet packet [])
 sound_unwound counts packet plain one sixteen =
     let size : size_of (unwound_packet packet []) ≡ size_of packet =
-      ap length (ap (λ rest. replicate (size_of packet) cleared ++ rest) (drop-length packet.locations) ∙ append-nil (replicate (size_of packet) cleared)) ∙ length-replicate (size_of packet) cleared in
+    ap length (ap (λ rest. replicate (size_of packet) cleared ++ rest) (drop-length packet.locations) ∙ append-nil (replicate (size_of packet) cleared)) ∙ length-replicate (size_of packet) cleared in
     sound_plain counts (unwound_packet packet []) (plain_unwound packet plain) (record {
       some = omega (arith, size, one);
       few = omega (arith, size, sixteen);

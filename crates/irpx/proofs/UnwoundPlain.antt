@@ -15,7 +15,7 @@ pub unwound_plain : (irp : IrpRef) (packet : PacketValue) → IsPlain packet →
 unwound_plain irp packet plain = record {
   asked_right = record {
     places = sym (none_pass (is_met_at packet []) (from_to packet.current (size_of packet)) (λ number.
-      ap (λ (setting : Option Setting). option_map_or (λ (given : Setting). meets_flags given packet.cancel (outcome_at packet [] number).status) setting false) (plain.completion number)));
+        ap (λ (setting : Option Setting). option_map_or (λ (given : Setting). meets_flags given packet.cancel (outcome_at packet [] number).status) setting false) (plain.completion number)));
     right = tt;
   };
   left = refl;

@@ -91,12 +91,7 @@ fn dispatches_of(alloc: Global, plans: &[FixedPlan]) -> Result<Row<Known>, Alloc
 }
 
 /// The header of a transcript that was made with these plans.
-fn header_of(
-    alloc: Global,
-    table: PlanTable,
-    locks: u32,
-    seats: u32,
-) -> Result<Header, AllocError>
+fn header_of(alloc: Global, table: PlanTable, locks: u32, seats: u32) -> Result<Header, AllocError>
     ensures { IfOk result (λ header. fixed_of header ≡ record { locks = locks; tables = tables_of table.drivers table.plans }) }
 {
     let (drivers, plans) = table.into_parts();

@@ -7,7 +7,7 @@ mod names;
 mod out;
 mod parts;
 #[cfg(test)]
-mod tests;
+pub mod tests;
 mod write;
 mod writer_out;
 

@@ -65,13 +65,7 @@ pub fn unwind(packet: &mut Packet)
 }
 
 /// What the dispatch of a device is shown of a packet that is sent to it, in its next lower location.
-fn shown_to(
-    packet: &Packet,
-    number: u32,
-    irp: IrpRef,
-    stacks: &Stacks,
-    device: DeviceId,
-) -> Shown
+fn shown_to(packet: &Packet, number: u32, irp: IrpRef, stacks: &Stacks, device: DeviceId) -> Shown
     requires next { number ≡ first_location packet.now }
     requires some { 1 ≤ number }
     requires within { number ≤ size_of packet.now }

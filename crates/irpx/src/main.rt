@@ -8,6 +8,8 @@ mod irp_routines;
 mod irp_text;
 mod irp_unwind;
 mod orders;
+#[cfg(test)]
+mod tests;
 mod words;
 
 use crate::ending::Ending;

@@ -1,6 +1,7 @@
 //! The manager with its history.
 
-ghost use Rattle.std.specs.Prelude.{◌≡◌, ℕ, ◌<◌, ◌≤◌, [], length, Err, IfOk, OnErr};
+ghost use Rattle.std.specs.Prelude.{◌≡◌, ℕ, ◌<◌, ◌≤◌, [], length, slice_get, Err, IfOk, OnErr};
+ghost use Rattle.std.specs.Option.{option_copied};
 ghost use Rattle.irp_types.specs.Histories.{IsLegal};
 ghost use Rattle.irpx.specs.PlanTables.{tables_of};
 ghost use Rattle.irpx.specs.Booked.{most_entries, Records};
@@ -69,6 +70,13 @@ impl Book {
         ensures few { result ≤ most_entries }
     {
         self.history.len()
+    }
+
+    /// The entry of a number, if there is one.
+    pub fn entry(&self, number: usize) -> Option<&Entry>
+        ensures { option_copied result ≡ slice_get self.now.history number }
+    {
+        self.history.get(number)
     }
 
     /// Makes a call and records it.

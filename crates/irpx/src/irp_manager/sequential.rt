@@ -19,9 +19,7 @@ use crate::irp_manager::slots::{Live, Slots};
 use crate::irp_routines::Ask;
 use irp_packet::Packet;
 use irp_stack::{NotCreated, Stacks};
-use irp_types::{
-    Asked, Call, DeviceId, DriverId, IrpRef, LockNo, Party, Refusal, Reply, Status,
-};
+use irp_types::{Asked, Call, DeviceId, DriverId, IrpRef, LockNo, Party, Refusal, Reply, Status};
 use std::alloc::{AllocError, Global};
 
 /// How many packets may be live.
@@ -152,7 +150,7 @@ impl Core {
     fn create_refusal(&self, drivers: u32, driver: DriverId, lock: LockNo) -> Option<Refusal>
         ensures { (fixed : Fixed) (drained : Bool) → length fixed.tables.drivers ≡ drivers → fixed.locks ≡ self.now.locks
             → first_refusal fixed (state_of self.now) drained (CreateDevice driver lock)
-                ≡ or_else result (first_failing (create_checks self.now.stacks)) }
+            ≡ or_else result (first_failing (create_checks self.now.stacks)) }
     {
         if driver.0 >= drivers {
             return Some(Refusal::NoDriver);

@@ -44,4 +44,3 @@ pub trait Ask {
     ghost dispatches_there: { (asker : Self) (driver : DriverId) (major : ℕ) (id : DispatchId)
         → dispatch_for (tables asker) driver major ≡ Some id → id.0 < length (tables asker).dispatches };
 }
-

@@ -10,4 +10,3 @@ pub enum FixedPlan {
     /// Holds the packet, without a cancel routine.
     Hold,
 }
-

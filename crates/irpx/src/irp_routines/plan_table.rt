@@ -24,7 +24,9 @@ pub struct PlanTable {
 fn is_named(driver: &[(u8, DispatchId)], count: usize) -> bool
     ensures { result ≡ is_named count driver.now }
 {
-    driver.iter().all(|entrance| (entrance.1.0 as usize) < count)
+    driver
+        .iter()
+        .all(|entrance| (entrance.1.0 as usize) < count)
 }
 
 impl FixedPlan {
@@ -101,7 +103,10 @@ impl Ask for PlanTable {
 
     fn dispatch_of(&self, driver: DriverId, major: u8) -> Option<DispatchId> {
         let entrances = self.drivers.as_slice().get(driver.0 as usize)?;
-        let found = entrances.as_slice().iter().find(|entrance| entrance.0 == major)?;
+        let found = entrances
+            .as_slice()
+            .iter()
+            .find(|entrance| entrance.0 == major)?;
         Some(found.1)
     }
 

@@ -11,7 +11,8 @@ use irp_types::{
 use std::alloc::{AllocError, Global};
 use std::test::Fail;
 
-const TRANSCRIPT: &str =
+/// The header and the four entries of the demonstration.
+pub const TRANSCRIPT: &str =
     r#"{"cancels":[],"completions":[0,0,0,0,0],"dispatches":[[0,0,0,0,0,0]],"drivers":[[[3,0]]],"form":1,"locks":1,"seats":1}
 {"asked":[],"call":{"do":"create_device","driver":0,"lock":0},"n":0,"reply":{"device":0},"seat":0}
 {"asked":[],"call":{"do":"allocate","size":1},"n":1,"reply":{"irp":[0,1]},"seat":0}
@@ -310,6 +311,17 @@ fn calls_have_their_forms(rt: HostRuntime) -> Result<(), Fail> {
             r#"{"by":2,"do":"complete","information":18446744073709551615,"irp":[0,1],"status":3221225760}"#,
         ),
         (Call::Look { irp: IRP }, r#"{"do":"look","irp":[0,1]}"#),
+        (
+            Call::Attach {
+                device: DeviceId(1),
+                to: DeviceId(0),
+            },
+            r#"{"device":1,"do":"attach","to":0}"#,
+        ),
+        (
+            Call::Detach { lower: DeviceId(3) },
+            r#"{"do":"detach","lower":3}"#,
+        ),
     ] {
         assert!(rt; is_written(rt.alloc(), &call, text)?, "{text}");
     }

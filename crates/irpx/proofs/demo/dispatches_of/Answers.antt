@@ -13,4 +13,4 @@ loop-plan-preserved c =
     c.in_ok-push.ensures.items
     ∙ ap (λ (items : List Known). items ++ no_routines ∷ []) c.loop-plan.invariant
     ∙ sym (ap (map (λ (plan : FixedPlan). no_routines)) (take_more plans index Hold c.loop-plan-test.true)
-      ∙ map-append (λ (plan : FixedPlan). no_routines) (take index plans) (get_or plans index Hold ∷ []))
+    ∙ map-append (λ (plan : FixedPlan). no_routines) (take index plans) (get_or plans index Hold ∷ []))

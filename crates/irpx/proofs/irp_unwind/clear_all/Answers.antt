@@ -11,5 +11,5 @@ returns c =
     let kept = c.loop-number.invariant in
     let count = length-replicate (size_of old) cleared in
     let locations : new.locations ≡ replicate (size_of old) cleared = ext_get_or cleared new.locations (replicate (size_of old) cleared) (kept.size ∙ sym count)
-      (λ place within. kept.cleared_below place (omega (arith, kept.size)) ∙ sym (at_cleared (size_of old) place)) in
+    (λ place within. kept.cleared_below place (omega (arith, kept.size)) ∙ sym (at_cleared (size_of old) place)) in
     kept.others ∙ (λ i. record old { locations = locations i })

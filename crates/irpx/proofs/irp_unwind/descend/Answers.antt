@@ -39,7 +39,7 @@ returns-in-Finish-clause-descended g c =
     let left = c.finish-in-Finish.ensures.finished ∙ ap (λ (packet : PacketValue). unwound_packet (with_status packet status information) []) c.enter.ensures in
     subst (λ (reply : Status). Descended tables c.args.irp c.args.stacks.now old c.args.target.0 asked c.finish-in-Finish.new.packet reply) (sym c.finish-in-Finish.ensures.status)
     (finished_by tables c.args.irp c.args.stacks.now old c.args.target.0 driver shown plan asked c.finish-in-Finish.new.packet status information at
-      (c.in-Some.is ∙ ap Some c.in-Finish.is) left)
+    (c.in-Some.is ∙ ap Some c.in-Finish.is) left)
 
 pub returns-in-Hold-clause-descended : goal.returns-in-Hold-clause-descended
 returns-in-Hold-clause-descended g c =

@@ -17,7 +17,7 @@ returns-clause-goes c irp =
     let view = c.live.view_is in
     let new : PacketValue = c.unwind.new.packet in
     let set : c.set_status.new.self ≡ with_status old.packet status information =
-      c.set_status.ensures ∙ ap (λ (live : LivePacket). with_status live.packet status information) view in
+    c.set_status.ensures ∙ ap (λ (live : LivePacket). with_status live.packet status information) view in
     let left : new ≡ unwound_packet (with_status old.packet status information) [] = c.unwind.ensures ∙ ap (λ packet. unwound_packet packet []) set in
     let plain : IsPlain (with_status old.packet status information) = record { completion = c.requires.plain.completion; cancel = c.requires.plain.cancel } in
     let unwound : Unwound irp (with_status old.packet status information) [] new = subst (Unwound irp (with_status old.packet status information) []) (sym left) (unwound_plain irp (with_status old.packet status information) plain) in

@@ -41,7 +41,7 @@ leads g c =
     let new = state_of c.apply.new.self in
     let applied = c.in-Ok.applied in
     let step : Step (before g c) old applied.drained c.args.call c.from_vec.result applied.reply new =
-      subst (λ (asked : List Asked). Step (before g c) old applied.drained c.args.call asked applied.reply new) (sym c.from_vec.ensures) (c.in-Ok.ensures.stepped.step (before g c) refl refl) in
+    subst (λ (asked : List Asked). Step (before g c) old applied.drained c.args.call asked applied.reply new) (sym c.from_vec.ensures) (c.in-Ok.ensures.stepped.step (before g c) refl refl) in
     let holds : IsEntryAt (before g c) (length c.self.inside.history.items) old (entry g c) new = record {
       numbered = place g c;
       lock = c.in-Ok.ensures.lock;

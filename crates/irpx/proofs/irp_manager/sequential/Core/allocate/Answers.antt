@@ -20,8 +20,8 @@ returns-in-Some-clause-stepped c tables drained stands =
     let reply : Reply = Refused c.in-Some.refusal in
     record {
       step = λ fixed same locks.
-        subst (λ (given : Option Refusal). MatchOption given (Effect fixed state (Allocate c.args.size) [] reply state) (λ refusal. Unasked [] reply state (Refused refusal) state))
-        (sym c.in-Some.is ∙ c.allocate_refusal.ensures.refusal fixed drained) (refl, refl, refl);
+          subst (λ (given : Option Refusal). MatchOption given (Effect fixed state (Allocate c.args.size) [] reply state) (λ refusal. Unasked [] reply state (Refused refusal) state))
+          (sym c.in-Some.is ∙ c.allocate_refusal.ensures.refusal fixed drained) (refl, refl, refl);
       stands = stands;
       locks = refl;
     }
@@ -37,14 +37,14 @@ returns-clause-stepped c tables drained stands =
     let same_slots = c.in_ok-slot.ensures.same in
     let vacant : fin.get state.live slot ≡ None = ap (λ (slots : Slots). fin.get slots slot) (sym same_slots) ∙ c.in_ok-slot.ensures.slot.0 in
     let put : live_of c.put.new.self.places.items ≡ fin.insert state.live slot (record { packet = new_packet size; use_no = number }) =
-      c.put.ensures ∙ (λ i. fin.insert (same_slots i) slot (record { packet = packet i; use_no = number })) in
+    c.put.ensures ∙ (λ i. fin.insert (same_slots i) slot (record { packet = packet i; use_no = number })) in
     let new : StateValue = record state { live = live_of c.put.new.self.places.items; next_use = number + 1 } in
     let is : new ≡ with_new_packet state slot (new_packet size) = λ i. record state { live = put i; next_use = number + 1 } in
     let reply : Reply = Irp (record { slot = slot; use_no = number }) in
     record {
       step = λ fixed same locks.
-        subst (λ (given : Option Refusal). MatchOption given (Effect fixed state (Allocate size) [] reply new) (λ refusal. Unasked [] reply new (Refused refusal) state))
-        (sym c.in_default.is ∙ c.allocate_refusal.ensures.refusal fixed drained) (slot, vacant, (refl, refl, is));
+          subst (λ (given : Option Refusal). MatchOption given (Effect fixed state (Allocate size) [] reply new) (λ refusal. Unasked [] reply new (Refused refusal) state))
+          (sym c.in_default.is ∙ c.allocate_refusal.ensures.refusal fixed drained) (slot, vacant, (refl, refl, is));
       stands = subst (StandsPlain tables.counts) (sym is) (stands_new tables.counts state slot (new_packet size) (plain_new size) (sound_new tables.counts size fits.0 fits.1) stands);
       locks = refl;
     }

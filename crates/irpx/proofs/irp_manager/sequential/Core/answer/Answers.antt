@@ -18,7 +18,7 @@ returns-in-CreateDevice-clause-stepped g c =
     (λ (reply : Reply). (given : Tables) (drained : Bool) → length given.drivers ≡ c.drivers.result → StandsPlain given.counts (state_of old) → Stepped given drained old call [] reply c.create_device.new.self)
     (λ (reply : Reply). (drained : Bool) → Stepped tables drained old c.args.call c.args.asked.now.items reply c.create_device.new.self)
     (λ reply stepped drained. handed tables drained old c.args.call call c.args.asked.now.items reply c.create_device.new.self c.in-CreateDevice.is c.requires.empty
-      (stepped tables drained (sym c.drivers.ensures) c.requires.stands))
+    (stepped tables drained (sym c.drivers.ensures) c.requires.stands))
     c.create_device.result c.create_device.ensures.stepped
 
 pub returns-in-Allocate-clause-stepped : goal.returns-in-Allocate-clause-stepped

@@ -27,9 +27,9 @@ returns-clause-stepped g c drained =
     let goes = c.send-reply.ensures.goes in
     record {
       step = λ fixed same locks. sent_step fixed drained state c.args.party irp target asked reply (record state { live = slots })
-        (goes_on state irp (party_refusal state c.args.party irp) (λ packet. send_refusal state.devices c.args.party packet target.0) (Sends fixed.tables irp state.devices target.0 asked reply) live new asked reply slots none at put
+          (goes_on state irp (party_refusal state c.args.party irp) (λ packet. send_refusal state.devices c.args.party packet target.0) (Sends fixed.tables irp state.devices target.0 asked reply) live new asked reply slots none at put
           (subst (λ (given : Tables). Goes (send_refusal state.devices c.args.party live.packet target.0) (Sends given irp state.devices target.0 asked reply live.packet) live new asked reply) (sym same) goes));
       stands = stands_on tables.counts state irp.slot (send_refusal state.devices c.args.party live.packet target.0) (Sends tables irp state.devices target.0 asked reply live.packet) live new asked reply slots at put goes
-        (λ plain. c.send-reply.ensures.plain) (λ plain sound. c.send-reply.ensures.sound tables.counts sound) c.requires.stands;
+          (λ plain. c.send-reply.ensures.plain) (λ plain sound. c.send-reply.ensures.sound tables.counts sound) c.requires.stands;
       locks = refl;
     }

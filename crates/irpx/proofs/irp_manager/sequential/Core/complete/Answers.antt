@@ -23,8 +23,8 @@ returns c tables drained stands =
     let goes = c.complete-reply.ensures.goes irp in
     record {
       step = λ fixed same locks. finished_step fixed drained state c.args.party irp c.args.status c.args.information reply (record state { live = slots })
-        (goes_on state irp (party_refusal state c.args.party irp) (λ packet. complete_refusal packet c.args.status) (Finishes irp c.args.status c.args.information [] reply) live new [] reply slots none at put goes);
+          (goes_on state irp (party_refusal state c.args.party irp) (λ packet. complete_refusal packet c.args.status) (Finishes irp c.args.status c.args.information [] reply) live new [] reply slots none at put goes);
       stands = stands_on tables.counts state irp.slot (complete_refusal live.packet c.args.status) (Finishes irp c.args.status c.args.information [] reply live.packet) live new [] reply slots at put goes
-        (λ plain. c.complete-reply.ensures.plain) (λ plain sound. c.complete-reply.ensures.sound tables.counts sound) stands;
+          (λ plain. c.complete-reply.ensures.plain) (λ plain sound. c.complete-reply.ensures.sound tables.counts sound) stands;
       locks = refl;
     }

@@ -20,10 +20,10 @@ returns-in-Some-clause-stepped c tables drained drivers stands =
     let reply : Reply = Refused c.in-Some.refusal in
     record {
       step = λ fixed same locks.
-        let count = ap (λ (given : Tables). length given.drivers) same ∙ drivers in
-        let checks = first_failing (create_checks state.devices) in
-        subst (λ (given : Option Refusal). MatchOption given (Effect fixed state (CreateDevice c.args.driver c.args.lock) [] reply state) (λ refusal. Unasked [] reply state (Refused refusal) state))
-        (sym (c.create_refusal.ensures fixed drained count locks ∙ ap (λ given. or_else given checks) c.in-Some.is)) (refl, refl, refl);
+          let count = ap (λ (given : Tables). length given.drivers) same ∙ drivers in
+          let checks = first_failing (create_checks state.devices) in
+          subst (λ (given : Option Refusal). MatchOption given (Effect fixed state (CreateDevice c.args.driver c.args.lock) [] reply state) (λ refusal. Unasked [] reply state (Refused refusal) state))
+          (sym (c.create_refusal.ensures fixed drained count locks ∙ ap (λ given. or_else given checks) c.in-Some.is)) (refl, refl, refl);
       stands = stands;
       locks = refl;
     }
@@ -37,11 +37,11 @@ returns-in-Ok-clause-stepped c tables drained drivers stands =
     let answered : reply ≡ Device (record { 0 = length state.devices.facts }) = λ i. Device (record { 0 = created.0 i }) in
     record {
       step = λ fixed same locks.
-        let count = ap (λ (given : Tables). length given.drivers) same ∙ drivers in
-        let checks = first_failing (create_checks state.devices) in
-        subst (λ (given : Option Refusal). MatchOption given (Effect fixed state (CreateDevice c.args.driver c.args.lock) [] reply new) (λ refusal. Unasked [] reply new (Refused refusal) state))
-        (sym (c.create_refusal.ensures fixed drained count locks ∙ ap (λ given. or_else given checks) c.in_default.is ∙ created.1))
-        (refl, answered, λ i. record state { devices = created.2 i });
+          let count = ap (λ (given : Tables). length given.drivers) same ∙ drivers in
+          let checks = first_failing (create_checks state.devices) in
+          subst (λ (given : Option Refusal). MatchOption given (Effect fixed state (CreateDevice c.args.driver c.args.lock) [] reply new) (λ refusal. Unasked [] reply new (Refused refusal) state))
+          (sym (c.create_refusal.ensures fixed drained count locks ∙ ap (λ given. or_else given checks) c.in_default.is ∙ created.1))
+          (refl, answered, λ i. record state { devices = created.2 i });
       stands = stands_devices tables.counts state c.create.new.self c.are_stacks.ensures stands;
       locks = refl;
     }
@@ -56,11 +56,11 @@ returns-in-Full-clause-stepped c tables drained drivers stands =
     let reply : Reply = Refused Full in
     record {
       step = λ fixed same locks.
-        let count = ap (λ (given : Tables). length given.drivers) same ∙ drivers in
-        let checks = first_failing (create_checks state.devices) in
-        subst (λ (given : Option Refusal). MatchOption given (Effect fixed state (CreateDevice c.args.driver c.args.lock) [] reply new) (λ refusal. Unasked [] reply new (Refused refusal) state))
-        (sym (c.create_refusal.ensures fixed drained count locks ∙ ap (λ given. or_else given checks) c.in_default.is ∙ full))
-        (refl, refl, same_state);
+          let count = ap (λ (given : Tables). length given.drivers) same ∙ drivers in
+          let checks = first_failing (create_checks state.devices) in
+          subst (λ (given : Option Refusal). MatchOption given (Effect fixed state (CreateDevice c.args.driver c.args.lock) [] reply new) (λ refusal. Unasked [] reply new (Refused refusal) state))
+          (sym (c.create_refusal.ensures fixed drained count locks ∙ ap (λ given. or_else given checks) c.in_default.is ∙ full))
+          (refl, refl, same_state);
       stands = subst (StandsPlain tables.counts) (sym same_state) stands;
       locks = refl;
     }

@@ -23,8 +23,8 @@ returns c tables drained stands =
     let goes = c.set_next-reply.ensures.goes in
     record {
       step = λ fixed same locks. filled_step fixed drained state c.args.party c.args.irp c.args.major c.args.word reply (record state { live = slots })
-        (goes_on state c.args.irp (party_refusal state c.args.party c.args.irp) (λ packet. set_next_refusal packet c.args.major) (Fills c.args.major c.args.word [] reply) live new [] reply slots none at put goes);
+          (goes_on state c.args.irp (party_refusal state c.args.party c.args.irp) (λ packet. set_next_refusal packet c.args.major) (Fills c.args.major c.args.word [] reply) live new [] reply slots none at put goes);
       stands = stands_on tables.counts state c.args.irp.slot (set_next_refusal live.packet c.args.major) (Fills c.args.major c.args.word [] reply live.packet) live new [] reply slots at put goes
-        (filled_plain c.args.major c.args.word reply live new goes) (filled_sound tables.counts c.args.major c.args.word reply live new goes) stands;
+          (filled_plain c.args.major c.args.word reply live new goes) (filled_sound tables.counts c.args.major c.args.word reply live new goes) stands;
       locks = refl;
     }

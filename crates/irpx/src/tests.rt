@@ -1,0 +1,384 @@
+//! Worked examples of the manager, the book and the demonstration. `docs/EXAMPLES.md` has them by name.
+
+use crate::demo::demo;
+use crate::ending::Ending;
+use crate::irp_manager::{Book, KnowsNothing, NotRecorded, Seat};
+use crate::irp_routines::{FixedPlan, PlanTable};
+use crate::irp_text::WriterOut;
+use crate::irp_text::tests::TRANSCRIPT;
+use irp_types::{
+    Asked, Call, DeviceId, DispatchId, DriverId, IrpRef, LockNo, Owner, Party, Plan, Refusal,
+    Reply, Row, Seen, Shown, Status,
+};
+use std::alloc::{AllocError, Global};
+use std::test::Fail;
+
+const READ: u8 = 0x03;
+
+const DEVICE_CONTROL: u8 = 0x0e;
+
+const DEVICE: DeviceId = DeviceId(0);
+
+const IRP: IrpRef = IrpRef { slot: 0, use_no: 1 };
+
+const ORIGINATOR: Party = Party::Originator;
+
+/// Finishes with success and information 5.
+const FINISHES: FixedPlan = FixedPlan::Finish {
+    status: Status::SUCCESS,
+    information: 5,
+};
+
+/// A book, and the one seat that makes calls.
+#[derive(Drop)]
+struct Session {
+    alloc: Global,
+    book: Book,
+    seat: Seat,
+}
+
+impl Session {
+    /// One driver, whose reads are planned so, and one remove lock.
+    fn new(alloc: Global, plan: FixedPlan) -> Result<Option<Session>, AllocError> {
+        let handlers = [(READ, DispatchId(0))].to_vec(alloc)?;
+        let mut drivers = Vec::new(alloc);
+        drivers.push(Row::from_vec(handlers))?;
+        let plans = [plan].to_vec(alloc)?;
+        let Some(table) = PlanTable::new(Row::from_vec(drivers), Row::from_vec(plans)) else {
+            return Ok(None);
+        };
+        Ok(Some(Session {
+            alloc,
+            book: Book::new(alloc, table, 1),
+            seat: Seat::new(0),
+        }))
+    }
+
+    fn call(&mut self, call: Call) -> Result<Reply, NotRecorded> {
+        let receipt = self
+            .book
+            .record(self.alloc, &self.seat, call, &KnowsNothing)?;
+        self.seat.saw(receipt.number() + 1);
+        Ok(receipt.reply())
+    }
+
+    fn create(&mut self) -> Result<Reply, NotRecorded> {
+        self.call(Call::CreateDevice {
+            driver: DriverId(0),
+            lock: LockNo(0),
+        })
+    }
+
+    fn fill(&mut self, irp: IrpRef, major: u8) -> Result<Reply, NotRecorded> {
+        self.call(Call::SetNext {
+            party: ORIGINATOR,
+            irp,
+            major,
+            word: 7,
+        })
+    }
+
+    fn send(&mut self, irp: IrpRef, target: DeviceId) -> Result<Reply, NotRecorded> {
+        self.call(Call::CallDriver {
+            party: ORIGINATOR,
+            irp,
+            target,
+        })
+    }
+
+    fn complete(&mut self, party: Party, status: Status) -> Result<Reply, NotRecorded> {
+        self.call(Call::Complete {
+            party,
+            irp: IRP,
+            status,
+            information: 4,
+        })
+    }
+
+    fn look(&mut self) -> Result<Reply, NotRecorded> {
+        self.call(Call::Look { irp: IRP })
+    }
+
+    /// What the newest entry asked.
+    fn asked(&self) -> Option<&[Asked]> {
+        let count = self.book.length();
+        if count == 0 {
+            return None;
+        }
+        Some(self.book.entry(count - 1)?.asked.as_slice())
+    }
+}
+
+/// A packet of one location, as Look shows it once it has ended.
+fn ended(status: Status, information: u64, pending_returned: bool) -> Reply {
+    Reply::Seen(Seen {
+        owner: Owner::Ended,
+        current: 2,
+        status,
+        information,
+        cancel: false,
+        cancel_routine: None,
+        pending_returned,
+        marked: false,
+    })
+}
+
+/// What the one dispatch is shown of a read, and what it plans.
+fn asked_of(plan: Plan) -> Asked {
+    let shown = Shown {
+        device: Some(DEVICE),
+        irp: IRP,
+        major: READ,
+        location: 1,
+        word: 7,
+        status: Status::SUCCESS,
+        information: 0,
+        pending_returned: false,
+        cancel: false,
+        context: 0,
+        has_lower: false,
+    };
+    Asked::Dispatch {
+        id: DispatchId(0),
+        shown,
+        plan,
+    }
+}
+
+#[test]
+fn one_device_finishes_one_packet(rt: HostRuntime) -> Result<(), Fail> {
+    let mut session = Session::new(rt.alloc(), FINISHES)?.ok_or("no table")?;
+    assert_eq!(rt; session.create()?, Reply::Device(DEVICE));
+    assert_eq!(rt; session.call(Call::Allocate { size: 1 })?, Reply::Irp(IRP));
+    assert_eq!(rt; session.fill(IRP, READ)?, Reply::Done);
+    assert_eq!(rt; session.send(IRP, DEVICE)?, Reply::Status(Status::SUCCESS));
+    let plan = Plan::Finish {
+        status: Status::SUCCESS,
+        information: 5,
+    };
+    assert_eq!(rt; session.asked(), Some([asked_of(plan)].as_slice()));
+    assert_eq!(rt; session.look()?, ended(Status::SUCCESS, 5, false));
+    assert_eq!(rt; session.book.length(), 5);
+    Ok(())
+}
+
+#[test]
+fn an_unhandled_major_is_an_invalid_request(rt: HostRuntime) -> Result<(), Fail> {
+    let mut session = Session::new(rt.alloc(), FINISHES)?.ok_or("no table")?;
+    session.create()?;
+    session.call(Call::Allocate { size: 1 })?;
+    assert_eq!(rt; session.fill(IRP, DEVICE_CONTROL)?, Reply::Done);
+    assert_eq!(rt;
+        session.send(IRP, DEVICE)?,
+        Reply::Status(Status(3221225488))
+    );
+    assert_eq!(rt; session.asked(), Some([].as_slice()));
+    assert_eq!(rt; session.look()?, ended(Status(3221225488), 0, false));
+    Ok(())
+}
+
+#[test]
+fn a_held_packet_is_marked_and_completed_once(rt: HostRuntime) -> Result<(), Fail> {
+    let mut session = Session::new(rt.alloc(), FixedPlan::Hold)?.ok_or("no table")?;
+    session.create()?;
+    session.call(Call::Allocate { size: 1 })?;
+    session.fill(IRP, READ)?;
+    assert_eq!(rt; session.send(IRP, DEVICE)?, Reply::Status(Status(259)));
+    assert_eq!(rt;
+        session.asked(),
+        Some([asked_of(Plan::Hold { cancel: None })].as_slice())
+    );
+    let held = Seen {
+        owner: Owner::Device(DEVICE),
+        current: 1,
+        status: Status::SUCCESS,
+        information: 0,
+        cancel: false,
+        cancel_routine: None,
+        pending_returned: false,
+        marked: true,
+    };
+    assert_eq!(rt; session.look()?, Reply::Seen(held));
+    let device = Party::Device(DEVICE);
+    assert_eq!(rt;
+        session.complete(device, Status(259))?,
+        Reply::Refused(Refusal::BadStatus)
+    );
+    assert_eq!(rt; session.complete(device, Status::SUCCESS)?, Reply::Done);
+    assert_eq!(rt; session.look()?, ended(Status::SUCCESS, 4, true));
+    assert_eq!(rt;
+        session.complete(device, Status::SUCCESS)?,
+        Reply::Refused(Refusal::Ended)
+    );
+    Ok(())
+}
+
+#[test]
+fn a_packet_is_not_sent_unprepared(rt: HostRuntime) -> Result<(), Fail> {
+    let mut session = Session::new(rt.alloc(), FixedPlan::Hold)?.ok_or("no table")?;
+    session.create()?;
+    session.call(Call::Allocate { size: 1 })?;
+    assert_eq!(rt;
+        session.send(IRP, DEVICE)?,
+        Reply::Refused(Refusal::NotPrepared)
+    );
+    Ok(())
+}
+
+#[test]
+fn a_stack_of_two_needs_two_locations(rt: HostRuntime) -> Result<(), Fail> {
+    let mut session = Session::new(rt.alloc(), FINISHES)?.ok_or("no table")?;
+    let upper = DeviceId(1);
+    session.create()?;
+    assert_eq!(rt; session.create()?, Reply::Device(upper));
+    let attach = Call::Attach {
+        device: upper,
+        to: DEVICE,
+    };
+    assert_eq!(rt; session.call(attach)?, Reply::Device(DEVICE));
+    session.call(Call::Allocate { size: 1 })?;
+    session.fill(IRP, READ)?;
+    assert_eq!(rt;
+        session.send(IRP, upper)?,
+        Reply::Refused(Refusal::TooShort)
+    );
+    assert_eq!(rt; session.asked(), Some([].as_slice()));
+    let unsent = Seen {
+        owner: Owner::Originator,
+        current: 2,
+        status: Status::SUCCESS,
+        information: 0,
+        cancel: false,
+        cancel_routine: None,
+        pending_returned: false,
+        marked: false,
+    };
+    assert_eq!(rt; session.look()?, Reply::Seen(unsent));
+    assert_eq!(rt; session.send(IRP, DEVICE)?, Reply::Status(Status::SUCCESS));
+    assert_eq!(rt;
+        session.call(Call::Detach { lower: DEVICE })?,
+        Reply::Device(upper)
+    );
+    assert_eq!(rt;
+        session.call(Call::Detach { lower: DEVICE })?,
+        Reply::Refused(Refusal::NothingAttached)
+    );
+    Ok(())
+}
+
+#[test]
+fn calls_are_refused_by_the_first_check(rt: HostRuntime) -> Result<(), Fail> {
+    let mut session = Session::new(rt.alloc(), FixedPlan::Hold)?.ok_or("no table")?;
+    let unknown = Call::CreateDevice {
+        driver: DriverId(1),
+        lock: LockNo(1),
+    };
+    assert_eq!(rt; session.call(unknown)?, Reply::Refused(Refusal::NoDriver));
+    let unlocked = Call::CreateDevice {
+        driver: DriverId(0),
+        lock: LockNo(1),
+    };
+    assert_eq!(rt; session.call(unlocked)?, Reply::Refused(Refusal::NoLock));
+    session.create()?;
+    assert_eq!(rt; session.look()?, Reply::Refused(Refusal::NoIrp));
+    assert_eq!(rt;
+        session.call(Call::Allocate { size: 0 })?,
+        Reply::Refused(Refusal::BadSize)
+    );
+    assert_eq!(rt;
+        session.call(Call::Allocate { size: 17 })?,
+        Reply::Refused(Refusal::BadSize)
+    );
+    session.call(Call::Allocate { size: 1 })?;
+    let stale = IrpRef { slot: 0, use_no: 2 };
+    assert_eq!(rt; session.fill(stale, READ)?, Reply::Refused(Refusal::Stale));
+    assert_eq!(rt; session.fill(IRP, 28)?, Reply::Refused(Refusal::BadMajor));
+    assert_eq!(rt;
+        session.complete(ORIGINATOR, Status(259))?,
+        Reply::Refused(Refusal::NoLocation)
+    );
+    assert_eq!(rt;
+        session.send(IRP, DeviceId(9))?,
+        Reply::Refused(Refusal::NoDevice)
+    );
+    session.fill(IRP, READ)?;
+    session.send(IRP, DEVICE)?;
+    assert_eq!(rt;
+        session.send(IRP, DEVICE)?,
+        Reply::Refused(Refusal::NotOwner)
+    );
+    let elsewhere = Call::CallDriver {
+        party: Party::Device(DEVICE),
+        irp: IRP,
+        target: DEVICE,
+    };
+    assert_eq!(rt;
+        session.call(elsewhere)?,
+        Reply::Refused(Refusal::WrongTarget)
+    );
+    assert_eq!(rt; session.fill(IRP, READ)?, Reply::Refused(Refusal::NotOwner));
+    Ok(())
+}
+
+#[test]
+fn a_seat_that_has_seen_more_is_told_the_length(rt: HostRuntime) -> Result<(), Fail> {
+    let mut session = Session::new(rt.alloc(), FINISHES)?.ok_or("no table")?;
+    session.create()?;
+    session.seat.saw(3);
+    assert_eq!(rt;
+        session.create().err(),
+        Some(NotRecorded::Behind { length: 1 })
+    );
+    assert_eq!(rt; session.book.length(), 1);
+    assert_eq!(rt; session.seat.number(), 0);
+    assert_eq!(rt; session.seat.seen(), 3);
+    Ok(())
+}
+
+#[test]
+fn a_receipt_tells_of_its_entry(rt: HostRuntime) -> Result<(), Fail> {
+    let mut session = Session::new(rt.alloc(), FINISHES)?.ok_or("no table")?;
+    session.create()?;
+    let seat = Seat::new(6);
+    let call = Call::Allocate { size: 2 };
+    let receipt = session
+        .book
+        .record(session.alloc, &seat, call, &KnowsNothing)?;
+    assert_eq!(rt; receipt.number(), 1);
+    assert_eq!(rt; receipt.seat(), 6);
+    assert_eq!(rt; receipt.call(), call);
+    assert_eq!(rt; receipt.lock(), None);
+    assert_eq!(rt; receipt.drained(), false);
+    assert_eq!(rt; receipt.reply(), Reply::Irp(IRP));
+    Ok(())
+}
+
+#[test]
+fn the_demonstration_prints_its_history(rt: HostRuntime) -> Result<(), Fail> {
+    let mut bytes: Vec<u8> = Vec::new(rt.alloc());
+    let ending = demo(rt.alloc(), &mut WriterOut::new(&mut bytes));
+    assert_eq!(rt; ending, Ending::Done);
+    assert_eq!(rt; bytes.as_slice(), TRANSCRIPT.as_bytes());
+    Ok(())
+}
+
+#[test]
+fn a_full_output_ends_the_demonstration(rt: HostRuntime) {
+    let mut room = [0u8; 40];
+    let mut short: &mut [u8] = &mut room;
+    let ending = demo(rt.alloc(), &mut WriterOut::new(&mut short));
+    assert_eq!(rt; ending, Ending::Failed);
+}
+
+#[test]
+fn endings_have_their_status_and_line(rt: HostRuntime) {
+    assert_eq!(rt; Ending::Done.status(), 0);
+    assert_eq!(rt; Ending::NoMemory.status(), 3);
+    assert_eq!(rt; Ending::OtherWords.status(), 4);
+    assert_eq!(rt; Ending::Failed.status(), 5);
+    assert_eq!(rt; Ending::Done.line(), "");
+    assert_eq!(rt; Ending::NoMemory.line(), "irpx: out of memory");
+    let usage = "irpx: usage: irpx demo, run [--workers N] or check";
+    assert_eq!(rt; Ending::OtherWords.line(), usage);
+    assert_eq!(rt; Ending::Failed.line(), "irpx: input or output failed");
+}
