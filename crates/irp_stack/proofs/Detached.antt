@@ -327,26 +327,26 @@ pub tied_detached : {records : List Device} {stacks : List (List ℕ)} {stack : 
 tied_detached {records = R} {stacks = S} {stack = s} {size = c} {lower = x} {upper = u} {bottom = b} {top = t} j =
     let l = line_of j in
     let M = detached R s c x u b t in
-    let T1 = regrouped S (take c s) in
+    let regrouped_low = regrouped S (take c s) in
     let T = parted S s c in
     let same_length : length M ≡ length R = detached_length j in
     let n1 : length (take c s) ≡ c = low_length j in
     let n2 : length (drop c s) ≡ length s - c = high_length j in
-    let long1 : length T1 ≡ length R = regrouped_length S (take c s) (take c s) ∙ j.tied.counted in
+    let long1 : length regrouped_low ≡ length R = regrouped_length S (take c s) (take c s) ∙ j.tied.counted in
     let low_line = line_low j in
     let high_line = line_high j in
     record {
-      counted = regrouped_length T1 (drop c s) (drop c s) ∙ long1 ∙ sym same_length;
+      counted = regrouped_length regrouped_low (drop c s) (drop c s) ∙ long1 ∙ sym same_length;
       placed = λ e lt.
           let lt1 : e < length R = omega (arith, lt, same_length) in
           let p = j.tied.placed e lt1 in
           elim (find_place (drop c s) e) as (λ _. IsPlaced M T e) [
-            | inl w ↦ placed_in M T (drop c s) e high_line w (λ k h. regrouped_in T1 (drop c s) (drop c s) k h (omega (arith, high_line.known k h, same_length, long1)))
+            | inl w ↦ placed_in M T (drop c s) e high_line w (λ k h. regrouped_in regrouped_low (drop c s) (drop c s) k h (omega (arith, high_line.known k h, same_length, long1)))
             | inr out ↦ elim (find_place (take c s) e) as (λ _. IsPlaced M T e) [
               | inl w ↦ placed_in M T (take c s) e low_line w (λ k h.
                   let h1 : k < c = omega (arith, h, n1) in
                   let away : IsOut (drop c s) (member_at (take c s) k) = subst (IsOut (drop c s)) (sym (low_at s c k h1)) (low_out j k h1) in
-                  regrouped_out T1 (drop c s) (drop c s) (member_at (take c s) k) away
+                  regrouped_out regrouped_low (drop c s) (drop c s) (member_at (take c s) k) away
                   ∙ regrouped_in S (take c s) (take c s) k h (omega (arith, low_line.known k h, same_length, j.tied.counted)))
               | inr out2 ↦
                   let not_in : (i : ℕ) → i < length s → member_at s i ≢ e = λ i hi q.
@@ -383,7 +383,7 @@ tied_detached {records = R} {stacks = S} {stack = s} {size = c} {lower = x} {upp
                   (λ q. away k h c j.more (sym j.upper_is ∙ sym q))
                   (λ q. away k h 0 h0 (sym j.bottom_is ∙ sym q)))
                   (λ k h.
-                  regrouped_out T1 (drop c s) (drop c s) (member_at (list_of S e) k) (off_high k h)
+                  regrouped_out regrouped_low (drop c s) (drop c s) (member_at (list_of S e) k) (off_high k h)
                   ∙ regrouped_out S (take c s) (take c s) (member_at (list_of S e) k) (off_low k h))
             ]
           ];

@@ -2,7 +2,7 @@
 use Rattle.std.specs.Prelude.{Bool, if◌then◌else◌, List, [], ◌∷◌, Option, Some, None, Result, Ok, Err}
 use Rattle.irp_types.specs.declared.refusal.Refusal.{Refusal}
 
--- whether a check fails, and the refusal that it gives then
+-- a check: true where it fails, and the refusal that it gives then
 abbrev pub Check : Type 0
 Check = Bool × Refusal
 

@@ -46,12 +46,12 @@ is_passing (Forward set) = true
 is_passing (ForwardPend set) = true
 
 -- whether a plan marks its location pending
-abbrev pub is_pending : Plan → Bool
-is_pending (Finish status information) = false
-is_pending (Hold cancel) = true
-is_pending Skip = false
-is_pending (Forward set) = false
-is_pending (ForwardPend set) = true
+abbrev pub marks_location : Plan → Bool
+marks_location (Finish status information) = false
+marks_location (Hold cancel) = true
+marks_location Skip = false
+marks_location (Forward set) = false
+marks_location (ForwardPend set) = true
 
 -- the setting that a plan puts into the next lower location
 abbrev pub set_by : Plan → Option Setting
@@ -101,7 +101,7 @@ shown_to irp packet devices frame =
       has_lower = is_some (lower_of devices frame.device);
     }
 
--- a dispatch is there, and planned what those routines that it may name allow
+-- a dispatch is there, and its plan is allowed, given the routines that it may name
 abbrev pub IsPlanOf : Tables → DispatchId → Shown → Option Plan → Type 0
 IsPlanOf tables dispatch shown plan =
     (known : Known) × (answer : Plan) × (known_of tables dispatch ≡ Some known) × (plan ≡ Some answer) × (is_plan_allowed known shown answer ≡ true)
@@ -158,10 +158,10 @@ used_location packet frames number =
       major = content.major;
       word = content.word;
       setting = if number == first then content.setting else setting_below frames number;
-      pending = ((number == first) && content.pending) || list_any (plans is_pending) (frames_in frames number);
+      pending = ((number == first) && content.pending) || list_any (plans marks_location) (frames_in frames number);
     }
 
--- the packet when the last frame has answered
+-- the packet when the last frame has answered, before the status of a finish or the owner of a hold is written
 pub record PassedDown (packet : PacketValue) (frames : List Frame) (reached : PacketValue) : Type 0 where
   pub size : size_of reached ≡ size_of packet
   pub lowest : 1 ≤ (last_frame frames).location
@@ -191,7 +191,7 @@ final_status (Some (ForwardPend set)) = pending
 
 -- the status of the reply: PENDING if some frame pends, else the one that the packet was finished with
 abbrev pub replied_status : List Frame → Status
-replied_status frames = if list_any (plans is_pending) frames then pending else final_status (last_frame frames).plan
+replied_status frames = if list_any (plans marks_location) frames then pending else final_status (last_frame frames).plan
 
 -- a packet was sent to the target: what was asked, the packet that is left, and the status of the reply
 pub record Descended (tables : Tables) (irp : IrpRef) (devices : DevicesValue) (old : PacketValue) (target : ℕ) (asked : List Asked) (new : PacketValue) (status : Status) : Type 0 where
@@ -203,3 +203,7 @@ pub record Descended (tables : Tables) (irp : IrpRef) (devices : DevicesValue) (
   pub ended : Ends irp (last_frame frames) reached unwinding new (last_frame frames).plan
   pub listed : asked ≡ questions_of tables irp old devices frames ++ map as_asked unwinding
   pub replied : status ≡ replied_status frames
+
+-- a packet whose sender is told another status than PENDING stands no lower than before
+abbrev pub StaysUp : PacketValue → PacketValue → Status → Type 0
+StaysUp old new status = (status ≡ pending → ⊥) → old.current ≤ new.current

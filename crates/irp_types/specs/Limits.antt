@@ -13,9 +13,21 @@ most_devices = 64
 abbrev pub most_live : ℕ
 most_live = 4096
 
--- the use number at which none is drawn any more
-abbrev pub last_use : ℕ
-last_use = 2 ^ 63
+-- drivers
+abbrev pub most_drivers : ℕ
+most_drivers = 64
+
+-- completion routines of one rule, and cancel routines
+abbrev pub most_routines : ℕ
+most_routines = 256
+
+-- dispatches
+abbrev pub most_dispatches : ℕ
+most_dispatches = 256
+
+-- use numbers are below this; the first is 1
+abbrev pub use_limit : ℕ
+use_limit = 2 ^ 63
 
 -- the greatest major function code
 abbrev pub last_major : ℕ

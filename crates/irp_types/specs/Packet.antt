@@ -39,6 +39,7 @@ abbrev pub cleared : Location
 cleared = location_with 0 0
 
 -- the content of a location by its number, from 1; that of a cleared one above the top
+-- (0 is no number; it reads location 1)
 abbrev pub location_at : PacketValue → ℕ → Location
 location_at packet number = slice_index_or packet.locations (number - 1) cleared
 
@@ -128,7 +129,7 @@ abbrev pub after_set_next : PacketValue → ℕ → ℕ → PacketValue
 after_set_next packet major word =
     record (with_location packet (packet.current - 1) (location_with major word)) { preparation = Filled }
 
--- the next lower location has what belongs to no device of the current one, and this setting
+-- the next lower location has the major and word of the current one, this setting, and nothing else
 abbrev pub after_copy : PacketValue → Option Setting → PacketValue
 after_copy packet setting =
     let here = location_at packet packet.current in

@@ -2,7 +2,7 @@
 use Rattle.std.specs.Prelude.{ℕ, ◌-◌, ◌==◌, Bool, true, false, not, ◌||◌, nat_lt, nat_le, is_some, List, [], ◌∷◌, ◌++◌, length, Option}
 use Rattle.std.specs.Option.{option_map_or}
 use Rattle.std.specs.FinMap as fin
-use Rattle.irp_types.specs.Limits.{most_locations, most_live, last_use}
+use Rattle.irp_types.specs.Limits.{most_locations, most_live, use_limit}
 use Rattle.irp_types.specs.Status.{is_completable}
 use Rattle.irp_types.specs.Checks.{Check, first_failing, or_else}
 use Rattle.irp_types.specs.Packet.{PacketValue, location_check, skip_check, preparation_check, set_next_refusal}
@@ -80,7 +80,7 @@ first_refusal fixed state drained (Attach device to) = first_failing (attach_che
 first_refusal fixed state drained (Detach lower) = first_failing (detach_checks state.devices lower.0)
 first_refusal fixed state drained (Allocate size) = first_failing (
     ((size == 0) || nat_lt most_locations size, BadSize)
-    ∷ (nat_le most_live (fin.len state.live) || nat_le last_use state.next_use, Full) ∷ [])
+    ∷ (nat_le most_live (fin.len state.live) || nat_le use_limit state.next_use, Full) ∷ [])
 first_refusal fixed state drained (SetNext party irp major word) =
     or_else (party_refusal state party irp) (set_next_refusal (packet_of state irp) major)
 first_refusal fixed state drained (CallDriver party irp target) =

@@ -19,12 +19,12 @@ use Rattle.irp_types.specs.declared.answer.Plan.{Plan}
 use Rattle.irp_types.specs.declared.answer.Plan.TheVariants.{Finish, Hold, Skip, Forward, ForwardPend}
 
 -- whether a rule lets a completion routine keep or continue, and replace, as this answer does
-abbrev pub keeps_rule : Rule → Shown → Answer → Bool
-keeps_rule Watch shown answer = not answer.keep && is_none answer.replacement
-keeps_rule Change shown answer = not answer.keep
-keeps_rule Keeper shown answer = answer.keep && is_none answer.replacement
-keeps_rule KeepOnError shown answer = beq answer.keep (not (is_success shown.status)) && is_none answer.replacement
-keeps_rule Free shown answer = true
+abbrev pub obeys : Rule → Shown → Answer → Bool
+obeys Watch shown answer = not answer.keep && is_none answer.replacement
+obeys Change shown answer = not answer.keep
+obeys Keeper shown answer = answer.keep && is_none answer.replacement
+obeys KeepOnError shown answer = beq answer.keep (not (is_success shown.status)) && is_none answer.replacement
+obeys Free shown answer = true
 
 -- the one mark that any answer may have: made where it continues, PendingReturned is shown and a device is shown
 abbrev pub right_mark : Shown → Bool → Bool
@@ -34,7 +34,7 @@ right_mark shown keep = not keep && (shown.pending_returned && is_some shown.dev
 abbrev pub is_allowed : Rule → Shown → Answer → Bool
 is_allowed rule shown answer =
     beq answer.mark (right_mark shown answer.keep)
-    && (option_map_or (λ (replacement : Replacement). is_completable replacement.status) answer.replacement true && keeps_rule rule shown answer)
+    && (option_map_or (λ (replacement : Replacement). is_completable replacement.status) answer.replacement true && obeys rule shown answer)
 
 -- what a cancel routine of a rule may answer
 abbrev pub is_cancel_allowed : CancelRule → CancelAnswer → Bool
@@ -52,7 +52,7 @@ count_of_rule known Keeper = known.keeper
 count_of_rule known KeepOnError = known.keep_on_error
 count_of_rule known Free = known.free
 
--- whether the routine of a setting is a known one
+-- whether the routine of a setting is there: its number is below the count of its rule
 abbrev pub is_known : Known → Setting → Bool
 is_known known setting = nat_lt setting.routine.no (count_of_rule known setting.routine.rule)
 

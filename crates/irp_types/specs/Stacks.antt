@@ -30,7 +30,7 @@ stack_of devices device = slice_index_or devices.stacks device []
 abbrev pub depth_of : DevicesValue → ℕ → ℕ
 depth_of devices device = unwrap_or (position (λ member. member == device) (stack_of devices device)) 0
 
--- the device's position in its stack, from 1 at the bottom
+-- the device's position in its stack, from 1 at the bottom; 1 for a device that was never created
 abbrev pub stack_size_of : DevicesValue → ℕ → ℕ
 stack_size_of devices device = depth_of devices device + 1
 
@@ -43,7 +43,7 @@ lower_of devices device =
 abbrev pub upper_of : DevicesValue → ℕ → Option ℕ
 upper_of devices device = slice_get (stack_of devices device) (depth_of devices device + 1)
 
--- the device that a cut above this one cuts off
+-- the device that a cut above this one cuts off; device 0 where none stands above, which a check refuses
 abbrev pub cut_off_by : DevicesValue → ℕ → ℕ
 cut_off_by devices lower = unwrap_or (upper_of devices lower) 0
 

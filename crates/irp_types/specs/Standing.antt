@@ -37,6 +37,7 @@ pub record IsCancellable (counts : Known) (packet : PacketValue) (routine : Canc
 
 -- the standing facts of one packet
 pub record IsSound (counts : Known) (packet : PacketValue) : Type 0 where
+  -- it has 1 to 16 locations, stands in one of them or above the top, and has a lower one where something is prepared
   pub some : 1 ≤ size_of packet
   pub few : size_of packet ≤ most_locations
   pub placed : 1 ≤ packet.current
@@ -62,7 +63,9 @@ pub record IsSound (counts : Known) (packet : PacketValue) : Type 0 where
 -- the standing facts of a state, where these many routines are there
 pub record StandingFacts (counts : Known) (state : StateValue) : Type 0 where
   pub packets : (slot : ℕ) (live : LivePacket) → live_at state slot ≡ Some live → IsSound counts live.packet
-  -- live use numbers were drawn, and differ
+  -- live use numbers were drawn, from 1 up, and differ
+  pub counter : 1 ≤ state.next_use
+  pub positive : (slot : ℕ) (live : LivePacket) → live_at state slot ≡ Some live → 1 ≤ live.use_no
   pub drawn : (slot : ℕ) (live : LivePacket) → live_at state slot ≡ Some live → live.use_no < state.next_use
   pub apart : (slot other : ℕ) (live another : LivePacket) → live_at state slot ≡ Some live → live_at state other ≡ Some another → live.use_no ≡ another.use_no → slot ≡ other
   pub stacks : AreStacks state.devices

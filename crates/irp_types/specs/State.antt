@@ -1,9 +1,10 @@
 -- The manager's state, and what is fixed while a manager lives.
-use Rattle.std.specs.Prelude.{ℕ, ◌≡◌, ◌<◌, ◌==◌, List, [], map, length, find, slice_get, slice_index_or, All, Option, unwrap_or}
+use Rattle.std.specs.Prelude.{ℕ, ◌≡◌, ◌<◌, ◌≤◌, ◌==◌, List, [], map, length, find, slice_get, slice_index_or, All, Option, unwrap_or}
 use Rattle.std.specs.List.Sorted.{IsStrictlyIncreasing}
 use Rattle.std.specs.Ordering.{nat_cmp}
 use Rattle.std.specs.Option.{option_map}
 use Rattle.std.specs.FinMap as fin
+use Rattle.irp_types.specs.Limits.{last_major, most_drivers, most_routines, most_dispatches}
 use Rattle.irp_types.specs.Rules.{IsWithin}
 use Rattle.irp_types.specs.Packet.{PacketValue, new_packet}
 use Rattle.irp_types.specs.Stacks.{DevicesValue, no_devices}
@@ -40,16 +41,31 @@ pub record Tables : Type 0 where
   pub dispatches : List Known
   pub cancel_rules : List CancelRule
 
--- a driver's majors rise, and each of its dispatches is there
+-- a driver's majors are major function codes and rise, and each of its dispatches is there
 pub record IsDriver (tables : Tables) (driver : List Entrance) : Type 0 where
   pub rising : IsStrictlyIncreasing (map (λ (entrance : Entrance). entrance.0) driver)
+  pub majors : All (λ (entrance : Entrance). entrance.0 ≤ last_major) driver
   pub named : All (λ (entrance : Entrance). entrance.1.0 < length tables.dispatches) driver
 
--- the tables agree with each other
+-- as many routines of each kind as there may be
+abbrev pub most_known : Known
+most_known = record {
+  watch = most_routines;
+  change = most_routines;
+  keeper = most_routines;
+  keep_on_error = most_routines;
+  free = most_routines;
+  cancel = most_routines;
+}
+
+-- the tables agree with each other, and are within the limits
 pub record AreTables (tables : Tables) : Type 0 where
   pub cancels : tables.counts.cancel ≡ length tables.cancel_rules
   pub known : All (λ known. IsWithin known tables.counts) tables.dispatches
   pub drivers : All (IsDriver tables) tables.drivers
+  pub few_routines : IsWithin tables.counts most_known
+  pub few_dispatches : length tables.dispatches ≤ most_dispatches
+  pub few_drivers : length tables.drivers ≤ most_drivers
 
 -- what is fixed while a manager lives: the number of remove locks, and the tables
 pub record Fixed : Type 0 where

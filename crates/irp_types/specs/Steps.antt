@@ -68,6 +68,7 @@ Effect fixed old (Complete party irp status information) asked reply new =
 Effect fixed old (Look irp) asked reply new = Unasked asked reply new (SeenAs (seen_of (packet_of old irp))) old
 
 -- one step: the first check that fails refuses the call, which changes nothing; else the call has its effect
+-- (that `drained` is false where the call deletes no device is said of the entry, in `IsEntryAt`)
 abbrev pub Step : Fixed → StateValue → Bool → Call → List Asked → Reply → StateValue → Type 0
 Step fixed old drained call asked reply new =
     MatchOption (first_refusal fixed old drained call) (Effect fixed old call asked reply new)

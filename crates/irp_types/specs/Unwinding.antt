@@ -64,8 +64,8 @@ abbrev pub from_to : ℕ → ℕ → List ℕ
 from_to first last = range_with_len first ((last + 1) - first)
 
 -- PendingReturned at a location: whether one from the current up to it was marked
-abbrev pub is_pending_at : PacketValue → ℕ → Bool
-is_pending_at packet number = list_any (λ lower. (location_at packet lower).pending) (from_to packet.current number)
+abbrev pub pending_returned_at : PacketValue → ℕ → Bool
+pending_returned_at packet number = list_any (λ lower. (location_at packet lower).pending) (from_to packet.current number)
 
 -- the first routine that kept the packet
 abbrev pub keeper_of : List Asking → Option Asking
@@ -89,7 +89,7 @@ shown_at irp packet asked number setting = record {
   word = (location_at packet number).word;
   status = (outcome_at packet asked number).status;
   information = (outcome_at packet asked number).information;
-  pending_returned = is_pending_at packet number;
+  pending_returned = pending_returned_at packet number;
   cancel = packet.cancel;
   context = setting.context;
   has_lower = false;
@@ -109,7 +109,7 @@ pub record AreAsked (irp : IrpRef) (packet : PacketValue) (asked : List Asking) 
   pub places : map place_of asked ≡ filter (is_met_at packet asked) (from_to packet.current (stop_of packet asked))
   pub right : AllByRecursion (IsAskedRight irp packet asked) asked
 
--- the owner of a packet that was kept: the device, or the originator above the top
+-- the owner of a packet that was kept: this device, or the originator where no device stands above
 abbrev pub owner_from : Option DeviceId → Owner
 owner_from None = Originator
 owner_from (Some device) = Device device
@@ -127,7 +127,7 @@ unwound_packet packet asked =
       current = stop + 1;
       status = (outcome_at packet asked (stop + 1)).status;
       information = (outcome_at packet asked (stop + 1)).information;
-      pending_returned = is_pending_at packet stop;
+      pending_returned = pending_returned_at packet stop;
       owner = owner_after packet asked;
       preparation = Nothing;
     }

@@ -19,9 +19,14 @@ pub enum Call {
         lock: LockNo,
     },
     /// Puts a device that stands alone on top of another's stack (WDK: "IoAttachDeviceToDeviceStack").
-    Attach { device: DeviceId, to: DeviceId },
+    Attach {
+        device: DeviceId,
+        to: DeviceId,
+    },
     /// Cuts the stack above this device (WDK: "IoDetachDevice").
-    Detach { lower: DeviceId },
+    Detach {
+        lower: DeviceId,
+    },
     /// A new packet with this many locations, 1 to 16 (WDK: "IoAllocateIrp").
     Allocate {
         size: u8,

@@ -7,7 +7,7 @@ pub fn history_goes_on()
     ensures { HistoryGoesOn }
 {}
 
-/// An entry settles the state that it leads to, so a legal history leads through one list of states.
+/// An entry settles the state that it leads to.
 pub fn entry_settles_next_state()
     ensures { EntrySettlesNextState }
 {}

@@ -1,7 +1,7 @@
 //! The numbers by which packets, devices, locks, drivers and closures are named.
 
 /// One use of a packet: its slot, and the number that the use was given when the packet was allocated or reused.
-/// A slot comes again once its packet was freed; a use number never does.
+/// A slot may come again once its packet was freed; a use number never does.
 #[derive(Clone, Copy, PartialEq, Eq, Debug)]
 pub struct IrpRef {
     pub slot: usize,

@@ -9,7 +9,8 @@ use crate::status::Status;
 #[derive(Clone, Copy, PartialEq, Eq, Debug)]
 pub struct Seen {
     pub owner: Owner,
-    /// The number of the current location; one above the size where the originator's turn is.
+    /// The number of the current location; one above the size where the packet stands above its highest location, as at
+    /// first and once it has ended.
     pub current: u32,
     pub status: Status,
     pub information: u64,

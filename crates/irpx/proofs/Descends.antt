@@ -1,5 +1,5 @@
 -- A packet that is passed on by nobody descends as it should.
-use Rattle.std.proofs.Common.{◌≡◌, ℕ, ◌+◌, ◌-◌, ◌<◌, ◌≤◌, Bool, true, false, ◌||◌, List, [], ◌∷◌, ◌++◌, map, length, Option, Some, None, MatchOption, is_none, refl, ap, sym, ◌∙◌, subst, arith}
+use Rattle.std.proofs.Common.{◌≡◌, ℕ, ◌+◌, ◌-◌, ◌<◌, ◌≤◌, true, false, ◌||◌, List, [], ◌∷◌, ◌++◌, length, Option, Some, None, MatchOption, is_none, refl, ap, sym, ◌∙◌, subst, arith}
 use Rattle.std.proofs.Math.Bool.{or-false, or-true}
 use Rattle.std.proofs.lemmas.List.{append-nil, set-set}
 use Rattle.std.specs.Prelude.{IfSome}
@@ -9,7 +9,7 @@ use Rattle.irp_types.specs.Packet.{PacketValue, size_of, location_at, with_locat
 use Rattle.irp_types.specs.Unwinding.{unwound_packet, Unwound}
 use Rattle.irp_types.specs.Stacks.{DevicesValue, facts_of, AreStacks}
 use Rattle.irp_types.specs.State.{Tables, dispatch_for}
-use Rattle.irp_types.specs.Descent.{plans, is_passing, is_pending, first_location, shown_to, as_question, IsPlanOf, IsPlanned, Ends, replied_status, Descended}
+use Rattle.irp_types.specs.Descent.{plans, is_passing, marks_location, first_location, shown_to, as_question, IsPlanOf, IsPlanned, Ends, replied_status, Descended}
 use Rattle.irp_types.specs.declared.names.IrpRef.{IrpRef}
 use Rattle.irp_types.specs.declared.names.DriverId.{DriverId}
 use Rattle.irp_types.specs.declared.names.CancelId.{CancelId}
@@ -59,14 +59,14 @@ ends_at tables irp devices old target driver shown plan asked new at stops ends 
     (sent_alone tables irp devices old target plan new [] at.lower at.within (target_first devices target at.stacks at.created) planned stops ends)
 
 -- the packet that was entered is the one that a plan without a mark reaches
-entered_is : (old : PacketValue) (target : ℕ) (plan : Option Plan) → plans is_pending (sent_to old target plan) ≡ false → after_enter old (record { 0 = target }) ≡ reached_by old target plan
+entered_is : (old : PacketValue) (target : ℕ) (plan : Option Plan) → plans marks_location (sent_to old target plan) ≡ false → after_enter old (record { 0 = target }) ≡ reached_by old target plan
 entered_is old target plan unmarked =
     let content = location_at old (first_location old) in
-    let mark : content.pending ≡ (content.pending || plans is_pending (sent_to old target plan)) = sym (or-false content.pending) ∙ ap (λ marked. content.pending || marked) (sym unmarked) in
+    let mark : content.pending ≡ (content.pending || plans marks_location (sent_to old target plan)) = sym (or-false content.pending) ∙ ap (λ marked. content.pending || marked) (sym unmarked) in
     λ i. record (with_location old (first_location old) (record content { device = Some (record { 0 = target }); pending = mark i })) { current = first_location old; preparation = Nothing }
 
 unwound_is : (irp : IrpRef) (old : PacketValue) (target : ℕ) (plan : Option Plan) (status : Status) (information : ℕ) (new : PacketValue) → IsPlain old
-    → plans is_pending (sent_to old target plan) ≡ false
+    → plans marks_location (sent_to old target plan) ≡ false
     → new ≡ unwound_packet (with_status (after_enter old (record { 0 = target })) status information) []
     → Unwound irp (with_status (reached_by old target plan) status information) [] new
 unwound_is irp old target plan status information new plain unmarked left =

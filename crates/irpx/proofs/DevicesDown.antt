@@ -1,8 +1,8 @@
 -- The first device that a sent packet comes to is the target.
-use Rattle.std.proofs.Common.{◌≡◌, ℕ, ◌+◌, ◌<◌, List, [], ◌∷◌, ◌++◌, length, take, reverse, ap, ◌∙◌}
+use Rattle.std.proofs.Common.{◌≡◌, ℕ, ◌<◌, [], ◌∷◌, length, take, reverse, ap, ◌∙◌}
 use Rattle.std.specs.Prelude.{slice_index_or}
 use Rattle.std.proofs.lemmas.List.{take_more, reverse-append}
-use Rattle.irp_types.specs.Stacks.{DevicesValue, stack_of, depth_of, stack_size_of, StandsInStack, AreStacks}
+use Rattle.irp_types.specs.Stacks.{DevicesValue, stack_of, depth_of, StandsInStack, AreStacks}
 use Rattle.irp_types.specs.Descent.{devices_down}
 
 pub target_first : (devices : DevicesValue) (target : ℕ) → AreStacks devices → target < length devices.facts → devices_down devices target 1 ≡ target ∷ []

@@ -1,5 +1,5 @@
 -- The standing facts once a packet or a device was made.
-use Rattle.std.proofs.Common.{◌≡◌, ℕ, ◌+◌, ◌<◌, ◌≤◌, Bool, false, cond, ◌||◌, ◌==◌, Option, Some, None, refl, sym, ◌∙◌, ap, subst, arith, ◌⊎◌, inl, inr}
+use Rattle.std.proofs.Common.{◌≡◌, ℕ, ◌+◌, ◌<◌, ◌≤◌, false, ◌||◌, ◌==◌, Some, sym, ◌∙◌, ap, subst, arith, ◌⊎◌, inl, inr}
 use Rattle.std.specs.Prelude.{nat_lt, if◌then◌else◌, Result, Ok, Err}
 use Rattle.std.proofs.lemmas.Bool.{cases_eq, or_from, ne_eqb, cond-false}
 use Rattle.std.proofs.lemmas.Option.{same_Some}
@@ -9,7 +9,7 @@ use Rattle.irp_types.specs.Packet.{PacketValue, new_packet}
 use Rattle.irp_types.specs.Stacks.{DevicesValue, AreStacks}
 use Rattle.irp_types.specs.State.{StateValue, LivePacket, live_at}
 use Rattle.irp_types.specs.Steps.{with_new_packet}
-use Rattle.irp_types.specs.Standing.{IsSound, StandingFacts}
+use Rattle.irp_types.specs.Standing.{IsSound}
 use Rattle.irp_types.specs.declared.routine.Known.{Known}
 use Rattle.irp_types.specs.declared.refusal.Refusal.{Refusal}
 use Rattle.irp_types.specs.declared.refusal.Refusal.TheVariants.{BadSize}
@@ -45,6 +45,11 @@ stands_new counts state slot packet plain sound stands = record {
       | inl new ↦ subst (λ (live : LivePacket). IsSound counts live.packet) (sym new.1) sound
       | inr old ↦ stands.facts.packets other there old
     ];
+    counter = omega arith;
+    positive = λ other there at. elim (new_or_old state slot packet other there at) as (λ _. 1 ≤ there.use_no) [
+      | inl new ↦ subst (λ (live : LivePacket). 1 ≤ live.use_no) (sym new.1) stands.facts.counter
+      | inr old ↦ stands.facts.positive other there old
+    ];
     drawn = λ other there at. elim (new_or_old state slot packet other there at) as (λ _. there.use_no < state.next_use + 1) [
       | inl new ↦ subst (λ (live : LivePacket). live.use_no < state.next_use + 1) (sym new.1) (omega arith)
       | inr old ↦ let drawn = stands.facts.drawn other there old in omega (arith, drawn)
@@ -76,6 +81,6 @@ stands_new counts state slot packet plain sound stands = record {
 
 pub stands_devices : (counts : Known) (state : StateValue) (devices : DevicesValue) → AreStacks devices → StandsPlain counts state → StandsPlain counts (record state { devices = devices })
 stands_devices counts state devices stacks stands = record {
-  facts = record { packets = stands.facts.packets; drawn = stands.facts.drawn; apart = stands.facts.apart; stacks = stacks };
+  facts = record { packets = stands.facts.packets; counter = stands.facts.counter; positive = stands.facts.positive; drawn = stands.facts.drawn; apart = stands.facts.apart; stacks = stacks };
   plain = stands.plain;
 }

@@ -1,13 +1,15 @@
 -- A call on one live packet: it was taken out of its slot, went, and was put back.
-use Rattle.std.proofs.Common.{◌≡◌, ℕ, ◌<◌, ◌≤◌, List, [], Option, Some, None, MatchOption, unwrap_or, refl, sym, ◌∙◌, ap, subst, inl, inr}
+use Rattle.std.proofs.Common.{◌≡◌, ℕ, ◌<◌, ◌≤◌, List, Option, Some, None, MatchOption, unwrap_or, refl, sym, ◌∙◌, ap, subst, inl, inr}
 use Rattle.std.proofs.lemmas.Bool.{cases_eq}
 use Rattle.std.proofs.lemmas.Option.{same_Some}
 use Rattle.std.specs.FinMap as fin
 use Rattle.irp_types.specs.Checks.{or_else}
 use Rattle.irp_types.specs.Packet.{PacketValue, new_packet}
 use Rattle.irp_types.specs.State.{StateValue, LivePacket, live_at, packet_at, packet_of, with_packet}
+use Rattle.irp_types.specs.Descent.{StaysUp}
 use Rattle.irp_types.specs.Steps.{Unasked}
-use Rattle.irp_types.specs.Standing.{IsSound, StandingFacts}
+use Rattle.irp_types.specs.declared.status.Status.{Status}
+use Rattle.irp_types.specs.Standing.{IsSound}
 use Rattle.irp_types.specs.declared.names.IrpRef.{IrpRef}
 use Rattle.irp_types.specs.declared.routine.Known.{Known}
 use Rattle.irp_types.specs.declared.refusal.Refusal.{Refusal}
@@ -17,7 +19,7 @@ use Rattle.irp_types.specs.declared.reply.Reply.TheVariants.{Refused}
 use Rattle.irpx.specs.Plain.{IsPlain, StandsPlain}
 use Rattle.irpx.specs.Slots.{Slots}
 use Rattle.irpx.specs.Calls.{Goes}
-use Rattle.irpx.proofs.Maps.{get_inserted, get_kept, get_left, put_back, insert_same}
+use Rattle.irpx.proofs.Maps.{get_inserted, get_kept, put_back, insert_same}
 
 -- the state once another packet was put into a slot
 abbrev pub putting : StateValue → ℕ → LivePacket → StateValue
@@ -25,6 +27,16 @@ putting state slot live = record state { live = fin.insert state.live slot live 
 
 found : (state : StateValue) (slot : ℕ) (live : LivePacket) → live_at state slot ≡ Some live → packet_at state slot ≡ live
 found state slot live at = ap (λ given. unwrap_or given (record { packet = new_packet 1; use_no = 0 })) at
+
+-- where a packet that was taken out and put back stands
+pub stays_on : (state : StateValue) (irp : IrpRef) (live new : LivePacket) (slots : Slots) (status : Status)
+    → live_at state irp.slot ≡ Some live → slots ≡ fin.insert (fin.remove state.live irp.slot) irp.slot new
+    → StaysUp live.packet new.packet status → StaysUp (packet_of state irp) (packet_of (record state { live = slots }) irp) status
+stays_on state irp live new slots status at put stays =
+    let after = record state { live = slots } in
+    let here : live_at after irp.slot ≡ Some new = ap (λ given. fin.get given irp.slot) put ∙ get_inserted (fin.remove state.live irp.slot) irp.slot new in
+    subst (λ (given : LivePacket × LivePacket). StaysUp given.0.packet given.1.packet status)
+    (λ i. (sym (found state irp.slot live at) i, sym (found after irp.slot new here) i)) stays
 
 -- what a call on the packet of a slot makes of the state, as its step has it
 abbrev pub GoesOn : Option Refusal → (PacketValue → Type 0) → StateValue → ℕ → List Asked → Reply → StateValue → Type 0
@@ -90,6 +102,8 @@ stands_put counts state slot live new at number_same plain sound stands =
     record {
       facts = record {
         packets = each_live (λ (given : LivePacket). IsSound counts given.packet) state.live slot new sound (λ other there apart found. stands.facts.packets other there found);
+        counter = stands.facts.counter;
+        positive = λ other there found. let was = before other there found in subst (λ number. 1 ≤ number) (sym was.2) (stands.facts.positive other was.0 was.1);
         drawn = λ other there found. let was = before other there found in subst (λ number. number < state.next_use) (sym was.2) (stands.facts.drawn other was.0 was.1);
         apart = λ one two first second at_one at_two same.
             let was_one = before one first at_one in

@@ -6,6 +6,7 @@ use Rattle.std.proofs.lemmas.Grind.{common_steps}
 use Rattle.std.proofs.lemmas.Bool.Decides.{nat_tests}
 use Rattle.std.specs.Io.KnownBytes.{Appends, Keeps}
 use Rattle.serde_json.specs.Data.{Data}
+use Rattle.serde_json.specs.Written.{compact_text}
 use Rattle.irpx.specs.Out.{counted}
 use Rattle.irpx.specs.Json.{line_text}
 use Rattle.irpx.specs.Lines.{text_of}
@@ -57,6 +58,9 @@ counted_taken taken piece count more =
 
 -- ---- two texts
 
+longer : (first second : List ℕ) → 0 < length first → 0 < length (first ++ second)
+longer first second some = omega (arith, length-append first second)
+
 pub sent_then : (first second : List ℕ) (before middle after : ℕ) (old mid new : Option (List ℕ)) → Sent first before old mid middle → Sent second middle mid new after → Sent (first ++ second) before old new after
 sent_then first second before middle after old mid new one two = record {
   gone = appends_then first second old mid new one.gone two.gone;
@@ -67,6 +71,7 @@ pub stopped_then : (first second : List ℕ) (before middle after : ℕ) (old mi
 stopped_then first second before middle after old mid new one two = record {
   front = first ++ two.front;
   rest = two.rest;
+  short = two.short;
   whole = ap (λ text. first ++ text) two.whole ∙ sym (append_assoc first two.front two.rest);
   gone = appends_then first two.front old mid new one.gone two.gone;
   count = two.count ∙ told_on before (length first) (length two.front) middle one.count ∙ ap (λ size. told (before + size)) (sym (length-append first two.front));
@@ -76,19 +81,37 @@ pub stopped_more : (first second : List ℕ) (before after : ℕ) (old new : Opt
 stopped_more first second before after old new one = record {
   front = one.front;
   rest = one.rest ++ second;
+  short = longer one.rest second one.short;
   whole = ap (λ text. text ++ second) one.whole ∙ append_assoc one.front one.rest second;
   gone = one.gone;
   count = one.count;
 }
 
 -- the first bytes of a text
-pub stopped_at : (text : List ℕ) (before done : ℕ) (old new : Option (List ℕ)) → done ≤ length text → Appends old new (take done text) → Stopped text before old new (told (before + done))
+pub stopped_at : (text : List ℕ) (before done : ℕ) (old new : Option (List ℕ)) → done < length text → Appends old new (take done text) → Stopped text before old new (told (before + done))
 stopped_at text before done old new within gone = record {
   front = take done text;
   rest = drop done text;
+  short = omega (arith, length-drop done text);
   whole = sym (take-append-drop done text);
   gone = gone;
-  count = ap (λ size. told (before + size)) (sym (length-take-le done text within));
+  count = ap (λ size. told (before + size)) (sym (length-take-le done text (omega arith)));
+}
+
+-- a line has a newline at least
+pub line_some : (value : Data) → 0 < length (line_text value)
+unfolding line_text
+line_some value = omega (arith, length-append (compact_text value) (10 ∷ []))
+
+-- no byte of a line went out
+pub stopped_first : (value : Data) (before : ℕ) (old : Option (List ℕ)) → before < 2 ^ 64 → Stopped (line_text value) before old old before
+stopped_first value before old fits = record {
+  front = [];
+  rest = line_text value;
+  whole = refl;
+  short = line_some value;
+  gone = appends_none old;
+  count = omega arith;
 }
 
 -- ---- the lines of values
@@ -139,7 +162,7 @@ sent_all form items index before after old new within sent = subst (λ these. Se
 
 -- ---- a first line and the others
 
-text_cons : (first : Data) (others : List Data) → text_of (first ∷ others) ≡ line_text first ++ text_of others
+pub text_cons : (first : Data) (others : List Data) → text_of (first ∷ others) ≡ line_text first ++ text_of others
 unfolding text_of
 text_cons first others = refl
 
@@ -147,6 +170,7 @@ begins : (text : List ℕ) (after : ℕ) (old new : Option (List ℕ)) → Stopp
 begins text after old new stopped = record {
   front = stopped.front;
   rest = stopped.rest;
+  short = stopped.short;
   whole = stopped.whole;
   gone = stopped.gone;
   count = stopped.count ∙ omega arith;

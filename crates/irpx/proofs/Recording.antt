@@ -1,14 +1,11 @@
 -- The history of a book, as it opens and as it grows.
-use Rattle.std.proofs.Common.{◌≡◌, ℕ, ◌<◌, ◌≤◌, Bool, true, false, List, [], ◌∷◌, ◌++◌, length, Option, Some, None, refl, sym, ◌∙◌, ap, subst, arith}
-use Rattle.std.specs.Prelude.{slice_get}
+use Rattle.std.proofs.Common.{◌≡◌, ℕ, Bool, false, List, [], ◌∷◌, ◌++◌, length, Option, Some, None, refl, sym, ◌∙◌, ap, subst, arith}
 use Rattle.std.proofs.lemmas.Option.{none-some}
 use Rattle.std.specs.Ordering.{nat_cmp}
 use Rattle.std.specs.FinMap as fin
-use Rattle.irp_types.specs.Stacks.{no_devices, has_neighbour, AreStacks}
+use Rattle.irp_types.specs.Stacks.{no_devices, AreStacks}
 use Rattle.irp_types.specs.State.{StateValue, LivePacket, Fixed, opening_state, live_at}
-use Rattle.irp_types.specs.Steps.{Step}
-use Rattle.irp_types.specs.Histories.{IsEntryAt, LeadsThrough, LeadsTo, IsLegal, HistoryGoesOn}
-use Rattle.irp_types.specs.Standing.{StandingFacts}
+use Rattle.irp_types.specs.Histories.{IsEntryAt, LeadsTo, IsLegal, HistoryGoesOn}
 use Rattle.irp_types.specs.declared.names.LockNo.{LockNo}
 use Rattle.irp_types.specs.declared.entry.Entry.{Entry}
 use Rattle.irpx.specs.Plain.{StandsPlain}
@@ -44,6 +41,8 @@ pub stands_opening : StandsPlain no_routines opening_state
 stands_opening = record {
   facts = record {
     packets = λ slot live at. absurd (none_live slot live at);
+    counter = omega arith;
+    positive = λ slot live at. absurd (none_live slot live at);
     drawn = λ slot live at. absurd (none_live slot live at);
     apart = λ slot other live another at. absurd (none_live slot live at);
     stacks = no_stacks;

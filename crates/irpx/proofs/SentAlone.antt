@@ -1,23 +1,20 @@
 -- A packet is sent to a device that passes nothing on: the descent has one frame.
-use Rattle.std.proofs.Common.{◌≡◌, ℕ, ◌+◌, ◌-◌, ◌<◌, ◌≤◌, ◌==◌, zero, suc, Bool, true, false, cond, ◌||◌, ◌&&◌, List, [], ◌∷◌, ◌++◌, map, filter, length, Option, Some, None, refl, ap, sym, ◌∙◌, subst, arith}
+use Rattle.std.proofs.Common.{◌≡◌, ℕ, ◌+◌, ◌-◌, ◌≤◌, ◌==◌, zero, suc, true, false, cond, ◌||◌, ◌&&◌, List, [], ◌∷◌, ◌++◌, map, Option, Some, refl, ap, sym, ◌∙◌, subst, arith}
 use Rattle.std.proofs.lemmas.Bool.{eq-eqb}
 use Rattle.std.proofs.Math.Bool.{or-false}
 use Rattle.std.proofs.lemmas.List.{length-set, append-nil}
 use Rattle.std.specs.Prelude.{EachIndex, slice_index_or, count_by, take, if◌then◌else◌}
 use Rattle.std.specs.List.{list_any}
 use Rattle.std.proofs.Common.{add-zero}
-use Rattle.irp_types.specs.Packet.{PacketValue, size_of, location_at, with_location, after_enter, after_mark}
+use Rattle.irp_types.specs.Packet.{PacketValue, size_of, location_at, with_location}
 use Rattle.irp_types.specs.Unwinding.{Asking, as_asked}
 use Rattle.irp_types.specs.Stacks.{DevicesValue}
 use Rattle.irp_types.specs.State.{Tables}
-use Rattle.irp_types.specs.Descent.{Frame, plans, is_copying, is_pending, is_passing, first_location, last_frame, no_frame, setting_below, frames_in, used_location, devices_down, shown_to, IsPlanned, question_at, AreFrames, PassedDown, Ends, replied_status, Descended}
-use Rattle.irp_types.specs.declared.names.DeviceId.{DeviceId}
+use Rattle.irp_types.specs.Descent.{plans, is_copying, marks_location, is_passing, first_location, last_frame, no_frame, setting_below, frames_in, used_location, devices_down, shown_to, IsPlanned, question_at, AreFrames, PassedDown, Ends, replied_status, Descended}
 use Rattle.irp_types.specs.declared.names.IrpRef.{IrpRef}
-use Rattle.irp_types.specs.declared.status.Status.{Status}
 use Rattle.irp_types.specs.declared.location.Location.{Location}
 use Rattle.irp_types.specs.declared.location.Preparation.TheVariants.{Nothing}
 use Rattle.irp_types.specs.declared.answer.Plan.{Plan}
-use Rattle.irp_types.specs.declared.asked.Asked.{Asked}
 use Rattle.irpx.specs.Plain.{sent_to}
 use Rattle.irpx.proofs.Locations.{at_written, at_other}
 
@@ -25,7 +22,7 @@ use Rattle.irpx.proofs.Locations.{at_written, at_other}
 abbrev left_by : PacketValue → ℕ → Option Plan → Location
 left_by packet target plan =
     let content = location_at packet (first_location packet) in
-    record content { device = Some (record { 0 = target }); pending = content.pending || plans is_pending (sent_to packet target plan) }
+    record content { device = Some (record { 0 = target }); pending = content.pending || plans marks_location (sent_to packet target plan) }
 
 -- the packet when the one frame has answered
 abbrev pub reached_by : PacketValue → ℕ → Option Plan → PacketValue
@@ -38,7 +35,7 @@ used_by_one packet target plan =
     let frame = sent_to packet target plan in
     let same : true ≡ (first == first) = sym (eq-eqb first first refl) in
     let here : frame ∷ [] ≡ frames_in (frame ∷ []) first = ap (λ there. cond there (frame ∷ []) []) same in
-    let pends : plans is_pending frame ≡ (plans is_pending frame || false) = sym (or-false (plans is_pending frame)) in
+    let pends : plans marks_location frame ≡ (plans marks_location frame || false) = sym (or-false (plans marks_location frame)) in
     (λ i. record {
       device = Some (record { 0 = target });
       major = content.major;
@@ -51,7 +48,7 @@ used_by_one packet target plan =
       major = content.major;
       word = content.word;
       setting = if same i then content.setting else setting_below (frame ∷ []) first;
-      pending = (same i && content.pending) || list_any (plans is_pending) (here i);
+      pending = (same i && content.pending) || list_any (plans marks_location) (here i);
     })
 
 passed_by_one : (packet : PacketValue) (target : ℕ) (plan : Option Plan) → 2 ≤ packet.current → packet.current ≤ size_of packet + 1

@@ -1,25 +1,21 @@
 -- The standing facts of a packet without routines, through each call.
-use Rattle.std.proofs.Common.{◌≡◌, ℕ, ◌+◌, ◌-◌, ◌<◌, ◌≤◌, Bool, true, false, cond, ◌||◌, List, [], ◌∷◌, ◌++◌, length, drop, replicate, Option, Some, None, is_some, refl, ap, sym, ◌∙◌, subst, arith, ◌⊎◌, inl, inr}
-use Rattle.std.specs.Prelude.{slice_index_or, if◌then◌else◌, nat_lt, nat_le}
+use Rattle.std.proofs.Common.{◌≡◌, ℕ, ◌+◌, ◌-◌, ◌<◌, ◌≤◌, Bool, true, false, ◌||◌, List, [], ◌∷◌, ◌++◌, length, replicate, Option, Some, None, is_some, refl, ap, sym, ◌∙◌, subst, arith, inl, inr}
+use Rattle.std.specs.Prelude.{slice_index_or, if◌then◌else◌, nat_le}
 use Rattle.std.proofs.Math.Bool.{or-true}
 use Rattle.std.proofs.Math.Seq.{drop-length}
 use Rattle.std.proofs.lemmas.List.{length-set, length-replicate, append-nil}
 use Rattle.std.proofs.lemmas.Bool.{false≢true, true≢false, leb-false, cases_eq}
 use Rattle.std.proofs.lemmas.Option.{none-some}
-use Rattle.irp_types.specs.Limits.{most_locations, last_major}
+use Rattle.irp_types.specs.Limits.{most_locations}
 use Rattle.irp_types.specs.Checks.{Check, first_failing}
-use Rattle.irp_types.specs.Packet.{PacketValue, size_of, location_at, location_with, with_location, with_status, cleared, new_packet, is_nothing, is_skipped, skip_check, lower_check, major_check, set_next_refusal, after_set_next}
-use Rattle.irp_types.specs.Unwinding.{Asking, unwound_packet, outcome_at, is_pending_at}
-use Rattle.irp_types.specs.Descent.{first_location, plans, is_pending}
+use Rattle.irp_types.specs.Packet.{PacketValue, size_of, location_at, location_with, with_status, cleared, new_packet, is_nothing, is_skipped, lower_check, major_check, set_next_refusal, after_set_next}
+use Rattle.irp_types.specs.Unwinding.{unwound_packet}
+use Rattle.irp_types.specs.Descent.{first_location, plans, marks_location}
 use Rattle.irp_types.specs.declared.status.Status.{Status}
 use Rattle.irp_types.specs.Refusals.{is_owned_by_device}
 use Rattle.irp_types.specs.Standing.{IsSound, own_location}
-use Rattle.irp_types.specs.declared.names.CancelId.{CancelId}
-use Rattle.irp_types.specs.declared.names.DeviceId.{DeviceId}
 use Rattle.irp_types.specs.declared.location.Location.{Location}
-use Rattle.irp_types.specs.declared.location.Owner.{Owner}
-use Rattle.irp_types.specs.declared.location.Owner.TheVariants.{Originator, Device, Ended}
-use Rattle.irp_types.specs.declared.location.Preparation.TheVariants.{Nothing, Filled}
+use Rattle.irp_types.specs.declared.location.Owner.TheVariants.{Originator, Device}
 use Rattle.irp_types.specs.declared.routine.Known.{Known}
 use Rattle.irp_types.specs.declared.refusal.Refusal.{Refusal}
 use Rattle.irp_types.specs.declared.refusal.Refusal.TheVariants.{AfterSkip, TooShort}
@@ -157,7 +153,7 @@ sound_held counts packet target plain two sound =
 -- the packet that an answer without routines finishes
 pub plain_reached : (packet : PacketValue) (target : ℕ) (plan : Option Plan) (status : Status) (information : ℕ) → IsPlain packet → IsPlain (with_status (reached_by packet target plan) status information)
 plain_reached packet target plan status information plain = record {
-  completion = still_none packet (first_location packet) (record (location_at packet (first_location packet)) { device = Some (record { 0 = target }); pending = (location_at packet (first_location packet)).pending || plans is_pending (sent_to packet target plan) })
+  completion = still_none packet (first_location packet) (record (location_at packet (first_location packet)) { device = Some (record { 0 = target }); pending = (location_at packet (first_location packet)).pending || plans marks_location (sent_to packet target plan) })
       (plain.completion (first_location packet)) plain.completion;
   cancel = plain.cancel;
 }
@@ -189,6 +185,6 @@ pub sound_finished : (counts : Known) (packet : PacketValue) (target : ℕ) (pla
     → IsSound counts (unwound_packet (with_status (reached_by packet target plan) status information) [])
 sound_finished counts packet target plan status information plain sound =
     let reached = with_status (reached_by packet target plan) status information in
-    let location : Location = record (location_at packet (first_location packet)) { device = Some (record { 0 = target }); pending = (location_at packet (first_location packet)).pending || plans is_pending (sent_to packet target plan) } in
+    let location : Location = record (location_at packet (first_location packet)) { device = Some (record { 0 = target }); pending = (location_at packet (first_location packet)).pending || plans marks_location (sent_to packet target plan) } in
     let size : size_of reached ≡ size_of packet = length-set packet.locations (first_location packet - 1) location in
     sound_unwound counts reached (plain_reached packet target plan status information plain) (omega (arith, size, sound.some)) (omega (arith, size, sound.few))

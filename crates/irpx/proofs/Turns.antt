@@ -2,8 +2,7 @@
 use Rattle.std.proofs.Common.{◌≡◌, ℕ, Bool, List, [], Option, Some, None, MatchOption, refl, sym, ◌∙◌, ap, subst}
 use Rattle.irp_types.specs.Checks.{or_else}
 use Rattle.irp_types.specs.Packet.{PacketValue, set_next_refusal, after_set_next}
-use Rattle.irp_types.specs.Stacks.{DevicesValue}
-use Rattle.irp_types.specs.State.{StateValue, LivePacket, Fixed, Tables, packet_of, with_packet}
+use Rattle.irp_types.specs.State.{StateValue, LivePacket, Fixed, packet_of, with_packet}
 use Rattle.irp_types.specs.Refusals.{party_refusal, send_refusal, complete_refusal}
 use Rattle.irp_types.specs.Steps.{Unasked, Effect, Step}
 use Rattle.irp_types.specs.Standing.{IsSound}

@@ -1,8 +1,8 @@
 -- A packet without routines is unwound without a question.
-use Rattle.std.proofs.Common.{◌≡◌, ℕ, ◌+◌, ◌-◌, ◌<◌, ◌≤◌, zero, suc, Bool, true, false, cond, List, [], ◌∷◌, ◌++◌, filter, length, drop, replicate, Option, Some, None, refl, ap, sym, ◌∙◌, subst, arith}
+use Rattle.std.proofs.Common.{◌≡◌, ℕ, Bool, false, cond, List, [], ◌∷◌, filter, Option, refl, ap, sym, ◌∙◌}
 use Rattle.std.specs.Option.{option_map_or}
-use Rattle.irp_types.specs.Packet.{PacketValue, size_of, location_at, cleared}
-use Rattle.irp_types.specs.Unwinding.{Asking, is_met_at, meets_flags, outcome_at, from_to, unwound_packet, Unwound}
+use Rattle.irp_types.specs.Packet.{PacketValue, size_of}
+use Rattle.irp_types.specs.Unwinding.{is_met_at, meets_flags, outcome_at, from_to, unwound_packet, Unwound}
 use Rattle.irp_types.specs.declared.names.IrpRef.{IrpRef}
 use Rattle.irp_types.specs.declared.routine.Setting.{Setting}
 use Rattle.irpx.specs.Plain.{IsPlain}

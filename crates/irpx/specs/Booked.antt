@@ -1,7 +1,6 @@
 -- A book, a seat and a receipt as callers see them, and what recording a call does.
-use Rattle.std.specs.Prelude.{ℕ, ◌≡◌, ◌<◌, ◌≤◌, Bool, List, [], ◌∷◌, ◌++◌, length, Option}
+use Rattle.std.specs.Prelude.{ℕ, ◌≡◌, ◌≤◌, Bool, List, [], ◌∷◌, ◌++◌, length, Option}
 use Rattle.irp_types.specs.State.{Fixed}
-use Rattle.irp_types.specs.Histories.{IsLegal}
 use Rattle.irp_types.specs.declared.names.LockNo.{LockNo}
 use Rattle.irp_types.specs.declared.call.Call.{Call}
 use Rattle.irp_types.specs.declared.reply.Reply.{Reply}
@@ -45,8 +44,8 @@ receipt_of entry = record {
   reply = entry.reply;
 }
 
--- the history grew by one entry: it is this seat's and this call's, it stands after all that the seat had seen, what it
--- knew of the lock is what the note told, its questions were answered as they may be, and the receipt tells of it
+-- the history grew by one entry: it is this seat's and this call's, it stands after all that the seat had seen, its
+-- `drained` is what the note knows of its lock, its questions were answered as they may be, and the receipt tells of it
 pub record Records (seat : Seated) (call : Call) (knows : LockNo → Bool) (receipt : Receipted) (old new : Booked) : Type 0 where
   pub entry : Entry
   pub appended : new.history ≡ old.history ++ entry ∷ []

@@ -1,5 +1,5 @@
 -- What a call on one live packet does.
-use Rattle.std.specs.Prelude.{ℕ, ◌≡◌, Bool, false, not, ◌==◌, List, [], ◌∷◌, ◌++◌, Option, Some, None}
+use Rattle.std.specs.Prelude.{ℕ, ◌≡◌, not, ◌==◌, List, [], ◌∷◌, Option, Some, None}
 use Rattle.irp_types.specs.Checks.{first_failing}
 use Rattle.irp_types.specs.Packet.{PacketValue, with_status, after_set_next}
 use Rattle.irp_types.specs.Stacks.{DevicesValue}

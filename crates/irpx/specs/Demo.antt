@@ -1,9 +1,14 @@
 -- What the demonstration writes.
-use Rattle.std.specs.Prelude.{ℕ, ◌≡◌, List, Option}
+use Rattle.std.specs.Prelude.{ℕ, ◌≡◌, ◌<◌, List, [], ◌∷◌, ◌++◌, map, length, Option}
 use Rattle.std.specs.Io.KnownBytes.{Appends}
-use Rattle.irp_types.specs.State.{Tables, Fixed}
+use Rattle.irp_types.specs.State.{Fixed}
 use Rattle.irp_types.specs.Histories.{IsLegal}
 use Rattle.irp_types.specs.declared.entry.Entry.{Entry}
+use Rattle.irp_types.specs.declared.call.Call.{Call}
+use Rattle.irp_types.specs.declared.call.Call.TheVariants.{CreateDevice, Allocate, SetNext, CallDriver}
+use Rattle.irp_types.specs.declared.call.Party.TheVariants.{Originator}
+use Rattle.irp_types.specs.declared.names.IrpRef.{IrpRef}
+use Rattle.irp_types.specs.declared.names.DeviceId.{DeviceId}
 use Rattle.irpx.specs.Lines.{lines, text_of}
 use Rattle.irpx.specs.declared.irp_text.header.Header.{Header}
 
@@ -11,12 +16,34 @@ use Rattle.irpx.specs.declared.irp_text.header.Header.{Header}
 abbrev pub fixed_of : Header → Fixed
 fixed_of header = record {
   locks = header.locks;
-  tables = record { counts = header.completions; drivers = header.drivers; dispatches = header.dispatches; cancel_rules = header.cancels };
+  tables = record { counts = record header.completions { cancel = length header.cancels }; drivers = header.drivers; dispatches = header.dispatches; cancel_rules = header.cancels };
 }
 
--- the text of a header and a legal history went out
+-- the calls of a history, in order
+abbrev pub calls_of : List Entry → List Call
+calls_of history = map (λ (entry : Entry). entry.call) history
+
+-- the calls of the demonstration: a device of driver 0 under lock 0, a packet of one location, a read with word 7
+abbrev pub AreDemoCalls : List Call → Type 0
+AreDemoCalls calls =
+    (target : DeviceId) × (irp : IrpRef)
+    × (calls ≡ CreateDevice (record { 0 = 0 }) (record { 0 = 0 }) ∷ Allocate 1 ∷ SetNext Originator irp 0x03 7 ∷ CallDriver Originator irp target ∷ [])
+
+-- the text of a header and of a legal history with the calls of the demonstration went out
 pub record WritesLegal (old new : Option (List ℕ)) : Type 0 where
   pub header : Header
   pub history : List Entry
   pub legal : IsLegal (fixed_of header) history
+  pub calls : AreDemoCalls (calls_of history)
   pub written : Appends old new (text_of (lines header history))
+
+-- a beginning of the text of a header and a legal history went out, which isn't the whole text
+pub record BeginsLegal (old new : Option (List ℕ)) : Type 0 where
+  pub header : Header
+  pub history : List Entry
+  pub legal : IsLegal (fixed_of header) history
+  pub front : List ℕ
+  pub rest : List ℕ
+  pub whole : text_of (lines header history) ≡ front ++ rest
+  pub short : 0 < length rest
+  pub gone : Appends old new front

@@ -2,7 +2,7 @@
 use Rattle.std.specs.Prelude.{ℕ, ◌≡◌, ◌<◌, ◌==◌, Bool, true, false, List, [], ◌∷◌, map, length, nat_lt, find, slice_get, slice_index_or, Option, Some, None, if◌then◌else◌, refl, zero, suc}
 use Rattle.std.specs.List.{list_all}
 use Rattle.std.specs.Option.{option_map}
-use Rattle.std.proofs.Common.{cond, sym, ◌∙◌, ap, subst, arith}
+use Rattle.std.proofs.Common.{cond, sym, subst}
 use Rattle.std.proofs.lemmas.Bool.{and_parts, ltb-true}
 use Rattle.std.proofs.lemmas.Option.{none-some}
 use Rattle.std.proofs.lemmas.List.{length-map}
@@ -15,7 +15,7 @@ use Rattle.irp_types.specs.declared.routine.Known.{Known}
 use Rattle.irp_types.specs.declared.shown.Shown.{Shown}
 use Rattle.irp_types.specs.declared.status.Status.{Status}
 use Rattle.irp_types.specs.declared.answer.Plan.{Plan}
-use Rattle.irp_types.specs.declared.answer.Plan.TheVariants.{Finish, Hold}
+use Rattle.irp_types.specs.declared.answer.Plan.TheVariants.{Finish}
 use Rattle.irpx.specs.declared.irp_routines.fixed_plan.FixedPlan.{FixedPlan}
 use Rattle.irpx.specs.declared.irp_routines.fixed_plan.FixedPlan.TheVariants as fixed
 use Rattle.irpx.specs.Plain.{is_plain_plan}

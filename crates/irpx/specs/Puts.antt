@@ -1,5 +1,5 @@
 -- What a call that writes a text did.
-use Rattle.std.specs.Prelude.{◌≡◌, ℕ, ◌+◌, ◌-◌, ◌^◌, min, List, ◌++◌, length, Option, Result, Ok, Err}
+use Rattle.std.specs.Prelude.{◌≡◌, ℕ, ◌+◌, ◌-◌, ◌<◌, ◌^◌, min, List, ◌++◌, length, Option, Result, Ok, Err}
 use Rattle.std.specs.Io.KnownBytes.{Appends}
 use Rattle.irpx.specs.Out.{risen}
 use Rattle.irpx.specs.declared.irp_text.write.Cause.{Cause}
@@ -10,11 +10,12 @@ use Rattle.irpx.specs.declared.irp_text.write.WriteFault.{WriteFault}
 abbrev pub told : ℕ → ℕ
 told count = min count (2 ^ 64 - 1)
 
--- a beginning of the text went out, and its length is told
+-- a beginning of the text went out, which isn't the whole text, and its length is told
 pub record Begins (text : List ℕ) (old new : Option (List ℕ)) (written : ℕ) : Type 0 where
   pub front : List ℕ
   pub rest : List ℕ
   pub whole : text ≡ front ++ rest
+  pub short : 0 < length rest
   pub gone : Appends old new front
   pub count : written ≡ told (length front)
 
@@ -33,11 +34,12 @@ pub record Sent (text : List ℕ) (before : ℕ) (old new : Option (List ℕ)) (
   pub gone : Appends old new text
   pub count : written ≡ told (before + length text)
 
--- a beginning of the text went out after so many bytes, and their number then is told
+-- a beginning of the text, not the whole, went out after so many bytes, and their number then is told
 pub record Stopped (text : List ℕ) (before : ℕ) (old new : Option (List ℕ)) (written : ℕ) : Type 0 where
   pub front : List ℕ
   pub rest : List ℕ
   pub whole : text ≡ front ++ rest
+  pub short : 0 < length rest
   pub gone : Appends old new front
   pub count : written ≡ told (before + length front)
 

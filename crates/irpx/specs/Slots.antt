@@ -1,5 +1,5 @@
 -- Live packets in a list of places, as the map from slots to packets.
-use Rattle.std.specs.Prelude.{ℕ, ◌+◌, List, Option, Some, None, length, suc, zero, slice_index_or}
+use Rattle.std.specs.Prelude.{ℕ, List, Option, Some, None, length, suc, zero, slice_index_or}
 use Rattle.std.specs.Ordering.{nat_cmp}
 use Rattle.std.specs.FinMap as fin
 use Rattle.irp_types.specs.State.{LivePacket}

@@ -1,10 +1,11 @@
 //! The demonstration: one device and one packet, from the first call to the printed history.
 
-ghost use Rattle.std.specs.Prelude.{◌≡◌, map, IfSome, IfOk};
+ghost use Rattle.std.specs.Prelude.{◌≡◌, [], ◌∷◌, ◌++◌, map, IfSome, IfOk};
 ghost use Rattle.irp_types.specs.Histories.{IsLegal};
 ghost use Rattle.irpx.specs.PlanTables.{no_routines, tables_of};
-ghost use Rattle.irpx.specs.Demo.{fixed_of, WritesLegal};
-ghost use Rattle.irpx.specs.declared.ending.Ending.TheVariants.{Done};
+ghost use Rattle.irpx.specs.Demo.{fixed_of, calls_of, AreDemoCalls, WritesLegal, BeginsLegal};
+ghost use Rattle.irpx.specs.declared.ending.Ending.TheVariants.{Done, OtherWords, Failed};
+ghost use Rattle.irpx.specs.Out.{risen};
 
 use crate::ending::Ending;
 use crate::irp_manager::{Book, KnowsNothing, Seat};
@@ -44,7 +45,8 @@ fn table(alloc: Global) -> Result<Option<PlanTable>, AllocError> {
 
 /// Makes a call in a seat, and answers the reply. None where the call was not recorded.
 fn call(book: &mut Book, alloc: Global, seat: &mut Seat, call: Call) -> Option<Reply>
-    ensures { (book.new.fixed ≡ book.old.fixed) × (book.new.plans ≡ book.old.plans) }
+    ensures kept { (book.new.fixed ≡ book.old.fixed) × (book.new.plans ≡ book.old.plans) }
+    ensures calls { IfSome result (λ reply. calls_of book.new.history ≡ calls_of book.old.history ++ call ∷ []) }
 {
     let Ok(receipt) = book.record(alloc, seat, call, &KnowsNothing) else {
         return None;
@@ -55,7 +57,9 @@ fn call(book: &mut Book, alloc: Global, seat: &mut Seat, call: Call) -> Option<R
 
 /// The calls of the demonstration. None where one was not recorded, or was answered otherwise than it should be.
 fn make_calls(book: &mut Book, alloc: Global, seat: &mut Seat) -> Option<()>
-    ensures { (book.new.fixed ≡ book.old.fixed) × (book.new.plans ≡ book.old.plans) }
+    requires { book.old.history ≡ [] }
+    ensures kept { (book.new.fixed ≡ book.old.fixed) × (book.new.plans ≡ book.old.plans) }
+    ensures calls { IfSome result (λ made. AreDemoCalls (calls_of book.new.history)) }
 {
     let create = Call::CreateDevice {
         driver: DriverId(0),
@@ -108,7 +112,8 @@ fn header_of(alloc: Global, table: PlanTable, locks: u32, seats: u32) -> Result<
 
 /// The demonstration's header and history. None where memory ran out.
 fn history(alloc: Global) -> Option<(Header, Row<Entry>)>
-    ensures { IfSome result (λ made. IsLegal (fixed_of made.0) made.1) }
+    ensures legal { IfSome result (λ made. IsLegal (fixed_of made.0) made.1) }
+    ensures calls { IfSome result (λ made. AreDemoCalls (calls_of made.1)) }
 {
     let table = table(alloc).ok()??;
     let locks = 1;
@@ -126,9 +131,14 @@ fn history(alloc: Global) -> Option<(Header, Row<Entry>)>
 /// packet that is sent to it.
 ///
 /// What goes out where all is done is the text of a header and of a history that the sequential manager could have
-/// made with the tables that the header tells. Where memory runs out before that, nothing goes out.
+/// made with the tables that the header tells. Where memory runs out or the output fails, at most a beginning of such
+/// a text goes out; the output's count of failures rises exactly where the answer is `Failed`.
 pub fn demo<O: Out>(alloc: Global, output: &mut O) -> Ending
-    ensures { result ≡ Done → WritesLegal (O.gone output.old) (O.gone output.new) }
+    ensures done { result ≡ Done → WritesLegal (O.gone output.old) (O.gone output.new) }
+    ensures begins { (result ≡ Done → ⊥) → BeginsLegal (O.gone output.old) (O.gone output.new) }
+    ensures words { result ≡ OtherWords → ⊥ }
+    ensures failed { result ≡ Failed → O.failures output.new ≡ risen (O.failures output.old) }
+    ensures calm { (result ≡ Failed → ⊥) → O.failures output.new ≡ O.failures output.old }
 {
     let Some((header, history)) = history(alloc) else {
         return Ending::NoMemory;

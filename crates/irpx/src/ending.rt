@@ -1,7 +1,8 @@
 //! How the program ends.
 
 ghost use Rattle.std.specs.Prelude.{◌≡◌};
-ghost use Rattle.irpx.specs.Ending.{status_of};
+ghost use Rattle.irpx.specs.Ending.{status_of, complaint_of};
+ghost use Rattle.std.specs.Process.{exit_status};
 
 use std::process::ExitCode;
 
@@ -32,12 +33,16 @@ impl Ending {
     }
 
     /// The exit status, as a process ends with it.
-    pub fn code(self) -> ExitCode {
+    pub fn code(self) -> ExitCode
+        ensures { exit_status result ≡ status_of self }
+    {
         ExitCode::from(self.status())
     }
 
     /// The line for standard error, which is empty where all was done.
-    pub fn line(self) -> &'static str {
+    pub fn line(self) -> &'static str
+        ensures { result.now ≡ complaint_of self }
+    {
         match self {
             Ending::Done => "",
             Ending::NoMemory => "irpx: out of memory",

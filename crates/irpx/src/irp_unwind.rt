@@ -4,9 +4,9 @@ ghost use Rattle.std.specs.Prelude.{◌≡◌, ℕ, ◌+◌, ◌<◌, ◌≤◌,
 ghost use Rattle.irp_types.specs.Status.{pending};
 ghost use Rattle.irp_types.specs.Packet.{size_of, cleared, with_status, after_mark};
 ghost use Rattle.irp_types.specs.Stacks.{facts_of};
-ghost use Rattle.irp_types.specs.Unwinding.{unwound_packet, is_pending_at};
+ghost use Rattle.irp_types.specs.Unwinding.{AreAsked, unwound_packet, pending_returned_at};
 ghost use Rattle.irp_types.specs.State.{dispatch_for};
-ghost use Rattle.irp_types.specs.Descent.{shown_to, first_location, as_question, IsPlanOf, Descended};
+ghost use Rattle.irp_types.specs.Descent.{shown_to, first_location, as_question, IsPlanOf, Descended, StaysUp};
 ghost use Rattle.irp_types.specs.Standing.{IsSound};
 ghost use Rattle.irp_types.specs.declared.location.Owner.TheVariants.{Device as OwnedBy};
 ghost use Rattle.irp_types.specs.declared.location.Preparation.TheVariants.{Nothing};
@@ -21,7 +21,7 @@ use irp_types::{Asked, CancelId, DeviceId, DriverId, IrpRef, Owner, Plan, Shown,
 
 /// Whether a location from the current one up is marked pending.
 fn is_pending(packet: &Packet) -> bool
-    ensures { result ≡ is_pending_at packet.now (size_of packet.now) }
+    ensures { result ≡ pending_returned_at packet.now (size_of packet.now) }
 {
     let mut pending = false;
     for number in packet.current()..packet.size() + 1 {
@@ -51,11 +51,13 @@ fn rise_to_top(packet: &mut Packet)
 }
 
 /// Unwinds a packet from its current location: pending bits are passed up, locations are cleared, and the packet has
-/// ended. No routine is asked, since there is none (WDK: "IoCompleteRequest"; the clearing of locations is this
+/// ended. There is no routine to ask (WDK: "IoCompleteRequest"; the clearing of locations is this
 /// project's own rule).
 pub fn unwind(packet: &mut Packet)
-    requires { packet.old.current ≤ size_of packet.old }
-    ensures { packet.new ≡ unwound_packet packet.old [] }
+    requires placed { packet.old.current ≤ size_of packet.old }
+    requires plain { IsPlain packet.old }
+    ensures asked { (irp : IrpRef) → AreAsked irp packet.old [] }
+    ensures left { packet.new ≡ unwound_packet packet.old [] }
 {
     let pending = is_pending(packet);
     clear_all(packet);
@@ -114,7 +116,8 @@ fn ask_plan<A: Ask>(ask: &A, driver: DriverId, shown: Shown, asked: &mut Vec<Ask
 
 /// Finishes a packet that a device was sent.
 fn finish(packet: &mut Packet, status: Status, information: u64) -> Status
-    requires { packet.old.current ≤ size_of packet.old }
+    requires placed { packet.old.current ≤ size_of packet.old }
+    requires plain { IsPlain packet.old }
     ensures finished { packet.new ≡ unwound_packet (with_status packet.old status information) [] }
     ensures status { result ≡ status }
 {
@@ -155,6 +158,7 @@ pub fn descend<A: Ask>(
     requires room { vec_len asked.old < vec_capacity asked.old }
     ensures descended { Descended (A.tables ask.now) irp stacks.now packet.old target.0 asked.new.items packet.new result }
     ensures may { AreInMay (A.may_plan ask.now) asked.new.items }
+    ensures stays { StaysUp packet.old packet.new result }
     ensures plain { IsPlain packet.new }
     ensures sound { (counts : Known) → IsSound counts packet.old → IsSound counts packet.new }
 {

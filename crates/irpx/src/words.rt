@@ -49,7 +49,7 @@ fn unread_of(error: &Error) -> Unread
 ///
 /// `Usage` for words that the program doesn't take, and for a request for help; `Memory` where memory ran out.
 pub fn order<'a, S: AsStr>(alloc: Global, words: &'a [S]) -> Result<Order, Unread>
-    // No order comes of words in which clap finds a fault, as a help flag or any further word is one.
+    // No order comes of words in which clap finds a fault.
     ensures ok { OnOk result (fault_of command_line (map S.text words.entry.now) ≡ []) }
     ensures demo { IsDemo (map S.text words.entry.now) → IfErr result (λ unread. unread ≡ Unread.Memory) }
 {

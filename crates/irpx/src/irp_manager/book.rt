@@ -135,6 +135,7 @@ impl Book {
     /// Ends it, and gives the plans and the history.
     pub fn end(self) -> (PlanTable, Row<Entry>)
         ensures tables { tables_of result.0.drivers result.0.plans ≡ self.fixed.tables }
+        ensures plans { result.0.plans ≡ self.plans }
         ensures history { result.1 ≡ self.history }
         ensures legal { IsLegal self.fixed self.history }
     {

@@ -8,7 +8,10 @@ ghost use Rattle.irp_types.specs.Standing.{IsSound};
 ghost use Rattle.irp_types.specs.declared.routine.Known.{Known};
 ghost use Rattle.irpx.specs.Plain.{IsPlain};
 ghost use Rattle.irpx.specs.Answers.{AreInMay};
+ghost use Rattle.irp_types.specs.Descent.{StaysUp};
 ghost use Rattle.irp_types.specs.declared.names.IrpRef.{IrpRef};
+ghost use Rattle.irp_types.specs.declared.status.Status.{Status};
+ghost use Rattle.irp_types.specs.declared.reply.Reply.TheVariants.{Status as StatusIs};
 ghost use Rattle.irpx.specs.Calls.{packet_refusal_in, party_refusal_in, Goes, Fills, Sends, Finishes};
 
 use crate::irp_manager::slots::Live;
@@ -124,6 +127,7 @@ pub fn send<A: Ask>(
     ensures goes { Goes (send_refusal stacks.now party live.old.packet target.0)
         (Sends (A.tables ask.now) irp stacks.now target.0 asked.new.items result live.old.packet) live.old live.new asked.new.items result }
     ensures may { AreInMay (A.may_plan ask.now) asked.new.items }
+    ensures stays { (status : Status) → result ≡ StatusIs status → StaysUp live.old.packet live.new.packet status }
     ensures plain { IsPlain live.new.packet }
     ensures sound { (counts : Known) → IsSound counts live.old.packet → IsSound counts live.new.packet }
 {

@@ -11,7 +11,7 @@ ghost use Rattle.irp_types.specs.declared.call.Call.TheVariants.{CreateDevice, A
 ghost use Rattle.irpx.specs.Plain.{IsPlain, StandsPlain};
 ghost use Rattle.irpx.specs.Answers.{AreInMay};
 ghost use Rattle.irpx.specs.Notes.{known_by};
-ghost use Rattle.irpx.specs.Cores.{state_of, Stepped, SteppedAny};
+ghost use Rattle.irpx.specs.Cores.{state_of, Stepped, SteppedAny, SentStays, SenderStays};
 
 use crate::irp_manager::note::DrainNote;
 use crate::irp_manager::packets;
@@ -25,8 +25,8 @@ use std::alloc::{AllocError, Global};
 /// How many packets may be live.
 const MOST_LIVE: usize = 4096;
 
-/// The use number at which none is drawn any more.
-const LAST_USE: u64 = 0x8000_0000_0000_0000;
+/// Use numbers are below this.
+const USE_LIMIT: u64 = 0x8000_0000_0000_0000;
 
 /// How much a call may ask.
 const MOST_ASKED: usize = 1;
@@ -108,6 +108,7 @@ impl Core {
         requires room { vec_len asked.old < vec_capacity asked.old }
         ensures stepped { (drained : Bool) → Stepped (A.tables ask.now) drained self.old (CallDriver party irp target) asked.new.items result self.new }
         ensures may { AreInMay (A.may_plan ask.now) asked.new.items }
+        ensures stays { SentStays self.old irp result self.new }
     {
         if let Some(refusal) = self.party_refusal(party, irp) {
             return Reply::Refused(refusal);
@@ -217,7 +218,7 @@ impl Core {
         if size == 0 || size > 16 {
             return Some(Refusal::BadSize);
         }
-        if self.slots.len() >= MOST_LIVE || self.next_use >= LAST_USE {
+        if self.slots.len() >= MOST_LIVE || self.next_use >= USE_LIMIT {
             return Some(Refusal::Full);
         }
         None
@@ -262,6 +263,7 @@ impl Core {
         requires room { vec_len asked.old < vec_capacity asked.old }
         ensures stepped { IfOk result (λ reply. (drained : Bool) → Stepped (A.tables ask.now) drained self.old call asked.new.items reply self.new) }
         ensures may { IfOk result (λ reply. AreInMay (A.may_plan ask.now) asked.new.items) }
+        ensures stays { IfOk result (λ reply. SenderStays self.old call reply self.new) }
         ensures err { OnErr result (state_of self.new ≡ state_of self.old) }
         ensures locks { OnErr result (self.new.locks ≡ self.old.locks) }
     {
@@ -295,7 +297,7 @@ impl Core {
     ///
     /// # Errors
     ///
-    /// `AllocError` where a growth was refused. The state stays as it was, and nothing was asked.
+    /// `AllocError` where a growth was refused. The state stays as it was.
     pub fn apply<A: Ask, N: DrainNote>(
         &mut self,
         alloc: Global,
@@ -306,6 +308,7 @@ impl Core {
         requires stands { StandsPlain (A.tables ask.now).counts (state_of self.old) }
         ensures stepped { IfOk result (λ applied. Stepped (A.tables ask.now) applied.drained self.old call applied.asked.items applied.reply self.new) }
         ensures may { IfOk result (λ applied. AreInMay (A.may_plan ask.now) applied.asked.items) }
+        ensures stays { IfOk result (λ applied. SenderStays self.old call applied.reply self.new) }
         ensures lock { IfOk result (λ applied. applied.lock ≡ lock_of (state_of self.old) call) }
         ensures drained { IfOk result (λ applied. applied.drained ≡ known_by (N.knows_drained note.now) applied.lock) }
         ensures err { OnErr result (state_of self.new ≡ state_of self.old) }

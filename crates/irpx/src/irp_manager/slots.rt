@@ -94,6 +94,7 @@ impl Slots {
     #[tactic(auto, using(crate::proofs::SlotMaps::keep_rules))]
     pub fn reserve(&mut self) -> Result<usize, AllocError>
         ensures same { live_of self.new.places.items ≡ live_of self.old.places.items }
+        ensures lowest { IfOk result (λ slot. (lower : ℕ) → lower < slot → fin.get (live_of self.new.places.items) lower ≡ None → ⊥) }
         ensures slot { IfOk result (λ slot. (fin.get (live_of self.new.places.items) slot ≡ None) × (slot < length self.new.places.items)) }
     {
         for slot in 0..self.places.len() {

@@ -1,6 +1,6 @@
 //! Where a transcript goes.
 
-ghost use Rattle.std.specs.Prelude.{◌≡◌, ◌≤◌, ℕ, List, Option, length, take, IfOk, OnErr, OnOk, IfErr};
+ghost use Rattle.std.specs.Prelude.{◌≡◌, ◌<◌, ◌≤◌, ℕ, List, Option, length, take, IfOk, OnErr, OnOk, IfErr};
 ghost use Rattle.std.specs.Io.KnownBytes.{Appends, WriteAppends};
 ghost use Rattle.irpx.specs.Out.{risen, counted};
 
@@ -36,7 +36,7 @@ pub trait Out {
 pub fn put_all<O: Out>(out: &mut O, text: &[u8]) -> Result<(), usize>
     ensures ok { OnOk result (Appends (O.gone out.old) (O.gone out.new) text.now) }
     ensures calm { OnOk result (O.failures out.new ≡ O.failures out.old) }
-    ensures bound { IfErr result (λ done. done ≤ length text.now) }
+    ensures short { IfErr result (λ done. done < length text.now) }
     ensures front { IfErr result (λ done. Appends (O.gone out.old) (O.gone out.new) (take done text.now)) }
     ensures rose { OnErr result (O.failures out.new ≡ risen (O.failures out.old)) }
 {

@@ -1,4 +1,4 @@
-use Rattle.std.proofs.Common.{◌≡◌, ◌+◌, List, [], ◌∷◌, ◌++◌, map, take, sym, ◌∙◌, ap, get_or}
+use Rattle.std.proofs.Common.{List, [], ◌∷◌, ◌++◌, map, take, sym, ◌∙◌, ap, get_or}
 use Rattle.std.proofs.lemmas.List.{take_more, map-append}
 use Rattle.irp_types.specs.declared.routine.Known.{Known}
 use Rattle.irpx.specs.PlanTables.{no_routines}

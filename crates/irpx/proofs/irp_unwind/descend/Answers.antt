@@ -1,17 +1,12 @@
-use Rattle.std.proofs.Common.{◌≡◌, ◌+◌, ◌-◌, ◌≤◌, List, [], ◌++◌, Option, Some, None, sym, ◌∙◌, ap, subst}
-use Rattle.std.specs.Prelude.{is_none, true}
+use Rattle.std.proofs.Common.{◌≡◌, ◌+◌, ◌≤◌, [], ◌++◌, Some, sym, ◌∙◌, ap, subst}
 use Rattle.irp_types.specs.Status.{invalid_device_request}
 use Rattle.irp_types.specs.Packet.{PacketValue, size_of, with_status, after_mark}
 use Rattle.irp_types.specs.Unwinding.{unwound_packet}
 use Rattle.irp_types.specs.State.{dispatch_for}
 use Rattle.irp_types.specs.Descent.{as_question, Descended}
 use Rattle.irp_types.specs.declared.location.Owner.TheVariants.{Device}
-use Rattle.irp_types.specs.declared.names.CancelId.{CancelId}
 use Rattle.irp_types.specs.declared.status.Status.{Status}
-use Rattle.irp_types.specs.declared.answer.Plan.{Plan}
-use Rattle.irp_types.specs.declared.answer.Plan.TheVariants.{Finish, Hold}
-use Rattle.irp_types.specs.declared.asked.Asked.{Asked}
-use Rattle.irpx.specs.Plain.{is_plain_plan}
+use Rattle.irp_types.specs.declared.answer.Plan.TheVariants.{Hold}
 use Rattle.irpx.proofs.Descends.{IsAskedAt, finished_by, unhandled_by, held_alone, no_cancel}
 use Rattle.irpx.proofs.irp_unwind.descend.Goals as goal
 

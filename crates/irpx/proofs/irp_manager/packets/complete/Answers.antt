@@ -1,4 +1,4 @@
-use Rattle.std.proofs.Common.{◌≡◌, List, [], Option, Some, None, refl, sym, ◌∙◌, ap, subst}
+use Rattle.std.proofs.Common.{◌≡◌, [], None, refl, sym, ◌∙◌, ap, subst}
 use Rattle.irp_types.specs.Packet.{PacketValue, with_status}
 use Rattle.irp_types.specs.Unwinding.{unwound_packet, Unwound}
 use Rattle.irp_types.specs.State.{LivePacket}
@@ -18,7 +18,7 @@ returns-clause-goes c irp =
     let new : PacketValue = c.unwind.new.packet in
     let set : c.set_status.new.self ≡ with_status old.packet status information =
     c.set_status.ensures ∙ ap (λ (live : LivePacket). with_status live.packet status information) view in
-    let left : new ≡ unwound_packet (with_status old.packet status information) [] = c.unwind.ensures ∙ ap (λ packet. unwound_packet packet []) set in
+    let left : new ≡ unwound_packet (with_status old.packet status information) [] = c.unwind.ensures.left ∙ ap (λ packet. unwound_packet packet []) set in
     let plain : IsPlain (with_status old.packet status information) = record { completion = c.requires.plain.completion; cancel = c.requires.plain.cancel } in
     let unwound : Unwound irp (with_status old.packet status information) [] new = subst (Unwound irp (with_status old.packet status information) []) (sym left) (unwound_plain irp (with_status old.packet status information) plain) in
     let is : LivePacket = record { packet = new; use_no = c.live.inside.use_no } in

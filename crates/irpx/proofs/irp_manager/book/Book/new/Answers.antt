@@ -1,4 +1,4 @@
-use Rattle.std.proofs.Common.{◌≡◌, [], List, length, sym, subst, arith, ap}
+use Rattle.std.proofs.Common.{◌≡◌, List, length, sym, subst, arith, ap}
 use Rattle.irp_types.specs.Histories.{LeadsTo}
 use Rattle.irp_types.specs.State.{StateValue, Fixed}
 use Rattle.irp_types.specs.declared.entry.Entry.{Entry}

@@ -1,7 +1,7 @@
-use Rattle.std.proofs.Common.{◌≡◌, ℕ, ◌+◌, [], List, Option, Some, None, MatchOption, refl, sym, ◌∙◌, ap, subst}
+use Rattle.std.proofs.Common.{◌≡◌, ℕ, ◌+◌, [], Option, None, MatchOption, refl, sym, ◌∙◌, ap, subst}
 use Rattle.std.specs.FinMap as fin
-use Rattle.irp_types.specs.Packet.{PacketValue, new_packet}
-use Rattle.irp_types.specs.State.{StateValue, LivePacket}
+use Rattle.irp_types.specs.Packet.{new_packet}
+use Rattle.irp_types.specs.State.{StateValue}
 use Rattle.irp_types.specs.Steps.{Unasked, with_new_packet, Effect}
 use Rattle.irp_types.specs.declared.call.Call.TheVariants.{Allocate}
 use Rattle.irp_types.specs.declared.refusal.Refusal.{Refusal}

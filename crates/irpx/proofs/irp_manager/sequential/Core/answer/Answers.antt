@@ -1,9 +1,9 @@
 use Rattle.std.proofs.Common.{◌≡◌, Bool, length, sym, subst}
 use Rattle.irp_types.specs.State.{Tables}
 use Rattle.irp_types.specs.declared.call.Call.{Call}
-use Rattle.irp_types.specs.declared.call.Call.TheVariants.{CreateDevice, Attach, Detach, Allocate, SetNext, CallDriver, Complete, Look}
+use Rattle.irp_types.specs.declared.call.Call.TheVariants.{CreateDevice, Attach, Detach, Allocate, SetNext, Complete, Look}
 use Rattle.irp_types.specs.declared.reply.Reply.{Reply}
-use Rattle.std.proofs.Common.{[], List}
+use Rattle.std.proofs.Common.{[]}
 use Rattle.irpx.specs.Plain.{StandsPlain}
 use Rattle.irpx.specs.Cores.{Stepped, SteppedAny, state_of}
 use Rattle.irpx.proofs.Handed.{handed, if_ok}

@@ -1,4 +1,4 @@
-use Rattle.std.proofs.Common.{◌≡◌, [], List, Option, Some, None, refl, sym, ◌∙◌, ap, subst}
+use Rattle.std.proofs.Common.{refl, sym, ◌∙◌, ap, subst}
 use Rattle.std.specs.FinMap as fin
 use Rattle.irp_types.specs.State.{StateValue, LivePacket, Tables}
 use Rattle.irp_types.specs.Refusals.{party_refusal, send_refusal}
@@ -6,7 +6,7 @@ use Rattle.irp_types.specs.declared.names.DeviceId.{DeviceId}
 use Rattle.irpx.specs.Slots.{live_of}
 use Rattle.irpx.specs.Cores.{state_of}
 use Rattle.irpx.specs.Calls.{Goes, Sends}
-use Rattle.irpx.proofs.OnePacket.{goes_on, stands_on}
+use Rattle.irpx.proofs.OnePacket.{goes_on, stands_on, stays_on}
 use Rattle.irpx.proofs.Turns.{sent_step}
 use Rattle.irpx.proofs.irp_manager.sequential.Core.call_driver.Goals as goal
 
@@ -33,3 +33,11 @@ returns-clause-stepped g c drained =
           (λ plain. c.send-reply.ensures.plain) (λ plain sound. c.send-reply.ensures.sound tables.counts sound) c.requires.stands;
       locks = refl;
     }
+
+pub returns-clause-stays : goal.returns-clause-stays
+returns-clause-stays g c status is =
+    let state : StateValue = state_of c.args.self.now in
+    let irp = c.args.irp in
+    let at = sym c.take.ensures.value ∙ c.in-Some-take.is in
+    let put = c.put.ensures ∙ ap (λ given. fin.insert given irp.slot c.send-reply.new.live) c.take.ensures.others in
+    stays_on state irp c.in-Some-take.live c.send-reply.new.live (live_of c.put.new.self.places.items) status at put (c.send-reply.ensures.stays status is)

@@ -1,4 +1,4 @@
-use Rattle.std.proofs.Common.{◌≡◌, [], List, Option, Some, None, refl, sym, ◌∙◌, ap}
+use Rattle.std.proofs.Common.{[], refl, sym, ◌∙◌, ap}
 use Rattle.std.specs.FinMap as fin
 use Rattle.irp_types.specs.State.{StateValue, LivePacket}
 use Rattle.irp_types.specs.Refusals.{party_refusal, complete_refusal}

@@ -1,8 +1,7 @@
-use Rattle.std.proofs.Common.{◌≡◌, ℕ, [], List, length, Option, Some, None, MatchOption, refl, sym, ◌∙◌, ap, subst}
+use Rattle.std.proofs.Common.{◌≡◌, [], length, Option, MatchOption, refl, sym, ◌∙◌, ap, subst}
 use Rattle.irp_types.specs.Checks.{first_failing, or_else}
-use Rattle.irp_types.specs.Stacks.{DevicesValue, create_checks, after_create}
-use Rattle.irp_types.specs.State.{StateValue, Fixed, Tables}
-use Rattle.irp_types.specs.Refusals.{first_refusal}
+use Rattle.irp_types.specs.Stacks.{create_checks}
+use Rattle.irp_types.specs.State.{StateValue, Tables}
 use Rattle.irp_types.specs.Steps.{Unasked, Effect}
 use Rattle.irp_types.specs.declared.call.Call.TheVariants.{CreateDevice}
 use Rattle.irp_types.specs.declared.refusal.Refusal.{Refusal}

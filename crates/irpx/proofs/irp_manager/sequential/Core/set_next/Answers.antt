@@ -1,7 +1,7 @@
-use Rattle.std.proofs.Common.{◌≡◌, [], List, Option, Some, None, MatchOption, refl, sym, ◌∙◌, ap, subst}
+use Rattle.std.proofs.Common.{[], refl, sym, ◌∙◌, ap}
 use Rattle.std.specs.FinMap as fin
-use Rattle.irp_types.specs.Packet.{PacketValue, set_next_refusal}
-use Rattle.irp_types.specs.State.{StateValue, LivePacket, with_packet, packet_of}
+use Rattle.irp_types.specs.Packet.{set_next_refusal}
+use Rattle.irp_types.specs.State.{StateValue, LivePacket}
 use Rattle.irp_types.specs.Refusals.{party_refusal}
 use Rattle.irpx.specs.Slots.{live_of}
 use Rattle.irpx.specs.Cores.{state_of}
