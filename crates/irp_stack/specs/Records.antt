@@ -11,6 +11,7 @@ use Rattle.irp_types.specs.declared.refusal.Refusal.{Refusal}
 use Rattle.irp_stack.specs.declared.device.Device.{Device}
 use Rattle.irp_stack.specs.declared.stacks.Facts.{Facts}
 
+-- a device by its number
 abbrev pub id : ℕ → DeviceId
 id number = record { 0 = number }
 
@@ -53,6 +54,7 @@ walk (suc most) records device =
 abbrev pub facts_in : Device → DeviceFacts
 facts_in own = record { driver = own.driver; lock = own.lock; live = own.live }
 
+-- what is fixed of a device, and whether it is live, as a caller is told
 abbrev pub facts_shown : DeviceFacts → Facts
 facts_shown facts = record { driver = facts.driver; lock = facts.lock; live = facts.live }
 
@@ -60,6 +62,7 @@ facts_shown facts = record { driver = facts.driver; lock = facts.lock; live = fa
 unfoldable pub lists_of : List Device → List (List ℕ)
 lists_of records = map (λ (own : Device). walk most_locations records own.bottom.0) records
 
+-- the devices that the records stand for
 abbrev pub value_of : List Device → DevicesValue
 value_of records = record { facts = map facts_in records; stacks = lists_of records }
 
@@ -98,6 +101,7 @@ IsTidy records = DescribesStacks records (lists_of records)
 abbrev pub edit : List Device → ℕ → (Device → Device) → List Device
 edit records device change = slice_set records device (change (record_of records device))
 
+-- the record of a device, deleted
 abbrev pub dead : Device → Device
 dead own = record own { live = false }
 

@@ -69,9 +69,11 @@ plans test frame = option_map_or test frame.plan false
 abbrev pub first_location : PacketValue → ℕ
 first_location packet = packet.current - 1
 
+-- what stands for the last frame of an empty list
 abbrev pub no_frame : Frame
 no_frame = record { device = 0; location = 0; plan = None }
 
+-- the frame in which a descent ends
 abbrev pub last_frame : List Frame → Frame
 last_frame frames = unwrap_or (last_or None frames) no_frame
 
@@ -111,6 +113,7 @@ abbrev pub IsPlannedAs : Tables → DevicesValue → Frame → Shown → Type 0
 IsPlannedAs tables devices frame shown =
     MatchOption (dispatch_at tables devices frame.device shown.major) (frame.plan ≡ None) (λ dispatch. IsPlanOf tables dispatch shown frame.plan)
 
+-- a frame of the descent of this packet was asked what it is shown of it, and planned as it may
 abbrev pub IsPlanned : Tables → IrpRef → PacketValue → DevicesValue → Frame → Type 0
 IsPlanned tables irp packet devices frame = IsPlannedAs tables devices frame (shown_to irp packet devices frame)
 

@@ -7,6 +7,7 @@ pub mod Packet
 pub mod Unwinding
 pub mod Stacks
 pub mod State
+pub mod Allowed
 pub mod Descent
 pub mod Refusals
 pub mod Steps

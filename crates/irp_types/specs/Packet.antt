@@ -35,6 +35,7 @@ size_of packet = length packet.locations
 abbrev pub location_with : ℕ → ℕ → Location
 location_with major word = record { device = None; major = major; word = word; setting = None; pending = false }
 
+-- a location with no device, no routine and zeros
 abbrev pub cleared : Location
 cleared = location_with 0 0
 
@@ -69,16 +70,19 @@ new_packet size = record {
   preparation = Nothing;
 }
 
+-- nothing was prepared for the next send
 abbrev pub is_nothing : Preparation → Bool
 is_nothing Nothing = true
 is_nothing Filled = false
 is_nothing Skipped = false
 
+-- the next lower location was filled
 abbrev pub is_filled : Preparation → Bool
 is_filled Nothing = false
 is_filled Filled = true
 is_filled Skipped = false
 
+-- the owner gives its own location to the next lower device
 abbrev pub is_skipped : Preparation → Bool
 is_skipped Nothing = false
 is_skipped Filled = false
@@ -104,12 +108,15 @@ lower_check packet = (nat_le packet.current 1, TooShort)
 abbrev pub preparation_check : PacketValue → Check
 preparation_check packet = (is_nothing packet.preparation, NotPrepared)
 
+-- the number is no major function code
 abbrev pub major_check : ℕ → Check
 major_check major = (nat_lt last_major major, BadMajor)
 
+-- why the next location can't be filled with a major and a word, or none
 abbrev pub set_next_refusal : PacketValue → ℕ → Option Refusal
 set_next_refusal packet major = first_failing (skip_check packet ∷ lower_check packet ∷ major_check major ∷ [])
 
+-- why the next location can't become the copy of the current one, or none
 abbrev pub copy_to_next_refusal : PacketValue → Option Refusal
 copy_to_next_refusal packet = first_failing (location_check packet ∷ skip_check packet ∷ lower_check packet ∷ [])
 
@@ -121,6 +128,7 @@ skip_refusal packet = first_failing (location_check packet ∷ skip_check packet
 abbrev pub set_routine_refusal : PacketValue → Option Refusal
 set_routine_refusal packet = first_failing (skip_check packet ∷ preparation_check packet ∷ [])
 
+-- why the current location can't be marked, or none
 abbrev pub mark_pending_refusal : PacketValue → Option Refusal
 mark_pending_refusal packet = first_failing (location_check packet ∷ skip_check packet ∷ [])
 

@@ -19,11 +19,13 @@ use Rattle.irp_types.specs.declared.call.Call.TheVariants.{CreateDevice, Attach,
 use Rattle.irp_types.specs.declared.refusal.Refusal.{Refusal}
 use Rattle.irp_types.specs.declared.refusal.Refusal.TheVariants.{NoIrp, Stale, NotOwner, TooShort, WrongTarget, BadStatus, CancelRoutineSet, Full, BadSize, NoDriver, Ended as HasEnded, NoLock}
 
+-- the use was completed
 abbrev pub has_ended : Owner → Bool
 has_ended Originator = false
 has_ended (Device device) = false
 has_ended Ended = true
 
+-- a device owns the packet
 abbrev pub is_owned_by_device : Owner → Bool
 is_owned_by_device Originator = false
 is_owned_by_device (Device device) = true
@@ -44,6 +46,7 @@ packet_checks state irp =
     (not (is_some (live_at state irp.slot)), NoIrp)
     ∷ (not ((packet_at state irp.slot).use_no == irp.use_no), Stale) ∷ []
 
+-- why a reference names no packet in use, or none
 abbrev pub packet_refusal : StateValue → IrpRef → Option Refusal
 packet_refusal state irp = first_failing (packet_checks state irp)
 
@@ -58,6 +61,7 @@ abbrev pub is_wrong_target : DevicesValue → Party → ℕ → Bool
 is_wrong_target devices ByOriginator target = false
 is_wrong_target devices (ByDevice sender) target = option_map_or (λ lower. not (lower == target)) (lower_of devices sender.0) true
 
+-- why a party that owns a packet can't send it to a device, or none
 abbrev pub send_refusal : DevicesValue → Party → PacketValue → ℕ → Option Refusal
 send_refusal devices party packet target = first_failing (
     device_checks devices target
@@ -66,6 +70,7 @@ send_refusal devices party packet target = first_failing (
     ∷ (nat_lt (packet.current - 1) (stack_size_of devices target), TooShort)
     ∷ (is_some packet.cancel_routine, CancelRoutineSet) ∷ [])
 
+-- why the owner can't complete a packet with a status, or none
 abbrev pub complete_refusal : PacketValue → Status → Option Refusal
 complete_refusal packet status = first_failing (
     location_check packet ∷ skip_check packet

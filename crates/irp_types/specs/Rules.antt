@@ -56,6 +56,7 @@ count_of_rule known Free = known.free
 abbrev pub is_known : Known → Setting → Bool
 is_known known setting = nat_lt setting.routine.no (count_of_rule known setting.routine.rule)
 
+-- the rule of routines that only look on
 abbrev pub is_watch : Rule → Bool
 is_watch Watch = true
 is_watch Change = false

@@ -19,6 +19,7 @@ pub record DevicesValue : Type 0 where
   pub facts : List DeviceFacts
   pub stacks : List (List ℕ)
 
+-- what there is before the first device was created
 abbrev pub no_devices : DevicesValue
 no_devices = record { facts = []; stacks = [] }
 
@@ -51,12 +52,15 @@ cut_off_by devices lower = unwrap_or (upper_of devices lower) 0
 abbrev pub top_of : DevicesValue → ℕ → ℕ
 top_of devices device = slice_index_or (stack_of devices device) (length (stack_of devices device) - 1) device
 
+-- created, whether or not it was deleted since
 abbrev pub is_created : DevicesValue → ℕ → Bool
 is_created devices device = nat_lt device (length devices.facts)
 
+-- what stands for the facts of a device that was never created: it isn't live
 abbrev pub no_facts : DeviceFacts
 no_facts = record { driver = record { 0 = 0 }; lock = record { 0 = 0 }; live = false }
 
+-- a device's driver and lock, and whether it is live
 abbrev pub facts_of : DevicesValue → ℕ → DeviceFacts
 facts_of devices device = slice_index_or devices.facts device no_facts
 
@@ -72,9 +76,11 @@ has_neighbour devices device = nat_lt 1 (length (stack_of devices device))
 abbrev pub device_checks : DevicesValue → ℕ → List Check
 device_checks devices device = (not (is_created devices device), NoDevice) ∷ (not (is_live devices device), DeviceGone) ∷ []
 
+-- the checks of a creation
 abbrev pub create_checks : DevicesValue → List Check
 create_checks devices = (nat_le most_devices (length devices.facts), Full) ∷ []
 
+-- the checks of an attachment of a device to the stack of another
 abbrev pub attach_checks : DevicesValue → ℕ → ℕ → List Check
 attach_checks devices device to =
     device_checks devices device ++ device_checks devices to
@@ -82,6 +88,7 @@ attach_checks devices device to =
     ∷ (has_neighbour devices device, StillAttached)
     ∷ (nat_le most_locations (length (stack_of devices to)), TooDeep) ∷ []
 
+-- the checks of a detachment of what stands on a device
 abbrev pub detach_checks : DevicesValue → ℕ → List Check
 detach_checks devices lower = device_checks devices lower ++ (not (is_some (upper_of devices lower)), NothingAttached) ∷ []
 

@@ -33,6 +33,10 @@ opening_state = record { live = fin.empty; devices = no_devices; next_use = 1 }
 abbrev pub Entrance : Type 0
 Entrance = ℕ × DispatchId
 
+-- the dispatch for a major function code among these
+abbrev pub dispatch_in : List Entrance → ℕ → Option DispatchId
+dispatch_in entrances major = option_map (λ (entrance : Entrance). entrance.1) (find (λ (entrance : Entrance). entrance.0 == major) entrances)
+
 -- the store's tables: how many routines there are, each driver's dispatches by major function code, which routines
 -- each dispatch may name, and the rules of the cancel routines
 pub record Tables : Type 0 where
@@ -46,6 +50,10 @@ pub record IsDriver (tables : Tables) (driver : List Entrance) : Type 0 where
   pub rising : IsStrictlyIncreasing (map (λ (entrance : Entrance). entrance.0) driver)
   pub majors : All (λ (entrance : Entrance). entrance.0 ≤ last_major) driver
   pub named : All (λ (entrance : Entrance). entrance.1.0 < length tables.dispatches) driver
+
+-- no routines of any kind
+abbrev pub no_routines : Known
+no_routines = record { watch = 0; change = 0; keeper = 0; keep_on_error = 0; free = 0; cancel = 0 }
 
 -- as many routines of each kind as there may be
 abbrev pub most_known : Known
@@ -74,8 +82,7 @@ pub record Fixed : Type 0 where
 
 -- the dispatch of a driver for a major function code
 abbrev pub dispatch_for : Tables → DriverId → ℕ → Option DispatchId
-dispatch_for tables driver major =
-    option_map (λ (entrance : Entrance). entrance.1) (find (λ (entrance : Entrance). entrance.0 == major) (slice_index_or tables.drivers driver.0 []))
+dispatch_for tables driver major = dispatch_in (slice_index_or tables.drivers driver.0 []) major
 
 -- which routines a dispatch may name, where there is such a dispatch
 abbrev pub known_of : Tables → DispatchId → Option Known

@@ -13,5 +13,6 @@ IsInMay may_plan (Dispatch id shown plan) = may_plan id shown plan
 IsInMay may_plan (Completion id shown answer) = ⊥
 IsInMay may_plan (Cancel id shown answer) = ⊥
 
+-- each question was answered as it may be
 abbrev pub AreInMay : (DispatchId → Shown → Plan → Type 0) → List Asked → Type 0
 AreInMay may_plan asked = AllByRecursion (IsInMay may_plan) asked

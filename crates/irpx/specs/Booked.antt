@@ -34,6 +34,7 @@ pub record Receipted : Type 0 where
   pub drained : Bool
   pub reply : Reply
 
+-- the receipt of an entry
 abbrev pub receipt_of : Entry → Receipted
 receipt_of entry = record {
   number = entry.number;

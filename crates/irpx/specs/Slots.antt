@@ -4,6 +4,7 @@ use Rattle.std.specs.Ordering.{nat_cmp}
 use Rattle.std.specs.FinMap as fin
 use Rattle.irp_types.specs.State.{LivePacket}
 
+-- the live packets by their slots
 abbrev pub Slots : Type 0
 Slots = fin.FinMap nat_cmp LivePacket
 

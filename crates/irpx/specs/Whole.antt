@@ -32,23 +32,28 @@ IsWhole value = has_float value ≡ false
 or_whole : (first second : Bool) → first ≡ false → second ≡ false → (first || second) ≡ false
 or_whole first second first_is second_is = ap (λ test. test || second) first_is ∙ second_is
 
+-- a list of whole forms is whole
 pub each_whole : {T : Type 0} (form : T → Data) → ((item : T) → IsWhole (form item)) → (items : List T) → IsWhole (list (map form items))
 each_whole form whole [] = refl
 each_whole form whole (first ∷ others) = or_whole _ _ (whole first) (each_whole form whole others)
 
+-- the form of an option is whole where that of its value is
 pub or_null_whole : {T : Type 0} (form : T → Data) → ((value : T) → IsWhole (form value)) → (option : Option T) → IsWhole (or_null form option)
 or_null_whole form whole None = refl
 or_null_whole form whole (Some value) = whole value
 
+-- a party has a whole form
 pub party_whole : (party : Party) → IsWhole (party_json party)
 party_whole party.Originator = refl
 party_whole (party.Device device) = refl
 
+-- an owner has a whole form
 pub owner_whole : (owner : Owner) → IsWhole (owner_json owner)
 owner_whole owner.Originator = refl
 owner_whole (owner.Device device) = refl
 owner_whole owner.Ended = refl
 
+-- a plan has a whole form
 pub plan_whole : (plan : Plan) → IsWhole (plan_json plan)
 plan_whole (plan.Finish status information) = refl
 plan_whole (plan.Hold cancel) = or_whole _ _ (or_null_whole cancel_json (λ _. refl) cancel) refl
@@ -56,21 +61,26 @@ plan_whole plan.Skip = refl
 plan_whole (plan.Forward setting) = or_whole _ _ (or_null_whole setting_json (λ _. refl) setting) refl
 plan_whole (plan.ForwardPend setting) = or_whole _ _ (or_null_whole setting_json (λ _. refl) setting) refl
 
+-- an answer of a completion routine has a whole form
 pub answer_whole : (answer : Answer) → IsWhole (answer_json answer)
 answer_whole answer = or_whole _ _ (or_null_whole replacement_json (λ _. refl) answer.replacement) refl
 
+-- an answer of a cancel routine has a whole form
 pub cancel_answer_whole : (answer : CancelAnswer) → IsWhole (cancel_answer_json answer)
 cancel_answer_whole (cancel_answer.Finish information) = refl
 cancel_answer_whole cancel_answer.Leave = refl
 
+-- what is shown has a whole form
 pub shown_whole : (shown : Shown) → IsWhole (shown_json shown)
 shown_whole shown = or_whole _ _ (or_null_whole device_json (λ _. refl) shown.device) refl
 
+-- a question with its answer has a whole form
 pub asked_whole : (asked : Asked) → IsWhole (asked_json asked)
 asked_whole (asked.Dispatch id shown plan) = or_whole _ _ (plan_whole plan) (or_whole _ _ (shown_whole shown) refl)
 asked_whole (asked.Completion id shown answer) = or_whole _ _ (answer_whole answer) (or_whole _ _ (shown_whole shown) refl)
 asked_whole (asked.Cancel id shown answer) = or_whole _ _ (cancel_answer_whole answer) (or_whole _ _ (shown_whole shown) refl)
 
+-- a call has a whole form
 pub call_whole : (call : Call) → IsWhole (call_json call)
 call_whole (call.CreateDevice driver lock) = refl
 call_whole (call.Attach device to) = refl
@@ -81,9 +91,11 @@ call_whole (call.CallDriver party irp target) = or_whole _ _ (party_whole party)
 call_whole (call.Complete party irp status information) = or_whole _ _ (party_whole party) refl
 call_whole (call.Look irp) = refl
 
+-- what a look sees has a whole form
 pub seen_whole : (seen : Seen) → IsWhole (seen_json seen)
 seen_whole seen = or_whole _ _ (owner_whole seen.owner) (or_whole _ _ (or_null_whole cancel_json (λ _. refl) seen.cancel_routine) refl)
 
+-- a reply has a whole form
 pub reply_whole : (reply : Reply) → IsWhole (reply_json reply)
 reply_whole reply.Done = refl
 reply_whole (reply.Device device) = refl
@@ -94,10 +106,12 @@ reply_whole (reply.Cancelled cancelled) = refl
 reply_whole (reply.Seen seen) = or_whole _ _ (seen_whole seen) refl
 reply_whole (reply.Refused reason) = refl
 
+-- an entry has a whole form
 pub entry_whole : (entry : Entry) → IsWhole (entry_json entry)
 entry_whole entry =
     or_whole _ _ (each_whole asked_json asked_whole entry.asked) (or_whole _ _ (call_whole entry.call) (or_whole _ _ (reply_whole entry.reply) refl))
 
+-- a header has a whole form
 pub header_whole : (header : Header) → IsWhole (header_json header)
 header_whole header =
     or_whole _ _ (each_whole cancel_rule_json (λ _. refl) header.cancels)

@@ -1,0 +1,5 @@
+mod Agreeing
+mod ByMajor
+mod FirstReasons
+mod Refusing
+mod Shelves

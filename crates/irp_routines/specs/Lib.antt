@@ -1,0 +1,6 @@
+pub mod Tables
+pub mod TableFacts
+pub mod Closures
+pub mod Answers
+pub mod Guarded
+pub mod GuardedFacts
