@@ -48,6 +48,19 @@ impl Model for FixedTables {
     ghost invariant = { λ own. AreTables (record { counts = own.counts; drivers = own.drivers.items; dispatches = own.dispatches.items; cancel_rules = own.cancel_rules.items }) };
 }
 
+/// What a store tells of its closures, apart.
+#[derive(Drop)]
+pub struct Parts {
+    /// How many completion routines of each rule there are, and how many cancel routines.
+    pub counts: Known,
+    /// Each driver's major function codes, rising, with their dispatches.
+    pub drivers: Row<Row<(u8, DispatchId)>>,
+    /// The routines that each dispatch may name.
+    pub dispatches: Row<Known>,
+    /// The rules of the cancel routines.
+    pub cancel_rules: Row<CancelRule>,
+}
+
 /// One more completion routine of a rule.
 fn one_more(mut counts: Known, rule: Rule) -> Known
     requires { count_of_rule counts rule < most_routines }
@@ -102,6 +115,18 @@ impl FixedTables {
             dispatches,
             cancel_rules,
         })
+    }
+
+    /// Gives them apart. It takes no memory.
+    pub fn into_parts(self) -> Parts
+        ensures { self ≡ record { counts = result.counts; drivers = result.drivers; dispatches = result.dispatches; cancel_rules = result.cancel_rules } }
+    {
+        Parts {
+            counts: self.counts,
+            drivers: Row::from_vec(self.drivers),
+            dispatches: Row::from_vec(self.dispatches),
+            cancel_rules: Row::from_vec(self.cancel_rules),
+        }
     }
 
     /// How many completion routines of each rule there are, and how many cancel routines, each at most 256.

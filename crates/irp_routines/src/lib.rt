@@ -15,7 +15,7 @@ mod store;
 pub use ask::Ask;
 pub use cancel_routine::{CancelClosure, CancelRoutine};
 pub use dispatch::{Dispatch, DispatchClosure};
-pub use fixed_tables::FixedTables;
+pub use fixed_tables::{FixedTables, Parts};
 pub use guard::{guarded_answer, guarded_cancel, guarded_plan};
 pub use not_added::{NotAdded, Reason};
 pub use routine::{CompletionClosure, Routine};

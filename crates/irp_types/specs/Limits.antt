@@ -17,6 +17,14 @@ most_live = 4096
 abbrev pub most_drivers : ℕ
 most_drivers = 64
 
+-- remove locks
+abbrev pub most_locks : ℕ
+most_locks = 64
+
+-- seats
+abbrev pub most_seats : ℕ
+most_seats = 64
+
 -- completion routines of one rule, and cancel routines
 abbrev pub most_routines : ℕ
 most_routines = 256

@@ -9,7 +9,7 @@ use Rattle.irp_types.specs.Histories.{IsEntryAt, LeadsTo, IsLegal, HistoryGoesOn
 use Rattle.irp_types.specs.declared.names.LockNo.{LockNo}
 use Rattle.irp_types.specs.declared.entry.Entry.{Entry}
 use Rattle.irpx.specs.Plain.{StandsPlain}
-use Rattle.irpx.specs.PlanTables.{no_routines}
+use Rattle.irp_types.specs.declared.routine.Known.{Known}
 use Rattle.irpx.specs.Notes.{known_by}
 
 pub leads_none : (fixed : Fixed) → LeadsTo fixed [] opening_state
@@ -37,8 +37,8 @@ no_stacks = record {
   live = λ device created neighbour. absurd (omega arith);
 }
 
-pub stands_opening : StandsPlain no_routines opening_state
-stands_opening = record {
+pub stands_opening : (counts : Known) → StandsPlain counts opening_state
+stands_opening counts = record {
   facts = record {
     packets = λ slot live at. absurd (none_live slot live at);
     counter = omega arith;

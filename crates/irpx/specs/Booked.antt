@@ -5,19 +5,17 @@ use Rattle.irp_types.specs.declared.names.LockNo.{LockNo}
 use Rattle.irp_types.specs.declared.call.Call.{Call}
 use Rattle.irp_types.specs.declared.reply.Reply.{Reply}
 use Rattle.irp_types.specs.declared.entry.Entry.{Entry}
-use Rattle.irpx.specs.Answers.{AreInMay}
+use Rattle.irp_types.specs.declared.asked.Asked.{Asked}
 use Rattle.irpx.specs.Notes.{known_by}
-use Rattle.irpx.specs.PlanTables.{IsPlanAt}
-use Rattle.irpx.specs.declared.irp_routines.fixed_plan.FixedPlan.{FixedPlan}
 
 -- entries that a history may have
 abbrev pub most_entries : ℕ
 most_entries = 1000000
 
--- what is fixed, the plans that are asked, and the history
-pub record Booked : Type 0 where
+-- who is asked, what is fixed, and the history
+pub record Booked (A : Type 0) : Type 0 where
+  pub ask : A
   pub fixed : Fixed
-  pub plans : List FixedPlan
   pub history : List Entry
 
 -- the seat's number, and how much of the history it has seen
@@ -47,13 +45,13 @@ receipt_of entry = record {
 
 -- the history grew by one entry: it is this seat's and this call's, it stands after all that the seat had seen, its
 -- `drained` is what the note knows of its lock, its questions were answered as they may be, and the receipt tells of it
-pub record Records (seat : Seated) (call : Call) (knows : LockNo → Bool) (receipt : Receipted) (old new : Booked) : Type 0 where
+pub record Records (are_answered : List Asked → Type 0) (seat : Seated) (call : Call) (knows : LockNo → Bool) (receipt : Receipted) (old new : List Entry) : Type 0 where
   pub entry : Entry
-  pub appended : new.history ≡ old.history ++ entry ∷ []
-  pub numbered : entry.number ≡ length old.history
+  pub appended : new ≡ old ++ entry ∷ []
+  pub numbered : entry.number ≡ length old
   pub after : seat.seen ≤ entry.number
   pub by : entry.seat ≡ seat.number
   pub asks : entry.call ≡ call
   pub noted : entry.drained ≡ known_by knows entry.lock
-  pub answered : AreInMay (λ dispatch shown plan. IsPlanAt old.plans dispatch plan) entry.asked
+  pub answered : are_answered entry.asked
   pub told : receipt ≡ receipt_of entry

@@ -1,7 +1,8 @@
 -- What the demonstration writes.
-use Rattle.std.specs.Prelude.{ℕ, ◌≡◌, ◌<◌, List, [], ◌∷◌, ◌++◌, map, length, Option}
+use Rattle.std.specs.Prelude.{ℕ, ◌≡◌, ◌<◌, ◌≤◌, List, [], ◌∷◌, ◌++◌, map, length, Option}
 use Rattle.std.specs.Io.KnownBytes.{Appends}
-use Rattle.irp_types.specs.State.{Fixed}
+use Rattle.irp_types.specs.Limits.{most_locks, most_seats}
+use Rattle.irp_types.specs.State.{Fixed, AreTables}
 use Rattle.irp_types.specs.Histories.{IsLegal}
 use Rattle.irp_types.specs.declared.entry.Entry.{Entry}
 use Rattle.irp_types.specs.declared.call.Call.{Call}
@@ -19,20 +20,30 @@ fixed_of header = record {
   tables = record { counts = record header.completions { cancel = length header.cancels }; drivers = header.drivers; dispatches = header.dispatches; cancel_rules = header.cancels };
 }
 
--- the calls of a history, in order
-abbrev pub calls_of : List Entry → List Call
-calls_of history = map (λ (entry : Entry). entry.call) history
+-- the calls of a history, in order, each with the seat that made it
+abbrev pub calls_of : List Entry → List (ℕ × Call)
+calls_of history = map (λ (entry : Entry). (entry.seat, entry.call)) history
 
--- the calls of the demonstration: a device of driver 0 under lock 0, a packet of one location, a read with word 7
-abbrev pub AreDemoCalls : List Call → Type 0
+-- the calls of the demonstration, all of seat 0: a device of driver 0 under lock 0, a packet of one location, a read with
+-- word 7
+abbrev pub AreDemoCalls : List (ℕ × Call) → Type 0
 AreDemoCalls calls =
     (target : DeviceId) × (irp : IrpRef)
-    × (calls ≡ CreateDevice (record { 0 = 0 }) (record { 0 = 0 }) ∷ Allocate 1 ∷ SetNext Originator irp 0x03 7 ∷ CallDriver Originator irp target ∷ [])
+    × (calls ≡ (0, CreateDevice (record { 0 = 0 }) (record { 0 = 0 })) ∷ (0, Allocate 1) ∷ (0, SetNext Originator irp 0x03 7) ∷ (0, CallDriver Originator irp target) ∷ [])
+
+-- a header whose tables agree with each other, with as many seats and locks as there may be
+pub record IsHeader (header : Header) : Type 0 where
+  pub tables : AreTables (fixed_of header).tables
+  pub some_locks : 1 ≤ header.locks
+  pub few_locks : header.locks ≤ most_locks
+  pub some_seats : 1 ≤ header.seats
+  pub few_seats : header.seats ≤ most_seats
 
 -- the text of a header and of a legal history with the calls of the demonstration went out
 pub record WritesLegal (old new : Option (List ℕ)) : Type 0 where
   pub header : Header
   pub history : List Entry
+  pub fits : IsHeader header
   pub legal : IsLegal (fixed_of header) history
   pub calls : AreDemoCalls (calls_of history)
   pub written : Appends old new (text_of (lines header history))
@@ -41,6 +52,7 @@ pub record WritesLegal (old new : Option (List ℕ)) : Type 0 where
 pub record BeginsLegal (old new : Option (List ℕ)) : Type 0 where
   pub header : Header
   pub history : List Entry
+  pub fits : IsHeader header
   pub legal : IsLegal (fixed_of header) history
   pub front : List ℕ
   pub rest : List ℕ

@@ -1,7 +1,6 @@
-pub mod PlanTables
-pub mod PlanTableLaws
 pub mod Plain
-pub mod Answers
+pub mod Passing
+pub mod PassingFacts
 pub mod Slots
 pub mod Calls
 pub mod Notes

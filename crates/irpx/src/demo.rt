@@ -2,51 +2,32 @@
 
 ghost use Rattle.std.specs.Prelude.{◌≡◌, [], ◌∷◌, ◌++◌, map, IfSome, IfOk};
 ghost use Rattle.irp_types.specs.Histories.{IsLegal};
-ghost use Rattle.irpx.specs.PlanTables.{no_routines, tables_of};
-ghost use Rattle.irpx.specs.Demo.{fixed_of, calls_of, AreDemoCalls, WritesLegal, BeginsLegal};
+ghost use Rattle.irpx.specs.Demo.{fixed_of, calls_of, AreDemoCalls, IsHeader, WritesLegal, BeginsLegal};
 ghost use Rattle.irpx.specs.declared.ending.Ending.TheVariants.{Done, OtherWords, Failed};
 ghost use Rattle.irpx.specs.Out.{risen};
 
 use crate::ending::Ending;
 use crate::irp_manager::{Book, KnowsNothing, Seat};
-use crate::irp_routines::{FixedPlan, PlanTable};
 use crate::irp_text::{Cause, Header, Out, write_transcript};
+use irp_routines::{Ask, Dispatch, DispatchClosure, FixedTables, Parts, Store};
 use irp_types::{
-    Call, DeviceId, DispatchId, DriverId, Entry, Known, LockNo, Party, Reply, Row, Status,
+    Call, DispatchId, DriverId, Entry, Known, LockNo, Party, Plan, Reply, Row, Shown, Status,
 };
 use std::alloc::{AllocError, Global};
-
-/// No routines of any kind.
-const NO_ROUTINES: Known = Known {
-    watch: 0,
-    change: 0,
-    keeper: 0,
-    keep_on_error: 0,
-    free: 0,
-    cancel: 0,
-};
 
 /// The major function code of a read, IRP_MJ_READ (WDK: "IRP_MJ_READ").
 const READ: u8 = 0x03;
 
-/// The one driver has one dispatch, for reads, which finishes the packet with success and information 5.
-fn table(alloc: Global) -> Result<Option<PlanTable>, AllocError> {
-    let mut handlers = Vec::new(alloc);
-    handlers.push((READ, DispatchId(0)))?;
-    let mut drivers = Vec::new(alloc);
-    drivers.push(Row::from_vec(handlers))?;
-    let mut plans = Vec::new(alloc);
-    plans.push(FixedPlan::Finish {
-        status: Status::SUCCESS,
-        information: 5,
-    })?;
-    Ok(PlanTable::new(Row::from_vec(drivers), Row::from_vec(plans)))
+/// The driver's one pair: reads go to the dispatch.
+fn read_pair(alloc: Global, dispatch: DispatchId) -> Result<Vec<(u8, DispatchId)>, AllocError> {
+    [(READ, dispatch)].to_vec(alloc)
 }
 
 /// Makes a call in a seat, and answers the reply. None where the call was not recorded.
-fn call(book: &mut Book, alloc: Global, seat: &mut Seat, call: Call) -> Option<Reply>
-    ensures kept { (book.new.fixed ≡ book.old.fixed) × (book.new.plans ≡ book.old.plans) }
-    ensures calls { IfSome result (λ reply. calls_of book.new.history ≡ calls_of book.old.history ++ call ∷ []) }
+fn call<A: Ask>(book: &mut Book<A>, alloc: Global, seat: &mut Seat, call: Call) -> Option<Reply>
+    ensures kept { book.new.fixed ≡ book.old.fixed }
+    ensures calls { IfSome result (λ reply. calls_of book.new.history ≡ calls_of book.old.history ++ (seat.old.number, call) ∷ []) }
+    ensures seat { seat.new.number ≡ seat.old.number }
 {
     let Ok(receipt) = book.record(alloc, seat, call, &KnowsNothing) else {
         return None;
@@ -56,9 +37,10 @@ fn call(book: &mut Book, alloc: Global, seat: &mut Seat, call: Call) -> Option<R
 }
 
 /// The calls of the demonstration. None where one was not recorded, or was answered otherwise than it should be.
-fn make_calls(book: &mut Book, alloc: Global, seat: &mut Seat) -> Option<()>
-    requires { book.old.history ≡ [] }
-    ensures kept { (book.new.fixed ≡ book.old.fixed) × (book.new.plans ≡ book.old.plans) }
+fn make_calls<A: Ask>(book: &mut Book<A>, alloc: Global, seat: &mut Seat) -> Option<()>
+    requires new { book.old.history ≡ [] }
+    requires seat { seat.old.number ≡ 0 }
+    ensures kept { book.new.fixed ≡ book.old.fixed }
     ensures calls { IfSome result (λ made. AreDemoCalls (calls_of book.new.history)) }
 {
     let create = Call::CreateDevice {
@@ -83,48 +65,60 @@ fn make_calls(book: &mut Book, alloc: Global, seat: &mut Seat) -> Option<()>
     Some(())
 }
 
-/// Which routines each dispatch may name: none.
-fn dispatches_of(alloc: Global, plans: &[FixedPlan]) -> Result<Row<Known>, AllocError>
-    ensures { IfOk result (λ dispatches. dispatches ≡ map (λ plan. no_routines) plans.now) }
+/// The header of a transcript that was made with these tables.
+fn header_of(tables: FixedTables, locks: u32, seats: u32) -> Header
+    ensures tables { fixed_of result ≡ record { locks = locks; tables = tables } }
+    ensures seats { result.seats ≡ seats }
 {
-    let mut dispatches = Vec::new(alloc);
-    for _plan in plans {
-        dispatches.push(NO_ROUTINES)?;
-    }
-    Ok(Row::from_vec(dispatches))
-}
-
-/// The header of a transcript that was made with these plans.
-fn header_of(alloc: Global, table: PlanTable, locks: u32, seats: u32) -> Result<Header, AllocError>
-    ensures { IfOk result (λ header. fixed_of header ≡ record { locks = locks; tables = tables_of table.drivers table.plans }) }
-{
-    let (drivers, plans) = table.into_parts();
-    let dispatches = dispatches_of(alloc, plans.as_slice())?;
-    Ok(Header {
-        cancels: Row::from_vec(Vec::new(alloc)),
-        completions: NO_ROUTINES,
+    let Parts { counts, drivers, dispatches, cancel_rules } = tables.into_parts();
+    Header {
+        cancels: cancel_rules,
+        completions: counts,
         dispatches,
         drivers,
         locks,
         seats,
-    })
+    }
 }
 
-/// The demonstration's header and history. None where memory ran out.
-fn history(alloc: Global) -> Option<(Header, Row<Entry>)>
+/// The header and the history of the demonstration's calls, answered so, with these tables. None where a call was not
+/// recorded.
+fn session<A: Ask + Drop>(alloc: Global, ask: A, tables: FixedTables) -> Option<(Header, Row<Entry>)>
+    ensures header { IfSome result (λ made. IsHeader made.0) }
     ensures legal { IfSome result (λ made. IsLegal (fixed_of made.0) made.1) }
     ensures calls { IfSome result (λ made. AreDemoCalls (calls_of made.1)) }
 {
-    let table = table(alloc).ok()??;
+    tables.agree();
     let locks = 1;
-    let mut book = Book::new(alloc, table, locks);
+    let mut book = Book::new(alloc, ask, tables, locks);
     let mut seat = Seat::new(0);
     make_calls(&mut book, alloc, &mut seat)?;
-    let (table, history) = book.end();
-    let Ok(header) = header_of(alloc, table, locks, 1) else {
+    let (tables, history) = book.end();
+    Some((header_of(tables, locks, 1), history))
+}
+
+/// The demonstration's header and history: its one dispatch finishes reads with success and information 5. None where
+/// memory ran out.
+fn history(alloc: Global) -> Option<(Header, Row<Entry>)>
+    ensures header { IfSome result (λ made. IsHeader made.0) }
+    ensures legal { IfSome result (λ made. IsLegal (fixed_of made.0) made.1) }
+    ensures calls { IfSome result (λ made. AreDemoCalls (calls_of made.1)) }
+{
+    let finish = |_shown: Shown| Plan::Finish {
+        status: Status::SUCCESS,
+        information: 5,
+    };
+    let finish: DispatchClosure = Box::new(alloc, finish).ok()?;
+    let mut store = Store::new(alloc);
+    let dispatch = Dispatch::new(Known::NONE, finish);
+    let Ok(id) = store.add_dispatch(dispatch) else {
         return None;
     };
-    Some((header, history))
+    let Ok(_driver) = store.add_driver(read_pair(alloc, id).ok()?) else {
+        return None;
+    };
+    let tables = store.tables().copied().ok()?;
+    session(alloc, store, tables)
 }
 
 /// Makes the calls of the demonstration, and writes the transcript: one device whose driver finishes reads, and one

@@ -12,9 +12,9 @@ ghost use Rattle.irp_types.specs.declared.location.Owner.TheVariants.{Device as 
 ghost use Rattle.irp_types.specs.declared.location.Preparation.TheVariants.{Nothing};
 ghost use Rattle.irp_types.specs.declared.routine.Known.{Known};
 ghost use Rattle.irpx.specs.Plain.{IsPlain, is_plain_plan, sent_to};
-ghost use Rattle.irpx.specs.Answers.{AreInMay};
+ghost use Rattle.irp_routines.specs.Answers.{AreAnswered};
 
-use crate::irp_routines::Ask;
+use crate::irp_manager::PlainAsk;
 use irp_packet::Packet;
 use irp_stack::Stacks;
 use irp_types::{Asked, CancelId, DeviceId, DriverId, IrpRef, Owner, Plan, Shown, Status};
@@ -101,12 +101,12 @@ fn driver_of(stacks: &Stacks, device: DeviceId) -> DriverId
 }
 
 /// What a driver's dispatch plans, if the driver has one for the major function code that it is shown.
-fn ask_plan<A: Ask>(ask: &A, driver: DriverId, shown: Shown, asked: &mut Vec<Asked>) -> Option<Plan>
+fn ask_plan<A: PlainAsk>(ask: &A, driver: DriverId, shown: Shown, asked: &mut Vec<Asked>) -> Option<Plan>
     requires { vec_len asked.old < vec_capacity asked.old }
     ensures planned { MatchOption (dispatch_for (A.tables ask.now) driver shown.major) (result ≡ None) (λ dispatch. IsPlanOf (A.tables ask.now) dispatch shown result) }
     ensures plain { IfSome result (λ plan. is_plain_plan plan ≡ true) }
     ensures listed { asked.new.items ≡ asked.old.items ++ as_question shown (dispatch_for (A.tables ask.now) driver shown.major) result }
-    ensures may { AreInMay (A.may_plan ask.now) (as_question shown (dispatch_for (A.tables ask.now) driver shown.major) result) }
+    ensures may { AreAnswered (A.may_plan ask.now) (A.may_answer ask.now) (A.may_cancel ask.now) (as_question shown (dispatch_for (A.tables ask.now) driver shown.major) result) }
 {
     let id = ask.dispatch_of(driver, shown.major)?;
     let plan = ask.plan(id, shown);
@@ -143,7 +143,7 @@ fn hold(packet: &mut Packet, device: DeviceId, cancel: Option<CancelId>) -> Stat
 /// is held or finished and unwound. A major function code that the driver has no dispatch for is finished with
 /// INVALID_DEVICE_REQUEST. The answer is the status of the reply (WDK: "IoCallDriver"; the information 0 of an
 /// unhandled major is this project's own rule). It takes no memory: the question goes into the room of `asked`.
-pub fn descend<A: Ask>(
+pub fn descend<A: PlainAsk>(
     packet: &mut Packet,
     irp: IrpRef,
     stacks: &Stacks,
@@ -157,7 +157,7 @@ pub fn descend<A: Ask>(
     requires empty { asked.old.items ≡ [] }
     requires room { vec_len asked.old < vec_capacity asked.old }
     ensures descended { Descended (A.tables ask.now) irp stacks.now packet.old target.0 asked.new.items packet.new result }
-    ensures may { AreInMay (A.may_plan ask.now) asked.new.items }
+    ensures may { AreAnswered (A.may_plan ask.now) (A.may_answer ask.now) (A.may_cancel ask.now) asked.new.items }
     ensures stays { StaysUp packet.old packet.new result }
     ensures plain { IsPlain packet.new }
     ensures sound { (counts : Known) → IsSound counts packet.old → IsSound counts packet.new }

@@ -4,7 +4,6 @@
 mod demo;
 mod ending;
 mod irp_manager;
-mod irp_routines;
 mod irp_text;
 mod irp_unwind;
 mod orders;

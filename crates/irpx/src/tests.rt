@@ -2,15 +2,17 @@
 
 use crate::demo::demo;
 use crate::ending::Ending;
+use crate::irp_manager::held_to_tables::HeldToTables;
 use crate::irp_manager::{Book, KnowsNothing, NotRecorded, Seat};
-use crate::irp_routines::{FixedPlan, PlanTable};
 use crate::irp_text::WriterOut;
 use crate::irp_text::tests::TRANSCRIPT;
+use irp_routines::{AnswerTable, Ask, Behaviour, Reaction};
 use irp_types::{
-    Asked, Call, DeviceId, DispatchId, DriverId, IrpRef, LockNo, Owner, Party, Plan, Refusal,
-    Reply, Row, Seen, Shown, Status,
+    Answer, Asked, Call, CancelAnswer, CancelId, CancelRule, DeviceId, DispatchId, DriverId, IrpRef,
+    Known, LockNo, Owner, Party, Plan, Refusal, Replacement, Reply, RoutineId, Rule, Seen, Shown,
+    Status,
 };
-use std::alloc::{AllocError, Global};
+use std::alloc::Global;
 use std::test::Fail;
 
 const READ: u8 = 0x03;
@@ -24,34 +26,34 @@ const IRP: IrpRef = IrpRef { slot: 0, use_no: 1 };
 const ORIGINATOR: Party = Party::Originator;
 
 /// Finishes with success and information 5.
-const FINISHES: FixedPlan = FixedPlan::Finish {
+const FINISHES: Plan = Plan::Finish {
     status: Status::SUCCESS,
     information: 5,
 };
+
+const HOLDS: Plan = Plan::Hold { cancel: None };
 
 /// A book, and the one seat that makes calls.
 #[derive(Drop)]
 struct Session {
     alloc: Global,
-    book: Book,
+    book: Book<AnswerTable>,
     seat: Seat,
 }
 
 impl Session {
     /// One driver, whose reads are planned so, and one remove lock.
-    fn new(alloc: Global, plan: FixedPlan) -> Result<Option<Session>, AllocError> {
-        let handlers = [(READ, DispatchId(0))].to_vec(alloc)?;
-        let mut drivers = Vec::new(alloc);
-        drivers.push(Row::from_vec(handlers))?;
-        let plans = [plan].to_vec(alloc)?;
-        let Some(table) = PlanTable::new(Row::from_vec(drivers), Row::from_vec(plans)) else {
-            return Ok(None);
-        };
-        Ok(Some(Session {
+    fn new(alloc: Global, plan: Plan) -> Option<Session> {
+        let mut table = AnswerTable::new(alloc);
+        let dispatch = table.add_dispatch(Known::NONE, plan).ok()?;
+        let pairs = [(READ, dispatch)].to_vec(alloc).ok()?;
+        table.add_driver(pairs).ok()?;
+        let tables = table.tables().copied().ok()?;
+        Some(Session {
             alloc,
-            book: Book::new(alloc, table, 1),
+            book: Book::new(alloc, table, tables, 1),
             seat: Seat::new(0),
-        }))
+        })
     }
 
     fn call(&mut self, call: Call) -> Result<Reply, NotRecorded> {
@@ -123,40 +125,38 @@ fn ended(status: Status, information: u64, pending_returned: bool) -> Reply {
     })
 }
 
+/// What the one dispatch is shown of a read.
+const SHOWN: Shown = Shown {
+    device: Some(DEVICE),
+    irp: IRP,
+    major: READ,
+    location: 1,
+    word: 7,
+    status: Status::SUCCESS,
+    information: 0,
+    pending_returned: false,
+    cancel: false,
+    context: 0,
+    has_lower: false,
+};
+
 /// What the one dispatch is shown of a read, and what it plans.
 fn asked_of(plan: Plan) -> Asked {
-    let shown = Shown {
-        device: Some(DEVICE),
-        irp: IRP,
-        major: READ,
-        location: 1,
-        word: 7,
-        status: Status::SUCCESS,
-        information: 0,
-        pending_returned: false,
-        cancel: false,
-        context: 0,
-        has_lower: false,
-    };
     Asked::Dispatch {
         id: DispatchId(0),
-        shown,
+        shown: SHOWN,
         plan,
     }
 }
 
 #[test]
 fn one_device_finishes_one_packet(rt: HostRuntime) -> Result<(), Fail> {
-    let mut session = Session::new(rt.alloc(), FINISHES)?.ok_or("no table")?;
+    let mut session = Session::new(rt.alloc(), FINISHES).ok_or("no table")?;
     assert_eq!(rt; session.create()?, Reply::Device(DEVICE));
     assert_eq!(rt; session.call(Call::Allocate { size: 1 })?, Reply::Irp(IRP));
     assert_eq!(rt; session.fill(IRP, READ)?, Reply::Done);
     assert_eq!(rt; session.send(IRP, DEVICE)?, Reply::Status(Status::SUCCESS));
-    let plan = Plan::Finish {
-        status: Status::SUCCESS,
-        information: 5,
-    };
-    assert_eq!(rt; session.asked(), Some([asked_of(plan)].as_slice()));
+    assert_eq!(rt; session.asked(), Some([asked_of(FINISHES)].as_slice()));
     assert_eq!(rt; session.look()?, ended(Status::SUCCESS, 5, false));
     assert_eq!(rt; session.book.length(), 5);
     Ok(())
@@ -164,7 +164,7 @@ fn one_device_finishes_one_packet(rt: HostRuntime) -> Result<(), Fail> {
 
 #[test]
 fn an_unhandled_major_is_an_invalid_request(rt: HostRuntime) -> Result<(), Fail> {
-    let mut session = Session::new(rt.alloc(), FINISHES)?.ok_or("no table")?;
+    let mut session = Session::new(rt.alloc(), FINISHES).ok_or("no table")?;
     session.create()?;
     session.call(Call::Allocate { size: 1 })?;
     assert_eq!(rt; session.fill(IRP, DEVICE_CONTROL)?, Reply::Done);
@@ -179,14 +179,14 @@ fn an_unhandled_major_is_an_invalid_request(rt: HostRuntime) -> Result<(), Fail>
 
 #[test]
 fn a_held_packet_is_marked_and_completed_once(rt: HostRuntime) -> Result<(), Fail> {
-    let mut session = Session::new(rt.alloc(), FixedPlan::Hold)?.ok_or("no table")?;
+    let mut session = Session::new(rt.alloc(), HOLDS).ok_or("no table")?;
     session.create()?;
     session.call(Call::Allocate { size: 1 })?;
     session.fill(IRP, READ)?;
     assert_eq!(rt; session.send(IRP, DEVICE)?, Reply::Status(Status(259)));
     assert_eq!(rt;
         session.asked(),
-        Some([asked_of(Plan::Hold { cancel: None })].as_slice())
+        Some([asked_of(HOLDS)].as_slice())
     );
     let held = Seen {
         owner: Owner::Device(DEVICE),
@@ -215,7 +215,7 @@ fn a_held_packet_is_marked_and_completed_once(rt: HostRuntime) -> Result<(), Fai
 
 #[test]
 fn a_packet_is_not_sent_unprepared(rt: HostRuntime) -> Result<(), Fail> {
-    let mut session = Session::new(rt.alloc(), FixedPlan::Hold)?.ok_or("no table")?;
+    let mut session = Session::new(rt.alloc(), HOLDS).ok_or("no table")?;
     session.create()?;
     session.call(Call::Allocate { size: 1 })?;
     assert_eq!(rt;
@@ -227,7 +227,7 @@ fn a_packet_is_not_sent_unprepared(rt: HostRuntime) -> Result<(), Fail> {
 
 #[test]
 fn a_stack_of_two_needs_two_locations(rt: HostRuntime) -> Result<(), Fail> {
-    let mut session = Session::new(rt.alloc(), FINISHES)?.ok_or("no table")?;
+    let mut session = Session::new(rt.alloc(), FINISHES).ok_or("no table")?;
     let upper = DeviceId(1);
     session.create()?;
     assert_eq!(rt; session.create()?, Reply::Device(upper));
@@ -268,7 +268,7 @@ fn a_stack_of_two_needs_two_locations(rt: HostRuntime) -> Result<(), Fail> {
 
 #[test]
 fn calls_are_refused_by_the_first_check(rt: HostRuntime) -> Result<(), Fail> {
-    let mut session = Session::new(rt.alloc(), FixedPlan::Hold)?.ok_or("no table")?;
+    let mut session = Session::new(rt.alloc(), HOLDS).ok_or("no table")?;
     let unknown = Call::CreateDevice {
         driver: DriverId(1),
         lock: LockNo(1),
@@ -322,7 +322,7 @@ fn calls_are_refused_by_the_first_check(rt: HostRuntime) -> Result<(), Fail> {
 
 #[test]
 fn a_seat_that_has_seen_more_is_told_the_length(rt: HostRuntime) -> Result<(), Fail> {
-    let mut session = Session::new(rt.alloc(), FINISHES)?.ok_or("no table")?;
+    let mut session = Session::new(rt.alloc(), FINISHES).ok_or("no table")?;
     session.create()?;
     session.seat.saw(3);
     assert_eq!(rt;
@@ -337,7 +337,7 @@ fn a_seat_that_has_seen_more_is_told_the_length(rt: HostRuntime) -> Result<(), F
 
 #[test]
 fn a_receipt_tells_of_its_entry(rt: HostRuntime) -> Result<(), Fail> {
-    let mut session = Session::new(rt.alloc(), FINISHES)?.ok_or("no table")?;
+    let mut session = Session::new(rt.alloc(), FINISHES).ok_or("no table")?;
     session.create()?;
     let seat = Seat::new(6);
     let call = Call::Allocate { size: 2 };
@@ -350,6 +350,71 @@ fn a_receipt_tells_of_its_entry(rt: HostRuntime) -> Result<(), Fail> {
     assert_eq!(rt; receipt.lock(), None);
     assert_eq!(rt; receipt.drained(), false);
     assert_eq!(rt; receipt.reply(), Reply::Irp(IRP));
+    Ok(())
+}
+
+/// A dispatch that passes down, a routine that replaces, and a cancel routine that leaves the packet.
+fn passing_down(alloc: Global) -> Option<AnswerTable> {
+    let replaces = Reaction {
+        keep: false,
+        replacement: Some(Replacement {
+            status: Status::SUCCESS,
+            information: 3,
+        }),
+    };
+    let behaviour = Behaviour {
+        on_success: replaces,
+        on_error: replaces,
+    };
+    let mut table = AnswerTable::new(alloc);
+    table.add(Rule::Change, behaviour).ok()?;
+    table
+        .add_cancel(CancelRule::Either, CancelAnswer::Finish { information: 6 })
+        .ok()?;
+    table.add_dispatch(Known::NONE, Plan::Skip).ok()?;
+    table.add_dispatch(Known::NONE, FINISHES).ok()?;
+    Some(table)
+}
+
+#[test]
+fn an_asker_is_held_to_its_tables(rt: HostRuntime) -> Result<(), Fail> {
+    let table = passing_down(rt.alloc()).ok_or("no table")?;
+    let tables = table.tables().copied()?;
+    let held = HeldToTables::new(table, tables);
+    assert_eq!(rt; (held.drivers(), held.dispatches()), (0, 2));
+    assert_eq!(rt; held.counts().change, 1);
+    assert_eq!(rt; held.dispatch_of(DriverId(0), READ), None);
+    let above = Shown {
+        has_lower: true,
+        ..SHOWN
+    };
+    let invalid = Plan::Finish {
+        status: Status(3221225488),
+        information: 0,
+    };
+    if held.dispatches() == 2 && held.counts().change == 1 && held.counts().cancel == 1 {
+        assert_eq!(rt; held.known_of(DispatchId(1)), Known::NONE);
+        assert_eq!(rt; held.plan(DispatchId(0), above), invalid);
+        assert_eq!(rt; held.plan(DispatchId(1), above), FINISHES);
+        let routine = RoutineId {
+            rule: Rule::Change,
+            no: 0,
+        };
+        let answer = Answer {
+            keep: false,
+            mark: false,
+            replacement: Some(Replacement {
+                status: Status::SUCCESS,
+                information: 3,
+            }),
+        };
+        assert_eq!(rt; held.answer(routine, SHOWN), answer);
+        assert_eq!(rt; held.cancel_rule(CancelId(0)), CancelRule::Either);
+        assert_eq!(rt;
+            held.cancel_answer(CancelId(0), SHOWN),
+            CancelAnswer::Finish { information: 6 }
+        );
+    }
     Ok(())
 }
 

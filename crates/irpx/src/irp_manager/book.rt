@@ -3,16 +3,18 @@
 ghost use Rattle.std.specs.Prelude.{◌≡◌, ℕ, ◌<◌, ◌≤◌, [], length, slice_get, Err, IfOk, OnErr};
 ghost use Rattle.std.specs.Option.{option_copied};
 ghost use Rattle.irp_types.specs.Histories.{IsLegal};
-ghost use Rattle.irpx.specs.PlanTables.{tables_of};
+ghost use Rattle.irp_routines.specs.Answers.{AreAnswered};
+ghost use Rattle.irpx.specs.Passing.{PassesPlan, PassesAnswer, PassesCancel};
 ghost use Rattle.irpx.specs.Booked.{most_entries, Records};
 ghost use Rattle.irpx.specs.declared.irp_manager.not_recorded.NotRecorded.TheVariants.{Behind, HistoryFull};
 
+use crate::irp_manager::held_to_tables::HeldToTables;
 use crate::irp_manager::not_recorded::NotRecorded;
 use crate::irp_manager::note::DrainNote;
 use crate::irp_manager::receipt::Receipt;
 use crate::irp_manager::seat::Seat;
 use crate::irp_manager::sequential::Core;
-use crate::irp_routines::PlanTable;
+use irp_routines::{Ask, FixedTables};
 use irp_types::{Call, Entry, Row, history_goes_on};
 use std::alloc::Global;
 use std::marker::Model;
@@ -20,45 +22,45 @@ use std::marker::Model;
 /// How many entries a history may have.
 const MOST_ENTRIES: usize = 1_000_000;
 
-/// The manager, the plans that it asks, and the history of the calls that it was given: one that the sequential manager
-/// could have made, and that ends in the manager's state (this project's own rule).
+/// The manager, whom it asks, and the history of the calls that it was given: one that the sequential manager could have
+/// made with the book's tables, and that ends in the manager's state (this project's own rule).
 #[derive(Drop)]
-pub struct Book {
-    table: PlanTable,
+pub struct Book<A> {
+    held: HeldToTables<A>,
     core: Core,
     history: Vec<Entry>,
 }
 
-impl Model for Book {
+impl<A> Model for Book<A> {
     ghost use Rattle.std.specs.Prelude.{◌≤◌, length};
     ghost use Rattle.irp_types.specs.Histories.{LeadsTo};
-    ghost use Rattle.irpx.specs.PlanTables.{tables_of, no_routines};
     ghost use Rattle.irpx.specs.Plain.{StandsPlain};
     ghost use Rattle.irpx.specs.Booked.{Booked, most_entries};
     ghost use Rattle.irpx.specs.Cores.{state_of};
 
-    ghost Value = { Booked };
+    ghost Value = { Booked A };
 
     ghost view = { λ book. record {
-      fixed = record { locks = book.core.locks; tables = tables_of book.table.drivers book.table.plans };
-      plans = book.table.plans;
+      ask = book.held.ask;
+      fixed = record { locks = book.core.locks; tables = book.held.tables };
       history = book.history.items;
     } };
 
     ghost invariant = { λ book. record {
-      leads : LeadsTo (record { locks = book.core.locks; tables = tables_of book.table.drivers book.table.plans }) book.history.items (state_of book.core);
-      stands : StandsPlain no_routines (state_of book.core);
+      leads : LeadsTo (record { locks = book.core.locks; tables = book.held.tables }) book.history.items (state_of book.core);
+      stands : StandsPlain book.held.tables.counts (state_of book.core);
       few : length book.history.items ≤ most_entries;
     } };
 }
 
-impl Book {
-    /// A manager with these plans and this many remove locks, and no history. It takes no memory.
-    pub fn new(alloc: Global, table: PlanTable, locks: u32) -> Book
-        ensures { result ≡ record { fixed = record { locks = locks; tables = tables_of table.drivers table.plans }; plans = table.plans; history = [] } }
+impl<A> Book<A> {
+    /// A manager that asks so, with these tables and this many remove locks, and no history. It takes no memory. The
+    /// tables are to be the asker's own: whatever these tables don't allow it to answer is replaced.
+    pub fn new(alloc: Global, ask: A, tables: FixedTables, locks: u32) -> Book<A>
+        ensures { result ≡ record { ask = ask; fixed = record { locks = locks; tables = tables }; history = [] } }
     {
         Book {
-            table,
+            held: HeldToTables::new(ask, tables),
             core: Core::new(alloc, locks),
             history: Vec::new(alloc),
         }
@@ -79,7 +81,11 @@ impl Book {
         self.history.get(number)
     }
 
-    /// Makes a call and records it.
+}
+
+impl<A: Ask> Book<A> {
+    /// Makes a call and records it. What is asked in it is answered as the book's asker may answer, where the book's
+    /// tables are the asker's own.
     ///
     /// # Errors
     ///
@@ -92,8 +98,12 @@ impl Book {
         call: Call,
         note: &N,
     ) -> Result<Receipt, NotRecorded>
-        ensures recorded { IfOk result (λ receipt. Records seat.now call (N.knows_drained note.now) receipt self.old self.new) }
-        ensures kept { (self.new.fixed ≡ self.old.fixed) × (self.new.plans ≡ self.old.plans) }
+        ensures recorded { IfOk result (λ receipt. Records (AreAnswered
+            (PassesPlan self.old.fixed.tables (A.tables self.old.ask ≡ self.old.fixed.tables) (A.may_plan self.old.ask))
+            (PassesAnswer self.old.fixed.tables (A.tables self.old.ask ≡ self.old.fixed.tables) (A.may_answer self.old.ask))
+            (PassesCancel self.old.fixed.tables (A.tables self.old.ask ≡ self.old.fixed.tables) (A.may_cancel self.old.ask)))
+            seat.now call (N.knows_drained note.now) receipt self.old.history self.new.history) }
+        ensures kept { (self.new.ask ≡ self.old.ask) × (self.new.fixed ≡ self.old.fixed) }
         ensures legal { IsLegal self.new.fixed self.new.history }
         ensures err { OnErr result (self.new ≡ self.old) }
 
@@ -114,7 +124,7 @@ impl Book {
         if self.history.reserve(1).is_err() {
             return Err(NotRecorded::Memory);
         }
-        let Ok(applied) = self.core.apply(alloc, &self.table, call, note) else {
+        let Ok(applied) = self.core.apply(alloc, &self.held, call, note) else {
             return Err(NotRecorded::Memory);
         };
         let entry = Entry {
@@ -131,19 +141,20 @@ impl Book {
         history_goes_on();
         Ok(receipt)
     }
+}
 
-    /// Ends it, and gives the plans and the history.
-    pub fn end(self) -> (PlanTable, Row<Entry>)
-        ensures tables { tables_of result.0.drivers result.0.plans ≡ self.fixed.tables }
-        ensures plans { result.0.plans ≡ self.plans }
+impl<A: Drop> Book<A> {
+    /// Ends it, and gives the tables and the history.
+    pub fn end(self) -> (FixedTables, Row<Entry>)
+        ensures tables { result.0 ≡ self.fixed.tables }
         ensures history { result.1 ≡ self.history }
         ensures legal { IsLegal self.fixed self.history }
     {
         let Book {
-            table,
+            held,
             core: _,
             history,
         } = self;
-        (table, Row::from_vec(history))
+        (held.into_tables(), Row::from_vec(history))
     }
 }

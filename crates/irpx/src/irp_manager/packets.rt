@@ -7,15 +7,15 @@ ghost use Rattle.irp_types.specs.Steps.{seen_of};
 ghost use Rattle.irp_types.specs.Standing.{IsSound};
 ghost use Rattle.irp_types.specs.declared.routine.Known.{Known};
 ghost use Rattle.irpx.specs.Plain.{IsPlain};
-ghost use Rattle.irpx.specs.Answers.{AreInMay};
+ghost use Rattle.irp_routines.specs.Answers.{AreAnswered};
 ghost use Rattle.irp_types.specs.Descent.{StaysUp};
 ghost use Rattle.irp_types.specs.declared.names.IrpRef.{IrpRef};
 ghost use Rattle.irp_types.specs.declared.status.Status.{Status};
 ghost use Rattle.irp_types.specs.declared.reply.Reply.TheVariants.{Status as StatusIs};
 ghost use Rattle.irpx.specs.Calls.{packet_refusal_in, party_refusal_in, Goes, Fills, Sends, Finishes};
 
+use crate::irp_manager::plain_ask::PlainAsk;
 use crate::irp_manager::slots::Live;
-use crate::irp_routines::Ask;
 use crate::irp_unwind::{descend, unwind};
 use irp_packet::Packet;
 use irp_stack::Stacks;
@@ -112,7 +112,7 @@ fn is_wrong_target(stacks: &Stacks, party: Party, target: DeviceId) -> bool
 }
 
 /// Sends the packet to a device.
-pub fn send<A: Ask>(
+pub fn send<A: PlainAsk>(
     live: &mut Live,
     irp: IrpRef,
     stacks: &Stacks,
@@ -126,7 +126,7 @@ pub fn send<A: Ask>(
     requires room { vec_len asked.old < vec_capacity asked.old }
     ensures goes { Goes (send_refusal stacks.now party live.old.packet target.0)
         (Sends (A.tables ask.now) irp stacks.now target.0 asked.new.items result live.old.packet) live.old live.new asked.new.items result }
-    ensures may { AreInMay (A.may_plan ask.now) asked.new.items }
+    ensures may { AreAnswered (A.may_plan ask.now) (A.may_answer ask.now) (A.may_cancel ask.now) asked.new.items }
     ensures stays { (status : Status) → result ≡ StatusIs status → StaysUp live.old.packet live.new.packet status }
     ensures plain { IsPlain live.new.packet }
     ensures sound { (counts : Known) → IsSound counts live.old.packet → IsSound counts live.new.packet }

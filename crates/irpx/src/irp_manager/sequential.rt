@@ -9,15 +9,16 @@ ghost use Rattle.irp_types.specs.Refusals.{packet_refusal, party_refusal, first_
 ghost use Rattle.irp_types.specs.Histories.{lock_of};
 ghost use Rattle.irp_types.specs.declared.call.Call.TheVariants.{CreateDevice, Attach, Detach, Allocate, SetNext, CallDriver, Complete, Look};
 ghost use Rattle.irpx.specs.Plain.{IsPlain, StandsPlain};
-ghost use Rattle.irpx.specs.Answers.{AreInMay};
+ghost use Rattle.irp_routines.specs.Answers.{AreAnswered};
 ghost use Rattle.irpx.specs.Notes.{known_by};
 ghost use Rattle.irpx.specs.Cores.{state_of, Stepped, SteppedAny, SentStays, SenderStays};
 
 use crate::irp_manager::note::DrainNote;
 use crate::irp_manager::packets;
+use crate::irp_manager::plain_ask::PlainAsk;
 use crate::irp_manager::slots::{Live, Slots};
-use crate::irp_routines::Ask;
 use irp_packet::Packet;
+use irp_routines::Ask;
 use irp_stack::{NotCreated, Stacks};
 use irp_types::{Asked, Call, DeviceId, DriverId, IrpRef, LockNo, Party, Refusal, Reply, Status};
 use std::alloc::{AllocError, Global};
@@ -95,7 +96,7 @@ impl Core {
         reply
     }
 
-    fn call_driver<A: Ask>(
+    fn call_driver<A: PlainAsk>(
         &mut self,
         ask: &A,
         party: Party,
@@ -107,7 +108,7 @@ impl Core {
         requires empty { asked.old.items ≡ [] }
         requires room { vec_len asked.old < vec_capacity asked.old }
         ensures stepped { (drained : Bool) → Stepped (A.tables ask.now) drained self.old (CallDriver party irp target) asked.new.items result self.new }
-        ensures may { AreInMay (A.may_plan ask.now) asked.new.items }
+        ensures may { AreAnswered (A.may_plan ask.now) (A.may_answer ask.now) (A.may_cancel ask.now) asked.new.items }
         ensures stays { SentStays self.old irp result self.new }
     {
         if let Some(refusal) = self.party_refusal(party, irp) {
@@ -251,7 +252,7 @@ impl Core {
         None
     }
 
-    fn answer<A: Ask>(
+    fn answer<A: PlainAsk>(
         &mut self,
         alloc: Global,
         ask: &A,
@@ -262,7 +263,7 @@ impl Core {
         requires empty { asked.old.items ≡ [] }
         requires room { vec_len asked.old < vec_capacity asked.old }
         ensures stepped { IfOk result (λ reply. (drained : Bool) → Stepped (A.tables ask.now) drained self.old call asked.new.items reply self.new) }
-        ensures may { IfOk result (λ reply. AreInMay (A.may_plan ask.now) asked.new.items) }
+        ensures may { IfOk result (λ reply. AreAnswered (A.may_plan ask.now) (A.may_answer ask.now) (A.may_cancel ask.now) asked.new.items) }
         ensures stays { IfOk result (λ reply. SenderStays self.old call reply self.new) }
         ensures err { OnErr result (state_of self.new ≡ state_of self.old) }
         ensures locks { OnErr result (self.new.locks ≡ self.old.locks) }
@@ -298,7 +299,7 @@ impl Core {
     /// # Errors
     ///
     /// `AllocError` where a growth was refused. The state stays as it was.
-    pub fn apply<A: Ask, N: DrainNote>(
+    pub fn apply<A: PlainAsk, N: DrainNote>(
         &mut self,
         alloc: Global,
         ask: &A,
@@ -307,7 +308,7 @@ impl Core {
     ) -> Result<Applied, AllocError>
         requires stands { StandsPlain (A.tables ask.now).counts (state_of self.old) }
         ensures stepped { IfOk result (λ applied. Stepped (A.tables ask.now) applied.drained self.old call applied.asked.items applied.reply self.new) }
-        ensures may { IfOk result (λ applied. AreInMay (A.may_plan ask.now) applied.asked.items) }
+        ensures may { IfOk result (λ applied. AreAnswered (A.may_plan ask.now) (A.may_answer ask.now) (A.may_cancel ask.now) applied.asked.items) }
         ensures stays { IfOk result (λ applied. SenderStays self.old call applied.reply self.new) }
         ensures lock { IfOk result (λ applied. applied.lock ≡ lock_of (state_of self.old) call) }
         ensures drained { IfOk result (λ applied. applied.drained ≡ known_by (N.knows_drained note.now) applied.lock) }

@@ -1,17 +1,46 @@
 -- Before anything went out, what went out is the beginning of any text, as of one with no entries.
-use Rattle.std.proofs.Common.{◌<◌, [], length, subst, sym, refl, arith, length-append}
+use Rattle.std.proofs.Common.{◌<◌, ◌≤◌, [], length, subst, sym, refl, arith, length-append}
+use Rattle.std.proofs.lemmas.List.Elements.{All-nil}
 use Rattle.irp_types.specs.Histories.{IsLegal}
 use Rattle.irpx.specs.declared.irp_text.header.Header.{Header}
-use Rattle.irpx.specs.Demo.{fixed_of}
+use Rattle.irpx.specs.Demo.{fixed_of, IsHeader}
 use Rattle.irpx.specs.Json.{line_text}
 use Rattle.irpx.specs.Lines.{lines, text_of, header_json}
-use Rattle.irpx.specs.PlanTables.{no_routines}
+use Rattle.irp_types.specs.State.{no_routines}
 use Rattle.irpx.proofs.Recording.{leads_none}
 use Rattle.irpx.proofs.Puts.{appends_none, text_cons, line_some}
 use Rattle.irpx.proofs.demo.demo.Goals as goal
 
-some_header : Header
-some_header = record { cancels = []; completions = no_routines; dispatches = []; drivers = []; locks = 0; seats = 0 }
+abbrev some_header : Header
+some_header = record { cancels = []; completions = no_routines; dispatches = []; drivers = []; locks = 1; seats = 1 }
+
+none_few : 0 ≤ 256
+none_few = omega arith
+
+none_drivers : 0 ≤ 64
+none_drivers = omega arith
+
+one_some : 1 ≤ 1
+one_some = omega arith
+
+one_few : 1 ≤ 64
+one_few = omega arith
+
+fits : IsHeader some_header
+fits = record {
+  tables = record {
+    cancels = refl;
+    known = All-nil _;
+    drivers = All-nil _;
+    few_routines = record { watch = none_few; change = none_few; keeper = none_few; keep_on_error = none_few; free = none_few; cancel = none_few };
+    few_dispatches = none_few;
+    few_drivers = none_drivers;
+  };
+  some_locks = one_some;
+  few_locks = one_few;
+  some_seats = one_some;
+  few_seats = one_few;
+}
 
 none_legal : IsLegal (fixed_of some_header) []
 none_legal = ((leads_none (fixed_of some_header)).0, (leads_none (fixed_of some_header)).1)
@@ -26,6 +55,7 @@ pub returns-in_default-clause-begins : goal.returns-in_default-clause-begins
 returns-in_default-clause-begins g c other = record {
   header = some_header;
   history = [];
+  fits = fits;
   legal = none_legal;
   front = [];
   rest = text_of (lines some_header []);

@@ -3,17 +3,16 @@ use Rattle.irp_types.specs.Histories.{LeadsTo}
 use Rattle.irp_types.specs.State.{StateValue, Fixed}
 use Rattle.irp_types.specs.declared.entry.Entry.{Entry}
 use Rattle.irpx.specs.Plain.{StandsPlain}
-use Rattle.irpx.specs.PlanTables.{tables_of, no_routines}
 use Rattle.irpx.proofs.Recording.{leads_none, stands_opening}
 use Rattle.irpx.proofs.irp_manager.book.Book.new.Goals as goal
 
 pub invariant_of-result : goal.invariant_of-result
-invariant_of-result c =
-    let fixed : Fixed = record { locks = c.new.result.locks; tables = tables_of c.args.table.drivers c.args.table.plans } in
-    let none = c.new-2.ensures.items in
-    let count : length c.new-2.result.items ≡ 0 = ap length none in
+invariant_of-result g c =
+    let fixed : Fixed = record { locks = c.new-2.result.locks; tables = c.new.result.tables } in
+    let none = c.new-3.ensures.items in
+    let count : length c.new-3.result.items ≡ 0 = ap length none in
     record {
-      leads = subst (λ (given : List Entry × StateValue). LeadsTo fixed given.0 given.1) (λ i. (sym none i, sym c.new.ensures.state i)) (leads_none fixed);
-      stands = subst (StandsPlain no_routines) (sym c.new.ensures.state) stands_opening;
+      leads = subst (λ (given : List Entry × StateValue). LeadsTo fixed given.0 given.1) (λ i. (sym none i, sym c.new-2.ensures.state i)) (leads_none fixed);
+      stands = subst (StandsPlain c.new.result.tables.counts) (sym c.new-2.ensures.state) (stands_opening c.new.result.tables.counts);
       few = omega (arith, count);
     }

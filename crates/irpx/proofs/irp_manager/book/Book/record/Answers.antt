@@ -4,8 +4,8 @@ use Rattle.irp_types.specs.Steps.{Step}
 use Rattle.irp_types.specs.Histories.{IsEntryAt, LeadsTo}
 use Rattle.irp_types.specs.declared.asked.Asked.{Asked}
 use Rattle.irp_types.specs.declared.entry.Entry.{Entry}
-use Rattle.irpx.specs.Answers.{AreInMay}
-use Rattle.irpx.specs.PlanTables.{tables_of, IsPlanAt}
+use Rattle.irp_routines.specs.Answers.{AreAnswered}
+use Rattle.irpx.specs.Passing.{PassesPlan, PassesAnswer, PassesCancel}
 use Rattle.irpx.specs.Cores.{state_of}
 use Rattle.irpx.proofs.Recording.{leads_more, legal, undrained}
 use Rattle.irpx.proofs.irp_manager.book.Book.record.Goals as goal
@@ -32,7 +32,7 @@ place g c = search rules
 
 -- what is fixed, before the call
 before : (g : Over) → goal.After-history_goes_on g → Fixed
-before g c = record { locks = c.self.inside.core.locks; tables = tables_of c.self.inside.table.drivers c.self.inside.table.plans }
+before g c = record { locks = c.self.inside.core.locks; tables = c.self.inside.held.tables }
 
 leads : (g : Over) (c : goal.After-history_goes_on g) → LeadsTo (before g c) c.push_reserved.new.self.items (state_of c.apply.new.self)
 unfolding entry before
@@ -51,10 +51,10 @@ leads g c =
     leads_more c.history_goes_on.ensures (before g c) c.self.inside.history.items c.push_reserved.new.self.items old new (entry g c) c.self.invariant.leads holds (grown g c)
 
 -- the same, with what is fixed after the call
-leads_on : (g : Over) (c : goal.After-history_goes_on g) → LeadsTo (record { locks = c.apply.new.self.locks; tables = tables_of c.self.inside.table.drivers c.self.inside.table.plans }) c.push_reserved.new.self.items (state_of c.apply.new.self)
+leads_on : (g : Over) (c : goal.After-history_goes_on g) → LeadsTo (record { locks = c.apply.new.self.locks; tables = c.self.inside.held.tables }) c.push_reserved.new.self.items (state_of c.apply.new.self)
 unfolding before
 leads_on g c =
-    let tables = tables_of c.self.inside.table.drivers c.self.inside.table.plans in
+    let tables = c.self.inside.held.tables in
     subst (λ (locks : ℕ). LeadsTo (record { locks = locks; tables = tables }) c.push_reserved.new.self.items (state_of c.apply.new.self)) (sym c.in-Ok.ensures.stepped.locks) (leads g c)
 
 pub invariant_of-self-2 : goal.invariant_of-self-2
@@ -69,14 +69,17 @@ invariant_of-self-2 g c =
 
 pub returns-clause-legal : goal.returns-clause-legal
 returns-clause-legal g c =
-    let fixed : Fixed = record { locks = c.apply.new.self.locks; tables = tables_of c.self.inside.table.drivers c.self.inside.table.plans } in
+    let fixed : Fixed = record { locks = c.apply.new.self.locks; tables = c.self.inside.held.tables } in
     legal fixed c.push_reserved.new.self.items (state_of c.apply.new.self) (leads_on g c)
 
 pub returns-clause-recorded : goal.returns-clause-recorded
 unfolding entry
 returns-clause-recorded g c =
     let here = place g c in
-    let may = subst (λ (asked : List Asked). AreInMay (λ dispatch shown plan. IsPlanAt c.self.inside.table.plans dispatch plan) asked) (sym c.from_vec.ensures) c.in-Ok.ensures.may in
+    let held = c.self.inside.held in
+    let own = g.A.Ask.tables held.ask ≡ held.tables in
+    let may = subst (λ (asked : List Asked). AreAnswered (PassesPlan held.tables own (g.A.Ask.may_plan held.ask)) (PassesAnswer held.tables own (g.A.Ask.may_answer held.ask)) (PassesCancel held.tables own (g.A.Ask.may_cancel held.ask)) asked)
+        (sym c.from_vec.ensures) c.in-Ok.ensures.may in
     rw (← c.self.view_is) (record {
       entry = entry g c;
       appended = grown g c;
