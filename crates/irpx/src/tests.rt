@@ -1,18 +1,26 @@
 //! Worked examples of the manager, the book and the demonstration. `docs/EXAMPLES.md` has them by name.
 
+ghost use Rattle.std.specs.Prelude.{◌≡◌};
+ghost use Rattle.irp_types.specs.Status.{success};
+ghost use Rattle.irp_types.specs.declared.answer.Plan.TheVariants.{Finish};
+
 use crate::demo::demo;
 use crate::ending::Ending;
 use crate::irp_manager::held_to_tables::HeldToTables;
 use crate::irp_manager::{Book, KnowsNothing, NotRecorded, Seat};
 use crate::irp_text::WriterOut;
 use crate::irp_text::tests::TRANSCRIPT;
-use irp_routines::{AnswerTable, Ask, Behaviour, Reaction};
+use irp_routines::{
+    AnswerTable, Ask, Behaviour, Dispatch, DispatchClosure, Reaction, Store,
+};
 use irp_types::{
     Answer, Asked, Call, CancelAnswer, CancelId, CancelRule, DeviceId, DispatchId, DriverId, IrpRef,
     Known, LockNo, Owner, Party, Plan, Refusal, Replacement, Reply, RoutineId, Rule, Seen, Shown,
     Status,
 };
 use std::alloc::Global;
+use std::sync::Arc;
+use std::sync::atomic::{AtomicU32, Ordering};
 use std::test::Fail;
 
 const READ: u8 = 0x03;
@@ -415,6 +423,54 @@ fn an_asker_is_held_to_its_tables(rt: HostRuntime) -> Result<(), Fail> {
             CancelAnswer::Finish { information: 6 }
         );
     }
+    Ok(())
+}
+
+/// Asked plain questions only: what the counting dispatch plans.
+fn counted(count: &AtomicU32) -> Plan
+    ensures { result ≡ Finish success 5 }
+{
+    count.fetch_add(1, Ordering::SeqCst);
+    FINISHES
+}
+
+#[test]
+fn a_dispatch_is_asked_once(rt: HostRuntime) -> Result<(), Fail> {
+    let alloc = rt.alloc();
+    let count = Arc::new(alloc, AtomicU32::new(0))?;
+    let own = count.clone();
+    let run: DispatchClosure = Box::new(alloc, move |_shown: Shown| counted(&own))?;
+    let mut store = Store::new(alloc);
+    let Ok(dispatch) = store.add_dispatch(Dispatch::new(Known::NONE, run)) else {
+        return Err("not added".into());
+    };
+    let Ok(driver) = store.add_driver([(READ, dispatch)].to_vec(alloc)?) else {
+        return Err("not added".into());
+    };
+    let tables = store.tables().copied()?;
+    let mut book = Book::new(alloc, store, tables, 1);
+    let mut seat = Seat::new(0);
+    let create = Call::CreateDevice {
+        driver,
+        lock: LockNo(0),
+    };
+    let fill = Call::SetNext {
+        party: ORIGINATOR,
+        irp: IRP,
+        major: READ,
+        word: 7,
+    };
+    let send = Call::CallDriver {
+        party: ORIGINATOR,
+        irp: IRP,
+        target: DEVICE,
+    };
+    for call in [create, Call::Allocate { size: 1 }, fill, send] {
+        let receipt = book.record(alloc, &seat, call, &KnowsNothing)?;
+        seat.saw(receipt.number() + 1);
+    }
+    assert_eq!(rt; book.length(), 4);
+    assert_eq!(rt; count.load(Ordering::SeqCst), 1);
     Ok(())
 }
 
