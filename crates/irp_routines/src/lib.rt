@@ -11,6 +11,8 @@ mod guard;
 mod not_added;
 mod routine;
 mod store;
+#[cfg(test)]
+mod tests;
 
 pub use ask::Ask;
 pub use cancel_routine::{CancelClosure, CancelRoutine};
