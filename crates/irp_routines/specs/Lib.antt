@@ -6,3 +6,4 @@ pub mod Guarded
 pub mod GuardedFacts
 pub mod AnswerTables
 pub mod AnswerTableFacts
+pub mod Shelves
