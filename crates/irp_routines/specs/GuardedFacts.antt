@@ -27,7 +27,7 @@ same false = refl
 both : (first second : Bool) → first ≡ true → second ≡ true → (first && second) ≡ true
 both first second first_is second_is = ap (λ test. test && second) first_is ∙ second_is
 
-fixed_allowed : (rule : Rule) (shown : Shown) → is_allowed rule shown (fixed_answer rule shown) ≡ true
+pub fixed_allowed : (rule : Rule) (shown : Shown) → is_allowed rule shown (fixed_answer rule shown) ≡ true
 fixed_allowed Watch shown = both _ _ (same (right_mark shown false)) refl
 fixed_allowed Change shown = both _ _ (same (right_mark shown false)) refl
 fixed_allowed Keeper shown = both _ _ (same (right_mark shown true)) refl

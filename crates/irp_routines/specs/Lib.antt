@@ -4,3 +4,6 @@ pub mod Closures
 pub mod Answers
 pub mod Guarded
 pub mod GuardedFacts
+pub mod AnswerTables
+pub mod AnswerTableFacts
+pub mod Shelves

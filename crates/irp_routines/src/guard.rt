@@ -1,7 +1,7 @@
 //! Answers that are allowed, whoever gave them: an answer that isn't is replaced by a fixed one that always is.
 
 ghost use Rattle.std.specs.Prelude.{◌≡◌};
-ghost use Rattle.irp_routines.specs.Guarded.{fixed_keep, guarded_answer, guarded_plan, guarded_cancel};
+ghost use Rattle.irp_routines.specs.Guarded.{fixed_keep, fixed_answer, guarded_answer, guarded_plan, guarded_cancel};
 
 use irp_types::{Answer, CancelAnswer, CancelRule, Known, Plan, Rule, Shown, Status};
 
@@ -16,6 +16,19 @@ fn fixed_keep(rule: Rule, shown: Shown) -> bool
     }
 }
 
+/// An answer that the rule of a completion routine always allows: it replaces nothing, and keeps only where the rule asks
+/// for it.
+pub(crate) fn fixed_answer(rule: Rule, shown: Shown) -> Answer
+    ensures { result ≡ fixed_answer rule shown }
+{
+    let keep = fixed_keep(rule, shown);
+    Answer {
+        keep,
+        mark: Rule::right_mark(shown, keep),
+        replacement: None,
+    }
+}
+
 /// The answer of a completion routine where its rule allows it, else one that replaces nothing, and that keeps only
 /// where the rule asks for it (this project's own rule).
 pub fn guarded_answer(rule: Rule, shown: Shown, answer: Answer) -> Answer
@@ -24,12 +37,7 @@ pub fn guarded_answer(rule: Rule, shown: Shown, answer: Answer) -> Answer
     if rule.allows(shown, answer) {
         return answer;
     }
-    let keep = fixed_keep(rule, shown);
-    Answer {
-        keep,
-        mark: Rule::right_mark(shown, keep),
-        replacement: None,
-    }
+    fixed_answer(rule, shown)
 }
 
 /// The plan of a dispatch where it is allowed to it, else a finish with INVALID_DEVICE_REQUEST and information 0 (this

@@ -2,7 +2,9 @@
 //! routines, the tables by which they are named, and the trait by which the layers above ask them.
 #![tactic(auto)]
 
+mod answer_table;
 mod ask;
+mod behaviour;
 mod cancel_routine;
 mod dispatch;
 mod drivers;
@@ -11,8 +13,12 @@ mod guard;
 mod not_added;
 mod routine;
 mod store;
+#[cfg(test)]
+mod tests;
 
+pub use answer_table::AnswerTable;
 pub use ask::Ask;
+pub use behaviour::{Behaviour, Reaction};
 pub use cancel_routine::{CancelClosure, CancelRoutine};
 pub use dispatch::{Dispatch, DispatchClosure};
 pub use fixed_tables::{FixedTables, Parts};
