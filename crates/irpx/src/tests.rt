@@ -438,7 +438,7 @@ fn counted(count: &AtomicU32) -> Plan
 fn a_dispatch_is_asked_once(rt: HostRuntime) -> Result<(), Fail> {
     let alloc = rt.alloc();
     let count = Arc::new(alloc, AtomicU32::new(0))?;
-    let own = count.clone();
+    let own = count.clone()?;
     let run: DispatchClosure = Box::new(alloc, move |_shown: Shown| counted(&own))?;
     let mut store = Store::new(alloc);
     let Ok(dispatch) = store.add_dispatch(Dispatch::new(Known::NONE, run)) else {
