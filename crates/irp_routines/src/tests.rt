@@ -536,5 +536,13 @@ fn tables_grow_without_closures(rt: HostRuntime) -> Result<(), Fail> {
     let pairs = [(27, DispatchId(0))].to_vec(rt.alloc())?;
     assert_eq!(rt; reason_of(tables.add_driver(pairs)), Ok(DriverId(0)));
     tables.agree();
+    let parts = tables.into_parts();
+    assert_eq!(rt; parts.counts.free, 1);
+    assert_eq!(rt; parts.drivers.as_slice().len(), 1);
+    assert_eq!(rt; parts.dispatches.as_slice(), [ONE_CANCEL].as_slice());
+    assert_eq!(rt;
+        parts.cancel_rules.as_slice(),
+        [CancelRule::Either].as_slice()
+    );
     Ok(())
 }

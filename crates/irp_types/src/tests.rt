@@ -53,22 +53,59 @@ fn the_default_location_is_cleared(rt: HostRuntime) {
     assert_eq!(rt; Location::default(), cleared);
 }
 
+/// What the bottom device is shown of a read.
+const SHOWN: Shown = Shown {
+    device: None,
+    irp: IrpRef { slot: 0, use_no: 1 },
+    major: 3,
+    location: 1,
+    word: 7,
+    status: Status::SUCCESS,
+    information: 0,
+    pending_returned: false,
+    cancel: false,
+    context: 0,
+    has_lower: false,
+};
+
+#[test]
+fn rules_and_counts_tell_what_they_allow(rt: HostRuntime) {
+    let keeps = Answer {
+        keep: true,
+        mark: false,
+        replacement: None,
+    };
+    assert!(rt; Rule::Keeper.allows(SHOWN, keeps));
+    assert!(rt; !Rule::Watch.allows(SHOWN, keeps));
+    assert!(rt; !Rule::right_mark(SHOWN, false));
+    assert!(rt; CancelRule::MustLeave.allows(CancelAnswer::Leave));
+    assert!(rt; !CancelRule::MustFinish.allows(CancelAnswer::Leave));
+    let two = Known {
+        watch: 2,
+        ..Known::NONE
+    };
+    assert!(rt; two.allows(SHOWN, Plan::Hold { cancel: None }));
+    assert!(rt; !two.allows(SHOWN, Plan::Skip));
+    assert_eq!(rt; two.count_of(Rule::Watch), 2);
+    assert!(rt; Known::NONE.is_within(two));
+    assert!(rt; !two.is_within(Known::NONE));
+    let second = Setting {
+        routine: RoutineId {
+            rule: Rule::Watch,
+            no: 1,
+        },
+        context: 0,
+        on_success: true,
+        on_error: true,
+        on_cancel: true,
+    };
+    assert!(rt; two.has(second));
+    assert!(rt; !Known::NONE.has(second));
+}
+
 #[test]
 fn what_is_shown_is_in_range_and_the_laws_hold() {
-    let shown = Shown {
-        device: None,
-        irp: IrpRef { slot: 0, use_no: 1 },
-        major: 3,
-        location: 1,
-        word: 7,
-        status: Status::SUCCESS,
-        information: 0,
-        pending_returned: false,
-        cancel: false,
-        context: 0,
-        has_lower: false,
-    };
-    shown.in_range();
+    SHOWN.in_range();
     history_goes_on();
     entry_settles_next_state();
 }

@@ -7,15 +7,14 @@ use Rattle.irp_types.specs.Allowed.{IsAnswerAllowed, IsPlanAllowed, IsCancelAllo
 use Rattle.irp_types.specs.declared.names.DispatchId.{DispatchId}
 use Rattle.irp_types.specs.declared.names.CancelId.{CancelId}
 use Rattle.irp_types.specs.declared.routine.RoutineId.{RoutineId}
-use Rattle.irp_types.specs.declared.routine.Known.{Known}
 use Rattle.irp_types.specs.declared.shown.Shown.{Shown}
 use Rattle.irp_types.specs.declared.answer.Answer.{Answer}
 use Rattle.irp_types.specs.declared.answer.CancelAnswer.{CancelAnswer}
 use Rattle.irp_types.specs.declared.answer.Plan.{Plan}
-use Rattle.irp_routines.specs.Guarded.{guarded_answer, guarded_plan, guarded_cancel, fixed_plan}
+use Rattle.irp_routines.specs.Guarded.{guarded_plan, fixed_plan}
 use Rattle.irp_routines.specs.GuardedFacts.{guarded_allowed, guarded_plan_allowed, guarded_cancel_allowed}
 use Rattle.irpx.specs.Plain.{is_plain_plan}
-use Rattle.irpx.specs.Passing.{passed_plan, PassesPlan, PassesAnswer, PassesCancel}
+use Rattle.irpx.specs.Passing.{PassesPlan, PassesAnswer, PassesCancel}
 
 -- of two plans that pass a test the one that is chosen does
 chosen : (test : Plan → Bool) (first second : Plan) (choice : Bool) → test first ≡ true → test second ≡ true → test (if choice then first else second) ≡ true

@@ -70,7 +70,12 @@ fn header_of(tables: FixedTables, locks: u32, seats: u32) -> Header
     ensures tables { fixed_of result ≡ record { locks = locks; tables = tables } }
     ensures seats { result.seats ≡ seats }
 {
-    let Parts { counts, drivers, dispatches, cancel_rules } = tables.into_parts();
+    let Parts {
+        counts,
+        drivers,
+        dispatches,
+        cancel_rules,
+    } = tables.into_parts();
     Header {
         cancels: cancel_rules,
         completions: counts,
@@ -83,7 +88,11 @@ fn header_of(tables: FixedTables, locks: u32, seats: u32) -> Header
 
 /// The header and the history of the demonstration's calls, answered so, with these tables. None where a call was not
 /// recorded.
-fn session<A: Ask + Drop>(alloc: Global, ask: A, tables: FixedTables) -> Option<(Header, Row<Entry>)>
+fn session<A: Ask + Drop>(
+    alloc: Global,
+    ask: A,
+    tables: FixedTables,
+) -> Option<(Header, Row<Entry>)>
     ensures header { IfSome result (λ made. IsHeader made.0) }
     ensures legal { IfSome result (λ made. IsLegal (fixed_of made.0) made.1) }
     ensures calls { IfSome result (λ made. AreDemoCalls (calls_of made.1)) }

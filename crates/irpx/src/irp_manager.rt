@@ -12,8 +12,8 @@ pub mod sequential;
 pub mod slots;
 
 pub use book::Book;
-pub use plain_ask::PlainAsk;
 pub use not_recorded::NotRecorded;
 pub use note::{DrainNote, KnowsNothing};
+pub use plain_ask::PlainAsk;
 pub use receipt::Receipt;
 pub use seat::Seat;

@@ -101,7 +101,12 @@ fn driver_of(stacks: &Stacks, device: DeviceId) -> DriverId
 }
 
 /// What a driver's dispatch plans, if the driver has one for the major function code that it is shown.
-fn ask_plan<A: PlainAsk>(ask: &A, driver: DriverId, shown: Shown, asked: &mut Vec<Asked>) -> Option<Plan>
+fn ask_plan<A: PlainAsk>(
+    ask: &A,
+    driver: DriverId,
+    shown: Shown,
+    asked: &mut Vec<Asked>,
+) -> Option<Plan>
     requires { vec_len asked.old < vec_capacity asked.old }
     ensures planned { MatchOption (dispatch_for (A.tables ask.now) driver shown.major) (result ≡ None) (λ dispatch. IsPlanOf (A.tables ask.now) dispatch shown result) }
     ensures plain { IfSome result (λ plan. is_plain_plan plan ≡ true) }

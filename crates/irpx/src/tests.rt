@@ -10,13 +10,11 @@ use crate::irp_manager::held_to_tables::HeldToTables;
 use crate::irp_manager::{Book, KnowsNothing, NotRecorded, Seat};
 use crate::irp_text::WriterOut;
 use crate::irp_text::tests::TRANSCRIPT;
-use irp_routines::{
-    AnswerTable, Ask, Behaviour, Dispatch, DispatchClosure, Reaction, Store,
-};
+use irp_routines::{AnswerTable, Ask, Behaviour, Dispatch, DispatchClosure, Reaction, Store};
 use irp_types::{
-    Answer, Asked, Call, CancelAnswer, CancelId, CancelRule, DeviceId, DispatchId, DriverId, IrpRef,
-    Known, LockNo, Owner, Party, Plan, Refusal, Replacement, Reply, RoutineId, Rule, Seen, Shown,
-    Status,
+    Answer, Asked, Call, CancelAnswer, CancelId, CancelRule, DeviceId, DispatchId, DriverId,
+    IrpRef, Known, LockNo, Owner, Party, Plan, Refusal, Replacement, Reply, RoutineId, Rule, Seen,
+    Shown, Status,
 };
 use std::alloc::Global;
 use std::sync::Arc;
@@ -72,51 +70,61 @@ impl Session {
         Ok(receipt.reply())
     }
 
-    fn create(&mut self) -> Result<Reply, NotRecorded> {
-        self.call(Call::CreateDevice {
-            driver: DriverId(0),
-            lock: LockNo(0),
-        })
-    }
-
-    fn fill(&mut self, irp: IrpRef, major: u8) -> Result<Reply, NotRecorded> {
-        self.call(Call::SetNext {
-            party: ORIGINATOR,
-            irp,
-            major,
-            word: 7,
-        })
-    }
-
-    fn send(&mut self, irp: IrpRef, target: DeviceId) -> Result<Reply, NotRecorded> {
-        self.call(Call::CallDriver {
-            party: ORIGINATOR,
-            irp,
-            target,
-        })
-    }
-
-    fn complete(&mut self, party: Party, status: Status) -> Result<Reply, NotRecorded> {
-        self.call(Call::Complete {
-            party,
-            irp: IRP,
-            status,
-            information: 4,
-        })
-    }
-
-    fn look(&mut self) -> Result<Reply, NotRecorded> {
-        self.call(Call::Look { irp: IRP })
-    }
-
-    /// What the newest entry asked.
-    fn asked(&self) -> Option<&[Asked]> {
-        let count = self.book.length();
-        if count == 0 {
-            return None;
+    /// Makes these calls in order, and answers the place of the first that is given another reply than the one beside
+    /// it.
+    fn first_other(&mut self, steps: &[(Call, Reply)]) -> Result<Option<usize>, NotRecorded> {
+        for place in 0..steps.len() {
+            let (call, reply) = steps[place];
+            if self.call(call)? != reply {
+                return Ok(Some(place));
+            }
         }
-        Some(self.book.entry(count - 1)?.asked.as_slice())
+        Ok(None)
     }
+
+    /// What the entry of this number asked.
+    fn asked(&self, number: usize) -> Option<&[Asked]> {
+        Some(self.book.entry(number)?.asked.as_slice())
+    }
+}
+
+const CREATE: Call = Call::CreateDevice {
+    driver: DriverId(0),
+    lock: LockNo(0),
+};
+
+const ALLOCATE: Call = Call::Allocate { size: 1 };
+
+const LOOK: Call = Call::Look { irp: IRP };
+
+fn fill(irp: IrpRef, major: u8) -> Call {
+    Call::SetNext {
+        party: ORIGINATOR,
+        irp,
+        major,
+        word: 7,
+    }
+}
+
+fn send(target: DeviceId) -> Call {
+    Call::CallDriver {
+        party: ORIGINATOR,
+        irp: IRP,
+        target,
+    }
+}
+
+fn complete(party: Party, status: Status) -> Call {
+    Call::Complete {
+        party,
+        irp: IRP,
+        status,
+        information: 4,
+    }
+}
+
+fn refused(refusal: Refusal) -> Reply {
+    Reply::Refused(refusal)
 }
 
 /// A packet of one location, as Look shows it once it has ended.
@@ -160,12 +168,15 @@ fn asked_of(plan: Plan) -> Asked {
 #[test]
 fn one_device_finishes_one_packet(rt: HostRuntime) -> Result<(), Fail> {
     let mut session = Session::new(rt.alloc(), FINISHES).ok_or("no table")?;
-    assert_eq!(rt; session.create()?, Reply::Device(DEVICE));
-    assert_eq!(rt; session.call(Call::Allocate { size: 1 })?, Reply::Irp(IRP));
-    assert_eq!(rt; session.fill(IRP, READ)?, Reply::Done);
-    assert_eq!(rt; session.send(IRP, DEVICE)?, Reply::Status(Status::SUCCESS));
-    assert_eq!(rt; session.asked(), Some([asked_of(FINISHES)].as_slice()));
-    assert_eq!(rt; session.look()?, ended(Status::SUCCESS, 5, false));
+    let steps = [
+        (CREATE, Reply::Device(DEVICE)),
+        (ALLOCATE, Reply::Irp(IRP)),
+        (fill(IRP, READ), Reply::Done),
+        (send(DEVICE), Reply::Status(Status::SUCCESS)),
+        (LOOK, ended(Status::SUCCESS, 5, false)),
+    ];
+    assert_eq!(rt; session.first_other(&steps)?, None);
+    assert_eq!(rt; session.asked(3), Some([asked_of(FINISHES)].as_slice()));
     assert_eq!(rt; session.book.length(), 5);
     Ok(())
 }
@@ -173,29 +184,22 @@ fn one_device_finishes_one_packet(rt: HostRuntime) -> Result<(), Fail> {
 #[test]
 fn an_unhandled_major_is_an_invalid_request(rt: HostRuntime) -> Result<(), Fail> {
     let mut session = Session::new(rt.alloc(), FINISHES).ok_or("no table")?;
-    session.create()?;
-    session.call(Call::Allocate { size: 1 })?;
-    assert_eq!(rt; session.fill(IRP, DEVICE_CONTROL)?, Reply::Done);
-    assert_eq!(rt;
-        session.send(IRP, DEVICE)?,
-        Reply::Status(Status(3221225488))
-    );
-    assert_eq!(rt; session.asked(), Some([].as_slice()));
-    assert_eq!(rt; session.look()?, ended(Status(3221225488), 0, false));
+    let invalid = Status(3221225488);
+    let steps = [
+        (CREATE, Reply::Device(DEVICE)),
+        (ALLOCATE, Reply::Irp(IRP)),
+        (fill(IRP, DEVICE_CONTROL), Reply::Done),
+        (send(DEVICE), Reply::Status(invalid)),
+        (LOOK, ended(invalid, 0, false)),
+    ];
+    assert_eq!(rt; session.first_other(&steps)?, None);
+    assert_eq!(rt; session.asked(3), Some([].as_slice()));
     Ok(())
 }
 
 #[test]
 fn a_held_packet_is_marked_and_completed_once(rt: HostRuntime) -> Result<(), Fail> {
     let mut session = Session::new(rt.alloc(), HOLDS).ok_or("no table")?;
-    session.create()?;
-    session.call(Call::Allocate { size: 1 })?;
-    session.fill(IRP, READ)?;
-    assert_eq!(rt; session.send(IRP, DEVICE)?, Reply::Status(Status(259)));
-    assert_eq!(rt;
-        session.asked(),
-        Some([asked_of(HOLDS)].as_slice())
-    );
     let held = Seen {
         owner: Owner::Device(DEVICE),
         current: 1,
@@ -206,30 +210,32 @@ fn a_held_packet_is_marked_and_completed_once(rt: HostRuntime) -> Result<(), Fai
         pending_returned: false,
         marked: true,
     };
-    assert_eq!(rt; session.look()?, Reply::Seen(held));
     let device = Party::Device(DEVICE);
-    assert_eq!(rt;
-        session.complete(device, Status(259))?,
-        Reply::Refused(Refusal::BadStatus)
-    );
-    assert_eq!(rt; session.complete(device, Status::SUCCESS)?, Reply::Done);
-    assert_eq!(rt; session.look()?, ended(Status::SUCCESS, 4, true));
-    assert_eq!(rt;
-        session.complete(device, Status::SUCCESS)?,
-        Reply::Refused(Refusal::Ended)
-    );
+    let steps = [
+        (CREATE, Reply::Device(DEVICE)),
+        (ALLOCATE, Reply::Irp(IRP)),
+        (fill(IRP, READ), Reply::Done),
+        (send(DEVICE), Reply::Status(Status(259))),
+        (LOOK, Reply::Seen(held)),
+        (complete(device, Status(259)), refused(Refusal::BadStatus)),
+        (complete(device, Status::SUCCESS), Reply::Done),
+        (LOOK, ended(Status::SUCCESS, 4, true)),
+        (complete(device, Status::SUCCESS), refused(Refusal::Ended)),
+    ];
+    assert_eq!(rt; session.first_other(&steps)?, None);
+    assert_eq!(rt; session.asked(3), Some([asked_of(HOLDS)].as_slice()));
     Ok(())
 }
 
 #[test]
 fn a_packet_is_not_sent_unprepared(rt: HostRuntime) -> Result<(), Fail> {
     let mut session = Session::new(rt.alloc(), HOLDS).ok_or("no table")?;
-    session.create()?;
-    session.call(Call::Allocate { size: 1 })?;
-    assert_eq!(rt;
-        session.send(IRP, DEVICE)?,
-        Reply::Refused(Refusal::NotPrepared)
-    );
+    let steps = [
+        (CREATE, Reply::Device(DEVICE)),
+        (ALLOCATE, Reply::Irp(IRP)),
+        (send(DEVICE), refused(Refusal::NotPrepared)),
+    ];
+    assert_eq!(rt; session.first_other(&steps)?, None);
     Ok(())
 }
 
@@ -237,20 +243,10 @@ fn a_packet_is_not_sent_unprepared(rt: HostRuntime) -> Result<(), Fail> {
 fn a_stack_of_two_needs_two_locations(rt: HostRuntime) -> Result<(), Fail> {
     let mut session = Session::new(rt.alloc(), FINISHES).ok_or("no table")?;
     let upper = DeviceId(1);
-    session.create()?;
-    assert_eq!(rt; session.create()?, Reply::Device(upper));
     let attach = Call::Attach {
         device: upper,
         to: DEVICE,
     };
-    assert_eq!(rt; session.call(attach)?, Reply::Device(DEVICE));
-    session.call(Call::Allocate { size: 1 })?;
-    session.fill(IRP, READ)?;
-    assert_eq!(rt;
-        session.send(IRP, upper)?,
-        Reply::Refused(Refusal::TooShort)
-    );
-    assert_eq!(rt; session.asked(), Some([].as_slice()));
     let unsent = Seen {
         owner: Owner::Originator,
         current: 2,
@@ -261,16 +257,21 @@ fn a_stack_of_two_needs_two_locations(rt: HostRuntime) -> Result<(), Fail> {
         pending_returned: false,
         marked: false,
     };
-    assert_eq!(rt; session.look()?, Reply::Seen(unsent));
-    assert_eq!(rt; session.send(IRP, DEVICE)?, Reply::Status(Status::SUCCESS));
-    assert_eq!(rt;
-        session.call(Call::Detach { lower: DEVICE })?,
-        Reply::Device(upper)
-    );
-    assert_eq!(rt;
-        session.call(Call::Detach { lower: DEVICE })?,
-        Reply::Refused(Refusal::NothingAttached)
-    );
+    let detach = Call::Detach { lower: DEVICE };
+    let steps = [
+        (CREATE, Reply::Device(DEVICE)),
+        (CREATE, Reply::Device(upper)),
+        (attach, Reply::Device(DEVICE)),
+        (ALLOCATE, Reply::Irp(IRP)),
+        (fill(IRP, READ), Reply::Done),
+        (send(upper), refused(Refusal::TooShort)),
+        (LOOK, Reply::Seen(unsent)),
+        (send(DEVICE), Reply::Status(Status::SUCCESS)),
+        (detach, Reply::Device(upper)),
+        (detach, refused(Refusal::NothingAttached)),
+    ];
+    assert_eq!(rt; session.first_other(&steps)?, None);
+    assert_eq!(rt; session.asked(5), Some([].as_slice()));
     Ok(())
 }
 
@@ -281,60 +282,46 @@ fn calls_are_refused_by_the_first_check(rt: HostRuntime) -> Result<(), Fail> {
         driver: DriverId(1),
         lock: LockNo(1),
     };
-    assert_eq!(rt; session.call(unknown)?, Reply::Refused(Refusal::NoDriver));
     let unlocked = Call::CreateDevice {
         driver: DriverId(0),
         lock: LockNo(1),
     };
-    assert_eq!(rt; session.call(unlocked)?, Reply::Refused(Refusal::NoLock));
-    session.create()?;
-    assert_eq!(rt; session.look()?, Reply::Refused(Refusal::NoIrp));
-    assert_eq!(rt;
-        session.call(Call::Allocate { size: 0 })?,
-        Reply::Refused(Refusal::BadSize)
-    );
-    assert_eq!(rt;
-        session.call(Call::Allocate { size: 17 })?,
-        Reply::Refused(Refusal::BadSize)
-    );
-    session.call(Call::Allocate { size: 1 })?;
     let stale = IrpRef { slot: 0, use_no: 2 };
-    assert_eq!(rt; session.fill(stale, READ)?, Reply::Refused(Refusal::Stale));
-    assert_eq!(rt; session.fill(IRP, 28)?, Reply::Refused(Refusal::BadMajor));
-    assert_eq!(rt;
-        session.complete(ORIGINATOR, Status(259))?,
-        Reply::Refused(Refusal::NoLocation)
-    );
-    assert_eq!(rt;
-        session.send(IRP, DeviceId(9))?,
-        Reply::Refused(Refusal::NoDevice)
-    );
-    session.fill(IRP, READ)?;
-    session.send(IRP, DEVICE)?;
-    assert_eq!(rt;
-        session.send(IRP, DEVICE)?,
-        Reply::Refused(Refusal::NotOwner)
-    );
     let elsewhere = Call::CallDriver {
         party: Party::Device(DEVICE),
         irp: IRP,
         target: DEVICE,
     };
-    assert_eq!(rt;
-        session.call(elsewhere)?,
-        Reply::Refused(Refusal::WrongTarget)
-    );
-    assert_eq!(rt; session.fill(IRP, READ)?, Reply::Refused(Refusal::NotOwner));
+    let unsent = complete(ORIGINATOR, Status(259));
+    let steps = [
+        (unknown, refused(Refusal::NoDriver)),
+        (unlocked, refused(Refusal::NoLock)),
+        (CREATE, Reply::Device(DEVICE)),
+        (LOOK, refused(Refusal::NoIrp)),
+        (Call::Allocate { size: 0 }, refused(Refusal::BadSize)),
+        (Call::Allocate { size: 17 }, refused(Refusal::BadSize)),
+        (ALLOCATE, Reply::Irp(IRP)),
+        (fill(stale, READ), refused(Refusal::Stale)),
+        (fill(IRP, 28), refused(Refusal::BadMajor)),
+        (unsent, refused(Refusal::NoLocation)),
+        (send(DeviceId(9)), refused(Refusal::NoDevice)),
+        (fill(IRP, READ), Reply::Done),
+        (send(DEVICE), Reply::Status(Status(259))),
+        (send(DEVICE), refused(Refusal::NotOwner)),
+        (elsewhere, refused(Refusal::WrongTarget)),
+        (fill(IRP, READ), refused(Refusal::NotOwner)),
+    ];
+    assert_eq!(rt; session.first_other(&steps)?, None);
     Ok(())
 }
 
 #[test]
 fn a_seat_that_has_seen_more_is_told_the_length(rt: HostRuntime) -> Result<(), Fail> {
     let mut session = Session::new(rt.alloc(), FINISHES).ok_or("no table")?;
-    session.create()?;
+    session.call(CREATE)?;
     session.seat.saw(3);
     assert_eq!(rt;
-        session.create().err(),
+        session.call(CREATE).err(),
         Some(NotRecorded::Behind { length: 1 })
     );
     assert_eq!(rt; session.book.length(), 1);
@@ -346,7 +333,7 @@ fn a_seat_that_has_seen_more_is_told_the_length(rt: HostRuntime) -> Result<(), F
 #[test]
 fn a_receipt_tells_of_its_entry(rt: HostRuntime) -> Result<(), Fail> {
     let mut session = Session::new(rt.alloc(), FINISHES).ok_or("no table")?;
-    session.create()?;
+    session.call(CREATE)?;
     let seat = Seat::new(6);
     let call = Call::Allocate { size: 2 };
     let receipt = session
@@ -426,7 +413,7 @@ fn an_asker_is_held_to_its_tables(rt: HostRuntime) -> Result<(), Fail> {
     Ok(())
 }
 
-/// Asked plain questions only: what the counting dispatch plans.
+/// What the counting dispatch plans, each time that it is asked.
 fn counted(count: &AtomicU32) -> Plan
     ensures { result ≡ Finish success 5 }
 {
@@ -454,18 +441,7 @@ fn a_dispatch_is_asked_once(rt: HostRuntime) -> Result<(), Fail> {
         driver,
         lock: LockNo(0),
     };
-    let fill = Call::SetNext {
-        party: ORIGINATOR,
-        irp: IRP,
-        major: READ,
-        word: 7,
-    };
-    let send = Call::CallDriver {
-        party: ORIGINATOR,
-        irp: IRP,
-        target: DEVICE,
-    };
-    for call in [create, Call::Allocate { size: 1 }, fill, send] {
+    for call in [create, ALLOCATE, fill(IRP, READ), send(DEVICE)] {
         let receipt = book.record(alloc, &seat, call, &KnowsNothing)?;
         seat.saw(receipt.number() + 1);
     }

@@ -80,7 +80,6 @@ impl<A> Book<A> {
     {
         self.history.get(number)
     }
-
 }
 
 impl<A: Ask> Book<A> {

@@ -79,7 +79,7 @@ returns-clause-recorded g c =
     let held = c.self.inside.held in
     let own = g.A.Ask.tables held.ask ≡ held.tables in
     let may = subst (λ (asked : List Asked). AreAnswered (PassesPlan held.tables own (g.A.Ask.may_plan held.ask)) (PassesAnswer held.tables own (g.A.Ask.may_answer held.ask)) (PassesCancel held.tables own (g.A.Ask.may_cancel held.ask)) asked)
-        (sym c.from_vec.ensures) c.in-Ok.ensures.may in
+    (sym c.from_vec.ensures) c.in-Ok.ensures.may in
     rw (← c.self.view_is) (record {
       entry = entry g c;
       appended = grown g c;
