@@ -52,7 +52,7 @@ majors = range_with_len 0 (last_major + 1)
 abbrev pub entrance_of : List Entrance → ℕ → Option Entrance
 entrance_of pairs major = option_map (λ (dispatch : DispatchId). (major, dispatch)) (dispatch_in pairs major)
 
--- the pairs by rising major function code
+-- the pairs by rising major function code (each of them, where a driver isn't refused for them)
 abbrev pub by_major : List Entrance → List Entrance
 by_major pairs = filter_map (entrance_of pairs) majors
 

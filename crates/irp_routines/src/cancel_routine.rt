@@ -40,7 +40,8 @@ impl CancelRoutine {
 
     /// Asks it.
     pub(crate) fn ask(&self, shown: Shown) -> CancelAnswer
-        ensures { is_cancel_allowed self.now.rule result ≡ true }
+        ensures asked { CancelClosure.post self.now.run shown result }
+        ensures allowed { is_cancel_allowed self.now.rule result ≡ true }
     {
         shown.in_range();
         (self.run)(shown)

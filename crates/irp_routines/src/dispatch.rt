@@ -40,7 +40,8 @@ impl Dispatch {
 
     /// Asks it.
     pub(crate) fn ask(&self, shown: Shown) -> Plan
-        ensures { is_plan_allowed self.now.known shown result ≡ true }
+        ensures asked { DispatchClosure.post self.now.run shown result }
+        ensures allowed { is_plan_allowed self.now.known shown result ≡ true }
     {
         shown.in_range();
         (self.run)(shown)

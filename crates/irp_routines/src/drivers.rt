@@ -57,7 +57,8 @@ pub fn dispatch_in(pairs: &[(u8, DispatchId)], major: u8) -> Option<DispatchId>
     Some(found.1)
 }
 
-/// The pairs by rising major function code.
+/// The pairs by rising major function code. Of pairs that a driver is refused for, those of no major function code and
+/// the later of one that is named twice are left out.
 pub fn by_major(
     alloc: Global,
     pairs: &[(u8, DispatchId)],

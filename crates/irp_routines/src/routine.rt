@@ -40,7 +40,8 @@ impl Routine {
 
     /// Asks it.
     pub(crate) fn ask(&self, shown: Shown) -> Answer
-        ensures { is_allowed self.now.rule shown result ≡ true }
+        ensures asked { CompletionClosure.post self.now.run shown result }
+        ensures allowed { is_allowed self.now.rule shown result ≡ true }
     {
         shown.in_range();
         (self.run)(shown)

@@ -49,8 +49,8 @@ pub struct Store {
 }
 
 /// Puts a routine behind the others of its rule, or hands it back where a growth was refused.
-fn keep(shelf: &mut Vec<Routine>, routine: Routine) -> Result<(), NotAdded<Routine>>
-    ensures kept { OnOk result (shelf.new.items ≡ shelf.old.items ++ routine ∷ []) }
+fn put(shelf: &mut Vec<Routine>, routine: Routine) -> Result<(), NotAdded<Routine>>
+    ensures put { OnOk result (shelf.new.items ≡ shelf.old.items ++ routine ∷ []) }
     ensures err { OnErr result (shelf.new.items ≡ shelf.old.items) }
     ensures back { IfErr result (λ back. back ≡ record { reason = Memory; item = routine }) }
 {
@@ -126,11 +126,11 @@ impl Store {
             });
         }
         match rule {
-            Rule::Watch => keep(&mut self.watch, routine)?,
-            Rule::Change => keep(&mut self.change, routine)?,
-            Rule::Keeper => keep(&mut self.keeper, routine)?,
-            Rule::KeepOnError => keep(&mut self.keep_on_error, routine)?,
-            Rule::Free => keep(&mut self.free, routine)?,
+            Rule::Watch => put(&mut self.watch, routine)?,
+            Rule::Change => put(&mut self.change, routine)?,
+            Rule::Keeper => put(&mut self.keeper, routine)?,
+            Rule::KeepOnError => put(&mut self.keep_on_error, routine)?,
+            Rule::Free => put(&mut self.free, routine)?,
         }
         Ok(self.tables.add_counted(rule))
     }

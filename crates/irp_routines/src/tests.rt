@@ -1,5 +1,4 @@
-//! What no clause says: worked examples of the store and its tables, that its closures are what answers, and each
-//! public function once.
+//! Worked examples of the store and its tables, that its closures are what answers, and each public function once.
 
 ghost use Rattle.std.specs.Prelude.{◌≡◌, true, IfSome};
 ghost use Rattle.irp_types.specs.Status.{is_completable};
@@ -355,10 +354,14 @@ fn a_packet_is_held_and_cancelled(rt: HostRuntime) -> Result<(), Fail> {
         },
     )?;
     let cancel = reason_of(store.add_cancel(CancelRoutine::new(CancelRule::MustFinish, run)))?;
+    let run: CancelClosure = Box::new(alloc, |_: Shown| CancelAnswer::Finish { information: 1 })?;
+    let other = reason_of(store.add_cancel(CancelRoutine::new(CancelRule::MustFinish, run)))?;
     let run: DispatchClosure = Box::new(alloc, |shown: Shown| holding(shown))?;
     let holds = reason_of(store.add_dispatch(Dispatch::new(ONE_CANCEL, run)))?;
     let answer = CancelAnswer::Finish { information: 70 };
     assert_eq!(rt; cancel_answer_of(&store, cancel, SHOWN), Some(answer));
+    let answer = CancelAnswer::Finish { information: 1 };
+    assert_eq!(rt; cancel_answer_of(&store, other, SHOWN), Some(answer));
     let held = Plan::Hold {
         cancel: Some(CancelId(0)),
     };
@@ -451,7 +454,7 @@ const FAILED: Shown = Shown {
     ..SHOWN
 };
 
-/// A routine of rule Change may not keep, and continues where its behaviour says so.
+/// A routine of rule Change may not keep, and continues where its behaviour says that it keeps.
 #[test]
 fn a_table_answers_by_its_behaviours(rt: HostRuntime) -> Result<(), Fail> {
     let mut table = AnswerTable::new(rt.alloc());

@@ -14,7 +14,8 @@ use Rattle.irp_types.specs.declared.answer.Plan.{Plan}
 use Rattle.irp_routines.specs.Guarded.{guarded_answer, guarded_plan, guarded_cancel, fixed_plan}
 use Rattle.irpx.specs.Plain.{is_plain_plan}
 
--- the plan where it is allowed and passes nothing down, which this manager can't do yet; else a finish as an invalid request
+-- the plan where it is allowed, passes nothing down and names no routine, which this manager can't carry out yet; else a
+-- finish as an invalid request
 abbrev pub passed_plan : Known → Shown → Plan → Plan
 passed_plan known shown plan =
     let guarded = guarded_plan known shown plan in

@@ -1,4 +1,4 @@
--- What is passed on is allowed, and no plan that is passes a packet down.
+-- What is passed on is allowed, and no plan that is passes a packet down or names a routine.
 use Rattle.std.specs.Prelude.{◌≡◌, Bool, true, false, if◌then◌else◌, refl}
 use Rattle.std.proofs.Common.{sym, subst}
 use Rattle.irp_types.specs.Rules.{is_allowed, is_plan_allowed, is_cancel_allowed}

@@ -86,13 +86,14 @@ fn header_of(tables: FixedTables, locks: u32, seats: u32) -> Header
     }
 }
 
-/// The header and the history of the demonstration's calls, answered so, with these tables. None where a call was not
-/// recorded.
+/// The header and the history of the demonstration's calls, answered so, on condition that the tables are the asker's
+/// own. None where a call was not recorded, or was answered otherwise than it should be.
 fn session<A: Ask + Drop>(
     alloc: Global,
     ask: A,
     tables: FixedTables,
 ) -> Option<(Header, Row<Entry>)>
+    requires own { A.tables ask ≡ tables }
     ensures header { IfSome result (λ made. IsHeader made.0) }
     ensures legal { IfSome result (λ made. IsLegal (fixed_of made.0) made.1) }
     ensures calls { IfSome result (λ made. AreDemoCalls (calls_of made.1)) }
@@ -107,7 +108,7 @@ fn session<A: Ask + Drop>(
 }
 
 /// The demonstration's header and history: its one dispatch finishes reads with success and information 5. None where
-/// memory ran out.
+/// memory ran out, or where the store or the book answered otherwise than they should.
 fn history(alloc: Global) -> Option<(Header, Row<Entry>)>
     ensures header { IfSome result (λ made. IsHeader made.0) }
     ensures legal { IfSome result (λ made. IsLegal (fixed_of made.0) made.1) }

@@ -348,7 +348,8 @@ fn a_receipt_tells_of_its_entry(rt: HostRuntime) -> Result<(), Fail> {
     Ok(())
 }
 
-/// A dispatch that passes down, a routine that replaces, and a cancel routine that leaves the packet.
+/// Dispatches that pass down, finish and hold with a cancel routine; a routine that replaces, and a cancel routine that
+/// finishes the packet.
 fn passing_down(alloc: Global) -> Option<AnswerTable> {
     let replaces = Reaction {
         keep: false,
@@ -368,6 +369,12 @@ fn passing_down(alloc: Global) -> Option<AnswerTable> {
         .ok()?;
     table.add_dispatch(Known::NONE, Plan::Skip).ok()?;
     table.add_dispatch(Known::NONE, FINISHES).ok()?;
+    let known = Known {
+        cancel: 1,
+        ..Known::NONE
+    };
+    let cancel = Some(CancelId(0));
+    table.add_dispatch(known, Plan::Hold { cancel }).ok()?;
     Some(table)
 }
 
@@ -376,8 +383,8 @@ fn an_asker_is_held_to_its_tables(rt: HostRuntime) -> Result<(), Fail> {
     let table = passing_down(rt.alloc()).ok_or("no table")?;
     let tables = table.tables().copied()?;
     let held = HeldToTables::new(table, tables);
-    assert_eq!(rt; (held.drivers(), held.dispatches()), (0, 2));
-    assert_eq!(rt; held.counts().change, 1);
+    assert_eq!(rt; (held.drivers(), held.dispatches()), (0, 3));
+    assert_eq!(rt; (held.counts().change, held.counts().cancel), (1, 1));
     assert_eq!(rt; held.dispatch_of(DriverId(0), READ), None);
     let above = Shown {
         has_lower: true,
@@ -387,10 +394,11 @@ fn an_asker_is_held_to_its_tables(rt: HostRuntime) -> Result<(), Fail> {
         status: Status(3221225488),
         information: 0,
     };
-    if held.dispatches() == 2 && held.counts().change == 1 && held.counts().cancel == 1 {
+    if held.dispatches() == 3 && held.counts().change == 1 && held.counts().cancel == 1 {
         assert_eq!(rt; held.known_of(DispatchId(1)), Known::NONE);
         assert_eq!(rt; held.plan(DispatchId(0), above), invalid);
         assert_eq!(rt; held.plan(DispatchId(1), above), FINISHES);
+        assert_eq!(rt; held.plan(DispatchId(2), above), invalid);
         let routine = RoutineId {
             rule: Rule::Change,
             no: 0,

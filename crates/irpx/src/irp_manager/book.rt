@@ -53,10 +53,11 @@ impl<A> Model for Book<A> {
     } };
 }
 
-impl<A> Book<A> {
-    /// A manager that asks so, with these tables and this many remove locks, and no history. It takes no memory. The
-    /// tables are to be the asker's own: whatever these tables don't allow it to answer is replaced.
+impl<A: Ask> Book<A> {
+    /// A manager that asks so, with this many remove locks, and no history, on condition that the tables are the
+    /// asker's own. It takes no memory.
     pub fn new(alloc: Global, ask: A, tables: FixedTables, locks: u32) -> Book<A>
+        requires own { A.tables ask ≡ tables }
         ensures { result ≡ record { ask = ask; fixed = record { locks = locks; tables = tables }; history = [] } }
     {
         Book {
@@ -65,7 +66,9 @@ impl<A> Book<A> {
             history: Vec::new(alloc),
         }
     }
+}
 
+impl<A> Book<A> {
     /// How many entries the history has, at most 1,000,000.
     pub fn length(&self) -> usize
         ensures length { result ≡ length self.now.history }
@@ -84,7 +87,8 @@ impl<A> Book<A> {
 
 impl<A: Ask> Book<A> {
     /// Makes a call and records it. What is asked in it is answered as the book's asker may answer, where the book's
-    /// tables are the asker's own.
+    /// tables are the asker's own; but a plan that this manager can't carry out yet is replaced by a finish as an
+    /// invalid request.
     ///
     /// # Errors
     ///

@@ -46,8 +46,8 @@ impl<A: Drop> HeldToTables<A> {
     }
 }
 
-/// The plan where it is allowed and passes nothing down, which this manager can't do yet; else a finish as an invalid
-/// request.
+/// The plan where it is allowed, passes nothing down and names no routine, which this manager can't carry out yet; else
+/// a finish as an invalid request.
 fn passed_plan(known: Known, shown: Shown, plan: Plan) -> Plan
     ensures { result ≡ passed_plan known shown plan }
 {

@@ -12,5 +12,5 @@ returns g c =
     ∙ told_at (λ routine. routine.rule) c.shelf.result.now (count_of_rule c.args.self.now.tables.counts id.rule) id.rule id.no found c.shelf.ensures c.requires in
     record {
       there = c.requires;
-      allowed = subst (λ (rule : Rule). is_allowed rule c.args.shown c.ask.result ≡ true) ruled c.ask.ensures;
+      allowed = subst (λ (rule : Rule). is_allowed rule c.args.shown c.ask.result ≡ true) ruled c.ask.ensures.allowed;
     }
