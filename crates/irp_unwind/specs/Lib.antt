@@ -1,0 +1,4 @@
+pub mod Conditions
+pub mod Turns
+pub mod Endings
+pub mod Laws

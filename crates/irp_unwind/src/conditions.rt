@@ -1,0 +1,51 @@
+//! The test of whether a packet may be unwound.
+
+ghost use Rattle.std.specs.Prelude.{◌≡◌, ◌↔◌, true};
+ghost use Rattle.irp_unwind.specs.Conditions.{HasDevices, HasRoutines, CanUnwind, has_known_routine};
+
+use irp_packet::Packet;
+use irp_routines::Ask;
+use irp_types::{Known, Location};
+
+/// Whether each location above the current one has a device.
+fn has_devices(packet: &Packet) -> bool
+    ensures { result ≡ true ↔ HasDevices packet.now }
+{
+    for number in packet.current() + 1..packet.size() + 1 {
+        if packet.location_at(number).device.is_none() {
+            return false;
+        }
+    }
+    true
+}
+
+/// Whether a location has no routine, or one that is there.
+fn has_known_routine(counts: Known, location: Location) -> bool
+    ensures { result ≡ has_known_routine counts location }
+{
+    match location.setting {
+        Some(setting) => counts.has(setting),
+        None => true,
+    }
+}
+
+/// Whether each routine that is named from the current location up is there.
+fn has_routines(packet: &Packet, counts: Known) -> bool
+    ensures { result ≡ true ↔ HasRoutines counts packet.now }
+{
+    for number in packet.current()..packet.size() + 1 {
+        if !has_known_routine(counts, packet.location_at(number)) {
+            return false;
+        }
+    }
+    true
+}
+
+/// Whether a packet may be unwound: it stands in a location, each location above it has a device, and each routine from
+/// there up is one of the asker's. A packet that a manager let a device own is always so; a packet that was made by
+/// hand may be otherwise (this project's own rule).
+pub fn can_unwind<A: Ask>(packet: &Packet, ask: &A) -> bool
+    ensures { result ≡ true ↔ CanUnwind (A.tables ask.now).counts packet.now }
+{
+    packet.current() <= packet.size() && has_devices(packet) && has_routines(packet, ask.counts())
+}

@@ -1,0 +1,16 @@
+//! What becomes of a packet that a driver finishes: which completion routines run, shown what, and who owns the packet
+//! afterwards.
+#![tactic(auto)]
+
+mod conditions;
+mod ending;
+mod laws;
+#[cfg(test)]
+mod tests;
+mod turn;
+mod unwinding;
+
+pub use conditions::can_unwind;
+pub use ending::Ending;
+pub use laws::unwinding_is_settled;
+pub use unwinding::unwind;

@@ -1,0 +1,79 @@
+//! A packet on its way up.
+
+ghost use Rattle.std.specs.Prelude.{◌≡◌, ◌+◌, ◌-◌, ◌≤◌, vec_len, vec_capacity};
+ghost use Rattle.irp_types.specs.Packet.{size_of};
+ghost use Rattle.irp_unwind.specs.Conditions.{HasDevices, HasRoutines};
+ghost use Rattle.irp_unwind.specs.Turns.{IsBare, bared};
+ghost use Rattle.irp_unwind.specs.Endings.{Unwinds};
+
+use crate::ending::Ending;
+use crate::turn::{consult, device_above, leave};
+use irp_packet::Packet;
+use irp_routines::Ask;
+use irp_types::{Asked, IrpRef, Owner};
+
+/// Clears the locations below the current one.
+fn clear_below(packet: &mut Packet)
+    requires { packet.old.current ≤ size_of packet.old }
+    ensures bared { packet.new ≡ bared packet.old }
+    ensures bare { IsBare packet.new }
+{
+    for number in 1..packet.current() {
+        packet.clear(number);
+    }
+}
+
+/// Unwinds a packet, below whose current location all is cleared.
+fn unwind_from<A: Ask>(packet: &mut Packet, irp: IrpRef, ask: &A, asked: &mut Vec<Asked>) -> Ending
+    requires bare { IsBare packet.old }
+    requires placed { packet.old.current ≤ size_of packet.old }
+    requires devices { HasDevices packet.old }
+    requires routines { HasRoutines (A.tables ask.now).counts packet.old }
+    requires room { vec_len asked.old + ((size_of packet.old + 1) - packet.old.current) ≤ vec_capacity asked.old }
+    ensures unwinds { Unwinds (A.may_answer ask.now) irp packet.old packet.new asked.old.items asked.new.items result }
+    ensures capacity { vec_capacity asked.new ≡ vec_capacity asked.old }
+{
+    let number = packet.current();
+    let above = device_above(packet, number);
+    let answer = consult(packet, irp, ask, asked);
+    leave(packet, answer);
+    if answer.keep {
+        let owner = match above {
+            Some(device) => Owner::Device(device),
+            None => Owner::Originator,
+        };
+        packet.set_owner(owner);
+        return Ending::Kept(owner);
+    }
+    if number == packet.size() {
+        packet.set_owner(Owner::Ended);
+        return Ending::Ended;
+    }
+    unwind_from(packet, irp, ask, asked)
+}
+
+/// Unwinds a packet from its current location up, and answers how that ended.
+///
+/// At each location PendingReturned becomes the pending bit, and the completion routine is asked if one is set and a
+/// flag is met: on success or on error by the status in force, on cancel by the cancel flag. It is shown the device of
+/// the next higher location, none at the top. Its answer may replace the status and information, which the locations
+/// above see then, and may keep the packet: the packet stands in the next higher location then, and belongs to that
+/// location's device, or to the originator at the top. Where nobody keeps it, it has ended and stands above its highest
+/// location. A pending bit goes on to the next higher location, also where nobody is asked. Each location that is left,
+/// and each below the current one, is cleared (WDK: "IoCompleteRequest", "Implementing an IoCompletion Routine"; the
+/// clearing, the passing on of a pending bit where nobody is asked, and the test of flags against a replaced status are
+/// this project's own rules).
+///
+/// What is asked goes behind the other questions in `asked`, into room that is there: it takes no memory. The conditions
+/// are those of `can_unwind`, and room for one question for each location from the current one up.
+pub fn unwind<A: Ask>(packet: &mut Packet, irp: IrpRef, ask: &A, asked: &mut Vec<Asked>) -> Ending
+    requires placed { packet.old.current ≤ size_of packet.old }
+    requires devices { HasDevices packet.old }
+    requires routines { HasRoutines (A.tables ask.now).counts packet.old }
+    requires room { vec_len asked.old + ((size_of packet.old + 1) - packet.old.current) ≤ vec_capacity asked.old }
+    ensures unwinds { Unwinds (A.may_answer ask.now) irp packet.old packet.new asked.old.items asked.new.items result }
+    ensures capacity { vec_capacity asked.new ≡ vec_capacity asked.old }
+{
+    clear_below(packet);
+    unwind_from(packet, irp, ask, asked)
+}
