@@ -37,7 +37,8 @@ fn unwind_from<A: Ask>(packet: &mut Packet, irp: IrpRef, ask: &A, asked: &mut Ve
     let above = device_above(packet, number);
     let answer = consult(packet, irp, ask, asked);
     leave(packet, answer);
-    if answer.keep {
+    let kept = answer.keep;
+    if kept {
         let owner = match above {
             Some(device) => Owner::Device(device),
             None => Owner::Originator,

@@ -12,8 +12,8 @@ use Rattle.irp_unwind.proofs.Steps.{mark_on, finish_kept, finish_top, continues,
 use Rattle.irp_unwind.proofs.unwinding.+unwind_from.Goals as goal
 use Rattle.irp_unwind.proofs.unwinding.+unwind_from.Goals.{in-Some, in-None}
 
-pub returns-then-answer-clause-unwinds : goal.returns-then-answer-clause-unwinds
-returns-then-answer-clause-unwinds g t c =
+pub returns-then-kept-clause-unwinds : goal.returns-then-kept-clause-unwinds
+returns-then-kept-clause-unwinds g t c =
     let packet = c.args.packet.now in
     let may = g.A.Ask.may_answer c.args.ask.now in
     let above : c.device_above-above.result ≡ device_above packet packet.current = c.device_above-above.ensures ∙ ap (device_above packet) c.current-number.ensures.current in
@@ -25,7 +25,7 @@ returns-then-answer-clause-unwinds g t c =
     let new : c.set_owner.new.self ≡ record (left_packet packet c.consult-answer.result) { owner = owner_from (device_above packet packet.current) } =
     c.set_owner.ensures ∙ (λ i. record (c.leave.ensures i) { owner = own i }) in
     let all = finish_kept may c.args.irp packet c.args.asked.now.items c.consult-answer.new.asked.items c.consult-answer.result
-    c.requires.bare c.requires.placed c.consult-answer.ensures.consulted c.consult-answer.ensures.mark c.if-answer.true in
+    c.requires.bare c.requires.placed c.consult-answer.ensures.consulted c.consult-answer.ensures.mark c.if-kept.true in
     subst (λ (both : PacketValue × Owner). Unwinds may c.args.irp packet both.0 c.args.asked.now.items c.consult-answer.new.asked.items (Kept both.1))
     (λ i. (sym new i, sym own i)) all
 
@@ -38,7 +38,7 @@ returns-then-number-size-clause-unwinds g t c =
     let new : c.set_owner-then-number-size.new.self ≡ record (left_packet packet c.consult-answer.result) { owner = OwnedByNobody } =
     c.set_owner-then-number-size.ensures ∙ (λ i. record (c.leave.ensures i) { owner = OwnedByNobody }) in
     let all = finish_top may c.args.irp packet c.args.asked.now.items c.consult-answer.new.asked.items c.consult-answer.result
-    c.requires.bare top c.consult-answer.ensures.consulted c.consult-answer.ensures.mark c.if-answer.false in
+    c.requires.bare top c.consult-answer.ensures.consulted c.consult-answer.ensures.mark c.if-kept.false in
     subst (λ value. Unwinds may c.args.irp packet value c.args.asked.now.items c.consult-answer.new.asked.items Ended) (sym new) all
 
 pub unwind_from-requires : goal.unwind_from-requires
@@ -48,7 +48,7 @@ unwind_from-requires g t c κs within =
     let size : size_of c.leave.new.packet ≡ size_of packet = ap (λ (value : PacketValue). size_of value) c.leave.ensures ∙ length_left packet c.consult-answer.result.mark in
     let below : packet.current < size_of packet = omega (arith, c.requires.placed, c.current-number.ensures.current, c.size.ensures.size, c.if-number-size.false) in
     let above : is_some (device_above packet packet.current) ≡ true = c.requires.devices.above (packet.current + 1) (omega arith) (omega arith) in
-    let mark = mark_on packet c.consult-answer.result c.consult-answer.ensures.mark c.if-answer.false above in
+    let mark = mark_on packet c.consult-answer.result c.consult-answer.ensures.mark c.if-kept.false above in
     let left = sym c.leave.ensures in
     let bare : IsBare c.leave.new.packet = subst IsBare left (bare_left packet c.consult-answer.result c.requires.bare c.requires.placed) in
     let devices : HasDevices c.leave.new.packet = subst HasDevices left (devices_left packet c.consult-answer.result c.requires.bare below mark c.requires.devices) in
@@ -70,4 +70,4 @@ returns-clause-unwinds g t c =
     let unwound = subst (λ value. Unwinds may c.args.irp value c.unwind_from.new.packet c.consult-answer.new.asked.items c.unwind_from.new.asked.items c.unwind_from.result)
     c.leave.ensures c.unwind_from.ensures.unwinds in
     continues may c.args.irp packet c.args.asked.now.items c.consult-answer.new.asked.items c.unwind_from.new.asked.items c.consult-answer.result
-    c.unwind_from.new.packet c.unwind_from.result c.requires.bare c.requires.devices below c.consult-answer.ensures.consulted c.consult-answer.ensures.mark c.if-answer.false unwound
+    c.unwind_from.new.packet c.unwind_from.result c.requires.bare c.requires.devices below c.consult-answer.ensures.consulted c.consult-answer.ensures.mark c.if-kept.false unwound
