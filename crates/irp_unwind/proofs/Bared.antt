@@ -140,14 +140,14 @@ module _ (packet : PacketValue) (some : 1 ≤ packet.current) (h : packet.curren
         ended = unwound.ended ∙ ap (λ o. cond (is_some (keeper_of unwound.asked)) (Kept o) HasEnded) own;
       }
 
-  pub devices_bared : HasDevices packet → HasDevices (bared packet)
+  pub devices_bared : HasDevices packet (packet.current + 1) → HasDevices (bared packet) (packet.current + 1)
   devices_bared d = record {
-    above = λ number from to.
+    there = λ number from to.
         let top : number ≤ size_of packet = omega (arith, size_bared) in
-        ap (λ (location : Location). is_some location.device) (here number (omega arith)) ∙ d.above number from top;
+        ap (λ (location : Location). is_some location.device) (here number (omega arith)) ∙ d.there number from top;
   }
 
-  pub routines_bared : (known : Known) → HasRoutines known packet → HasRoutines known (bared packet)
+  pub routines_bared : (known : Known) → HasRoutines known packet packet.current → HasRoutines known (bared packet) packet.current
   routines_bared known d = record {
     there = λ number setting from to e.
         let top : number ≤ size_of packet = omega (arith, size_bared) in

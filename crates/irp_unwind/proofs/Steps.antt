@@ -121,11 +121,11 @@ module _ (may : RoutineId → Shown → Answer → Type 0) (irp : IrpRef) (packe
       ]
 
   -- it goes on from the next location
-  pub continues : (between after : List Asked) (answer : Answer) (new : PacketValue) (end : Ending) → IsBare packet → HasDevices packet → packet.current < size_of packet
+  pub continues : (between after : List Asked) (answer : Answer) (new : PacketValue) (end : Ending) → IsBare packet → HasDevices packet (packet.current + 1) → packet.current < size_of packet
       → IsConsulted may irp packet before between answer → IsMark packet answer → answer.keep ≡ false
       → Unwinds may irp (left_packet packet answer) new between after end → Unwinds may irp packet new before after end
   continues between after answer new end b d h consulted m keep unwound =
-      let above : is_some (device_above packet packet.current) ≡ true = d.above (packet.current + 1) (omega arith) (omega arith) in
+      let above : is_some (device_above packet packet.current) ≡ true = d.there (packet.current + 1) (omega arith) (omega arith) in
       let mark : answer.mark ≡ (location_at packet packet.current).pending = mark_on packet answer m keep above in
       let turned : Turned packet (left_packet packet answer) (unwrap_or answer.replacement (outcome_of packet)) = turned_left packet answer b.placed h mark in
       let next = left_packet packet answer in
@@ -159,17 +159,17 @@ module _ (may : RoutineId → Shown → Answer → Type 0) (irp : IrpRef) (packe
       ]
 
 -- what the next turn needs
-pub devices_left : (packet : PacketValue) (answer : Answer) → IsBare packet → packet.current < size_of packet → answer.mark ≡ (location_at packet packet.current).pending → HasDevices packet → HasDevices (left_packet packet answer)
+pub devices_left : (packet : PacketValue) (answer : Answer) → IsBare packet → packet.current < size_of packet → answer.mark ≡ (location_at packet packet.current).pending → HasDevices packet (packet.current + 1) → HasDevices (left_packet packet answer) (packet.current + 1 + 1)
 devices_left packet answer b h mark d =
     let turned : Turned packet (left_packet packet answer) (unwrap_or answer.replacement (outcome_of packet)) = turned_left packet answer b.placed h mark in
     record {
-      above = λ number from to.
+      there = λ number from to.
           let lt : packet.current < number = omega arith in
           let top : number ≤ size_of packet = omega (arith, turned.size) in
-          ap is_some (turned.device number lt) ∙ d.above number (omega arith) top;
+          ap is_some (turned.device number lt) ∙ d.there number (omega arith) top;
     }
 
-pub routines_left : (known : Known) (packet : PacketValue) (answer : Answer) → IsBare packet → packet.current < size_of packet → answer.mark ≡ (location_at packet packet.current).pending → HasRoutines known packet → HasRoutines known (left_packet packet answer)
+pub routines_left : (known : Known) (packet : PacketValue) (answer : Answer) → IsBare packet → packet.current < size_of packet → answer.mark ≡ (location_at packet packet.current).pending → HasRoutines known packet packet.current → HasRoutines known (left_packet packet answer) (packet.current + 1)
 routines_left known packet answer b h mark d =
     let turned : Turned packet (left_packet packet answer) (unwrap_or answer.replacement (outcome_of packet)) = turned_left packet answer b.placed h mark in
     record {

@@ -1,17 +1,18 @@
 //! The test of whether a packet may be unwound.
 
-ghost use Rattle.std.specs.Prelude.{◌≡◌, ◌↔◌, true};
+ghost use Rattle.std.specs.Prelude.{◌≡◌, ◌↔◌, ◌≤◌, true};
 ghost use Rattle.irp_unwind.specs.Conditions.{HasDevices, HasRoutines, CanUnwind, has_known_routine};
 
 use irp_packet::Packet;
 use irp_routines::Ask;
 use irp_types::{Known, Location};
 
-/// Whether each location above the current one has a device.
-fn has_devices(packet: &Packet) -> bool
-    ensures { result ≡ true ↔ HasDevices packet.now }
+/// Whether each location from this one up has a device.
+fn has_devices(packet: &Packet, lowest: u32) -> bool
+    requires { 1 ≤ lowest }
+    ensures { result ≡ true ↔ HasDevices packet.now lowest }
 {
-    for number in packet.current() + 1..packet.size() + 1 {
+    for number in lowest..packet.size() + 1 {
         if packet.location_at(number).device.is_none() {
             return false;
         }
@@ -29,11 +30,12 @@ fn has_known_routine(counts: Known, location: Location) -> bool
     }
 }
 
-/// Whether each routine that is named from the current location up is there.
-fn has_routines(packet: &Packet, counts: Known) -> bool
-    ensures { result ≡ true ↔ HasRoutines counts packet.now }
+/// Whether each routine that is named from this location up is there.
+fn has_routines(packet: &Packet, lowest: u32, counts: Known) -> bool
+    requires { 1 ≤ lowest }
+    ensures { result ≡ true ↔ HasRoutines counts packet.now lowest }
 {
-    for number in packet.current()..packet.size() + 1 {
+    for number in lowest..packet.size() + 1 {
         if !has_known_routine(counts, packet.location_at(number)) {
             return false;
         }
@@ -47,5 +49,8 @@ fn has_routines(packet: &Packet, counts: Known) -> bool
 pub fn can_unwind<A: Ask>(packet: &Packet, ask: &A) -> bool
     ensures { result ≡ true ↔ CanUnwind (A.tables ask.now).counts packet.now }
 {
-    packet.current() <= packet.size() && has_devices(packet) && has_routines(packet, ask.counts())
+    let current = packet.current();
+    current <= packet.size()
+        && has_devices(packet, current + 1)
+        && has_routines(packet, current, ask.counts())
 }

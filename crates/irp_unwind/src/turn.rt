@@ -92,7 +92,7 @@ pub(crate) fn consult<A: Ask>(
     asked: &mut Vec<Asked>,
 ) -> Answer
     requires placed { packet.now.current ≤ size_of packet.now }
-    requires routines { HasRoutines (A.tables ask.now).counts packet.now }
+    requires routines { HasRoutines (A.tables ask.now).counts packet.now packet.now.current }
     requires room { vec_len asked.old < vec_capacity asked.old }
     ensures consulted { IsConsulted (A.may_answer ask.now) irp packet.now asked.old.items asked.new.items result }
     ensures mark { IsMark packet.now result }

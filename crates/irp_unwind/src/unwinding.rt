@@ -27,8 +27,8 @@ fn clear_below(packet: &mut Packet)
 fn unwind_from<A: Ask>(packet: &mut Packet, irp: IrpRef, ask: &A, asked: &mut Vec<Asked>) -> Ending
     requires bare { IsBare packet.old }
     requires placed { packet.old.current ≤ size_of packet.old }
-    requires devices { HasDevices packet.old }
-    requires routines { HasRoutines (A.tables ask.now).counts packet.old }
+    requires devices { HasDevices packet.old (packet.old.current + 1) }
+    requires routines { HasRoutines (A.tables ask.now).counts packet.old packet.old.current }
     requires room { vec_len asked.old + ((size_of packet.old + 1) - packet.old.current) ≤ vec_capacity asked.old }
     ensures unwinds { Unwinds (A.may_answer ask.now) irp packet.old packet.new asked.old.items asked.new.items result }
     ensures capacity { vec_capacity asked.new ≡ vec_capacity asked.old }
@@ -69,8 +69,8 @@ fn unwind_from<A: Ask>(packet: &mut Packet, irp: IrpRef, ask: &A, asked: &mut Ve
 /// are those of `can_unwind`, and room for one question for each location from the current one up.
 pub fn unwind<A: Ask>(packet: &mut Packet, irp: IrpRef, ask: &A, asked: &mut Vec<Asked>) -> Ending
     requires placed { packet.old.current ≤ size_of packet.old }
-    requires devices { HasDevices packet.old }
-    requires routines { HasRoutines (A.tables ask.now).counts packet.old }
+    requires devices { HasDevices packet.old (packet.old.current + 1) }
+    requires routines { HasRoutines (A.tables ask.now).counts packet.old packet.old.current }
     requires room { vec_len asked.old + ((size_of packet.old + 1) - packet.old.current) ≤ vec_capacity asked.old }
     ensures unwinds { Unwinds (A.may_answer ask.now) irp packet.old packet.new asked.old.items asked.new.items result }
     ensures capacity { vec_capacity asked.new ≡ vec_capacity asked.old }

@@ -4,4 +4,4 @@ use Rattle.irp_unwind.specs.Conditions.{has_known_routine}
 use Rattle.irp_unwind.proofs.conditions.has_routines.Given as goal
 
 abbrev pub invariant-loop-number : goal.invariant-loop-number
-invariant-loop-number l = (other : ℕ) → l.packet.current ≤ other → other < l.number → has_known_routine l.counts (location_at l.packet other) ≡ true
+invariant-loop-number l = (other : ℕ) → l.lowest ≤ other → other < l.number → has_known_routine l.counts (location_at l.packet other) ≡ true

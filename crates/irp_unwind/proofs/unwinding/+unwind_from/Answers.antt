@@ -47,13 +47,13 @@ unwind_from-requires g t c κs within =
     let counts = (g.A.Ask.tables c.args.ask.now).counts in
     let size : size_of c.leave.new.packet ≡ size_of packet = ap (λ (value : PacketValue). size_of value) c.leave.ensures ∙ length_left packet c.consult-answer.result.mark in
     let below : packet.current < size_of packet = omega (arith, c.requires.placed, c.current-number.ensures.current, c.size.ensures.size, c.if-number-size.false) in
-    let above : is_some (device_above packet packet.current) ≡ true = c.requires.devices.above (packet.current + 1) (omega arith) (omega arith) in
+    let above : is_some (device_above packet packet.current) ≡ true = c.requires.devices.there (packet.current + 1) (omega arith) (omega arith) in
     let mark = mark_on packet c.consult-answer.result c.consult-answer.ensures.mark c.if-kept.false above in
     let left = sym c.leave.ensures in
     let bare : IsBare c.leave.new.packet = subst IsBare left (bare_left packet c.consult-answer.result c.requires.bare c.requires.placed) in
-    let devices : HasDevices c.leave.new.packet = subst HasDevices left (devices_left packet c.consult-answer.result c.requires.bare below mark c.requires.devices) in
-    let routines : HasRoutines counts c.leave.new.packet =
-    subst (HasRoutines counts) left (routines_left counts packet c.consult-answer.result c.requires.bare below mark c.requires.routines) in
+    let devices : HasDevices c.leave.new.packet (c.leave.new.packet.current + 1) = subst (λ (value : PacketValue). HasDevices value (value.current + 1)) left (devices_left packet c.consult-answer.result c.requires.bare below mark c.requires.devices) in
+    let routines : HasRoutines counts c.leave.new.packet c.leave.new.packet.current =
+    subst (λ (value : PacketValue). HasRoutines counts value value.current) left (routines_left counts packet c.consult-answer.result c.requires.bare below mark c.requires.routines) in
     let current : c.leave.new.packet.current ≡ packet.current + 1 = ap (λ (value : PacketValue). value.current) c.leave.ensures in
     let listed : vec_len c.consult-answer.new.asked ≤ vec_len c.args.asked.now + 1 = c.consult-answer.ensures.length in
     let capacity : vec_capacity c.consult-answer.new.asked ≡ vec_capacity c.args.asked.now = c.consult-answer.ensures.capacity in
