@@ -1,5 +1,5 @@
 -- Facts on lists of numbers in a row, and on the last of some values.
-use Rattle.std.proofs.Common.{◌≡◌, ℕ, ◌+◌, zero, suc, ◌-◌, ◌≤◌, Bool, true, false, cond, List, [], ◌∷◌, map, filter, refl, ap, arith, Option, Some, None, unwrap_or}
+use Rattle.std.proofs.Common.{◌≡◌, ℕ, ◌+◌, zero, suc, ◌-◌, ◌<◌, ◌≤◌, Bool, true, false, cond, List, [], ◌∷◌, ◌++◌, length, get_or, map, filter, refl, ap, arith, Option, Some, None, unwrap_or}
 use Rattle.std.specs.List.{list_any, filter_map, range_with_len, cons_option, AllByRecursion}
 use Rattle.irp_types.specs.Unwinding.{from_to, last_from}
 use Rattle.irp_types.specs.declared.answer.Replacement.{Replacement}
@@ -61,3 +61,11 @@ all_map P Q f (x ∷ xs) all = (f x all.0, all_map P Q f xs all.1)
 pub all_both : {X : Type 0} (P Q : X → Type 0) (xs : List X) → AllByRecursion P xs → AllByRecursion Q xs → AllByRecursion (λ x. P x × Q x) xs
 all_both P Q [] p q = tt
 all_both P Q (x ∷ xs) p q = ((p.0, q.0), all_both P Q xs p.1 q.1)
+
+pub all_append : {X : Type 0} (P : X → Type 0) (xs ys : List X) → AllByRecursion P xs → AllByRecursion P ys → AllByRecursion P (xs ++ ys)
+all_append P [] ys a b = b
+all_append P (x ∷ xs) ys a b = (a.0, all_append P xs ys a.1 b)
+
+pub all_by_index : {X : Type 0} (P : X → Type 0) (d : X) (xs : List X) → ((k : ℕ) → k < length xs → P (get_or xs k d)) → AllByRecursion P xs
+all_by_index P d [] each = tt
+all_by_index P d (x ∷ xs) each = (each 0 (omega arith), all_by_index P d xs (λ k within. each (suc k) (omega arith)))

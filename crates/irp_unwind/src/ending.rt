@@ -1,6 +1,6 @@
 //! How a packet's way down or up ends.
 
-use irp_types::{DeviceId, Owner};
+use irp_types::{DeviceId, Owner, Status};
 
 /// How a descent or an unwinding ends (this project's own rule).
 #[derive(Clone, Copy, PartialEq, Eq, Debug)]
@@ -12,4 +12,12 @@ pub enum Ending {
     Kept(Owner),
     /// No routine kept it: the packet was completed.
     Ended,
+}
+
+/// What became of a packet that was sent (WDK: "IoCallDriver").
+#[derive(Clone, Copy, PartialEq, Eq, Debug)]
+pub struct Sent {
+    /// The status that the sender is told.
+    pub status: Status,
+    pub ending: Ending,
 }

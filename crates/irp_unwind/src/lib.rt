@@ -3,6 +3,8 @@
 #![tactic(auto)]
 
 mod conditions;
+mod descent;
+mod device;
 mod ending;
 mod laws;
 #[cfg(test)]
@@ -11,6 +13,7 @@ mod turn;
 mod unwinding;
 
 pub use conditions::can_unwind;
-pub use ending::Ending;
+pub use descent::descend;
+pub use ending::{Ending, Sent};
 pub use laws::unwinding_is_settled;
 pub use unwinding::unwind;

@@ -1,0 +1,30 @@
+-- How a descent ends, and all that it does.
+use Rattle.std.specs.Prelude.{ℕ, ◌≡◌, ◌+◌, ◌-◌, ◌<◌, ◌++◌, List, length}
+use Rattle.std.specs.List.{AllByRecursion}
+use Rattle.irp_types.specs.Packet.{PacketValue}
+use Rattle.irp_types.specs.Stacks.{DevicesValue, stack_size_of}
+use Rattle.irp_types.specs.State.{Tables}
+use Rattle.irp_types.specs.Descent.{Descended, last_frame}
+use Rattle.irp_types.specs.declared.names.IrpRef.{IrpRef}
+use Rattle.irp_types.specs.declared.routine.Known.{Known}
+use Rattle.irp_types.specs.declared.asked.Asked.{Asked}
+use Rattle.irp_unwind.specs.declared.ending.Sent.{Sent}
+use Rattle.irp_unwind.specs.Conditions.{HasDevices, HasRoutines}
+use Rattle.irp_unwind.specs.Devices.{ending_at}
+
+-- a descent: what it asked stands behind the others in the list of what was asked, each answered as it may, and the
+-- packet that is left, the status of the reply and how it ended are those of the frames
+pub record Descends (may : Asked → Type 0) (tables : Tables) (irp : IrpRef) (devices : DevicesValue) (old : PacketValue) (target : ℕ) (new : PacketValue) (before after : List Asked) (sent : Sent) : Type 0 where
+  pub asked : List Asked
+  pub descended : Descended tables irp devices old target asked new sent.status
+  pub listed : after ≡ before ++ asked
+  pub given : AllByRecursion may asked
+  pub ended : sent.ending ≡ ending_at (last_frame descended.frames) descended.reached descended.unwinding (last_frame descended.frames).plan
+
+-- the packet may be sent to the device: the device was created, there are locations enough, those in use have devices,
+-- and from the prepared one up the routines are there
+pub record CanDescend (counts : Known) (devices : DevicesValue) (packet : PacketValue) (target : ℕ) : Type 0 where
+  pub created : target < length devices.facts
+  pub deep : stack_size_of devices target < packet.current
+  pub placed : HasDevices packet packet.current
+  pub routines : HasRoutines counts packet (packet.current - 1)

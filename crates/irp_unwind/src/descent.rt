@@ -1,0 +1,89 @@
+//! A packet on its way down.
+
+ghost use Rattle.std.specs.Prelude.{◌≡◌, ◌+◌, ◌-◌, ◌<◌, ◌≤◌, length, vec_len, vec_capacity};
+ghost use Rattle.irp_types.specs.Packet.{size_of};
+ghost use Rattle.irp_types.specs.Stacks.{AreStacks, stack_size_of};
+ghost use Rattle.irp_types.specs.Descent.{StaysUp};
+ghost use Rattle.irp_routines.specs.Answers.{IsAnswered};
+ghost use Rattle.irp_unwind.specs.Conditions.{HasDevices, HasRoutines};
+ghost use Rattle.irp_unwind.specs.Descents.{Descends};
+
+use crate::device::{ask_plan, device_below, is_passing, marks_location, pass_on, settle};
+use crate::ending::Sent;
+use irp_packet::Packet;
+use irp_routines::Ask;
+use irp_stack::Stacks;
+use irp_types::{Asked, DeviceId, IrpRef, Status};
+
+/// Sends a packet to a device whose stack is in order.
+fn descend_from<A: Ask>(
+    packet: &mut Packet,
+    irp: IrpRef,
+    stacks: &Stacks,
+    ask: &A,
+    target: DeviceId,
+    asked: &mut Vec<Asked>,
+) -> Sent
+    requires stacked { AreStacks stacks.now }
+    requires created { target.0 < length stacks.now.facts }
+    requires deep { stack_size_of stacks.now target.0 < packet.old.current }
+    requires within { packet.old.current ≤ size_of packet.old + 1 }
+    requires placed { HasDevices packet.old packet.old.current }
+    requires routines { HasRoutines (A.tables ask.now).counts packet.old (packet.old.current - 1) }
+    requires room { vec_len asked.old + stack_size_of stacks.now target.0 + size_of packet.old ≤ vec_capacity asked.old }
+    ensures descends { Descends (IsAnswered (A.may_plan ask.now) (A.may_answer ask.now) (A.may_cancel ask.now)) (A.tables ask.now) irp stacks.now packet.old target.0 packet.new asked.old.items asked.new.items result }
+    ensures capacity { vec_capacity asked.new ≡ vec_capacity asked.old }
+{
+    packet.enter(target);
+    let plan = ask_plan(packet, irp, stacks, ask, target, asked);
+    if !is_passing(plan) {
+        return settle(packet, irp, ask, target, plan, asked);
+    }
+    let lower = device_below(stacks, target);
+    pass_on(packet, plan);
+    let sent = descend_from(packet, irp, stacks, ask, lower, asked);
+    if marks_location(plan) {
+        return Sent {
+            status: Status::PENDING,
+            ..sent
+        };
+    }
+    sent
+}
+
+/// Sends a packet to a device, and answers the status that the sender is told, and how it ended.
+///
+/// The device is entered in the next lower location, and the dispatch of its driver for the major function code there is
+/// asked what it plans. Finish: the packet gets the status and information, and is unwound. Hold: the device marks its
+/// location pending and owns the packet, with the cancel routine if one is given. Skip: the next lower device is entered
+/// in the same location. Forward: the location is copied to the next lower one, which gets the completion routine if one
+/// is given, and the next lower device is entered there. ForwardPend: the same, after the device marked its own location.
+/// A driver without a dispatch for the major function code finishes the packet with INVALID_DEVICE_REQUEST and
+/// information 0. The sender is told PENDING where a device held the packet or marked it pending, else the status of the
+/// finish. A packet whose sender is told another status stands no lower than before (WDK: "IoCallDriver",
+/// "IoSkipCurrentIrpStackLocation", "IoCopyCurrentIrpStackLocationToNext", "IoMarkIrpPending"; the plans, and the
+/// information 0 of an unhandled major function code, are this project's own rules).
+///
+/// What is asked goes behind the other questions in `asked`, into room that is there: it takes no memory. The conditions
+/// are those of `can_descend`, and room for one question for each device from the target down and one for each location.
+pub fn descend<A: Ask>(
+    packet: &mut Packet,
+    irp: IrpRef,
+    stacks: &Stacks,
+    ask: &A,
+    target: DeviceId,
+    asked: &mut Vec<Asked>,
+) -> Sent
+    requires created { target.0 < length stacks.now.facts }
+    requires deep { stack_size_of stacks.now target.0 < packet.old.current }
+    requires placed { HasDevices packet.old packet.old.current }
+    requires routines { HasRoutines (A.tables ask.now).counts packet.old (packet.old.current - 1) }
+    requires room { vec_len asked.old + stack_size_of stacks.now target.0 + size_of packet.old ≤ vec_capacity asked.old }
+    ensures descends { Descends (IsAnswered (A.may_plan ask.now) (A.may_answer ask.now) (A.may_cancel ask.now)) (A.tables ask.now) irp stacks.now packet.old target.0 packet.new asked.old.items asked.new.items result }
+    ensures capacity { vec_capacity asked.new ≡ vec_capacity asked.old }
+    ensures stays { StaysUp packet.old packet.new result.status }
+{
+    stacks.are_stacks();
+    let _current = packet.current();
+    descend_from(packet, irp, stacks, ask, target, asked)
+}
