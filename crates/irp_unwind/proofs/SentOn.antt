@@ -61,7 +61,7 @@ stood_entered packet device frame low high dev e =
         major = was.major;
         word = was.word;
         setting = was.setting;
-        pending = sym (or_false was.pending ) i;
+        pending = sym (or_false was.pending) i;
       }) ∙ ap (λ b. record (stood packet frame) { pending = was.pending || b }) (sym e);
       other = λ number a n. at_other packet (first_location packet) number l one a n;
       rest = refl;
@@ -230,9 +230,9 @@ sent_copy packet q frame set low high at copy planned s =
           let not_first : (number == first_location packet) ≡ false = ne_eqb number (first_location packet) (λ e. absurd (omega (arith, e, le, fst))) in
           let low_ones = placed_below (follower ∷ others) (first_location next) placed in
           let setting : cond (number == first_location next) (location_at next (first_location next)).setting (set_at (last_frame (frames_in (follower ∷ others) (number + 1))))
-              ≡ set_at (last_frame (frames_in (frame ∷ follower ∷ others) (number + 1))) =
+          ≡ set_at (last_frame (frames_in (frame ∷ follower ∷ others) (number + 1))) =
           elim (cases_eq number (first_location next)) as (λ _. cond (number == first_location next) (location_at next (first_location next)).setting (set_at (last_frame (frames_in (follower ∷ others) (number + 1))))
-              ≡ set_at (last_frame (frames_in (frame ∷ follower ∷ others) (number + 1)))) [
+          ≡ set_at (last_frame (frames_in (frame ∷ follower ∷ others) (number + 1)))) [
             | inl e ↦
                 let up : frame.location ≡ number + 1 = omega (arith, e, at, fst) in
                 let lone : frames_in (frame ∷ follower ∷ others) (number + 1) ≡ frame ∷ [] =
@@ -288,10 +288,13 @@ sent_copy packet q frame set low high at copy planned s =
         | inr n ↦
             let one : 1 ≤ number = omega (arith, from) in
             let up : first_location packet ≤ number = omega (arith, from, n, fst) in
-            inl (up, ap (λ (location : Location). location.setting) (same_at number one n) ∙ elim (cases_eq number (first_location packet)) as (λ _. (location_at q number).setting ≡ (location_at packet number).setting) [
-              | inl e ↦ ap (λ k. (location_at q k).setting) e ∙ ap (λ (location : Location). location.setting) s.here ∙ ap (λ k. (location_at packet k).setting) (sym e)
-              | inr o ↦ ap (λ (location : Location). location.setting) (s.other number one o)
-            ])
+            inl (
+              up,
+              ap (λ (location : Location). location.setting) (same_at number one n) ∙ elim (cases_eq number (first_location packet)) as (λ _. (location_at q number).setting ≡ (location_at packet number).setting) [
+                | inl e ↦ ap (λ k. (location_at q k).setting) e ∙ ap (λ (location : Location). location.setting) s.here ∙ ap (λ k. (location_at packet k).setting) (sym e)
+                | inr o ↦ ap (λ (location : Location). location.setting) (s.other number one o)
+              ],
+            )
       ];
       rest = λ i. record (s.rest i) { locations = next.locations; current = next.current; preparation = next.preparation };
     }

@@ -46,9 +46,9 @@ none_marks : (frames : List Frame) → list_any (plans marks_location) frames �
 none_marks [] none = tt
 none_marks (frame ∷ frames) none = let parts = or_parts (plans marks_location frame) (list_any (plans marks_location) frames) none in (parts.0, none_marks frames parts.1)
   where
-  or_parts : (one two : Bool) → (one || two) ≡ false → (one ≡ false) × (two ≡ false)
-  or_parts true two none = absurd (cc)
-  or_parts false two none = (refl, none)
+    or_parts : (one two : Bool) → (one || two) ≡ false → (one ≡ false) × (two ≡ false)
+    or_parts true two none = absurd (cc)
+    or_parts false two none = (refl, none)
 
 kept_above : (lowest size : ℕ) (asked : List Asking) → AllByRecursion (λ asking. asking.answer.keep ≡ true → lowest ≤ place_of asking) asked → lowest ≤ size
     → lowest ≤ option_map_or place_of (find (λ asking. asking.answer.keep) asked) size
@@ -66,9 +66,9 @@ watch_continues rule shown answer is allowed =
     let watched : (not answer.keep && is_none answer.replacement) ≡ true = subst (λ given. obeys given shown answer ≡ true) is obeyed in
     unkept answer.keep (and_parts _ _ watched).0
   where
-  unkept : (keep : Bool) → not keep ≡ true → keep ≡ false
-  unkept true is = absurd (cc)
-  unkept false is = refl
+    unkept : (keep : Bool) → not keep ≡ true → keep ≡ false
+    unkept true is = absurd (cc)
+    unkept false is = refl
 
 module _ (tables : Tables) (irp : IrpRef) (devices : DevicesValue) (packet reached : PacketValue) (frames : List Frame) (planned : AllByRecursion (IsPlanned tables irp packet devices) frames)
     (unmarked : list_any (plans marks_location) frames ≡ false) (passed : PassedDown packet frames reached) (high : packet.current ≤ size_of packet + 1) where

@@ -1,11 +1,13 @@
-//! The test of whether a packet may be unwound.
+//! The tests of whether a packet may be unwound, and sent.
 
 ghost use Rattle.std.specs.Prelude.{◌≡◌, ◌↔◌, ◌≤◌, true};
+ghost use Rattle.irp_unwind.specs.Descents.{CanDescend};
 ghost use Rattle.irp_unwind.specs.Conditions.{HasDevices, HasRoutines, CanUnwind, has_known_routine};
 
 use irp_packet::Packet;
 use irp_routines::Ask;
-use irp_types::{Known, Location};
+use irp_stack::Stacks;
+use irp_types::{DeviceId, Known, Location};
 
 /// Whether each location from this one up has a device.
 fn has_devices(packet: &Packet, lowest: u32) -> bool
@@ -53,4 +55,17 @@ pub fn can_unwind<A: Ask>(packet: &Packet, ask: &A) -> bool
     current <= packet.size()
         && has_devices(packet, current + 1)
         && has_routines(packet, current, ask.counts())
+}
+
+/// Whether a packet may be sent to a device: the device was created, the packet has a location for each device from there
+/// down, each location in use has a device, and from the prepared one up each routine is one of the asker's. A packet
+/// that a manager has, and that passes the checks of CallDriver, is always so (this project's own rule).
+pub fn can_descend<A: Ask>(packet: &Packet, stacks: &Stacks, ask: &A, target: DeviceId) -> bool
+    ensures { result ≡ true ↔ CanDescend (A.tables ask.now).counts stacks.now packet.now target.0 }
+{
+    let current = packet.current();
+    stacks.facts(target).is_some()
+        && stacks.stack_size(target) < current
+        && has_devices(packet, current)
+        && has_routines(packet, current - 1, ask.counts())
 }

@@ -12,7 +12,7 @@ mod tests;
 mod turn;
 mod unwinding;
 
-pub use conditions::can_unwind;
+pub use conditions::{can_descend, can_unwind};
 pub use descent::descend;
 pub use ending::{Ending, Sent};
 pub use laws::unwinding_is_settled;
