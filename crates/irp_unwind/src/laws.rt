@@ -1,9 +1,15 @@
-//! Laws of unwinding. Each is the contract of a function that does nothing.
+//! Laws of unwinding and of descent. Each is the contract of a function that does nothing.
 
-ghost use Rattle.irp_unwind.specs.Laws.{UnwindingIsSettled};
+ghost use Rattle.irp_unwind.specs.Laws.{UnwindingIsSettled, DescentIsSettled};
 
 /// Where each routine has one answer to what it is shown, a packet settles which routines its unwinding asks and what
 /// is left of it.
 pub fn unwinding_is_settled()
     ensures { UnwindingIsSettled }
+{}
+
+/// Where each closure has one answer to what it is shown, a packet and the device that it is sent to settle which devices
+/// it comes to, what is asked, what is left of it and what the sender is told.
+pub fn descent_is_settled()
+    ensures { DescentIsSettled }
 {}

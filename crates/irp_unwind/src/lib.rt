@@ -15,5 +15,5 @@ mod unwinding;
 pub use conditions::{can_descend, can_unwind};
 pub use descent::descend;
 pub use ending::{Ending, Sent};
-pub use laws::unwinding_is_settled;
+pub use laws::{descent_is_settled, unwinding_is_settled};
 pub use unwinding::unwind;
