@@ -185,10 +185,22 @@ module _ (planned_by : DispatchId → Shown → Plan) (reply : RoutineId → Sho
       let sb = all_split Told (questions_of tables irp packet devices b.frames) (map as_asked b.unwinding) (subst (AllByRecursion Told) b.listed tb) in
       let floors = reverse (take (stack_size_of devices target) (stack_of devices target)) in
       let ra : IsRun floors (first_location packet) a.frames = record {
-        some = a.right.some; devices_are = a.right.devices_are; placed = a.right.locations; down = a.right.down; stops = a.right.stops; planned = a.right.planned; told = sa.0;
+        some = a.right.some;
+        devices_are = a.right.devices_are;
+        placed = a.right.locations;
+        down = a.right.down;
+        stops = a.right.stops;
+        planned = a.right.planned;
+        told = sa.0;
       } in
       let rb : IsRun floors (first_location packet) b.frames = record {
-        some = b.right.some; devices_are = b.right.devices_are; placed = b.right.locations; down = b.right.down; stops = b.right.stops; planned = b.right.planned; told = sb.0;
+        some = b.right.some;
+        devices_are = b.right.devices_are;
+        placed = b.right.locations;
+        down = b.right.down;
+        stops = b.right.stops;
+        planned = b.right.planned;
+        told = sb.0;
       } in
       let e : a.frames ≡ b.frames = same_frames floors (first_location packet) a.frames b.frames ra rb in
       let pb : PassedDown packet a.frames b.reached = subst (λ frames. PassedDown packet frames b.reached) (sym e) b.passed in
