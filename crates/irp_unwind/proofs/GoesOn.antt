@@ -9,7 +9,7 @@ use Rattle.irp_types.specs.Packet.{PacketValue, size_of, location_at, after_ente
 use Rattle.irp_types.specs.Unwinding.{Asking, as_asked}
 use Rattle.irp_types.specs.Stacks.{DevicesValue, AreStacks, lower_of, stack_size_of}
 use Rattle.irp_types.specs.State.{Tables}
-use Rattle.irp_types.specs.Descent.{Frame, plans, is_copying, is_passing, marks_location, first_location, last_frame, shown_to, IsPlannedAs, IsPlanned, question_at, questions_of, AreFrames, PassedDown, Ends, final_status, replied_status, Descended}
+use Rattle.irp_types.specs.Descent.{Frame, plans, is_copying, is_passing, marks_location, first_location, last_frame, shown_to, IsPlannedAs, IsPlanned, question_at, questions_of, AreFrames, PassedDown, Ends, final_status, replied_status}
 use Rattle.irp_types.specs.declared.location.Location.{Location}
 use Rattle.irp_types.specs.declared.names.IrpRef.{IrpRef}
 use Rattle.irp_types.specs.declared.names.DeviceId.{DeviceId}
@@ -24,7 +24,6 @@ use Rattle.irp_types.specs.declared.answer.Plan.{Plan}
 use Rattle.irp_types.specs.declared.answer.Plan.TheVariants.{Finish, Hold, Skip, Forward, ForwardPend}
 use Rattle.irp_types.specs.declared.asked.Asked.{Asked}
 use Rattle.irp_routines.specs.Answers.{IsAnswered}
-use Rattle.irp_unwind.specs.declared.ending.Ending.{Ending}
 use Rattle.irp_unwind.specs.declared.ending.Sent.{Sent}
 use Rattle.irp_unwind.specs.Conditions.{HasDevices}
 use Rattle.irp_unwind.specs.Endings.{IsGiven}

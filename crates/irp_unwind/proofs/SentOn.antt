@@ -1,6 +1,6 @@
 -- What one device of a descent leaves, and how the rest goes on from there.
-use Rattle.std.proofs.Common.{◌≡◌, ℕ, ◌+◌, ◌-◌, ◌<◌, ◌≤◌, ◌≢◌, zero, suc, Bool, true, false, cond, ◌||◌, ◌&&◌, ◌==◌, List, [], ◌∷◌, ◌++◌, map, length, set, get_or, refl, sym, ◌∙◌, ap, subst, arith, Option, Some, None, unwrap_or, ◌⊎◌, inl, inr}
-use Rattle.std.specs.List.{list_any, AllByRecursion}
+use Rattle.std.proofs.Common.{◌≡◌, ℕ, ◌+◌, ◌-◌, ◌<◌, ◌≤◌, ◌≢◌, Bool, true, false, cond, ◌||◌, ◌&&◌, ◌==◌, List, [], ◌∷◌, length, set, refl, sym, ◌∙◌, ap, arith, Option, Some, None, ◌⊎◌, inl, inr}
+use Rattle.std.specs.List.{list_any}
 use Rattle.std.proofs.lemmas.Bool.{cond-true, cond-false, cases_eq, cases_lt, eq-eqb, ne_eqb}
 use Rattle.std.proofs.lemmas.List.{get_or-set_same, get_or-set_other, length-set}
 use Rattle.irp_types.specs.Packet.{PacketValue, size_of, location_at, with_location, cleared, after_enter, after_copy}
@@ -9,8 +9,6 @@ use Rattle.irp_types.specs.declared.location.Location.{Location}
 use Rattle.irp_types.specs.declared.location.Preparation.TheVariants.{Nothing}
 use Rattle.irp_types.specs.declared.names.DeviceId.{DeviceId}
 use Rattle.irp_types.specs.declared.routine.Setting.{Setting}
-use Rattle.irp_types.specs.declared.answer.Plan.{Plan}
-use Rattle.irp_types.specs.declared.answer.Plan.TheVariants.{Finish, Hold, Skip, Forward, ForwardPend}
 use Rattle.irp_unwind.specs.Turns.{marked}
 use Rattle.irp_unwind.specs.Devices.{marked_here}
 use Rattle.irp_unwind.proofs.Frames.{set_at, IsPlaced, placed_first, placed_below, last_in, in_here, in_rest, none_above, last_after, any_after}

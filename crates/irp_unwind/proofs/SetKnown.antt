@@ -1,10 +1,10 @@
 -- What a frame sets is there, and looks on where the frame marks nothing.
-use Rattle.std.proofs.Common.{◌≡◌, ℕ, ◌+◌, ◌-◌, ◌<◌, ◌≤◌, Bool, true, false, ◌&&◌, length, get_or, refl, sym, ◌∙◌, ap, subst, arith, Option, Some, None, IfSome, MatchOption, inl, inr}
+use Rattle.std.proofs.Common.{◌≡◌, ◌<◌, ◌≤◌, true, false, length, refl, sym, ◌∙◌, ap, subst, arith, Option, Some, None, IfSome, MatchOption, inl, inr}
 use Rattle.std.specs.Option.{option_map_or}
 use Rattle.std.proofs.lemmas.Bool.{and_parts, ltb-true, lt-ltb}
 use Rattle.std.proofs.lemmas.Option.{slice_get_within, get_or_from_slice_get}
 use Rattle.irp_types.specs.Rules.{IsWithin, is_known, is_watch, is_plan_allowed, count_of_rule}
-use Rattle.irp_types.specs.Packet.{PacketValue, location_at}
+use Rattle.irp_types.specs.Packet.{PacketValue}
 use Rattle.irp_types.specs.Stacks.{DevicesValue}
 use Rattle.irp_types.specs.State.{Tables, AreTables, known_of}
 use Rattle.irp_types.specs.Descent.{Frame, plans, marks_location, set_by, first_location, shown_to, dispatch_at, IsPlanOf, IsPlanned}

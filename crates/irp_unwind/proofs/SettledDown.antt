@@ -1,5 +1,5 @@
 -- Where each closure has one answer to what it is shown, a descent settles its frames, what it asks and what it leaves.
-use Rattle.std.proofs.Common.{◌≡◌, ℕ, ◌+◌, ◌-◌, ◌<◌, ◌≤◌, zero, suc, Bool, true, false, cond, List, [], ◌∷◌, ◌++◌, map, length, take, reverse, get_or, refl, sym, ◌∙◌, ap, subst, arith, Option, Some, None, MatchOption, inl, inr}
+use Rattle.std.proofs.Common.{◌≡◌, ℕ, ◌+◌, ◌-◌, ◌<◌, ◌≤◌, suc, true, false, cond, List, [], ◌∷◌, ◌++◌, map, length, take, reverse, get_or, refl, sym, ◌∙◌, ap, subst, arith, Option, Some, None, MatchOption, inl, inr}
 use Rattle.std.specs.List.{count_by, AllByRecursion}
 use Rattle.std.proofs.lemmas.Bool.{cases_lt}
 use Rattle.std.proofs.lemmas.List.{ext_get_or}
@@ -11,7 +11,6 @@ use Rattle.irp_types.specs.State.{Tables}
 use Rattle.irp_types.specs.Status.{invalid_device_request}
 use Rattle.irp_types.specs.Descent.{Frame, plans, is_copying, is_passing, first_location, last_frame, shown_to, dispatch_at, as_question, IsPlanOf, IsPlanned, question_at, questions_of, PassedDown, Ends, replied_status, Descended}
 use Rattle.irp_types.specs.declared.location.Preparation.TheVariants.{Nothing}
-use Rattle.irp_types.specs.declared.location.Owner.TheVariants.{Device}
 use Rattle.irp_types.specs.declared.names.IrpRef.{IrpRef}
 use Rattle.irp_types.specs.declared.status.Status.{Status}
 use Rattle.irp_types.specs.declared.names.DispatchId.{DispatchId}
@@ -23,7 +22,6 @@ use Rattle.irp_types.specs.declared.answer.Plan.TheVariants.{Finish, Hold, Skip,
 use Rattle.irp_types.specs.declared.asked.Asked.{Asked}
 use Rattle.irp_types.specs.declared.names.CancelId.{CancelId}
 use Rattle.irp_types.specs.declared.answer.CancelAnswer.{CancelAnswer}
-use Rattle.irp_routines.specs.Answers.{IsAnswered}
 use Rattle.irp_unwind.specs.Laws.{IsReplyOf}
 use Rattle.irp_unwind.proofs.Frames.{IsPlaced, placed_first, placed_below, last_in}
 use Rattle.irp_unwind.proofs.Settled.{same_asking}

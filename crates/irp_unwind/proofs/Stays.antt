@@ -1,11 +1,11 @@
 -- A reply other than PENDING leaves the packet with nobody below who sent it.
-use Rattle.std.proofs.Common.{◌≡◌, ℕ, ◌+◌, ◌-◌, ◌<◌, ◌≤◌, Bool, true, false, not, ◌&&◌, cond, ◌||◌, ◌==◌, List, [], ◌∷◌, refl, sym, ◌∙◌, ap, subst, arith, Option, Some, None, is_none, inl, inr}
+use Rattle.std.proofs.Common.{◌≡◌, ℕ, ◌+◌, ◌≤◌, Bool, true, false, not, ◌&&◌, cond, ◌||◌, ◌==◌, List, [], ◌∷◌, refl, sym, ◌∙◌, ap, subst, arith, Option, Some, None, is_none, inl, inr}
 use Rattle.std.specs.List.{list_any, find, AllByRecursion}
 use Rattle.std.specs.Option.{option_map_or}
 use Rattle.std.proofs.lemmas.Bool.{cond-true, cond-false, cases_Bool, cases_lt, ne_eqb, and_parts}
 use Rattle.irp_types.specs.Status.{pending, invalid_device_request}
 use Rattle.irp_types.specs.Rules.{is_allowed, obeys}
-use Rattle.irp_types.specs.Packet.{PacketValue, size_of, location_at, with_status}
+use Rattle.irp_types.specs.Packet.{PacketValue, size_of, with_status}
 use Rattle.irp_types.specs.Unwinding.{Asking, place_of, is_met_at, stop_of, IsAskedRight, Unwound}
 use Rattle.irp_types.specs.Stacks.{DevicesValue}
 use Rattle.irp_types.specs.State.{Tables}

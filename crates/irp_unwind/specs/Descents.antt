@@ -1,5 +1,5 @@
 -- How a descent ends, and all that it does.
-use Rattle.std.specs.Prelude.{ℕ, ◌≡◌, ◌+◌, ◌-◌, ◌<◌, ◌++◌, List, length}
+use Rattle.std.specs.Prelude.{ℕ, ◌≡◌, ◌-◌, ◌<◌, ◌++◌, List, length}
 use Rattle.std.specs.List.{AllByRecursion}
 use Rattle.irp_types.specs.Packet.{PacketValue}
 use Rattle.irp_types.specs.Stacks.{DevicesValue, stack_size_of}

@@ -8,7 +8,6 @@ use Rattle.irp_types.specs.Stacks.{DevicesValue, lower_of}
 use Rattle.irp_types.specs.State.{Tables}
 use Rattle.irp_types.specs.Descent.{Frame, IsPlannedAs, question_at, Ends}
 use Rattle.irp_types.specs.declared.names.IrpRef.{IrpRef}
-use Rattle.irp_types.specs.declared.names.DeviceId.{DeviceId}
 use Rattle.irp_types.specs.declared.routine.RoutineId.{RoutineId}
 use Rattle.irp_types.specs.declared.shown.Shown.{Shown}
 use Rattle.irp_types.specs.declared.answer.Answer.{Answer}

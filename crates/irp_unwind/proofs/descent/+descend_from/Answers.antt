@@ -1,20 +1,16 @@
-use Rattle.std.proofs.Common.{arith, ◌≡◌, ◌+◌, ◌-◌, ◌<◌, ◌≤◌, true, false, cond, sym, ◌∙◌, ap, subst, vec_len, vec_capacity, Option, Some}
+use Rattle.std.proofs.Common.{arith, ◌≡◌, ◌+◌, ◌<◌, ◌≤◌, true, false, cond, sym, ◌∙◌, subst, vec_len, vec_capacity}
 use Rattle.std.specs.Option.{option_map_or}
 use Rattle.std.proofs.lemmas.Bool.{cond-true, cond-false}
-use Rattle.irp_types.specs.Status.{pending}
-use Rattle.irp_types.specs.Packet.{PacketValue, size_of, after_enter}
+use Rattle.irp_types.specs.Packet.{size_of}
 use Rattle.irp_types.specs.Stacks.{stack_size_of}
 use Rattle.irp_types.specs.Descent.{Frame, plans, is_copying, is_passing, marks_location, first_location}
 use Rattle.irp_types.specs.declared.status.Status.{Status}
 use Rattle.irp_routines.specs.Answers.{IsAnswered}
-use Rattle.irp_unwind.specs.declared.ending.Sent.{Sent}
 use Rattle.irp_unwind.specs.Conditions.{HasDevices, HasRoutines}
-use Rattle.irp_unwind.specs.Devices.{passed_on, frame_at, IsPlannedHere, EndsHere}
+use Rattle.irp_unwind.specs.Devices.{frame_at, IsPlannedHere, EndsHere}
 use Rattle.irp_unwind.specs.Descents.{Descends}
-use Rattle.irp_unwind.proofs.Frames.{IsBelow, is_below}
-use Rattle.irp_unwind.proofs.SentOn.{SentOn}
 use Rattle.irp_unwind.proofs.SetKnown.{routines_sent}
-use Rattle.irp_unwind.proofs.GoesOn.{GoesTo, ends_here, goes_to, goes_on, reply_above, planned_first, devices_sent, at_most_one}
+use Rattle.irp_unwind.proofs.GoesOn.{ends_here, goes_to, goes_on, planned_first, devices_sent, at_most_one}
 use Rattle.irp_unwind.proofs.descent.+descend_from.Goals as goal
 
 pub returns-then-not-is_passing-clause-descends : goal.returns-then-not-is_passing-clause-descends

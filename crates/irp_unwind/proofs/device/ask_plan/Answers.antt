@@ -1,4 +1,4 @@
-use Rattle.std.proofs.Common.{◌≡◌, sym, ◌∙◌}
+use Rattle.std.proofs.Common.{sym, ◌∙◌}
 use Rattle.irp_routines.specs.TableFacts.{dispatch_there}
 use Rattle.irp_unwind.proofs.device.ask_plan.Goals as goal
 
