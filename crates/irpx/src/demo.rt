@@ -107,7 +107,7 @@ fn session<A: Ask + Drop>(
     Some((header_of(tables, locks, 1), history))
 }
 
-/// The header and the history of the demonstration's calls, with one driver, whose reads go to this dispatch. None where
+/// The header and history of the demonstration's calls, with one driver, whose reads go to this dispatch. None where
 /// memory ran out, or where the store or the book answered otherwise than they should.
 fn history(alloc: Global, dispatch: Dispatch) -> Option<(Header, Row<Entry>)>
     ensures header { IfSome result (λ made. IsHeader made.0) }
