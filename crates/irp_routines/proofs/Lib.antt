@@ -2,4 +2,4 @@ mod Agreeing
 mod ByMajor
 mod FirstReasons
 mod Refusing
-mod Shelves
+mod ToldAlike

@@ -1,5 +1,5 @@
 -- What plain tables answer.
-use Rattle.std.specs.Prelude.{ℕ, ◌≡◌, ◌<◌, ◌++◌, ◌∷◌, [], List, if◌then◌else◌, slice_get, Option, Some}
+use Rattle.std.specs.Prelude.{ℕ, ◌≡◌, ◌<◌, List, if◌then◌else◌, slice_get, Option, Some}
 use Rattle.std.specs.Option.{option_map}
 use Rattle.irp_types.specs.Status.{is_success}
 use Rattle.irp_types.specs.Rules.{count_of_rule, right_mark}
@@ -60,19 +60,3 @@ pub record IsTableCancel (tables : Tables) (answers : List CancelAnswer) (id : C
   pub there : slice_get tables.cancel_rules id.0 ≡ Some rule
   pub listed : slice_get answers id.0 ≡ Some given
   pub guarded : answer ≡ guarded_cancel rule given
-
--- the behaviours of the routines of rule Change, once a routine of a rule is added with this behaviour
-abbrev pub with_change : Rule → Behaviour → List Behaviour → List Behaviour
-with_change Watch behaviour behaviours = behaviours
-with_change Change behaviour behaviours = behaviours ++ behaviour ∷ []
-with_change Keeper behaviour behaviours = behaviours
-with_change KeepOnError behaviour behaviours = behaviours
-with_change Free behaviour behaviours = behaviours
-
--- the same of rule Free
-abbrev pub with_free : Rule → Behaviour → List Behaviour → List Behaviour
-with_free Watch behaviour behaviours = behaviours
-with_free Change behaviour behaviours = behaviours
-with_free Keeper behaviour behaviours = behaviours
-with_free KeepOnError behaviour behaviours = behaviours
-with_free Free behaviour behaviours = behaviours ++ behaviour ∷ []

@@ -36,11 +36,14 @@ fixed_cancel MustFinish = CancelFinish 0
 fixed_cancel MustLeave = Leave
 fixed_cancel Either = Leave
 
+-- a completion routine's answer where its rule allows it, and else the fixed one
 abbrev pub guarded_answer : Rule → Shown → Answer → Answer
 guarded_answer rule shown answer = if is_allowed rule shown answer then answer else fixed_answer rule shown
 
+-- a plan where it is allowed to a dispatch that may name these routines, and else the fixed one
 abbrev pub guarded_plan : Known → Shown → Plan → Plan
 guarded_plan known shown plan = if is_plan_allowed known shown plan then plan else fixed_plan
 
+-- a cancel routine's answer where its rule allows it, and else the fixed one
 abbrev pub guarded_cancel : CancelRule → CancelAnswer → CancelAnswer
 guarded_cancel rule answer = if is_cancel_allowed rule answer then answer else fixed_cancel rule

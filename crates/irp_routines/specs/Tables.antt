@@ -92,7 +92,7 @@ routine_refusal tables rule = full_at most_routines (count_of_rule tables.counts
 abbrev pub cancel_refusal : Tables → Option Reason
 cancel_refusal tables = full_at most_routines (length tables.cancel_rules)
 
--- there are at most as many of each kind
+-- the test of `IsWithin`
 abbrev pub is_within : Known → Known → Bool
 is_within known counts =
     nat_le known.watch counts.watch && (nat_le known.change counts.change && (nat_le known.keeper counts.keeper

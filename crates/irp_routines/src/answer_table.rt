@@ -1,12 +1,13 @@
 //! Answers by plain tables.
 
-ghost use Rattle.std.specs.Prelude.{◌≡◌, ◌<◌, ◌++◌, ◌∷◌, [], length, slice_get, Some, None, Ok, Err, IfOk, OnOk, IfErr, OnErr};
+ghost use Rattle.std.specs.Prelude.{◌≡◌, ◌<◌, ◌++◌, ◌∷◌, [], length, slice_get, Some, None, Err, IfOk, OnOk, IfErr, OnErr};
 ghost use Rattle.std.proofs.Props.{props};
-ghost use Rattle.irp_types.specs.State.{Tables, AreTables};
+ghost use Rattle.irp_types.specs.State.{AreTables};
 ghost use Rattle.irp_types.specs.Rules.{count_of_rule};
-ghost use Rattle.irp_routines.specs.Guarded.{fixed_answer};
+ghost use Rattle.irp_types.specs.declared.routine.Rule.TheVariants.{Change, Free};
+ghost use Rattle.irp_routines.specs.Shelves.{put_under};
 ghost use Rattle.irp_routines.specs.Tables.{no_tables, with_routine, with_cancel, with_dispatch, with_driver, by_major, routine_refusal, cancel_refusal, dispatch_refusal, driver_refusal};
-ghost use Rattle.irp_routines.specs.AnswerTables.{behaved, with_change, with_free, IsTableAnswer, IsTablePlan, IsTableCancel};
+ghost use Rattle.irp_routines.specs.AnswerTables.{behaved, IsTableAnswer, IsTablePlan, IsTableCancel};
 ghost use Rattle.irp_routines.specs.AnswerTableFacts.{table_answer_allowed, table_plan_allowed, table_cancel_allowed};
 ghost use Rattle.irp_routines.specs.declared.not_added.Reason.{Reason};
 ghost use Rattle.irp_routines.specs.declared.not_added.Reason.TheVariants.{Memory};
@@ -115,13 +116,21 @@ impl AnswerTable {
     /// `Full` exactly where there are 256 of its rule; else `Memory`, where a growth was refused. The table stays as it
     /// was.
     pub fn add(&mut self, rule: Rule, behaviour: Behaviour) -> Result<RoutineId, Reason>
-        ensures refused { (reason : Reason) → routine_refusal self.old.tables rule ≡ Some reason → result ≡ Err reason }
-        ensures added { IfOk result (λ id. (id ≡ record { rule = rule; no = count_of_rule self.old.tables.counts rule }) × (self.new.tables ≡ with_routine self.old.tables rule)) }
-        ensures change { OnOk result (self.new.change.items ≡ with_change rule behaviour self.old.change.items) }
-        ensures free { OnOk result (self.new.free.items ≡ with_free rule behaviour self.old.free.items) }
-        ensures unrefused { routine_refusal self.old.tables rule ≡ None → IfErr result (λ reason. reason ≡ Memory) }
-        ensures err { OnErr result ((self.new.tables ≡ self.old.tables) × (self.new.change.items ≡ self.old.change.items) × (self.new.free.items ≡ self.old.free.items)) }
-        ensures others { (self.new.cancels.items ≡ self.old.cancels.items) × (self.new.plans.items ≡ self.old.plans.items) }
+        ensures refused { (reason : Reason) → routine_refusal self.old.tables rule ≡ Some reason
+            → result ≡ Err reason }
+        ensures added { IfOk result (λ id.
+            (id ≡ record { rule = rule; no = count_of_rule self.old.tables.counts rule })
+            × (self.new.tables ≡ with_routine self.old.tables rule)) }
+        ensures change { OnOk result
+            (self.new.change.items ≡ put_under Change rule behaviour self.old.change.items) }
+        ensures free { OnOk result (self.new.free.items ≡ put_under Free rule behaviour self.old.free.items) }
+        ensures unrefused { routine_refusal self.old.tables rule ≡ None
+            → IfErr result (λ reason. reason ≡ Memory) }
+        ensures err { OnErr result ((self.new.tables ≡ self.old.tables)
+            × (self.new.change.items ≡ self.old.change.items)
+            × (self.new.free.items ≡ self.old.free.items)) }
+        ensures others { (self.new.cancels.items ≡ self.old.cancels.items)
+            × (self.new.plans.items ≡ self.old.plans.items) }
     {
         if let Some(reason) = self.tables.routine_refusal(rule) {
             return Err(reason);
@@ -140,12 +149,16 @@ impl AnswerTable {
     ///
     /// `Full` exactly where there are 256; else `Memory`, where a growth was refused. The table stays as it was.
     pub fn add_cancel(&mut self, rule: CancelRule, answer: CancelAnswer) -> Result<CancelId, Reason>
-        ensures refused { (reason : Reason) → cancel_refusal self.old.tables ≡ Some reason → result ≡ Err reason }
-        ensures added { IfOk result (λ id. (id.0 ≡ length self.old.tables.cancel_rules) × (self.new.tables ≡ with_cancel self.old.tables rule)) }
+        ensures refused { (reason : Reason) → cancel_refusal self.old.tables ≡ Some reason
+            → result ≡ Err reason }
+        ensures added { IfOk result (λ id. (id.0 ≡ length self.old.tables.cancel_rules)
+            × (self.new.tables ≡ with_cancel self.old.tables rule)) }
         ensures answers { OnOk result (self.new.cancels.items ≡ self.old.cancels.items ++ answer ∷ []) }
         ensures unrefused { cancel_refusal self.old.tables ≡ None → IfErr result (λ reason. reason ≡ Memory) }
-        ensures err { OnErr result ((self.new.tables ≡ self.old.tables) × (self.new.cancels.items ≡ self.old.cancels.items)) }
-        ensures others { (self.new.change.items ≡ self.old.change.items) × (self.new.free.items ≡ self.old.free.items) × (self.new.plans.items ≡ self.old.plans.items) }
+        ensures err { OnErr result ((self.new.tables ≡ self.old.tables)
+            × (self.new.cancels.items ≡ self.old.cancels.items)) }
+        ensures others { (self.new.change.items ≡ self.old.change.items)
+            × (self.new.free.items ≡ self.old.free.items) × (self.new.plans.items ≡ self.old.plans.items) }
     {
         if let Some(reason) = self.tables.cancel_refusal() {
             return Err(reason);
@@ -167,12 +180,18 @@ impl AnswerTable {
     /// `NoRoutine` exactly where it may name more routines of a kind than there are, else `Full` exactly where there are
     /// 256 dispatches; else `Memory`, where a growth was refused. The table stays as it was.
     pub fn add_dispatch(&mut self, known: Known, plan: Plan) -> Result<DispatchId, Reason>
-        ensures refused { (reason : Reason) → dispatch_refusal self.old.tables known ≡ Some reason → result ≡ Err reason }
-        ensures added { IfOk result (λ id. (id.0 ≡ length self.old.tables.dispatches) × (self.new.tables ≡ with_dispatch self.old.tables known)) }
+        ensures refused { (reason : Reason) → dispatch_refusal self.old.tables known ≡ Some reason
+            → result ≡ Err reason }
+        ensures added { IfOk result (λ id. (id.0 ≡ length self.old.tables.dispatches)
+            × (self.new.tables ≡ with_dispatch self.old.tables known)) }
         ensures plans { OnOk result (self.new.plans.items ≡ self.old.plans.items ++ plan ∷ []) }
-        ensures unrefused { dispatch_refusal self.old.tables known ≡ None → IfErr result (λ reason. reason ≡ Memory) }
-        ensures err { OnErr result ((self.new.tables ≡ self.old.tables) × (self.new.plans.items ≡ self.old.plans.items)) }
-        ensures others { (self.new.change.items ≡ self.old.change.items) × (self.new.free.items ≡ self.old.free.items) × (self.new.cancels.items ≡ self.old.cancels.items) }
+        ensures unrefused { dispatch_refusal self.old.tables known ≡ None
+            → IfErr result (λ reason. reason ≡ Memory) }
+        ensures err { OnErr result ((self.new.tables ≡ self.old.tables)
+            × (self.new.plans.items ≡ self.old.plans.items)) }
+        ensures others { (self.new.change.items ≡ self.old.change.items)
+            × (self.new.free.items ≡ self.old.free.items)
+            × (self.new.cancels.items ≡ self.old.cancels.items) }
     {
         if let Some(reason) = self.tables.dispatch_refusal(known) {
             return Err(reason);
@@ -200,11 +219,17 @@ impl AnswerTable {
         &mut self,
         pairs: Vec<(u8, DispatchId)>,
     ) -> Result<DriverId, NotAdded<Vec<(u8, DispatchId)>>>
-        ensures refused { (reason : Reason) → driver_refusal self.old.tables pairs.items ≡ Some reason → result ≡ Err (record { reason = reason; item = pairs }) }
-        ensures added { IfOk result (λ id. (id.0 ≡ length self.old.tables.drivers) × (self.new.tables ≡ with_driver self.old.tables (by_major pairs.items))) }
-        ensures unrefused { driver_refusal self.old.tables pairs.items ≡ None → IfErr result (λ back. back ≡ record { reason = Memory; item = pairs }) }
+        ensures refused { (reason : Reason) → driver_refusal self.old.tables pairs.items ≡ Some reason
+            → result ≡ Err (record { reason = reason; item = pairs }) }
+        ensures added { IfOk result (λ id. (id.0 ≡ length self.old.tables.drivers)
+            × (self.new.tables ≡ with_driver self.old.tables (by_major pairs.items))) }
+        ensures unrefused { driver_refusal self.old.tables pairs.items ≡ None
+            → IfErr result (λ back. back ≡ record { reason = Memory; item = pairs }) }
         ensures err { OnErr result (self.new.tables ≡ self.old.tables) }
-        ensures others { (self.new.change.items ≡ self.old.change.items) × (self.new.free.items ≡ self.old.free.items) × (self.new.cancels.items ≡ self.old.cancels.items) × (self.new.plans.items ≡ self.old.plans.items) }
+        ensures others { (self.new.change.items ≡ self.old.change.items)
+            × (self.new.free.items ≡ self.old.free.items)
+            × (self.new.cancels.items ≡ self.old.cancels.items)
+            × (self.new.plans.items ≡ self.old.plans.items) }
     {
         self.tables.add_driver(pairs)
     }

@@ -1,6 +1,6 @@
 //! The table of one driver: the pairs of major function codes and dispatches from which it is made.
 
-ghost use Rattle.std.specs.Prelude.{◌≡◌, ◌==◌, length, IfOk};
+ghost use Rattle.std.specs.Prelude.{◌≡◌, ◌==◌, IfOk};
 ghost use Rattle.std.specs.List.{list_any};
 ghost use Rattle.irp_types.specs.State.{Entrance, dispatch_in};
 ghost use Rattle.irp_routines.specs.Tables.{pair_refusal, pairs_refusal, by_major};

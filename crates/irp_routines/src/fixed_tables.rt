@@ -1,8 +1,8 @@
 //! The tables by which closures are named.
 
-ghost use Rattle.std.specs.Prelude.{◌≡◌, ◌<◌, length, slice_get, Some, None, Ok, Err, IfOk, IfErr, OnErr};
+ghost use Rattle.std.specs.Prelude.{◌≡◌, ◌<◌, length, Some, None, Err, IfOk, IfErr, OnErr};
 ghost use Rattle.irp_types.specs.Limits.{most_routines};
-ghost use Rattle.irp_types.specs.State.{Entrance, AreTables, dispatch_for, known_of};
+ghost use Rattle.irp_types.specs.State.{AreTables, dispatch_for};
 ghost use Rattle.irp_types.specs.Rules.{count_of_rule};
 ghost use Rattle.irp_routines.specs.Tables.{no_tables, one_more, with_routine, with_cancel, with_dispatch, with_driver, by_major, answer_unless, value_unless, routine_refusal, cancel_refusal, dispatch_refusal, driver_refusal};
 ghost use Rattle.irp_routines.specs.declared.not_added.Reason.{Reason};
@@ -26,7 +26,7 @@ const MOST_DRIVERS: usize = 64;
 /// What a store tells of its closures: how many completion routines of each rule there are, which routines each
 /// dispatch may name, the rules of the cancel routines, and each driver's dispatches by rising major function code.
 /// They agree with each other: a dispatch names only routines that there are, a driver only dispatches that there are
-/// (this project's own rule).
+/// (this project's own rule). They only grow, and are fixed once their store is handed to a manager.
 ///
 /// Contracts see them as the record `Tables` of `irp_types`.
 #[derive(Drop)]

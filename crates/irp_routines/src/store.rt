@@ -1,8 +1,8 @@
 //! The store of closures.
 
-ghost use Rattle.std.specs.Prelude.{◌≡◌, ◌<◌, ◌++◌, ◌∷◌, [], OnOk, length, map, replicate, Some, None, Ok, Err, IfOk, IfErr, OnErr};
+ghost use Rattle.std.specs.Prelude.{◌≡◌, ◌++◌, ◌∷◌, [], OnOk, length, map, replicate, Some, None, Err, IfOk, IfErr, OnErr};
 ghost use Rattle.std.proofs.Props.{props};
-ghost use Rattle.irp_types.specs.State.{Tables, AreTables, Entrance, known_of};
+ghost use Rattle.irp_types.specs.State.{AreTables};
 ghost use Rattle.irp_types.specs.Rules.{count_of_rule};
 ghost use Rattle.irp_types.specs.Allowed.{IsAnswerAllowed, IsPlanAllowed, IsCancelAllowed};
 ghost use Rattle.irp_types.specs.declared.routine.Rule.TheVariants.{Watch, Change, Keeper, KeepOnError, Free};
@@ -92,7 +92,8 @@ impl Store {
 
     /// The completion routines of a rule, by number.
     fn shelf(&self, rule: Rule) -> &[Routine]
-        ensures { map (λ routine. routine.rule) result.now ≡ replicate (count_of_rule self.now.tables.counts rule) rule }
+        ensures { map (λ routine. routine.rule) result.now
+            ≡ replicate (count_of_rule self.now.tables.counts rule) rule }
     {
         match rule {
             Rule::Watch => self.watch.as_slice(),
@@ -110,12 +111,26 @@ impl Store {
     /// `Full` exactly where there are 256 of its rule; else `Memory`, where a growth was refused. The routine is handed
     /// back, and the store stays as it was.
     pub fn add(&mut self, routine: Routine) -> Result<RoutineId, NotAdded<Routine>>
-        ensures refused { (reason : Reason) → routine_refusal self.old.tables routine.rule ≡ Some reason → result ≡ Err (record { reason = reason; item = routine }) }
-        ensures added { IfOk result (λ id. (id ≡ record { rule = routine.rule; no = count_of_rule self.old.tables.counts routine.rule }) × (self.new.tables ≡ with_routine self.old.tables routine.rule)) }
-        ensures shelves { OnOk result ((self.new.watch.items ≡ put_under Watch routine.rule routine self.old.watch.items) × (self.new.change.items ≡ put_under Change routine.rule routine self.old.change.items) × (self.new.keeper.items ≡ put_under Keeper routine.rule routine self.old.keeper.items) × (self.new.keep_on_error.items ≡ put_under KeepOnError routine.rule routine self.old.keep_on_error.items) × (self.new.free.items ≡ put_under Free routine.rule routine self.old.free.items)) }
-        ensures unshelved { OnErr result ((self.new.watch.items ≡ self.old.watch.items) × (self.new.change.items ≡ self.old.change.items) × (self.new.keeper.items ≡ self.old.keeper.items) × (self.new.keep_on_error.items ≡ self.old.keep_on_error.items) × (self.new.free.items ≡ self.old.free.items)) }
-        ensures others { (self.new.cancels.items ≡ self.old.cancels.items) × (self.new.dispatches.items ≡ self.old.dispatches.items) }
-        ensures unrefused { routine_refusal self.old.tables routine.rule ≡ None → IfErr result (λ back. back ≡ record { reason = Memory; item = routine }) }
+        ensures refused { (reason : Reason) → routine_refusal self.old.tables routine.rule ≡ Some reason
+            → result ≡ Err (record { reason = reason; item = routine }) }
+        ensures added { IfOk result (λ id.
+            (id ≡ record { rule = routine.rule; no = count_of_rule self.old.tables.counts routine.rule })
+            × (self.new.tables ≡ with_routine self.old.tables routine.rule)) }
+        ensures shelves { OnOk result
+            ((self.new.watch.items ≡ put_under Watch routine.rule routine self.old.watch.items)
+            × (self.new.change.items ≡ put_under Change routine.rule routine self.old.change.items)
+            × (self.new.keeper.items ≡ put_under Keeper routine.rule routine self.old.keeper.items)
+            × (self.new.keep_on_error.items ≡ put_under KeepOnError routine.rule routine self.old.keep_on_error.items)
+            × (self.new.free.items ≡ put_under Free routine.rule routine self.old.free.items)) }
+        ensures unshelved { OnErr result ((self.new.watch.items ≡ self.old.watch.items)
+            × (self.new.change.items ≡ self.old.change.items)
+            × (self.new.keeper.items ≡ self.old.keeper.items)
+            × (self.new.keep_on_error.items ≡ self.old.keep_on_error.items)
+            × (self.new.free.items ≡ self.old.free.items)) }
+        ensures others { (self.new.cancels.items ≡ self.old.cancels.items)
+            × (self.new.dispatches.items ≡ self.old.dispatches.items) }
+        ensures unrefused { routine_refusal self.old.tables routine.rule ≡ None
+            → IfErr result (λ back. back ≡ record { reason = Memory; item = routine }) }
         ensures err { OnErr result (self.new.tables ≡ self.old.tables) }
     {
         let rule = routine.rule();
@@ -145,12 +160,20 @@ impl Store {
         &mut self,
         routine: CancelRoutine,
     ) -> Result<CancelId, NotAdded<CancelRoutine>>
-        ensures refused { (reason : Reason) → cancel_refusal self.old.tables ≡ Some reason → result ≡ Err (record { reason = reason; item = routine }) }
-        ensures added { IfOk result (λ id. (id.0 ≡ length self.old.tables.cancel_rules) × (self.new.tables ≡ with_cancel self.old.tables routine.rule)) }
+        ensures refused { (reason : Reason) → cancel_refusal self.old.tables ≡ Some reason
+            → result ≡ Err (record { reason = reason; item = routine }) }
+        ensures added { IfOk result (λ id. (id.0 ≡ length self.old.tables.cancel_rules)
+            × (self.new.tables ≡ with_cancel self.old.tables routine.rule)) }
         ensures put { OnOk result (self.new.cancels.items ≡ self.old.cancels.items ++ routine ∷ []) }
         ensures unput { OnErr result (self.new.cancels.items ≡ self.old.cancels.items) }
-        ensures others { (self.new.watch.items ≡ self.old.watch.items) × (self.new.change.items ≡ self.old.change.items) × (self.new.keeper.items ≡ self.old.keeper.items) × (self.new.keep_on_error.items ≡ self.old.keep_on_error.items) × (self.new.free.items ≡ self.old.free.items) × (self.new.dispatches.items ≡ self.old.dispatches.items) }
-        ensures unrefused { cancel_refusal self.old.tables ≡ None → IfErr result (λ back. back ≡ record { reason = Memory; item = routine }) }
+        ensures others { (self.new.watch.items ≡ self.old.watch.items)
+            × (self.new.change.items ≡ self.old.change.items)
+            × (self.new.keeper.items ≡ self.old.keeper.items)
+            × (self.new.keep_on_error.items ≡ self.old.keep_on_error.items)
+            × (self.new.free.items ≡ self.old.free.items)
+            × (self.new.dispatches.items ≡ self.old.dispatches.items) }
+        ensures unrefused { cancel_refusal self.old.tables ≡ None
+            → IfErr result (λ back. back ≡ record { reason = Memory; item = routine }) }
         ensures err { OnErr result (self.new.tables ≡ self.old.tables) }
     {
         let item = routine;
@@ -176,12 +199,20 @@ impl Store {
     /// 256 dispatches; else `Memory`, where a growth was refused. The dispatch is handed back, and the store stays as it
     /// was.
     pub fn add_dispatch(&mut self, dispatch: Dispatch) -> Result<DispatchId, NotAdded<Dispatch>>
-        ensures refused { (reason : Reason) → dispatch_refusal self.old.tables dispatch.known ≡ Some reason → result ≡ Err (record { reason = reason; item = dispatch }) }
-        ensures added { IfOk result (λ id. (id.0 ≡ length self.old.tables.dispatches) × (self.new.tables ≡ with_dispatch self.old.tables dispatch.known)) }
+        ensures refused { (reason : Reason) → dispatch_refusal self.old.tables dispatch.known ≡ Some reason
+            → result ≡ Err (record { reason = reason; item = dispatch }) }
+        ensures added { IfOk result (λ id. (id.0 ≡ length self.old.tables.dispatches)
+            × (self.new.tables ≡ with_dispatch self.old.tables dispatch.known)) }
         ensures put { OnOk result (self.new.dispatches.items ≡ self.old.dispatches.items ++ dispatch ∷ []) }
         ensures unput { OnErr result (self.new.dispatches.items ≡ self.old.dispatches.items) }
-        ensures others { (self.new.watch.items ≡ self.old.watch.items) × (self.new.change.items ≡ self.old.change.items) × (self.new.keeper.items ≡ self.old.keeper.items) × (self.new.keep_on_error.items ≡ self.old.keep_on_error.items) × (self.new.free.items ≡ self.old.free.items) × (self.new.cancels.items ≡ self.old.cancels.items) }
-        ensures unrefused { dispatch_refusal self.old.tables dispatch.known ≡ None → IfErr result (λ back. back ≡ record { reason = Memory; item = dispatch }) }
+        ensures others { (self.new.watch.items ≡ self.old.watch.items)
+            × (self.new.change.items ≡ self.old.change.items)
+            × (self.new.keeper.items ≡ self.old.keeper.items)
+            × (self.new.keep_on_error.items ≡ self.old.keep_on_error.items)
+            × (self.new.free.items ≡ self.old.free.items)
+            × (self.new.cancels.items ≡ self.old.cancels.items) }
+        ensures unrefused { dispatch_refusal self.old.tables dispatch.known ≡ None
+            → IfErr result (λ back. back ≡ record { reason = Memory; item = dispatch }) }
         ensures err { OnErr result (self.new.tables ≡ self.old.tables) }
     {
         let item = dispatch;
@@ -212,10 +243,19 @@ impl Store {
         &mut self,
         table: Vec<(u8, DispatchId)>,
     ) -> Result<DriverId, NotAdded<Vec<(u8, DispatchId)>>>
-        ensures refused { (reason : Reason) → driver_refusal self.old.tables table.items ≡ Some reason → result ≡ Err (record { reason = reason; item = table }) }
-        ensures added { IfOk result (λ id. (id.0 ≡ length self.old.tables.drivers) × (self.new.tables ≡ with_driver self.old.tables (by_major table.items))) }
-        ensures others { (self.new.watch.items ≡ self.old.watch.items) × (self.new.change.items ≡ self.old.change.items) × (self.new.keeper.items ≡ self.old.keeper.items) × (self.new.keep_on_error.items ≡ self.old.keep_on_error.items) × (self.new.free.items ≡ self.old.free.items) × (self.new.cancels.items ≡ self.old.cancels.items) × (self.new.dispatches.items ≡ self.old.dispatches.items) }
-        ensures unrefused { driver_refusal self.old.tables table.items ≡ None → IfErr result (λ back. back ≡ record { reason = Memory; item = table }) }
+        ensures refused { (reason : Reason) → driver_refusal self.old.tables table.items ≡ Some reason
+            → result ≡ Err (record { reason = reason; item = table }) }
+        ensures added { IfOk result (λ id. (id.0 ≡ length self.old.tables.drivers)
+            × (self.new.tables ≡ with_driver self.old.tables (by_major table.items))) }
+        ensures others { (self.new.watch.items ≡ self.old.watch.items)
+            × (self.new.change.items ≡ self.old.change.items)
+            × (self.new.keeper.items ≡ self.old.keeper.items)
+            × (self.new.keep_on_error.items ≡ self.old.keep_on_error.items)
+            × (self.new.free.items ≡ self.old.free.items)
+            × (self.new.cancels.items ≡ self.old.cancels.items)
+            × (self.new.dispatches.items ≡ self.old.dispatches.items) }
+        ensures unrefused { driver_refusal self.old.tables table.items ≡ None
+            → IfErr result (λ back. back ≡ record { reason = Memory; item = table }) }
         ensures err { OnErr result (self.new.tables ≡ self.old.tables) }
     {
         self.tables.add_driver(table)

@@ -2,7 +2,6 @@
 
 ghost use Rattle.std.specs.Prelude.{◌≡◌, ◌↔◌, true};
 ghost use Rattle.irp_types.specs.Rules.{is_allowed, is_cancel_allowed, is_plan_allowed, is_known, count_of_rule, right_mark, obeys, IsWithin};
-ghost use Rattle.irp_types.specs.State.{no_routines};
 
 use crate::answer::{Answer, CancelAnswer, Plan};
 use crate::shown::Shown;

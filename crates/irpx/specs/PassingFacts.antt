@@ -12,7 +12,7 @@ use Rattle.irp_types.specs.declared.answer.Answer.{Answer}
 use Rattle.irp_types.specs.declared.answer.CancelAnswer.{CancelAnswer}
 use Rattle.irp_types.specs.declared.answer.Plan.{Plan}
 use Rattle.irp_routines.specs.Guarded.{guarded_plan, fixed_plan}
-use Rattle.irp_routines.specs.GuardedFacts.{guarded_allowed, guarded_plan_allowed, guarded_cancel_allowed}
+use Rattle.irp_routines.specs.GuardedFacts.{chosen_passes, guarded_allowed, guarded_plan_allowed, guarded_cancel_allowed}
 use Rattle.irpx.specs.Plain.{is_plain_plan}
 use Rattle.irpx.specs.Passing.{PassesPlan, PassesAnswer, PassesCancel}
 
@@ -20,10 +20,6 @@ use Rattle.irpx.specs.Passing.{PassesPlan, PassesAnswer, PassesCancel}
 chosen : (test : Plan → Bool) (first second : Plan) (choice : Bool) → test first ≡ true → test second ≡ true → test (if choice then first else second) ≡ true
 chosen test first second true first_is second_is = first_is
 chosen test first second false first_is second_is = second_is
-
-plain_if : (plan : Plan) (plain : Bool) → is_plain_plan plan ≡ plain → is_plain_plan (if plain then plan else fixed_plan) ≡ true
-plain_if plan true is = is
-plain_if plan false is = refl
 
 pub plan_passes : (tables : Tables) (own : Type 0) (may : DispatchId → Shown → Plan → Type 0) (id : DispatchId) (shown : Shown) (plan : Plan)
     → PassesPlan tables own may id shown plan → IsPlanAllowed tables id shown plan
@@ -40,7 +36,7 @@ pub plan_plain : (tables : Tables) (own : Type 0) (may : DispatchId → Shown �
     → PassesPlan tables own may id shown plan → is_plain_plan plan ≡ true
 plan_plain tables own may id shown plan passes =
     let guarded = guarded_plan passes.known shown passes.given in
-    subst (λ given. is_plain_plan given ≡ true) (sym passes.passed) (plain_if guarded (is_plain_plan guarded) refl)
+    subst (λ given. is_plain_plan given ≡ true) (sym passes.passed) (chosen_passes is_plain_plan guarded fixed_plan (is_plain_plan guarded) refl refl)
 
 pub answer_passes : (tables : Tables) (own : Type 0) (may : RoutineId → Shown → Answer → Type 0) (id : RoutineId) (shown : Shown) (answer : Answer)
     → PassesAnswer tables own may id shown answer → IsAnswerAllowed tables id shown answer

@@ -1,6 +1,6 @@
 //! The demonstration: one device and one packet, from the first call to the printed history.
 
-ghost use Rattle.std.specs.Prelude.{◌≡◌, [], ◌∷◌, ◌++◌, map, IfSome, IfOk};
+ghost use Rattle.std.specs.Prelude.{◌≡◌, [], ◌∷◌, ◌++◌, IfSome};
 ghost use Rattle.irp_types.specs.Histories.{IsLegal};
 ghost use Rattle.irpx.specs.Demo.{fixed_of, calls_of, AreDemoCalls, IsHeader, WritesLegal, BeginsLegal};
 ghost use Rattle.irpx.specs.declared.ending.Ending.TheVariants.{Done, OtherWords, Failed};
@@ -9,7 +9,7 @@ ghost use Rattle.irpx.specs.Out.{risen};
 use crate::ending::Ending;
 use crate::irp_manager::{Book, KnowsNothing, Seat};
 use crate::irp_text::{Cause, Header, Out, write_transcript};
-use irp_routines::{Ask, Dispatch, DispatchClosure, FixedTables, Parts, Store};
+use irp_routines::{Ask, Dispatch, FixedTables, Parts, Store};
 use irp_types::{
     Call, DispatchId, DriverId, Entry, Known, LockNo, Party, Plan, Reply, Row, Shown, Status,
 };
@@ -107,20 +107,14 @@ fn session<A: Ask + Drop>(
     Some((header_of(tables, locks, 1), history))
 }
 
-/// The demonstration's header and history: its one dispatch finishes reads with success and information 5. None where
+/// The header and history of the demonstration's calls, with one driver, whose reads go to this dispatch. None where
 /// memory ran out, or where the store or the book answered otherwise than they should.
-fn history(alloc: Global) -> Option<(Header, Row<Entry>)>
+fn history(alloc: Global, dispatch: Dispatch) -> Option<(Header, Row<Entry>)>
     ensures header { IfSome result (λ made. IsHeader made.0) }
     ensures legal { IfSome result (λ made. IsLegal (fixed_of made.0) made.1) }
     ensures calls { IfSome result (λ made. AreDemoCalls (calls_of made.1)) }
 {
-    let finish = |_shown: Shown| Plan::Finish {
-        status: Status::SUCCESS,
-        information: 5,
-    };
-    let finish: DispatchClosure = Box::new(alloc, finish).ok()?;
     let mut store = Store::new(alloc);
-    let dispatch = Dispatch::new(Known::NONE, finish);
     let Ok(id) = store.add_dispatch(dispatch) else {
         return None;
     };
@@ -131,8 +125,8 @@ fn history(alloc: Global) -> Option<(Header, Row<Entry>)>
     session(alloc, store, tables)
 }
 
-/// Makes the calls of the demonstration, and writes the transcript: one device whose driver finishes reads, and one
-/// packet that is sent to it.
+/// Makes the calls of the demonstration, and writes the transcript: one device whose driver finishes reads with success
+/// and information 5, and one packet that is sent to it.
 ///
 /// What goes out where all is done is the text of a header and of a history that the sequential manager could have
 /// made with the tables that the header tells. Where memory runs out or the output fails, at most a beginning of such
@@ -144,7 +138,15 @@ pub fn demo<O: Out>(alloc: Global, output: &mut O) -> Ending
     ensures failed { result ≡ Failed → O.failures output.new ≡ risen (O.failures output.old) }
     ensures calm { (result ≡ Failed → ⊥) → O.failures output.new ≡ O.failures output.old }
 {
-    let Some((header, history)) = history(alloc) else {
+    let finish = |_shown: Shown| Plan::Finish {
+        status: Status::SUCCESS,
+        information: 5,
+    };
+    let Ok(finish) = Box::new(alloc, finish) else {
+        return Ending::NoMemory;
+    };
+    let dispatch = Dispatch::new(Known::NONE, finish);
+    let Some((header, history)) = history(alloc, dispatch) else {
         return Ending::NoMemory;
     };
     match write_transcript(alloc, output, &header, history.as_slice()) {

@@ -1,10 +1,8 @@
 //! An asker that is held to tables.
 
-ghost use Rattle.std.specs.Prelude.{◌≡◌, ◌<◌, length, slice_get, Some};
+ghost use Rattle.std.specs.Prelude.{◌≡◌};
 ghost use Rattle.std.proofs.Props.{props};
-ghost use Rattle.irp_types.specs.State.{Tables, AreTables, known_of};
-ghost use Rattle.irp_types.specs.Rules.{count_of_rule};
-ghost use Rattle.irp_routines.specs.Guarded.{guarded_plan};
+ghost use Rattle.irp_types.specs.State.{AreTables};
 ghost use Rattle.irpx.specs.Passing.{passed_plan, PassesPlan, PassesAnswer, PassesCancel};
 ghost use Rattle.irpx.specs.PassingFacts.{plan_passes, plan_plain, answer_passes, cancel_passes};
 
@@ -46,6 +44,12 @@ impl<A: Drop> HeldToTables<A> {
     }
 }
 
+/// A finish as an invalid request.
+const INVALID_REQUEST: Plan = Plan::Finish {
+    status: Status::INVALID_DEVICE_REQUEST,
+    information: 0,
+};
+
 /// The plan where it is allowed, passes nothing down and names no routine, which this manager can't carry out yet; else
 /// a finish as an invalid request.
 fn passed_plan(known: Known, shown: Shown, plan: Plan) -> Plan
@@ -54,10 +58,7 @@ fn passed_plan(known: Known, shown: Shown, plan: Plan) -> Plan
     let guarded = guarded_plan(known, shown, plan);
     match guarded {
         Plan::Finish { .. } | Plan::Hold { cancel: None } => guarded,
-        _ => Plan::Finish {
-            status: Status::INVALID_DEVICE_REQUEST,
-            information: 0,
-        },
+        _ => INVALID_REQUEST,
     }
 }
 
@@ -96,7 +97,7 @@ impl<A: Ask> Ask for HeldToTables<A> {
 
     fn plan(&self, id: DispatchId, shown: Shown) -> Plan {
         let known = self.known_of(id);
-        let mut plan = Plan::Hold { cancel: None };
+        let mut plan = INVALID_REQUEST;
         if id.0 < self.ask.dispatches() {
             plan = self.ask.plan(id, shown);
         }

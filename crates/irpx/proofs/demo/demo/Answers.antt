@@ -1,9 +1,9 @@
 -- Before anything went out, what went out is the beginning of any text, as of one with no entries.
-use Rattle.std.proofs.Common.{◌<◌, ◌≤◌, [], length, subst, sym, refl, arith, length-append}
+use Rattle.std.proofs.Common.{ℕ, ◌<◌, ◌≤◌, List, [], Option, length, subst, sym, refl, arith, length-append}
 use Rattle.std.proofs.lemmas.List.Elements.{All-nil}
 use Rattle.irp_types.specs.Histories.{IsLegal}
 use Rattle.irpx.specs.declared.irp_text.header.Header.{Header}
-use Rattle.irpx.specs.Demo.{fixed_of, IsHeader}
+use Rattle.irpx.specs.Demo.{fixed_of, IsHeader, BeginsLegal}
 use Rattle.irpx.specs.Json.{line_text}
 use Rattle.irpx.specs.Lines.{lines, text_of, header_json}
 use Rattle.irp_types.specs.State.{no_routines}
@@ -51,8 +51,8 @@ text_some =
     let some : 0 < length (line_text line) = line_some line in
     subst (λ text. 0 < length text) (sym (text_cons line [])) (omega (arith, some, length-append (line_text line) (text_of [])))
 
-pub returns-in_default-clause-begins : goal.returns-in_default-clause-begins
-returns-in_default-clause-begins g c other = record {
+nothing_begins : (gone : Option (List ℕ)) → BeginsLegal gone gone
+nothing_begins gone = record {
   header = some_header;
   history = [];
   fits = fits;
@@ -61,5 +61,11 @@ returns-in_default-clause-begins g c other = record {
   rest = text_of (lines some_header []);
   whole = refl;
   short = text_some;
-  gone = appends_none _;
+  gone = appends_none gone;
 }
+
+pub returns-in_default-clause-begins : goal.returns-in_default-clause-begins
+returns-in_default-clause-begins g c other = nothing_begins _
+
+pub returns-in_default-history-clause-begins : goal.returns-in_default-history-clause-begins
+returns-in_default-history-clause-begins g c other = nothing_begins _

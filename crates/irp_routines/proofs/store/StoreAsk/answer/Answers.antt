@@ -1,7 +1,7 @@
 use Rattle.std.proofs.Common.{◌≡◌, true, subst, ap, ◌∙◌}
 use Rattle.irp_types.specs.Rules.{is_allowed, count_of_rule}
 use Rattle.irp_types.specs.declared.routine.Rule.{Rule}
-use Rattle.irp_routines.proofs.Shelves.{told_at}
+use Rattle.irp_routines.proofs.ToldAlike.{told_at}
 use Rattle.irp_routines.proofs.store.StoreAsk.answer.Goals as goal
 
 pub returns : goal.returns
