@@ -1,4 +1,4 @@
--- Which packets may be unwound.
+-- What a packet needs to be sent down or unwound.
 use Rattle.std.specs.Prelude.{ℕ, ◌≡◌, ◌+◌, ◌≤◌, Bool, true, is_some, Some}
 use Rattle.std.specs.Option.{option_map_or}
 use Rattle.irp_types.specs.Rules.{is_known}

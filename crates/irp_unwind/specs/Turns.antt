@@ -57,8 +57,8 @@ abbrev pub mark_above : PacketValue → Bool
 mark_above packet = (location_at packet packet.current).pending && is_some (device_above packet packet.current)
 
 -- how it goes on where nobody is asked
-abbrev pub passing_on : PacketValue → Answer
-passing_on packet = record { keep = false; mark = mark_above packet; replacement = None }
+abbrev pub unasked : PacketValue → Answer
+unasked packet = record { keep = false; mark = mark_above packet; replacement = None }
 
 -- the mark is the one that this answer must have, whether a routine gave it or none was asked
 abbrev pub IsMark : PacketValue → Answer → Type 0
@@ -74,15 +74,15 @@ pub record IsListed (may_answer : RoutineId → Shown → Answer → Type 0) (ir
   pub answered : answer ≡ asking.answer
 
 -- nobody was asked at the current location
-pub record IsPassed (packet : PacketValue) (before after : List Asked) (answer : Answer) : Type 0 where
+pub record IsUnasked (packet : PacketValue) (before after : List Asked) (answer : Answer) : Type 0 where
   pub unmet : is_met_now packet ≡ false
   pub listed : after ≡ before
-  pub answered : answer ≡ passing_on packet
+  pub answered : answer ≡ unasked packet
 
 -- the routine of the current location was asked exactly where its flags are met
 abbrev pub IsConsulted : (RoutineId → Shown → Answer → Type 0) → IrpRef → PacketValue → List Asked → List Asked → Answer → Type 0
 IsConsulted may_answer irp packet before after answer =
-    IsPassed packet before after answer ⊎ IsListed may_answer irp packet before after answer
+    IsUnasked packet before after answer ⊎ IsListed may_answer irp packet before after answer
 
 -- a location that is marked pending
 abbrev pub marked : Location → Location

@@ -8,14 +8,14 @@ ghost use Rattle.irp_routines.specs.Answers.{IsAnswered};
 ghost use Rattle.irp_unwind.specs.Conditions.{HasDevices, HasRoutines};
 ghost use Rattle.irp_unwind.specs.Descents.{Descends};
 
-use crate::device::{ask_plan, device_below, is_passing, marks_location, pass_on, settle};
+use crate::device::{ask_plan, device_below, end_at, is_passing, marks_location, pass_on};
 use crate::ending::Sent;
 use irp_packet::Packet;
 use irp_routines::Ask;
 use irp_stack::Stacks;
 use irp_types::{Asked, DeviceId, IrpRef, Status};
 
-/// Sends a packet to a device whose stack is in order.
+/// Sends a packet to a device, in stacks that are in order: to this device, and then to those below.
 fn descend_from<A: Ask>(
     packet: &mut Packet,
     irp: IrpRef,
@@ -37,7 +37,7 @@ fn descend_from<A: Ask>(
     packet.enter(target);
     let plan = ask_plan(packet, irp, stacks, ask, target, asked);
     if !is_passing(plan) {
-        return settle(packet, irp, ask, target, plan, asked);
+        return end_at(packet, irp, ask, target, plan, asked);
     }
     let lower = device_below(stacks, target);
     pass_on(packet, plan);
@@ -59,13 +59,14 @@ fn descend_from<A: Ask>(
 /// in the same location. Forward: the location is copied to the next lower one, which gets the completion routine if one
 /// is given, and the next lower device is entered there. ForwardPend: the same, after the device marked its own location.
 /// A driver without a dispatch for the major function code finishes the packet with INVALID_DEVICE_REQUEST and
-/// information 0. The sender is told PENDING where a device held the packet or marked it pending, else the status of the
-/// finish. A packet whose sender is told another status stands no lower than before (WDK: "IoCallDriver",
+/// information 0. The sender is told PENDING where one of these plans is Hold or ForwardPend, else the status of the finish.
+/// A packet whose sender is told another status stands no lower than before (WDK: "IoCallDriver",
 /// "IoSkipCurrentIrpStackLocation", "IoCopyCurrentIrpStackLocationToNext", "IoMarkIrpPending"; the plans, and the
 /// information 0 of an unhandled major function code, are this project's own rules).
 ///
-/// What is asked goes behind the other questions in `asked`, into room that is there: it takes no memory. The conditions
-/// are those of `can_descend`, and room for one question for each device from the target down and one for each location.
+/// `irp` is the packet's own reference, which the closures are shown. What is asked goes behind the other questions in
+/// `asked`, into room that is there: it takes no memory. The conditions are those of `can_descend`, and room for one
+/// question for each device from the target down and one for each location.
 pub fn descend<A: Ask>(
     packet: &mut Packet,
     irp: IrpRef,
@@ -83,6 +84,7 @@ pub fn descend<A: Ask>(
     ensures capacity { vec_capacity asked.new ≡ vec_capacity asked.old }
     ensures stays { StaysUp packet.old packet.new result.status }
 {
+    // the two tell that the stacks are in order, and that `current` is at most one above the size
     stacks.are_stacks();
     let _current = packet.current();
     descend_from(packet, irp, stacks, ask, target, asked)

@@ -120,7 +120,7 @@ pub(crate) fn pass_on(packet: &mut Packet, plan: Option<Plan>)
 
 /// Ends a descent at a device whose plan doesn't pass the packet down: the device holds it, or it is finished and
 /// unwound.
-pub(crate) fn settle<A: Ask>(
+pub(crate) fn end_at<A: Ask>(
     packet: &mut Packet,
     irp: IrpRef,
     ask: &A,
@@ -154,6 +154,7 @@ pub(crate) fn settle<A: Ask>(
                 information,
             },
         ) => (status, information),
+        // unhandled: a plan that passes the packet down is ruled out
         _ => (Status::INVALID_DEVICE_REQUEST, 0),
     };
     packet.set_status(status, information);

@@ -1,5 +1,5 @@
-//! What becomes of a packet that a driver finishes: which completion routines run, shown what, and who owns the packet
-//! afterwards.
+//! What becomes of a packet that is sent: which devices it comes to, which completion routines run when one of them
+//! finishes it, what each is shown, and who owns the packet afterwards.
 #![tactic(auto)]
 
 mod conditions;

@@ -120,3 +120,19 @@ fn asked(rule: Rule, shown: Shown, answer: Answer) -> Asked {
         answer,
     }
 }
+
+/// Unwinds a packet, which asks just these routines.
+fn unwind_asking<A: Ask>(
+    rt: &impl Abort,
+    alloc: Global,
+    packet: &mut Packet,
+    ask: &A,
+    wanted: &[Asked],
+) -> Result<Ending, Fail> {
+    let mut asked = Vec::with_capacity(alloc, 16)?;
+    assert!(rt; can_unwind(packet, ask));
+    assert!(rt; packet.current() <= packet.size());
+    let ending = unwind(packet, IRP, ask, &mut asked);
+    assert_eq!(rt; asked.as_slice(), wanted);
+    Ok(ending)
+}

@@ -6,7 +6,7 @@ ghost use Rattle.irp_types.specs.Packet.{size_of, location_at};
 ghost use Rattle.irp_types.specs.Unwinding.{meets_flags, device_above};
 ghost use Rattle.irp_types.specs.declared.asked.Asked.TheVariants.{Completion};
 ghost use Rattle.irp_unwind.specs.Conditions.{HasRoutines};
-ghost use Rattle.irp_unwind.specs.Turns.{shown_now, passing_on, IsConsulted, IsMark, left_packet};
+ghost use Rattle.irp_unwind.specs.Turns.{shown_now, unasked, IsConsulted, IsMark, left_packet};
 
 use irp_packet::Packet;
 use irp_routines::Ask;
@@ -57,10 +57,10 @@ fn shown_now(packet: &Packet, irp: IrpRef, setting: Setting) -> Shown
     }
 }
 
-/// How an unwinding goes on from the current location where nobody is asked: the pending bit is passed on.
-fn passing_on(packet: &Packet) -> Answer
+/// The answer that stands for a routine's where nobody is asked: it continues, and the pending bit goes on.
+fn unasked(packet: &Packet) -> Answer
     requires { packet.now.current ≤ size_of packet.now }
-    ensures { result ≡ passing_on packet.now }
+    ensures { result ≡ unasked packet.now }
 {
     let number = packet.current();
     Answer {
@@ -105,11 +105,11 @@ pub(crate) fn consult<A: Ask>(
             return ask_routine(ask, setting, shown, asked);
         }
     }
-    passing_on(packet)
+    unasked(packet)
 }
 
 /// Leaves the current location: PendingReturned becomes its pending bit, the answer's replacement is taken, the
-/// location is cleared, and the mark goes to the next higher one.
+/// location is cleared, the packet rises to the next higher one, and the mark goes there.
 pub(crate) fn leave(packet: &mut Packet, answer: Answer)
     requires placed { packet.old.current ≤ size_of packet.old }
     requires above { answer.mark ≡ true → packet.old.current < size_of packet.old }

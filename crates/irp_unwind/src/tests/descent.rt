@@ -1,11 +1,9 @@
 //! A packet on its way down.
 
-ghost use Rattle.std.specs.Prelude.{◌≡◌, true};
-ghost use Rattle.irp_types.specs.Rules.{is_plan_allowed};
-ghost use Rattle.irp_types.specs.declared.routine.Known.{Known};
+mod majors;
+mod stores;
 
 use super::*;
-use irp_routines::{Dispatch, DispatchClosure, Store};
 use irp_stack::Stacks;
 use irp_types::{DispatchId, DriverId, Known, LockNo, Plan, Seen};
 
@@ -35,6 +33,16 @@ const SKIP: Option<Plan> = Some(Plan::Skip);
 const FORWARD: Option<Plan> = Some(Plan::Forward { set: None });
 
 const HOLD: Option<Plan> = Some(Plan::Hold { cancel: None });
+
+const DONE: Option<Plan> = Some(Plan::Finish {
+    status: Status::SUCCESS,
+    information: 0,
+});
+
+const FAILED: Option<Plan> = Some(Plan::Finish {
+    status: Status::UNSUCCESSFUL,
+    information: 0,
+});
 
 /// No dispatch for reads.
 const UNHANDLED: Option<Plan> = None;
@@ -126,11 +134,20 @@ const fn held(device: u32, current: u32) -> Seen {
     }
 }
 
-/// The dispatch of a device is asked, with the packet in this location.
-fn planned(device: u32, location: u32, plan: Option<Plan>) -> Asked {
+/// A packet that has ended with success after it was marked pending.
+const fn pended(current: u32, information: u64) -> Seen {
+    Seen {
+        pending_returned: true,
+        ..ended(current, Status::SUCCESS, information)
+    }
+}
+
+/// A dispatch of a device is asked, with the packet in this location.
+fn question(id: u32, device: u32, location: u32, major: u8, plan: Option<Plan>) -> Asked {
     Asked::Dispatch {
-        id: DispatchId(device),
+        id: DispatchId(id),
         shown: Shown {
+            major,
             pending_returned: false,
             context: 0,
             has_lower: device > 0,
@@ -140,7 +157,12 @@ fn planned(device: u32, location: u32, plan: Option<Plan>) -> Asked {
     }
 }
 
-/// What a routine is shown that a device set below a location that nobody marked.
+/// The dispatch of a device for reads is asked, with the packet in this location.
+fn planned(device: u32, location: u32, plan: Option<Plan>) -> Asked {
+    question(device, device, location, READ, plan)
+}
+
+/// What the routine of a location is shown that nobody marked.
 fn unmarked(device: Option<u32>, location: u32, status: Status, information: u64) -> Shown {
     let outcome = Replacement {
         status,
@@ -152,7 +174,7 @@ fn unmarked(device: Option<u32>, location: u32, status: Status, information: u64
     }
 }
 
-/// A mended error, where nobody marked the packet.
+/// What a routine answers that mends an error, and is shown no PendingReturned.
 const MENDS: Answer = Answer {
     replacement: Some(MENDED),
     ..CONTINUE
@@ -176,10 +198,10 @@ fn send_asking<A: Ask>(
     Ok(sent)
 }
 
-/// A packet that the originator prepared for reads, with this completion routine.
-fn prepared(alloc: Global, size: u8, setting: Option<Setting>) -> Result<Packet, Fail> {
+/// A packet that the originator prepared, with this completion routine.
+fn prepared(alloc: Global, size: u8, major: u8, setting: Option<Setting>) -> Result<Packet, Fail> {
     let mut packet = Packet::new(alloc, size).map_err(|_| "a size")?;
-    packet.set_next(READ, WORD).map_err(|_| "a next location")?;
+    packet.set_next(major, WORD).map_err(|_| "a next location")?;
     if let Some(setting) = setting {
         packet.set_routine(setting).map_err(|_| "a setting")?;
     }
@@ -194,25 +216,25 @@ struct Wanted {
     seen: Seen,
 }
 
-/// A packet with a location for each device is sent to the highest one.
-fn is_sent(
+/// A packet with a location for each device is sent to the highest one, and comes back.
+fn send_through(
     rt: &impl Abort,
     alloc: Global,
     plans: &[Option<Plan>],
     setting: Option<Setting>,
     asked: &[Asked],
     wanted: Wanted,
-) -> Result<(), Fail> {
+) -> Result<Packet, Fail> {
     let count = plans.len();
     assert!(rt; 0 < count && count <= 16);
     let table = drivers(rt, alloc, plans)?;
     let stacks = stack_of(alloc, count as u32)?;
-    let mut packet = prepared(alloc, count as u8, setting)?;
+    let mut packet = prepared(alloc, count as u8, READ, setting)?;
     let top = DeviceId(count as u32 - 1);
     let sent = send_asking(rt, alloc, &mut packet, &stacks, &table, top, asked)?;
     assert_eq!(rt; (sent.status, sent.ending), (wanted.status, wanted.ending));
     assert_eq!(rt; seen(&packet), wanted.seen);
-    Ok(())
+    Ok(packet)
 }
 
 /// D2 and D1 skip, and D0 holds in the location of all three.
@@ -228,7 +250,8 @@ fn three_devices_share_a_location(rt: HostRuntime) -> Result<(), Fail> {
         ending: Ending::Held(DeviceId(0)),
         seen: held(0, 3),
     };
-    is_sent(&rt, rt.alloc(), &[HOLD, SKIP, SKIP], None, &asked, wanted)
+    send_through(&rt, rt.alloc(), &[HOLD, SKIP, SKIP], None, &asked, wanted)?;
+    Ok(())
 }
 
 /// D2 skips, D1 sets a routine, and D0 finishes. Location 1 is never used.
@@ -248,34 +271,8 @@ fn a_skipped_location_is_the_next_devices(rt: HostRuntime) -> Result<(), Fail> {
         ending: Ending::Ended,
         seen: ended(4, Status::SUCCESS, 5),
     };
-    is_sent(&rt, rt.alloc(), &[done, set, SKIP], None, &asked, wanted)
-}
-
-#[test]
-fn a_routine_on_error_is_asked_after_an_error_alone(rt: HostRuntime) -> Result<(), Fail> {
-    let alloc = rt.alloc();
-    let set = forward(on_error(Rule::Watch));
-    let done = finish(Status::SUCCESS, 0);
-    let first = [planned(1, 2, set), planned(0, 1, done)];
-    let succeeded = Wanted {
-        status: Status::SUCCESS,
-        ending: Ending::Ended,
-        seen: ended(3, Status::SUCCESS, 0),
-    };
-    is_sent(&rt, alloc, &[done, set], None, &first, succeeded)?;
-    let failed = finish(Status::UNSUCCESSFUL, 0);
-    let watched = unmarked(Some(1), 1, Status::UNSUCCESSFUL, 0);
-    let second = [
-        planned(1, 2, set),
-        planned(0, 1, failed),
-        asked(Rule::Watch, watched, CONTINUE),
-    ];
-    let wanted = Wanted {
-        status: Status::UNSUCCESSFUL,
-        seen: ended(3, Status::UNSUCCESSFUL, 0),
-        ..succeeded
-    };
-    is_sent(&rt, alloc, &[failed, set], None, &second, wanted)
+    send_through(&rt, rt.alloc(), &[done, set, SKIP], None, &asked, wanted)?;
+    Ok(())
 }
 
 /// D1 pends and mends the error of D0, so that D2's routine on error isn't asked.
@@ -283,12 +280,11 @@ fn a_routine_on_error_is_asked_after_an_error_alone(rt: HostRuntime) -> Result<(
 fn a_mended_error_is_none_to_who_stands_above(rt: HostRuntime) -> Result<(), Fail> {
     let watch = forward(on_error(Rule::Watch));
     let change = forward_pend(on_error(Rule::Change));
-    let failed = finish(Status::UNSUCCESSFUL, 0);
     let mended = unmarked(Some(1), 1, Status::UNSUCCESSFUL, 0);
     let asked = [
         planned(2, 3, watch),
         planned(1, 2, change),
-        planned(0, 1, failed),
+        planned(0, 1, FAILED),
         asked(Rule::Change, mended, MENDS),
     ];
     let wanted = Wanted {
@@ -299,13 +295,14 @@ fn a_mended_error_is_none_to_who_stands_above(rt: HostRuntime) -> Result<(), Fai
             ..ended(4, Status::SUCCESS, 1)
         },
     };
-    let plans = [failed, change, watch];
-    is_sent(&rt, rt.alloc(), &plans, None, &asked, wanted)
+    let plans = [FAILED, change, watch];
+    send_through(&rt, rt.alloc(), &plans, None, &asked, wanted)?;
+    Ok(())
 }
 
 #[test]
 fn the_lowest_device_holds_the_packet(rt: HostRuntime) -> Result<(), Fail> {
-    let asked = [
+    let asked_below = [
         planned(2, 3, FORWARD),
         planned(1, 2, FORWARD),
         planned(0, 1, HOLD),
@@ -317,17 +314,28 @@ fn the_lowest_device_holds_the_packet(rt: HostRuntime) -> Result<(), Fail> {
     };
     let plans = [HOLD, FORWARD, FORWARD];
     let top = always(Rule::Watch);
-    is_sent(&rt, rt.alloc(), &plans, top, &asked, wanted)
+    let mut packet = send_through(&rt, rt.alloc(), &plans, top, &asked_below, wanted)?;
+    packet.set_status(Status::SUCCESS, 8);
+    let done = Replacement {
+        status: Status::SUCCESS,
+        information: 8,
+    };
+    let watched = asked(Rule::Watch, shown(None, 3, done), CONTINUE);
+    let table = routines(&rt, rt.alloc(), MENDED);
+    let ending = unwind_asking(&rt, rt.alloc(), &mut packet, &table, &[watched])?;
+    assert_eq!(rt; ending, Ending::Ended);
+    assert_eq!(rt; seen(&packet), pended(4, 8));
+    Ok(())
 }
 
-/// D1 pends and keeps what D0 finishes; the routine that D2 set isn't asked.
+/// D1 pends and keeps what D0 finishes; the routine that D2 set isn't asked. Then D1 finishes it with (0, 6).
 #[test]
 fn a_device_keeps_what_it_pended(rt: HostRuntime) -> Result<(), Fail> {
     let watch = forward(always(Rule::Watch));
     let keep = forward_pend(always(Rule::Keeper));
     let done = finish(Status::SUCCESS, 5);
     let kept = unmarked(Some(1), 1, Status::SUCCESS, 5);
-    let asked = [
+    let asked_below = [
         planned(2, 3, watch),
         planned(1, 2, keep),
         planned(0, 1, done),
@@ -342,7 +350,22 @@ fn a_device_keeps_what_it_pended(rt: HostRuntime) -> Result<(), Fail> {
         },
     };
     let plans = [done, keep, watch];
-    is_sent(&rt, rt.alloc(), &plans, None, &asked, wanted)
+    let mut packet = send_through(&rt, rt.alloc(), &plans, None, &asked_below, wanted)?;
+    packet.set_status(Status::SUCCESS, 6);
+    let done = Replacement {
+        status: Status::SUCCESS,
+        information: 6,
+    };
+    let marks = Answer {
+        mark: true,
+        ..CONTINUE
+    };
+    let watched = asked(Rule::Watch, shown(Some(DeviceId(2)), 2, done), marks);
+    let table = routines(&rt, rt.alloc(), MENDED);
+    let ending = unwind_asking(&rt, rt.alloc(), &mut packet, &table, &[watched])?;
+    assert_eq!(rt; ending, Ending::Ended);
+    assert_eq!(rt; seen(&packet), pended(4, 6));
+    Ok(())
 }
 
 /// D0 has no dispatch for reads, and is asked nothing.
@@ -360,7 +383,7 @@ fn an_unhandled_read_is_finished_below(rt: HostRuntime) -> Result<(), Fail> {
         },
     };
     let first = [planned(1, 2, pend)];
-    is_sent(&rt, alloc, &[UNHANDLED, pend], None, &first, pended)?;
+    send_through(&rt, alloc, &[UNHANDLED, pend], None, &first, pended)?;
     let watch = forward(always(Rule::Watch));
     let watched = asked(Rule::Watch, unmarked(Some(1), 1, invalid, 0), CONTINUE);
     let second = [planned(1, 2, watch), watched];
@@ -369,22 +392,23 @@ fn an_unhandled_read_is_finished_below(rt: HostRuntime) -> Result<(), Fail> {
         seen: ended(3, invalid, 0),
         ..pended
     };
-    is_sent(&rt, alloc, &[UNHANDLED, watch], None, &second, wanted)
+    send_through(&rt, alloc, &[UNHANDLED, watch], None, &second, wanted)?;
+    Ok(())
 }
 
 /// The sender is told the status of the finish, and not the one that its own routine put in its place.
 #[test]
 fn the_reply_is_the_status_of_the_finish(rt: HostRuntime) -> Result<(), Fail> {
-    let failed = finish(Status::UNSUCCESSFUL, 0);
     let mended = unmarked(None, 1, Status::UNSUCCESSFUL, 0);
-    let asked = [planned(0, 1, failed), asked(Rule::Change, mended, MENDS)];
+    let asked = [planned(0, 1, FAILED), asked(Rule::Change, mended, MENDS)];
     let wanted = Wanted {
         status: Status::UNSUCCESSFUL,
         ending: Ending::Ended,
         seen: ended(2, Status::SUCCESS, 1),
     };
     let own = on_error(Rule::Change);
-    is_sent(&rt, rt.alloc(), &[failed], own, &asked, wanted)
+    send_through(&rt, rt.alloc(), &[FAILED], own, &asked, wanted)?;
+    Ok(())
 }
 
 #[test]
@@ -400,7 +424,8 @@ fn a_held_packet_has_the_cancel_routine_of_the_plan(rt: HostRuntime) -> Result<(
         },
     };
     let asked = [planned(0, 1, hold)];
-    is_sent(&rt, rt.alloc(), &[hold], None, &asked, wanted)
+    send_through(&rt, rt.alloc(), &[hold], None, &asked, wanted)?;
+    Ok(())
 }
 
 #[test]
@@ -422,47 +447,16 @@ fn sixteen_devices_are_entered(rt: HostRuntime) -> Result<(), Fail> {
         ending: Ending::Ended,
         seen: ended(17, Status::SUCCESS, 1),
     };
-    is_sent(&rt, alloc, &plans, None, &asked, wanted)
-}
-
-/// A plan that finishes a packet with its word as information.
-fn finishing(shown: Shown) -> Plan
-    ensures { (known : Known) → is_plan_allowed known shown result ≡ true }
-{
-    Plan::Finish {
-        status: Status::SUCCESS,
-        information: shown.word,
-    }
-}
-
-#[test]
-fn a_store_is_sent_a_packet(rt: HostRuntime) -> Result<(), Fail> {
-    let alloc = rt.alloc();
-    let mut store = Store::new(alloc);
-    let run: DispatchClosure = Box::new(alloc, |shown: Shown| finishing(shown))?;
-    let added = store.add_dispatch(Dispatch::new(Known::NONE, run));
-    assert!(rt; added.is_ok());
-    let added = store.add_driver([(READ, DispatchId(0))].to_vec(alloc)?);
-    assert!(rt; added.is_ok());
-    let stacks = stack_of(alloc, 1)?;
-    let mut packet = prepared(alloc, 1, None)?;
-    let asked = [planned(0, 1, finish(Status::SUCCESS, WORD))];
-    let bottom = DeviceId(0);
-    let sent = send_asking(&rt, alloc, &mut packet, &stacks, &store, bottom, &asked)?;
-    assert_eq!(rt;
-        (sent.status, sent.ending),
-        (Status::SUCCESS, Ending::Ended)
-    );
-    assert_eq!(rt; seen(&packet), ended(2, Status::SUCCESS, WORD));
+    send_through(&rt, alloc, &plans, None, &asked, wanted)?;
     Ok(())
 }
 
 #[test]
-fn a_packet_is_sent_where_locations_and_routines_are_there(rt: HostRuntime) -> Result<(), Fail> {
+fn what_a_packet_needs_to_be_sent(rt: HostRuntime) -> Result<(), Fail> {
     let alloc = rt.alloc();
     let table = drivers(&rt, alloc, &[HOLD, FORWARD])?;
     let stacks = stack_of(alloc, 2)?;
-    let packet = prepared(alloc, 1, on_success(Rule::Watch))?;
+    let packet = prepared(alloc, 1, READ, on_success(Rule::Watch))?;
     assert!(rt; can_descend(&packet, &stacks, &table, DeviceId(0)));
     assert!(rt; !can_descend(&packet, &stacks, &table, DeviceId(1)));
     assert!(rt; !can_descend(&packet, &stacks, &table, DeviceId(2)));

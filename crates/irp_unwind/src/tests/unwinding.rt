@@ -75,22 +75,6 @@ fn packet_of(
     Ok(packet)
 }
 
-/// Unwinds a packet, which asks just these routines.
-fn unwind_asking<A: Ask>(
-    rt: &impl Abort,
-    alloc: Global,
-    packet: &mut Packet,
-    ask: &A,
-    wanted: &[Asked],
-) -> Result<Ending, Fail> {
-    let mut asked = Vec::with_capacity(alloc, 16)?;
-    assert!(rt; can_unwind(packet, ask));
-    assert!(rt; packet.current() <= packet.size());
-    let ending = unwind(packet, IRP, ask, &mut asked);
-    assert_eq!(rt; asked.as_slice(), wanted);
-    Ok(ending)
-}
-
 /// All that a packet's readers tell, its three lowest locations among it.
 #[derive(Clone, Copy, PartialEq, Eq, Debug)]
 struct Picture {
@@ -152,7 +136,7 @@ fn mending() -> Asked {
 
 /// The lowest of three devices held a packet and finishes it with an error, which the routine of location 2 mends. The
 /// originator set the routine of location 3.
-fn is_mended(
+fn unwind_mended(
     rt: &impl Abort,
     alloc: Global,
     top: Option<Setting>,
@@ -178,21 +162,21 @@ fn is_mended(
 #[test]
 fn a_mended_error_asks_no_routine_on_error(rt: HostRuntime) -> Result<(), Fail> {
     let top = on_error(Rule::Watch);
-    is_mended(&rt, rt.alloc(), top, &[mending()], Owner::Ended)
+    unwind_mended(&rt, rt.alloc(), top, &[mending()], Owner::Ended)
 }
 
 #[test]
 fn a_mended_error_is_not_kept_on_error(rt: HostRuntime) -> Result<(), Fail> {
     let last = asked(Rule::KeepOnError, shown(None, 3, MENDED), CONTINUE);
     let top = on_success(Rule::KeepOnError);
-    is_mended(&rt, rt.alloc(), top, &[mending(), last], Owner::Ended)
+    unwind_mended(&rt, rt.alloc(), top, &[mending(), last], Owner::Ended)
 }
 
 #[test]
 fn a_packet_kept_at_the_top_is_the_originators(rt: HostRuntime) -> Result<(), Fail> {
     let last = asked(Rule::Keeper, shown(None, 3, MENDED), KEEP);
     let top = on_success(Rule::Keeper);
-    is_mended(&rt, rt.alloc(), top, &[mending(), last], Owner::Originator)
+    unwind_mended(&rt, rt.alloc(), top, &[mending(), last], Owner::Originator)
 }
 
 /// The lowest device held the packet and finishes it with (0, 8). Nobody between it and the originator set a routine.
@@ -220,9 +204,9 @@ fn a_mark_rises_past_locations_without_a_routine(rt: HostRuntime) -> Result<(), 
     Ok(())
 }
 
-/// D1 marks the packet pending, and keeps it when D0 finishes it with (0, 5). Then D1 finishes it with (0, 6).
+/// D1 marked the packet pending, and keeps it when D0 finishes it with (0, 5).
 #[test]
-fn a_kept_packet_is_finished_from_where_it_was_kept(rt: HostRuntime) -> Result<(), Fail> {
+fn a_kept_packet_is_its_keepers(rt: HostRuntime) -> Result<(), Fail> {
     let sends = [
         Passed::to(2, None),
         Passed::to(1, always(Rule::Watch)).pending(),
@@ -251,95 +235,25 @@ fn a_kept_packet_is_finished_from_where_it_was_kept(rt: HostRuntime) -> Result<(
         ..ENDED
     };
     assert_eq!(rt; picture_of(&packet), held);
-    packet.set_status(Status::SUCCESS, 6);
-    let second = Replacement {
-        information: 6,
-        ..first
-    };
-    let marked = Answer {
-        mark: true,
-        ..CONTINUE
-    };
-    let watched = asked(Rule::Watch, shown(Some(DeviceId(2)), 2, second), marked);
-    let ending = unwind_asking(&rt, rt.alloc(), &mut packet, &table, &[watched])?;
-    assert_eq!(rt; ending, Ending::Ended);
-    let ended = Picture {
-        information: 6,
-        ..ENDED
-    };
-    assert_eq!(rt; picture_of(&packet), ended);
     Ok(())
 }
 
-/// A finish of a packet of one location, and whether it asks a routine with this setting.
-#[derive(Clone, Copy)]
-struct Finish {
-    setting: Setting,
-    status: u32,
-    cancelled: bool,
-    asks: bool,
-}
+/// A finish of a packet of one location, and whether it asks a routine with these flags: on success, on error, on cancel.
+type Finish = (u32, bool, [bool; 3], bool);
+
+const CANCELLED: u32 = 0xc0000120;
 
 /// Finishes that flags meet, or don't: of a cancelled packet, and with statuses of the informational class.
-fn finishes() -> [Finish; 8] {
-    let none = setting(Rule::Watch);
-    let cancelled = Finish {
-        setting: Setting {
-            on_success: true,
-            ..none
-        },
-        status: 0xc0000120,
-        cancelled: true,
-        asks: false,
-    };
-    let informed = Finish {
-        status: 0x00000104,
-        cancelled: false,
-        asks: true,
-        ..cancelled
-    };
-    let informed_on_error = Finish {
-        setting: Setting {
-            on_error: true,
-            ..none
-        },
-        asks: false,
-        ..informed
-    };
-    [
-        Finish {
-            setting: Setting {
-                on_cancel: true,
-                ..cancelled.setting
-            },
-            asks: true,
-            ..cancelled
-        },
-        Finish {
-            setting: Setting {
-                on_error: true,
-                ..cancelled.setting
-            },
-            asks: true,
-            ..cancelled
-        },
-        cancelled,
-        Finish {
-            setting: none,
-            ..cancelled
-        },
-        informed,
-        Finish {
-            status: 0x40000000,
-            ..informed
-        },
-        informed_on_error,
-        Finish {
-            status: 0x40000000,
-            ..informed_on_error
-        },
-    ]
-}
+const FINISHES: [Finish; 8] = [
+    (CANCELLED, true, [true, false, true], true),
+    (CANCELLED, true, [true, true, false], true),
+    (CANCELLED, true, [true, false, false], false),
+    (CANCELLED, true, [false, false, false], false),
+    (0x00000104, false, [true, false, false], true),
+    (0x40000000, false, [true, false, false], true),
+    (0x00000104, false, [false, true, false], false),
+    (0x40000000, false, [false, true, false], false),
+];
 
 #[test]
 fn flags_are_met_by_the_class_of_the_status_or_the_cancel_flag(
@@ -347,24 +261,39 @@ fn flags_are_met_by_the_class_of_the_status_or_the_cancel_flag(
 ) -> Result<(), Fail> {
     let alloc = rt.alloc();
     let table = routines(&rt, alloc, MENDED);
-    for finish in finishes() {
+    for (status, cancel, [on_success, on_error, on_cancel], asks) in FINISHES {
         let outcome = Replacement {
-            status: Status(finish.status),
+            status: Status(status),
             information: 0,
         };
-        let sends = [Passed::to(0, Some(finish.setting))];
+        let flagged = Setting {
+            on_success,
+            on_error,
+            on_cancel,
+            ..setting(Rule::Watch)
+        };
+        let sends = [Passed::to(0, Some(flagged))];
         let mut packet = packet_of(&rt, alloc, &sends, 1, outcome)?;
-        packet.set_cancel(finish.cancelled, None);
+        packet.set_cancel(cancel, None);
         let seen = Shown {
             pending_returned: false,
-            cancel: finish.cancelled,
+            cancel,
             ..shown(None, 1, outcome)
         };
         let watched = [asked(Rule::Watch, seen, CONTINUE)];
-        let wanted = if finish.asks { watched.as_slice() } else { &[] };
+        let wanted = if asks { watched.as_slice() } else { &[] };
         let ending = unwind_asking(&rt, alloc, &mut packet, &table, wanted)?;
         assert_eq!(rt; ending, Ending::Ended);
-        assert_eq!(rt; packet.status(), outcome.status);
+        let left = Picture {
+            current: 2,
+            status: outcome.status,
+            information: 0,
+            cancel,
+            pending_returned: false,
+            locations: [CLEARED, None, None],
+            ..ENDED
+        };
+        assert_eq!(rt; picture_of(&packet), left);
     }
     Ok(())
 }
@@ -441,7 +370,7 @@ fn a_store_unwinds_sixteen_locations(rt: HostRuntime) -> Result<(), Fail> {
 }
 
 #[test]
-fn a_packet_is_unwound_where_devices_and_routines_are_there(rt: HostRuntime) -> Result<(), Fail> {
+fn what_a_packet_needs_to_be_unwound(rt: HostRuntime) -> Result<(), Fail> {
     let alloc = rt.alloc();
     let table = routines(&rt, alloc, MENDED);
     let sends = [Passed::to(1, None), Passed::to(0, on_success(Rule::Watch))];

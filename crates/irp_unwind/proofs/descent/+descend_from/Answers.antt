@@ -24,10 +24,10 @@ returns-then-not-is_passing-clause-descends g t c =
     let stops : option_map_or is_passing plan false ≡ false = sym c.is_passing.ensures ∙ c.if-not-is_passing.true in
     let here = subst (λ value. IsPlannedHere may (g.A.Ask.tables ask) c.args.irp c.args.stacks.now value (frame_at value device plan) c.args.asked.now.items c.ask_plan-plan.new.asked.items)
     c.enter.ensures c.ask_plan-plan.ensures.planned in
-    let ends = subst (λ value. EndsHere (g.A.Ask.may_answer ask) c.args.irp value device plan c.settle.new.packet c.ask_plan-plan.new.asked.items c.settle.new.asked.items c.settle.result.ending)
-    c.enter.ensures c.settle.ensures.ends in
+    let ends = subst (λ value. EndsHere (g.A.Ask.may_answer ask) c.args.irp value device plan c.end_at.new.packet c.ask_plan-plan.new.asked.items c.end_at.new.asked.items c.end_at.result.ending)
+    c.enter.ensures c.end_at.ensures.ends in
     ends_here (g.A.Ask.may_plan ask) (g.A.Ask.may_answer ask) (g.A.Ask.may_cancel ask) (g.A.Ask.tables ask) c.args.irp c.args.stacks.now packet c.args.asked.now.items device plan
-    c.settle.new.packet c.ask_plan-plan.new.asked.items c.settle.new.asked.items c.settle.result low c.requires.within c.requires.stacked c.requires.created stops here ends c.settle.ensures.status
+    c.end_at.new.packet c.ask_plan-plan.new.asked.items c.end_at.new.asked.items c.end_at.result low c.requires.within c.requires.stacked c.requires.created stops here ends c.end_at.ensures.status
 
 pub descend_from-sent-requires : goal.descend_from-sent-requires
 descend_from-sent-requires g t c κs within =
