@@ -27,7 +27,7 @@ cleared_more n a [] h = absurd (omega arith)
 cleared_more zero a (asking ∷ xs) h = refl
 cleared_more (suc n) a (asking ∷ xs) h = ap (λ items. a ∷ items) (cleared_more n a xs (omega arith))
 
-get_or_bared : {X : Type 0} (n : ℕ) (a : X) (l : List X) (k : ℕ) (d : X) → n ≤ k → n ≤ length l → get_or (replicate n a ++ drop n l) k d ≡ get_or l k d
+pub get_or_bared : {X : Type 0} (n : ℕ) (a : X) (l : List X) (k : ℕ) (d : X) → n ≤ k → n ≤ length l → get_or (replicate n a ++ drop n l) k d ≡ get_or l k d
 get_or_bared zero a l k d h g = refl
 get_or_bared (suc n) a [] k d h g = absurd (omega arith)
 get_or_bared (suc n) a (asking ∷ xs) zero d h g = absurd (omega arith)
@@ -39,7 +39,7 @@ drop_bared (suc n) a [] m h g = absurd (omega arith)
 drop_bared (suc n) a (asking ∷ xs) zero h g = absurd (omega arith)
 drop_bared (suc n) a (asking ∷ xs) (suc m) h g = drop_bared n a xs m (omega arith) (omega arith)
 
-length_bared : {X : Type 0} (n : ℕ) (a : X) (l : List X) → n ≤ length l → length (replicate n a ++ drop n l) ≡ length l
+pub length_bared : {X : Type 0} (n : ℕ) (a : X) (l : List X) → n ≤ length l → length (replicate n a ++ drop n l) ≡ length l
 length_bared zero a l g = refl
 length_bared (suc n) a [] g = absurd (omega arith)
 length_bared (suc n) a (asking ∷ xs) g = ap suc (length_bared n a xs (omega arith))

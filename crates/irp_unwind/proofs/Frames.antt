@@ -78,6 +78,14 @@ pub last_in : (P : Frame → Type 0) (frame : Frame) (frames : List Frame) → A
 last_in P frame [] a = a.0
 last_in P frame (follower ∷ others) a = last_in P follower others a.1
 
+-- what holds of each of some frames holds of the last
+pub last_has : (P : Frame → Type 0) (frames : List Frame) → 0 < length frames → AllByRecursion P frames → P (last_frame frames)
+last_has P [] some all = absurd (omega arith)
+last_has P (frame ∷ frames) some all = last_in P frame frames all
+
+pub last_low : (frames : List Frame) (top : ℕ) → 0 < length frames → IsPlaced frames top → (last_frame frames).location ≤ top
+last_low frames top some placed = last_has (λ frame. frame.location ≤ top) frames some (placed_below frames top placed)
+
 pub in_here : (frame : Frame) (frames : List Frame) (number : ℕ) → frame.location ≡ number → frames_in (frame ∷ frames) number ≡ frame ∷ frames_in frames number
 in_here frame frames number e = cond-true _ _ _ (eq-eqb frame.location number e)
 

@@ -10,6 +10,7 @@ use Rattle.irp_types.specs.State.{Tables, AreTables, known_of}
 use Rattle.irp_types.specs.Descent.{Frame, plans, marks_location, set_by, first_location, shown_to, dispatch_at, IsPlanOf, IsPlanned}
 use Rattle.irp_types.specs.declared.names.IrpRef.{IrpRef}
 use Rattle.irp_types.specs.declared.names.DispatchId.{DispatchId}
+use Rattle.irp_types.specs.declared.names.CancelId.{CancelId}
 use Rattle.irp_types.specs.declared.routine.Rule.{Rule}
 use Rattle.irp_types.specs.declared.routine.Rule.TheVariants.{Watch, Change, Keeper, KeepOnError, Free}
 use Rattle.irp_types.specs.declared.routine.Known.{Known}
@@ -91,6 +92,28 @@ counted tables dispatch known agree there =
     let within : dispatch.0 < length tables.dispatches = slice_get_within tables.dispatches dispatch.0 known there in
     subst (λ given. IsWithin given tables.counts) (get_or_from_slice_get tables.dispatches dispatch.0 known known there) (agree.known dispatch.0 known within)
 
+pub known_counted : (tables : Tables) (frame : Frame) (setting : Setting) → AreTables tables → IsSetBy tables frame setting → is_known tables.counts setting ≡ true
+known_counted tables frame setting agree by =
+    let below : setting.routine.no < count_of_rule by.known setting.routine.rule = ltb-true _ _ by.named in
+    let within = within_rule by.known tables.counts setting.routine.rule (counted tables by.dispatch by.known agree by.there) in
+    lt-ltb _ _ (omega (arith, within, below))
+
+-- the cancel routine that a holding device names is there
+pub cancel_counted : (tables : Tables) (irp : IrpRef) (packet : PacketValue) (devices : DevicesValue) (frame : Frame) → AreTables tables → IsPlanned tables irp packet devices frame
+    → (routine : CancelId) → frame.plan ≡ Some (Hold (Some routine)) → routine.0 < tables.counts.cancel
+cancel_counted tables irp packet devices frame agree planned routine holds =
+    let shown = shown_to irp packet devices frame in
+    elim (dispatch_at tables devices frame.device shown.major) as (λ found. MatchOption found (frame.plan ≡ None) (λ dispatch. IsPlanOf tables dispatch shown frame.plan) → routine.0 < tables.counts.cancel) [
+      | None ↦ λ unplanned. absurd (cc)
+      | Some dispatch ↦ λ of.
+          let same : Some of.1 ≡ Some (Hold (Some routine)) = sym of.3 ∙ holds in
+          let plan : of.1 ≡ Hold (Some routine) = cc in
+          let allowed : is_plan_allowed of.0 shown (Hold (Some routine)) ≡ true = ap (is_plan_allowed of.0 shown) (sym plan) ∙ of.4 in
+          let named : routine.0 < (of.0).cancel = ltb-true _ _ (and_parts _ _ allowed).1 in
+          let within = counted tables dispatch of.0 agree of.2 in
+          omega (arith, named, within.cancel)
+    ] planned
+
 pub routines_sent : (tables : Tables) (irp : IrpRef) (packet next : PacketValue) (devices : DevicesValue) (frame : Frame) → AreTables tables → IsPlanned tables irp packet devices frame → SentOn packet frame next
     → HasRoutines tables.counts packet (first_location packet) → HasRoutines tables.counts next (first_location next)
 routines_sent tables irp packet next devices frame agree planned sent routines = record {
@@ -98,9 +121,6 @@ routines_sent tables irp packet next devices frame agree planned sent routines =
       elim (sent.settings number from) as (λ _. is_known tables.counts setting ≡ true) [
         | inl w ↦ routines.there number setting w.0 (omega (arith, sent.size)) (sym w.1 ∙ set)
         | inr w ↦
-            let by = sets_known tables irp packet devices frame planned setting (sym w ∙ set) in
-            let below : setting.routine.no < count_of_rule by.known setting.routine.rule = ltb-true _ _ by.named in
-            let within = within_rule by.known tables.counts setting.routine.rule (counted tables by.dispatch by.known agree by.there) in
-            lt-ltb _ _ (omega (arith, within, below))
+            known_counted tables frame setting agree (sets_known tables irp packet devices frame planned setting (sym w ∙ set))
       ];
 }

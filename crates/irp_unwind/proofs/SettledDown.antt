@@ -23,7 +23,7 @@ use Rattle.irp_types.specs.declared.asked.Asked.{Asked}
 use Rattle.irp_types.specs.declared.names.CancelId.{CancelId}
 use Rattle.irp_types.specs.declared.answer.CancelAnswer.{CancelAnswer}
 use Rattle.irp_unwind.specs.Laws.{IsReplyOf}
-use Rattle.irp_unwind.proofs.Frames.{IsPlaced, placed_first, placed_below, last_in}
+use Rattle.irp_unwind.proofs.Frames.{IsPlaced, placed_first, last_low}
 use Rattle.irp_unwind.proofs.Settled.{same_asking}
 
 pub all_split : {X : Type 0} (P : X → Type 0) (xs ys : List X) → AllByRecursion P (xs ++ ys) → AllByRecursion P xs × AllByRecursion P ys
@@ -170,10 +170,6 @@ module _ (planned_by : DispatchId → Shown → Plan) (reply : RoutineId → Sho
   same_end frame (Some Skip) mid n m A B some h u w ma mb = absurd u
   same_end frame (Some (Forward set)) mid n m A B some h u w ma mb = absurd u
   same_end frame (Some (ForwardPend set)) mid n m A B some h u w ma mb = absurd u
-
-  last_low : (frames : List Frame) (n : ℕ) → 0 < length frames → IsPlaced frames n → (last_frame frames).location ≤ n
-  last_low [] n some placed = absurd (omega arith)
-  last_low (frame ∷ frames) n some placed = last_in (λ h. h.location ≤ n) frame frames (placed_below (frame ∷ frames) n placed)
 
   pub same_descent : (target : ℕ) (n m : PacketValue) (A B : List Asked) (x y : Status) → packet.current ≤ size_of packet + 1
       → (first : Descended tables irp devices packet target A n x) → (second : Descended tables irp devices packet target B m y)

@@ -27,14 +27,14 @@ use Rattle.irp_unwind.proofs.Frames.{set_at, last_in}
 use Rattle.irp_unwind.proofs.SetKnown.{sets_known}
 
 -- what holds of each frame holds of those of a location
-all_in : (P : Frame → Type 0) (frames : List Frame) (number : ℕ) → AllByRecursion P frames → AllByRecursion P (frames_in frames number)
+pub all_in : (P : Frame → Type 0) (frames : List Frame) (number : ℕ) → AllByRecursion P frames → AllByRecursion P (frames_in frames number)
 all_in P [] number all = tt
 all_in P (frame ∷ frames) number all = elim (frame.location == number) as (λ here. AllByRecursion P (cond here (frame ∷ frames_in frames number) (frames_in frames number))) [
   | true ↦ (all.0, all_in P frames number all.1)
   | false ↦ all_in P frames number all.1
 ]
 
-last_of : (P : Frame → Type 0) (frames : List Frame) → P no_frame → AllByRecursion P frames → P (last_frame frames)
+pub last_of : (P : Frame → Type 0) (frames : List Frame) → P no_frame → AllByRecursion P frames → P (last_frame frames)
 last_of P [] none all = none
 last_of P (frame ∷ frames) none all = last_in P frame frames all
 

@@ -1,9 +1,10 @@
 //! A packet on its way down.
 
-ghost use Rattle.std.specs.Prelude.{◌≡◌, ◌+◌, ◌-◌, ◌<◌, ◌≤◌, length, vec_len, vec_capacity};
-ghost use Rattle.irp_types.specs.Packet.{size_of};
+ghost use Rattle.std.specs.Prelude.{◌≡◌, ◌+◌, ◌-◌, ◌<◌, ◌≤◌, None, false, length, vec_len, vec_capacity};
+ghost use Rattle.irp_types.specs.Packet.{size_of, is_nothing};
 ghost use Rattle.irp_types.specs.Stacks.{AreStacks, stack_size_of};
 ghost use Rattle.irp_types.specs.Descent.{StaysUp};
+ghost use Rattle.irp_types.specs.Standing.{IsSound};
 ghost use Rattle.irp_routines.specs.Answers.{IsAnswered};
 ghost use Rattle.irp_unwind.specs.Conditions.{HasDevices, HasRoutines};
 ghost use Rattle.irp_unwind.specs.Descents.{Descends};
@@ -66,7 +67,8 @@ fn descend_from<A: Ask>(
 ///
 /// `irp` is the packet's own reference, which the closures are shown. What is asked goes behind the other questions in
 /// `asked`, into room that is there: it takes no memory. The conditions are those of `can_descend`, and room for one
-/// question for each device from the target down and one for each location.
+/// question for each device from the target down and one for each location. A prepared packet without a cancel routine
+/// keeps the standing facts.
 pub fn descend<A: Ask>(
     packet: &mut Packet,
     irp: IrpRef,
@@ -83,6 +85,7 @@ pub fn descend<A: Ask>(
     ensures descends { Descends (IsAnswered (A.may_plan ask.now) (A.may_answer ask.now) (A.may_cancel ask.now)) (A.tables ask.now) irp stacks.now packet.old target.0 packet.new asked.old.items asked.new.items result }
     ensures capacity { vec_capacity asked.new ≡ vec_capacity asked.old }
     ensures stays { StaysUp packet.old packet.new result.status }
+    ensures sound { packet.old.cancel_routine ≡ None → is_nothing packet.old.preparation ≡ false → IsSound (A.tables ask.now).counts packet.old → IsSound (A.tables ask.now).counts packet.new }
 {
     // the two tell that the stacks are in order, and that `current` is at most one above the size
     stacks.are_stacks();

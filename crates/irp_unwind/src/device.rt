@@ -119,7 +119,7 @@ pub(crate) fn pass_on(packet: &mut Packet, plan: Option<Plan>)
 }
 
 /// Ends a descent at a device whose plan doesn't pass the packet down: the device holds it, or it is finished and
-/// unwound.
+/// unwound, as an invalid request where there is no plan.
 pub(crate) fn end_at<A: Ask>(
     packet: &mut Packet,
     irp: IrpRef,
@@ -154,7 +154,6 @@ pub(crate) fn end_at<A: Ask>(
                 information,
             },
         ) => (status, information),
-        // unhandled: a plan that passes the packet down is ruled out
         _ => (Status::INVALID_DEVICE_REQUEST, 0),
     };
     packet.set_status(status, information);

@@ -256,9 +256,7 @@ const FINISHES: [Finish; 8] = [
 ];
 
 #[test]
-fn flags_are_met_by_the_class_of_the_status_or_the_cancel_flag(
-    rt: HostRuntime,
-) -> Result<(), Fail> {
+fn flags_are_met_by_the_status_or_the_cancel_flag(rt: HostRuntime) -> Result<(), Fail> {
     let alloc = rt.alloc();
     let table = routines(&rt, alloc, MENDED);
     for (status, cancel, [on_success, on_error, on_cancel], asks) in FINISHES {
