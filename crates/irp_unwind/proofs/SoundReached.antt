@@ -1,35 +1,31 @@
 -- A descent leaves a packet with the standing facts, if it had them.
-use Rattle.std.proofs.Common.{◌≡◌, ℕ, ◌+◌, ◌-◌, ◌<◌, ◌≤◌, zero, suc, Bool, true, false, cond, ◌||◌, ◌&&◌, ◌==◌, is_some, List, [], ◌∷◌, length, refl, sym, ◌∙◌, ap, subst, arith, Option, Some, None, MatchOption, inl, inr}
+use Rattle.std.proofs.Common.{◌≡◌, ℕ, ◌+◌, ◌<◌, ◌≤◌, zero, suc, Bool, true, false, ◌||◌, ◌&&◌, ◌==◌, is_some, List, [], ◌∷◌, refl, sym, ◌∙◌, ap, subst, arith, Option, Some, None, inl, inr}
 use Rattle.std.specs.List.{list_any, AllByRecursion}
 use Rattle.std.specs.Option.{option_map_or}
-use Rattle.std.proofs.lemmas.Bool.{cases_lt, cases_eq, cases_Bool, cond-true, cond-false, eq-eqb, ne_eqb, and_parts, ltb-true}
+use Rattle.std.proofs.lemmas.Bool.{cases_lt, cases_eq, cases_Bool, cond-true, cond-false, eq-eqb, ne_eqb}
 use Rattle.irp_types.specs.Status.{invalid_device_request}
-use Rattle.irp_types.specs.Rules.{is_known, is_plan_allowed}
+use Rattle.irp_types.specs.Rules.{is_known}
 use Rattle.irp_types.specs.Packet.{PacketValue, size_of, location_at, with_status, is_nothing}
-use Rattle.irp_types.specs.Unwinding.{Asking, Unwound}
+use Rattle.irp_types.specs.Unwinding.{Asking}
 use Rattle.irp_types.specs.Stacks.{DevicesValue}
 use Rattle.irp_types.specs.State.{Tables, AreTables}
-use Rattle.irp_types.specs.Descent.{Frame, plans, marks_location, first_location, no_frame, last_frame, frames_in, shown_to, dispatch_at, IsPlanOf, IsPlanned, used_location, AreFrames, PassedDown, Ends, Descended}
+use Rattle.irp_types.specs.Descent.{Frame, plans, marks_location, first_location, last_frame, frames_in, IsPlanned, AreFrames, PassedDown, Ends, Descended}
 use Rattle.irp_types.specs.Standing.{is_keeping, lowest_location, IsSound}
 use Rattle.irp_types.specs.declared.names.IrpRef.{IrpRef}
 use Rattle.irp_types.specs.declared.names.CancelId.{CancelId}
-use Rattle.irp_types.specs.declared.names.DispatchId.{DispatchId}
 use Rattle.irp_types.specs.declared.location.Location.{Location}
 use Rattle.irp_types.specs.declared.location.Owner.TheVariants.{Device}
-use Rattle.irp_types.specs.declared.location.Preparation.TheVariants.{Nothing}
 use Rattle.irp_types.specs.declared.status.Status.{Status}
-use Rattle.irp_types.specs.declared.routine.Rule.{Rule}
 use Rattle.irp_types.specs.declared.routine.Rule.TheVariants.{Watch}
 use Rattle.irp_types.specs.declared.routine.Known.{Known}
 use Rattle.irp_types.specs.declared.routine.Setting.{Setting}
 use Rattle.irp_types.specs.declared.answer.Plan.{Plan}
 use Rattle.irp_types.specs.declared.answer.Plan.TheVariants.{Finish, Hold, Skip, Forward, ForwardPend}
 use Rattle.irp_types.specs.declared.asked.Asked.{Asked}
-use Rattle.irp_unwind.specs.Conditions.{HasDevices}
 use Rattle.irp_unwind.proofs.Fit.{IsFit}
 use Rattle.irp_unwind.proofs.Lists.{all_map}
 use Rattle.irp_unwind.proofs.Frames.{set_at, last_has, last_low, in_here, in_rest}
-use Rattle.irp_unwind.proofs.SetKnown.{IsSetBy, sets_known, known_counted, cancel_counted}
+use Rattle.irp_unwind.proofs.SetKnown.{sets_known, known_counted, cancel_counted}
 use Rattle.irp_unwind.proofs.Stays.{all_in, last_of}
 use Rattle.irp_unwind.proofs.SoundUnwound.{unwound_sound}
 

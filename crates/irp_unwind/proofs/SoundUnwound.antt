@@ -1,11 +1,10 @@
 -- What unwinding leaves has the standing facts, where the packet had them on its way.
-use Rattle.std.proofs.Common.{◌≡◌, ℕ, ◌+◌, ◌-◌, ◌<◌, ◌≤◌, zero, suc, Bool, true, false, not, ◌&&◌, cond, is_some, is_none, List, [], ◌∷◌, ◌++◌, length, drop, get_or, replicate, refl, sym, ◌∙◌, ap, subst, arith, Option, Some, None, inl, inr}
-use Rattle.std.specs.List.{find, AllByRecursion}
+use Rattle.std.proofs.Common.{◌≡◌, ℕ, ◌+◌, ◌-◌, ◌<◌, ◌≤◌, zero, suc, true, false, not, ◌&&◌, cond, is_some, is_none, List, [], ◌∷◌, ◌++◌, drop, get_or, replicate, refl, sym, ◌∙◌, ap, subst, arith, Some, None, inl, inr}
+use Rattle.std.specs.List.{AllByRecursion}
 use Rattle.std.specs.Option.{option_map_or}
-use Rattle.std.proofs.lemmas.Bool.{cases_lt, cond-true, cond-false, and_parts}
+use Rattle.std.proofs.lemmas.Bool.{cases_lt, and_parts}
 use Rattle.std.proofs.lemmas.List.{get_or_past}
-use Rattle.irp_types.specs.Limits.{most_locations}
-use Rattle.irp_types.specs.Rules.{is_allowed, obeys, is_known}
+use Rattle.irp_types.specs.Rules.{is_allowed, is_known}
 use Rattle.irp_types.specs.Packet.{PacketValue, size_of, location_at, cleared}
 use Rattle.irp_types.specs.Unwinding.{Asking, place_of, is_met_at, keeper_of, stop_of, device_above, owner_from, owner_after, IsAskedRight, unwound_packet, Unwound}
 use Rattle.irp_types.specs.Refusals.{is_owned_by_device}
@@ -13,8 +12,7 @@ use Rattle.irp_types.specs.Standing.{is_keeping, IsSound}
 use Rattle.irp_types.specs.declared.names.IrpRef.{IrpRef}
 use Rattle.irp_types.specs.declared.names.DeviceId.{DeviceId}
 use Rattle.irp_types.specs.declared.location.Location.{Location}
-use Rattle.irp_types.specs.declared.location.Owner.{Owner}
-use Rattle.irp_types.specs.declared.location.Owner.TheVariants.{Originator, Device, Ended}
+use Rattle.irp_types.specs.declared.location.Owner.TheVariants.{Originator, Ended}
 use Rattle.irp_types.specs.declared.routine.Rule.{Rule}
 use Rattle.irp_types.specs.declared.routine.Rule.TheVariants.{Watch, Change, Keeper, KeepOnError, Free}
 use Rattle.irp_types.specs.declared.routine.RoutineId.{RoutineId}
