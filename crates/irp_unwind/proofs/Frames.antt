@@ -15,24 +15,24 @@ use Rattle.irp_types.specs.Descent.{Frame, plans, is_copying, set_by, marks_loca
 abbrev pub set_at : Frame → Option Setting
 set_at frame = option_map_or set_by frame.plan None
 
--- the lower device of device
-pub record IsBelow (devices : DevicesValue) (device e : ℕ) : Type 0 where
-  pub created : e < length devices.facts
-  pub stack : stack_of devices e ≡ stack_of devices device
-  pub depth : depth_of devices e + 1 ≡ depth_of devices device
+-- the device that stands just below another
+pub record IsBelow (devices : DevicesValue) (device lower : ℕ) : Type 0 where
+  pub created : lower < length devices.facts
+  pub stack : stack_of devices lower ≡ stack_of devices device
+  pub depth : depth_of devices lower + 1 ≡ depth_of devices device
 
-pub is_below : (devices : DevicesValue) (device e : ℕ) → AreStacks devices → device < length devices.facts → lower_of devices device ≡ Some e → IsBelow devices device e
-is_below devices device e a h low =
-    elim (cases_eq (depth_of devices device) 0) as (λ _. IsBelow devices device e) [
+pub is_below : (devices : DevicesValue) (device lower : ℕ) → AreStacks devices → device < length devices.facts → lower_of devices device ≡ Some lower → IsBelow devices device lower
+is_below devices device lower a h low =
+    elim (cases_eq (depth_of devices device) 0) as (λ _. IsBelow devices device lower) [
       | inl z ↦
           let none : lower_of devices device ≡ None = cond-true _ _ _ (eq-eqb (depth_of devices device) 0 z) in
           absurd (cc)
       | inr n ↦
-          let some : slice_get (stack_of devices device) (depth_of devices device - 1) ≡ Some e = sym (cond-false _ _ _ (ne_eqb (depth_of devices device) 0 n)) ∙ low in
-          let within : depth_of devices device - 1 < length (stack_of devices device) = slice_get_within (stack_of devices device) (depth_of devices device - 1) e some in
-          let is : get_or (stack_of devices device) (depth_of devices device - 1) device ≡ e = get_or_from_slice_get (stack_of devices device) (depth_of devices device - 1) e device some in
+          let some : slice_get (stack_of devices device) (depth_of devices device - 1) ≡ Some lower = sym (cond-false _ _ _ (ne_eqb (depth_of devices device) 0 n)) ∙ low in
+          let within : depth_of devices device - 1 < length (stack_of devices device) = slice_get_within (stack_of devices device) (depth_of devices device - 1) lower some in
+          let is : get_or (stack_of devices device) (depth_of devices device - 1) device ≡ lower = get_or_from_slice_get (stack_of devices device) (depth_of devices device - 1) lower device some in
           let next : IsMember devices device (depth_of devices device - 1) = a.members device (depth_of devices device - 1) h within in
-          let deep : depth_of devices e ≡ depth_of devices device - 1 = ap (depth_of devices) (sym is) ∙ next.depth in
+          let deep : depth_of devices lower ≡ depth_of devices device - 1 = ap (depth_of devices) (sym is) ∙ next.depth in
           record {
             created = subst (λ q. q < length devices.facts) is next.created;
             stack = ap (stack_of devices) (sym is) ∙ next.stack;
@@ -50,8 +50,8 @@ down_from devices device a h =
 pub devices_one : (devices : DevicesValue) (device : ℕ) → AreStacks devices → device < length devices.facts → devices_down devices device 1 ≡ device ∷ []
 devices_one devices device a h = ap (take 1) (down_from devices device a h)
 
-pub devices_more : (devices : DevicesValue) (device e n : ℕ) → AreStacks devices → device < length devices.facts → IsBelow devices device e → devices_down devices device (suc n) ≡ device ∷ devices_down devices e n
-devices_more devices device e n a h b =
+pub devices_more : (devices : DevicesValue) (device lower n : ℕ) → AreStacks devices → device < length devices.facts → IsBelow devices device lower → devices_down devices device (suc n) ≡ device ∷ devices_down devices lower n
+devices_more devices device lower n a h b =
     ap (take (suc n)) (down_from devices device a h)
     ∙ (λ i. device ∷ take n (reverse (take (sym b.depth i) (sym b.stack i))))
 
@@ -64,15 +64,15 @@ placed_more frame frames n next here step rest zero h = omega (arith, here)
 placed_more frame frames n next here step rest (suc k) h =
     let e : (get_or frames k no_frame).location + count_by (plans is_copying) (take k frames) ≡ next = rest k (omega arith) in
     let c : count_by (plans is_copying) (frame ∷ take k frames) ≡ cond (plans is_copying frame) 1 0 + count_by (plans is_copying) (take k frames) =
-    sum_by-cons (λ asking. cond (plans is_copying asking) 1 0) frame (take k frames) in
+    sum_by-cons (λ given. cond (plans is_copying given) 1 0) frame (take k frames) in
     let q : (get_or frames k no_frame).location + (cond (plans is_copying frame) 1 0 + count_by (plans is_copying) (take k frames)) ≡ n = omega (arith, e, step) in
-    ap (λ asking. (get_or frames k no_frame).location + asking) c ∙ q
+    ap (λ copies. (get_or frames k no_frame).location + copies) c ∙ q
 
 pub placed_first : (frame : Frame) (frames : List Frame) (n : ℕ) → IsPlaced (frame ∷ frames) n → frame.location ≡ n
-placed_first frame frames n packet = let e : frame.location + 0 ≡ n = packet 0 (omega arith) in omega (arith, e)
+placed_first frame frames n placed = let e : frame.location + 0 ≡ n = placed 0 (omega arith) in omega (arith, e)
 
 pub placed_below : (frames : List Frame) (n : ℕ) → IsPlaced frames n → AllByRecursion (λ frame. frame.location ≤ n) frames
-placed_below frames n packet = all_by_index (λ frame. frame.location ≤ n) no_frame frames (λ k h. let e = packet k h in omega (arith, e))
+placed_below frames n placed = all_by_index (λ frame. frame.location ≤ n) no_frame frames (λ k h. let e = placed k h in omega (arith, e))
 
 pub last_in : (P : Frame → Type 0) (frame : Frame) (frames : List Frame) → AllByRecursion P (frame ∷ frames) → P (last_frame (frame ∷ frames))
 last_in P frame [] a = a.0

@@ -1,5 +1,6 @@
 -- What leaving a location does.
 use Rattle.std.proofs.Common.{◌≡◌, ℕ, ◌+◌, ◌-◌, ◌<◌, ◌≤◌, ◌≢◌, suc, Bool, true, false, ◌||◌, [], ◌∷◌, ◌++◌, length, drop, take, set, get_or, replicate, refl, sym, ◌∙◌, ap, arith, unwrap_or, inl, inr}
+use Rattle.std.proofs.Math.Bool.{or-false, or-true}
 use Rattle.std.proofs.lemmas.Bool.{cases_eq}
 use Rattle.std.proofs.lemmas.List.{get_or-set_same, get_or-set_other, drop-set-lt, take-set-le, length-set, append-nil}
 use Rattle.std.proofs.lemmas.Grind.{take-set_at}
@@ -9,14 +10,6 @@ use Rattle.irp_types.specs.declared.answer.Answer.{Answer}
 use Rattle.irp_unwind.specs.Turns.{outcome_of, marked, left_locations, left_packet, IsBare}
 use Rattle.irp_unwind.proofs.Turns.{Turned}
 use Rattle.irp_unwind.proofs.Unwinds.{replicate_then}
-
-or_false : (b : Bool) → (b || false) ≡ b
-or_false true = refl
-or_false false = refl
-
-or_true : (b : Bool) → (b || true) ≡ true
-or_true true = refl
-or_true false = refl
 
 pub length_left : (packet : PacketValue) (m : Bool) → length (left_locations packet m) ≡ size_of packet
 length_left packet true = length-set _ _ _ ∙ length-set _ _ _
@@ -41,11 +34,11 @@ near_left packet true some h =
     let lt : packet.current < length bare = omega (arith, length-set packet.locations (packet.current - 1) cleared) in
     get_or-set_same bare packet.current (marked (get_or bare packet.current cleared)) cleared lt
     ∙ ap marked (get_or-set_other packet.locations (packet.current - 1) packet.current cleared cleared n2)
-    ∙ ap (λ b. record (get_or packet.locations packet.current cleared) { pending = b }) (sym (or_true (get_or packet.locations packet.current cleared).pending))
+    ∙ ap (λ b. record (get_or packet.locations packet.current cleared) { pending = b }) (sym (or-true (get_or packet.locations packet.current cleared).pending))
 near_left packet false some h =
     let n2 : packet.current ≢ packet.current - 1 = omega arith in
     get_or-set_other packet.locations (packet.current - 1) packet.current cleared cleared n2
-    ∙ ap (λ b. record (get_or packet.locations packet.current cleared) { pending = b }) (sym (or_false (get_or packet.locations packet.current cleared).pending))
+    ∙ ap (λ b. record (get_or packet.locations packet.current cleared) { pending = b }) (sym (or-false (get_or packet.locations packet.current cleared).pending))
 
 drop_left : (packet : PacketValue) (m : Bool) (n : ℕ) → packet.current < n → drop n (left_locations packet m) ≡ drop n packet.locations
 drop_left packet true n h =

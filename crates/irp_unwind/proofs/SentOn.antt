@@ -1,6 +1,7 @@
 -- What one device of a descent leaves, and how the rest goes on from there.
-use Rattle.std.proofs.Common.{◌≡◌, ℕ, ◌+◌, ◌-◌, ◌<◌, ◌≤◌, ◌≢◌, Bool, true, false, cond, ◌||◌, ◌&&◌, ◌==◌, List, [], ◌∷◌, length, set, refl, sym, ◌∙◌, ap, arith, Option, Some, None, ◌⊎◌, inl, inr}
+use Rattle.std.proofs.Common.{◌≡◌, ℕ, ◌+◌, ◌-◌, ◌<◌, ◌≤◌, ◌≢◌, true, false, cond, ◌||◌, ◌&&◌, ◌==◌, List, [], ◌∷◌, length, set, refl, sym, ◌∙◌, ap, arith, Option, Some, None, ◌⊎◌, inl, inr}
 use Rattle.std.specs.List.{list_any}
+use Rattle.std.proofs.Math.Bool.{or-false, or-true}
 use Rattle.std.proofs.lemmas.Bool.{cond-true, cond-false, cases_eq, cases_lt, eq-eqb, ne_eqb}
 use Rattle.std.proofs.lemmas.List.{get_or-set_same, get_or-set_other, length-set}
 use Rattle.irp_types.specs.Packet.{PacketValue, size_of, location_at, with_location, cleared, after_enter, after_copy}
@@ -12,14 +13,6 @@ use Rattle.irp_types.specs.declared.routine.Setting.{Setting}
 use Rattle.irp_unwind.specs.Turns.{marked}
 use Rattle.irp_unwind.specs.Devices.{marked_here}
 use Rattle.irp_unwind.proofs.Frames.{set_at, IsPlaced, placed_first, placed_below, last_in, in_here, in_rest, none_above, last_after, any_after}
-
-or_false : (b : Bool) → (b || false) ≡ b
-or_false true = refl
-or_false false = refl
-
-or_true : (b : Bool) → (b || true) ≡ true
-or_true true = refl
-or_true false = refl
 
 pub at_same : (packet : PacketValue) (number : ℕ) (l : Location) → number - 1 < size_of packet → location_at (with_location packet number l) number ≡ l
 at_same packet number l h = get_or-set_same packet.locations (number - 1) l cleared h
@@ -59,7 +52,7 @@ stood_entered packet device frame low high dev e =
         major = was.major;
         word = was.word;
         setting = was.setting;
-        pending = sym (or_false was.pending) i;
+        pending = sym (or-false was.pending) i;
       }) ∙ ap (λ b. record (stood packet frame) { pending = was.pending || b }) (sym e);
       other = λ number a n. at_other packet (first_location packet) number l one a n;
       rest = refl;
@@ -82,7 +75,7 @@ stood_noted packet device frame low high dev e =
         major = was.major;
         word = was.word;
         setting = was.setting;
-        pending = sym (or_true was.pending) i;
+        pending = sym (or-true was.pending) i;
       }) ∙ ap (λ b. record (stood packet frame) { pending = was.pending || b }) (sym e);
       other = λ number a n. at_other q (first_location packet) number next one a n ∙ at_other packet (first_location packet) number l one a n;
       rest = refl;
@@ -114,7 +107,7 @@ passed_one packet q frame low at s =
       major = was.major;
       word = was.word;
       setting = was.setting;
-      pending = was.pending || (sym (or_false (plans marks_location frame)) i);
+      pending = was.pending || (sym (or-false (plans marks_location frame)) i);
     }) ∙ (λ i. record {
       device = Some (record { 0 = (last_frame (frames_in (frame ∷ []) (first_location packet))).device });
       major = was.major;
@@ -167,7 +160,7 @@ sent_skip packet q frame low at copy pend s =
     ap (λ k. (location_at next k).setting) fst ∙ ap (λ (location : Location). location.setting) s.here in
     let content_pending : (location_at next (first_location next)).pending ≡ (location_at packet (first_location packet)).pending =
     ap (λ k. (location_at next k).pending) fst ∙ ap (λ (location : Location). location.pending) s.here
-    ∙ ap (λ b. (location_at packet (first_location packet)).pending || b) pend ∙ or_false (location_at packet (first_location packet)).pending in
+    ∙ ap (λ b. (location_at packet (first_location packet)).pending || b) pend ∙ or-false (location_at packet (first_location packet)).pending in
     let major : (location_at next (first_location next)).major ≡ (location_at packet (first_location packet)).major =
     ap (λ k. (location_at next k).major) fst ∙ ap (λ (location : Location). location.major) s.here in
     let word : (location_at next (first_location next)).word ≡ (location_at packet (first_location packet)).word =
@@ -271,7 +264,7 @@ sent_copy packet q frame set low high at copy planned s =
             major = was.major;
             word = was.word;
             setting = was.setting;
-            pending = was.pending || (sym (or_false (plans marks_location frame)) i);
+            pending = was.pending || (sym (or-false (plans marks_location frame)) i);
           }) ∙ (λ i. record {
             device = Some (record { 0 = (last_frame (frames_in (frame ∷ follower ∷ others) (first_location packet))).device });
             major = was.major;

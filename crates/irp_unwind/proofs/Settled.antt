@@ -22,9 +22,6 @@ use Rattle.irp_unwind.proofs.Left.{turned_left}
 from_start : (irp : IrpRef) (packet n : PacketValue) (later : List Asking) → Unwound irp packet later n → AllByRecursion (λ other_asking. packet.current ≤ place_of other_asking) later
 from_start irp packet n later unwound = above_start place_of (is_met_at packet later) packet.current _ later unwound.asked_right.places
 
-rest_of : PacketValue → List Asking → List ℕ
-rest_of packet later = filter (is_met_at packet later) (from_to (packet.current + 1) (stop_of packet later))
-
 split_places : (irp : IrpRef) (packet n : PacketValue) (later : List Asking) → packet.current ≤ size_of packet → Unwound irp packet later n
     → map place_of later ≡ cond (is_met_at packet later packet.current) (packet.current ∷ filter (is_met_at packet later) (from_to (packet.current + 1) (stop_of packet later))) (filter (is_met_at packet later) (from_to (packet.current + 1) (stop_of packet later)))
 split_places irp packet n later h unwound =

@@ -31,8 +31,8 @@ all_split P [] ys a = (tt, a)
 all_split P (x ∷ xs) ys a = let b = all_split P xs ys a.1 in ((a.0, b.0), b.1)
 
 placed_tail : (frame : Frame) (frames : List Frame) (n : ℕ) → IsPlaced (frame ∷ frames) n → IsPlaced frames (n - cond (plans is_copying frame) 1 0)
-placed_tail frame frames n packet k h =
-    let e = packet (suc k) (omega arith) in
+placed_tail frame frames n placed k h =
+    let e = placed (suc k) (omega arith) in
     let c : count_by (plans is_copying) (frame ∷ take k frames) ≡ cond (plans is_copying frame) 1 0 + count_by (plans is_copying) (take k frames) =
     sum_by-cons (λ x. cond (plans is_copying x) 1 0) frame (take k frames) in
     omega (arith, e, c)
@@ -48,7 +48,7 @@ module _ (planned_by : DispatchId → Shown → Plan) (reply : RoutineId → Sho
   abbrev Told : Asked → Type 0
   Told = IsReplyOf planned_by reply cancel_reply
 
-  -- a plan is settled by the place_of of its frame
+  -- a frame is settled by its device, its location and what its dispatch was told to answer
   same_frame : (frame other : Frame) → frame.device ≡ other.device → frame.location ≡ other.location → IsPlanned tables irp packet devices frame → IsPlanned tables irp packet devices other
       → AllByRecursion Told (question_at tables devices frame (shown_to irp packet devices frame)) → AllByRecursion Told (question_at tables devices other (shown_to irp packet devices other)) → frame ≡ other
   same_frame frame other d l a b ta tb =

@@ -1,7 +1,8 @@
 -- A descent leaves a packet with the standing facts, if it had them.
-use Rattle.std.proofs.Common.{◌≡◌, ℕ, ◌+◌, ◌<◌, ◌≤◌, zero, suc, Bool, true, false, ◌||◌, ◌&&◌, ◌==◌, is_some, List, [], ◌∷◌, refl, sym, ◌∙◌, ap, subst, arith, Option, Some, None, inl, inr}
+use Rattle.std.proofs.Common.{◌≡◌, ℕ, ◌+◌, ◌<◌, ◌≤◌, zero, suc, true, false, ◌||◌, ◌&&◌, ◌==◌, is_some, List, [], ◌∷◌, refl, sym, ◌∙◌, ap, subst, arith, Option, Some, None, inl, inr}
 use Rattle.std.specs.List.{list_any, AllByRecursion}
 use Rattle.std.specs.Option.{option_map_or}
+use Rattle.std.proofs.Math.Bool.{or-true}
 use Rattle.std.proofs.lemmas.Bool.{cases_lt, cases_eq, cases_Bool, cond-true, cond-false, eq-eqb, ne_eqb}
 use Rattle.irp_types.specs.Status.{invalid_device_request}
 use Rattle.irp_types.specs.Rules.{is_known}
@@ -29,16 +30,12 @@ use Rattle.irp_unwind.proofs.SetKnown.{sets_known, known_counted, cancel_counted
 use Rattle.irp_unwind.proofs.Stays.{all_in, last_of}
 use Rattle.irp_unwind.proofs.SoundUnwound.{unwound_sound}
 
-or_true : (one : Bool) → (one || true) ≡ true
-or_true true = refl
-or_true false = refl
-
 -- where the last frame marks its location, some frame does
 last_marks : (frames : List Frame) → plans marks_location (last_frame frames) ≡ true → list_any (plans marks_location) frames ≡ true
 last_marks [] marks = absurd (cc)
 last_marks (frame ∷ []) marks = ap (λ one. one || false) marks
 last_marks (frame ∷ follower ∷ others) marks =
-    ap (λ rest. plans marks_location frame || rest) (last_marks (follower ∷ others) marks) ∙ or_true (plans marks_location frame)
+    ap (λ rest. plans marks_location frame || rest) (last_marks (follower ∷ others) marks) ∙ or-true (plans marks_location frame)
 
 -- where the last frame marks, some frame of its location does
 last_marks_here : (frames : List Frame) → plans marks_location (last_frame frames) ≡ true → list_any (plans marks_location) (frames_in frames (last_frame frames).location) ≡ true
@@ -50,7 +47,7 @@ last_marks_here (frame ∷ follower ∷ others) marks =
     elim (cases_eq frame.location number) as (λ _. list_any (plans marks_location) (frames_in (frame ∷ follower ∷ others) number) ≡ true) [
       | inl same ↦
           ap (list_any (plans marks_location)) (in_here frame (follower ∷ others) number same)
-          ∙ ap (λ one. plans marks_location frame || one) rest ∙ or_true (plans marks_location frame)
+          ∙ ap (λ one. plans marks_location frame || one) rest ∙ or-true (plans marks_location frame)
       | inr other ↦ ap (list_any (plans marks_location)) (in_rest frame (follower ∷ others) number other) ∙ rest
     ]
 
@@ -152,7 +149,7 @@ module _ (tables : Tables) (irp : IrpRef) (devices : DevicesValue) (old reached 
               let content = location_at old first in
               ap (λ (location : Location). location.pending) used
               ∙ ap (λ some. ((number + 1 == first) && content.pending) || some) (last_marks (frames_in frames (number + 1)) marks)
-              ∙ or_true ((number + 1 == first) && content.pending)
+              ∙ or-true ((number + 1 == first) && content.pending)
         ]
       ]
 
@@ -196,7 +193,7 @@ module _ (tables : Tables) (irp : IrpRef) (devices : DevicesValue) (old reached 
       let marked : (location_at reached last).pending ≡ true =
       ap (λ (location : Location). location.pending) (passed.used last (omega arith) below_first)
       ∙ ap (λ some. ((last == first) && content.pending) || some) (last_marks_here frames marks)
-      ∙ or_true ((last == first) && content.pending) in
+      ∙ or-true ((last == first) && content.pending) in
       subst (λ (value : PacketValue). IsSound tables.counts (record value { owner = Device (record { 0 = (last_frame frames).device }); cancel_routine = cancel })) (sym passed.others) (record {
         some = omega (arith, fit.placed, fit.within);
         few = fit.few;

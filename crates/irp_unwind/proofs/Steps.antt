@@ -1,5 +1,6 @@
 -- What each way through one turn of the code shows.
 use Rattle.std.proofs.Common.{◌≡◌, ◌+◌, ◌-◌, ◌<◌, ◌≤◌, Bool, true, false, cond, not, ◌&&◌, is_some, List, [], ◌∷◌, ◌++◌, map, refl, sym, ◌∙◌, ap, subst, arith, append_assoc, Some, None, unwrap_or, inl, inr}
+use Rattle.std.proofs.Math.Bool.{and-false, and-true}
 use Rattle.std.proofs.lemmas.Bool.{cond-false}
 use Rattle.std.proofs.lemmas.List.{get_or_past, append-nil}
 use Rattle.irp_types.specs.Packet.{PacketValue, size_of, location_at, cleared}
@@ -23,14 +24,6 @@ use Rattle.irp_unwind.proofs.Turns.{Turned}
 use Rattle.irp_unwind.proofs.Unwinds.{continue_asked, continue_passed, ends_kept, ends_asked, ends_passed}
 use Rattle.irp_unwind.proofs.Left.{turned_left}
 
-and_true : (b : Bool) → (b && true) ≡ b
-and_true true = refl
-and_true false = refl
-
-and_false : (b : Bool) → (b && false) ≡ false
-and_false true = refl
-and_false false = refl
-
 pub mark_kept : (packet : PacketValue) (answer : Answer) → IsMark packet answer → answer.keep ≡ true → answer.mark ≡ false
 mark_kept packet answer m keep = m ∙ ap (λ b. not b && ((location_at packet packet.current).pending && is_some (device_above packet packet.current))) keep
 
@@ -42,12 +35,12 @@ none_above packet h =
 pub mark_top : (packet : PacketValue) (answer : Answer) → IsMark packet answer → packet.current ≡ size_of packet → answer.mark ≡ false
 mark_top packet answer m h =
     m ∙ ap (λ b. not answer.keep && ((location_at packet packet.current).pending && b)) (none_above packet h)
-    ∙ ap (λ b. not answer.keep && b) (and_false (location_at packet packet.current).pending) ∙ and_false (not answer.keep)
+    ∙ ap (λ b. not answer.keep && b) (and-false (location_at packet packet.current).pending) ∙ and-false (not answer.keep)
 
 pub mark_on : (packet : PacketValue) (answer : Answer) → IsMark packet answer → answer.keep ≡ false → is_some (device_above packet packet.current) ≡ true → answer.mark ≡ (location_at packet packet.current).pending
 mark_on packet answer m keep d =
     m ∙ ap (λ b. not b && ((location_at packet packet.current).pending && is_some (device_above packet packet.current))) keep
-    ∙ ap (λ b. (location_at packet packet.current).pending && b) d ∙ and_true (location_at packet packet.current).pending
+    ∙ ap (λ b. (location_at packet packet.current).pending && b) d ∙ and-true (location_at packet packet.current).pending
 
 left_ended : (packet : PacketValue) (answer : Answer) (o : Owner) → answer.mark ≡ false
     → record (left_packet packet answer) { owner = o } ≡ ended_packet packet (unwrap_or answer.replacement (outcome_of packet)) o

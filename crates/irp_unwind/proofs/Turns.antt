@@ -2,6 +2,7 @@
 use Rattle.std.proofs.Common.{◌≡◌, ℕ, ◌+◌, ◌-◌, ◌<◌, ◌≤◌, Bool, true, false, cond, ◌||◌, is_some, List, [], ◌∷◌, ◌++◌, drop, replicate, refl, sym, ◌∙◌, ap, arith, Some, None}
 use Rattle.std.specs.List.{list_any, find, AllByRecursion}
 use Rattle.std.specs.Option.{option_map_or}
+use Rattle.std.proofs.Math.Bool.{or-false}
 use Rattle.std.proofs.lemmas.Bool.{cond-false, le-ltb}
 use Rattle.irp_types.specs.Packet.{PacketValue, size_of, location_at, cleared}
 use Rattle.irp_types.specs.Unwinding.{Asking, place_of, last_from, replaced_below, outcome_at, is_met_at, from_to, pending_returned_at, keeper_of, stop_of, device_above, shown_at, IsAskedRight, owner_from, unwound_packet}
@@ -136,11 +137,7 @@ pub pending_here : (packet : PacketValue) → pending_returned_at packet packet.
 pending_here packet =
     let e : from_to packet.current packet.current ≡ packet.current ∷ [] = from_to-cons packet.current packet.current (omega arith) ∙ ap (λ items. packet.current ∷ items) (from_to-last packet.current) in
     let b = (location_at packet packet.current).pending in
-    ap (list_any (λ k. (location_at packet k).pending)) e ∙ or_false b
-  where
-    or_false : (b : Bool) → (b || false) ≡ b
-    or_false true = refl
-    or_false false = refl
+    ap (list_any (λ k. (location_at packet k).pending)) e ∙ or-false b
 
 pub place_now : (irp : IrpRef) (packet : PacketValue) (asking : Asking) → IsAskedNow irp packet asking → place_of asking ≡ packet.current
 place_now irp packet asking a = λ i. (a.shown i).location

@@ -2,7 +2,7 @@
 
 ghost use Rattle.std.specs.Prelude.{◌≡◌, ◌+◌, ◌-◌, ◌<◌, ◌≤◌, true, false, is_some, Some, length, vec_len, vec_capacity};
 ghost use Rattle.std.specs.Option.{option_map_or};
-ghost use Rattle.irp_types.specs.Packet.{size_of, location_at};
+ghost use Rattle.irp_types.specs.Packet.{size_of};
 ghost use Rattle.irp_types.specs.Stacks.{facts_of, lower_of};
 ghost use Rattle.irp_types.specs.Descent.{is_passing, is_copying, marks_location, final_status};
 ghost use Rattle.irp_routines.specs.Answers.{IsAnswered};

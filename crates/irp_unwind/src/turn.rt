@@ -1,8 +1,8 @@
 //! One location of an unwinding.
 
-ghost use Rattle.std.specs.Prelude.{◌≡◌, ◌+◌, ◌<◌, ◌≤◌, ◌++◌, ◌∷◌, [], true, Some, vec_len, vec_capacity};
-ghost use Rattle.irp_types.specs.Rules.{count_of_rule, is_known};
-ghost use Rattle.irp_types.specs.Packet.{size_of, location_at};
+ghost use Rattle.std.specs.Prelude.{◌≡◌, ◌+◌, ◌<◌, ◌≤◌, ◌++◌, ◌∷◌, [], true, vec_len, vec_capacity};
+ghost use Rattle.irp_types.specs.Rules.{is_known};
+ghost use Rattle.irp_types.specs.Packet.{size_of};
 ghost use Rattle.irp_types.specs.Unwinding.{meets_flags, device_above};
 ghost use Rattle.irp_types.specs.declared.asked.Asked.TheVariants.{Completion};
 ghost use Rattle.irp_unwind.specs.Conditions.{HasRoutines};
