@@ -5,19 +5,22 @@ use Rattle.std.specs.FinMap as fin
 use Rattle.irp_types.specs.Limits.{most_locations, most_live, use_limit}
 use Rattle.irp_types.specs.Status.{is_completable}
 use Rattle.irp_types.specs.Checks.{Check, first_failing, or_else}
-use Rattle.irp_types.specs.Packet.{PacketValue, location_check, skip_check, preparation_check, set_next_refusal}
+use Rattle.irp_types.specs.Rules.{is_known}
+use Rattle.irp_types.specs.Packet.{PacketValue, location_check, skip_check, preparation_check, set_next_refusal, set_routine_refusal}
 use Rattle.irp_types.specs.Stacks.{DevicesValue, stack_size_of, lower_of, device_checks, create_checks, attach_checks, detach_checks}
 use Rattle.irp_types.specs.State.{StateValue, Fixed, live_at, packet_at, packet_of}
 use Rattle.irp_types.specs.declared.status.Status.{Status}
 use Rattle.irp_types.specs.declared.names.IrpRef.{IrpRef}
 use Rattle.irp_types.specs.declared.location.Owner.{Owner}
 use Rattle.irp_types.specs.declared.location.Owner.TheVariants.{Originator, Device, Ended}
+use Rattle.irp_types.specs.declared.routine.Known.{Known}
+use Rattle.irp_types.specs.declared.routine.Setting.{Setting}
 use Rattle.irp_types.specs.declared.call.Party.{Party}
 use Rattle.irp_types.specs.declared.call.Party.TheVariants.{Originator as ByOriginator, Device as ByDevice}
 use Rattle.irp_types.specs.declared.call.Call.{Call}
-use Rattle.irp_types.specs.declared.call.Call.TheVariants.{CreateDevice, Attach, Detach, Allocate, SetNext, CallDriver, Complete, Look}
+use Rattle.irp_types.specs.declared.call.Call.TheVariants.{CreateDevice, Attach, Detach, Allocate, SetNext, SetRoutine, CallDriver, Complete, Look}
 use Rattle.irp_types.specs.declared.refusal.Refusal.{Refusal}
-use Rattle.irp_types.specs.declared.refusal.Refusal.TheVariants.{NoIrp, Stale, NotOwner, TooShort, WrongTarget, BadStatus, CancelRoutineSet, Full, BadSize, NoDriver, Ended as HasEnded, NoLock}
+use Rattle.irp_types.specs.declared.refusal.Refusal.TheVariants.{NoIrp, Stale, NotOwner, TooShort, WrongTarget, NoRoutine, BadStatus, CancelRoutineSet, Full, BadSize, NoDriver, Ended as HasEnded, NoLock}
 
 -- the use was completed
 abbrev pub has_ended : Owner → Bool
@@ -56,6 +59,11 @@ party_refusal state party irp =
     let owner = (packet_of state irp).owner in
     first_failing (packet_checks state irp ++ (has_ended owner, HasEnded) ∷ (not (is_owner party owner), NotOwner) ∷ [])
 
+-- why the owner can't set a completion routine where so many are there, or none
+abbrev pub routine_refusal : Known → PacketValue → Setting → Option Refusal
+routine_refusal counts packet setting =
+    or_else (set_routine_refusal packet) (first_failing ((not (is_known counts setting), NoRoutine) ∷ []))
+
 -- a device sends elsewhere than to the device below it
 abbrev pub is_wrong_target : DevicesValue → Party → ℕ → Bool
 is_wrong_target devices ByOriginator target = false
@@ -88,6 +96,8 @@ first_refusal fixed state drained (Allocate size) = first_failing (
     ∷ (nat_le most_live (fin.len state.live) || nat_le use_limit state.next_use, Full) ∷ [])
 first_refusal fixed state drained (SetNext party irp major word) =
     or_else (party_refusal state party irp) (set_next_refusal (packet_of state irp) major)
+first_refusal fixed state drained (SetRoutine party irp setting) =
+    or_else (party_refusal state party irp) (routine_refusal fixed.tables.counts (packet_of state irp) setting)
 first_refusal fixed state drained (CallDriver party irp target) =
     or_else (party_refusal state party irp) (send_refusal state.devices party (packet_of state irp) target.0)
 first_refusal fixed state drained (Complete party irp status information) =

@@ -1,7 +1,7 @@
 -- One step of the manager.
 use Rattle.std.specs.Prelude.{ℕ, ◌≡◌, ◌+◌, Bool, false, if◌then◌else◌, List, [], map, length, None, MatchOption}
 use Rattle.std.specs.FinMap as fin
-use Rattle.irp_types.specs.Packet.{PacketValue, location_at, new_packet, with_status, after_set_next, is_above_top}
+use Rattle.irp_types.specs.Packet.{PacketValue, location_at, new_packet, with_status, after_set_next, after_set_routine, is_above_top}
 use Rattle.irp_types.specs.Unwinding.{Asking, as_asked, Unwound}
 use Rattle.irp_types.specs.Stacks.{top_of, cut_off_by, after_create, after_attach, after_detach}
 use Rattle.irp_types.specs.State.{StateValue, Fixed, live_at, packet_of, with_packet}
@@ -11,7 +11,7 @@ use Rattle.irp_types.specs.declared.status.Status.{Status}
 use Rattle.irp_types.specs.declared.names.IrpRef.{IrpRef}
 use Rattle.irp_types.specs.declared.asked.Asked.{Asked}
 use Rattle.irp_types.specs.declared.call.Call.{Call}
-use Rattle.irp_types.specs.declared.call.Call.TheVariants.{CreateDevice, Attach, Detach, Allocate, SetNext, CallDriver, Complete, Look}
+use Rattle.irp_types.specs.declared.call.Call.TheVariants.{CreateDevice, Attach, Detach, Allocate, SetNext, SetRoutine, CallDriver, Complete, Look}
 use Rattle.irp_types.specs.declared.reply.Seen.{Seen}
 use Rattle.irp_types.specs.declared.reply.Reply.{Reply}
 use Rattle.irp_types.specs.declared.reply.Reply.TheVariants.{Done, Device, Irp, Status as StatusIs, Seen as SeenAs, Refused}
@@ -57,6 +57,8 @@ Effect fixed old (Allocate size) asked reply new =
     × Unasked asked reply new (Irp (record { slot = slot; use_no = old.next_use })) (with_new_packet old slot (new_packet size))
 Effect fixed old (SetNext party irp major word) asked reply new =
     Unasked asked reply new Done (with_packet old irp.slot (after_set_next (packet_of old irp) major word))
+Effect fixed old (SetRoutine party irp setting) asked reply new =
+    Unasked asked reply new Done (with_packet old irp.slot (after_set_routine (packet_of old irp) setting))
 Effect fixed old (CallDriver party irp target) asked reply new =
     (packet : PacketValue) × (status : Status)
     × Descended fixed.tables irp old.devices (packet_of old irp) target.0 asked packet status

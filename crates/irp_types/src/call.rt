@@ -1,6 +1,7 @@
 //! Calls of the manager.
 
 use crate::names::{DeviceId, DriverId, IrpRef, LockNo};
+use crate::routine::Setting;
 use crate::status::Status;
 
 /// Who makes a call on a packet's content.
@@ -37,6 +38,13 @@ pub enum Call {
         irp: IrpRef,
         major: u8,
         word: u64,
+    },
+    /// Puts a completion routine, its context and its flags into the next lower location, in place of what was set
+    /// there (WDK: "IoSetCompletionRoutine").
+    SetRoutine {
+        party: Party,
+        irp: IrpRef,
+        setting: Setting,
     },
     /// Sends the packet to the target (WDK: "IoCallDriver").
     CallDriver {

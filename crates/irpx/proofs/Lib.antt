@@ -1,16 +1,2 @@
-pub mod Locations
-pub mod UnwoundPlain
-pub mod DevicesDown
-pub mod SentAlone
-pub mod Sound
-pub mod Marks
-pub mod Descends
-pub mod Maps
-pub mod SlotMaps
-pub mod OnePacket
-pub mod Turns
-pub mod Fresh
-pub mod Handed
-pub mod Recording
 pub mod Puts
 pub mod CommandLine

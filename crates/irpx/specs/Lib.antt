@@ -1,11 +1,3 @@
-pub mod Plain
-pub mod Passing
-pub mod PassingFacts
-pub mod Slots
-pub mod Calls
-pub mod Notes
-pub mod Cores
-pub mod Booked
 pub mod Out
 pub mod Json
 pub mod Lines

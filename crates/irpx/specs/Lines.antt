@@ -160,6 +160,9 @@ call_json (call.Allocate size) = fields ((codes "do", string (codes "allocate"))
 call_json (call.SetNext party irp major word) =
     fields ((codes "by", party_json party) ∷ (codes "do", string (codes "set_next")) ∷ (codes "irp", irp_json irp)
     ∷ (codes "major", natural major) ∷ (codes "word", natural word) ∷ [])
+call_json (call.SetRoutine party irp setting) =
+    fields ((codes "by", party_json party) ∷ (codes "do", string (codes "set_routine")) ∷ (codes "irp", irp_json irp)
+    ∷ (codes "set", setting_json setting) ∷ [])
 call_json (call.CallDriver party irp target) =
     fields ((codes "by", party_json party) ∷ (codes "do", string (codes "call_driver")) ∷ (codes "irp", irp_json irp)
     ∷ (codes "target", device_json target) ∷ [])

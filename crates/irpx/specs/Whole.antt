@@ -87,6 +87,7 @@ call_whole (call.Attach device to) = refl
 call_whole (call.Detach lower) = refl
 call_whole (call.Allocate size) = refl
 call_whole (call.SetNext party irp major word) = or_whole _ _ (party_whole party) refl
+call_whole (call.SetRoutine party irp setting) = or_whole _ _ (party_whole party) refl
 call_whole (call.CallDriver party irp target) = or_whole _ _ (party_whole party) refl
 call_whole (call.Complete party irp status information) = or_whole _ _ (party_whole party) refl
 call_whole (call.Look irp) = refl

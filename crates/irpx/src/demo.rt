@@ -7,8 +7,8 @@ ghost use Rattle.irpx.specs.declared.ending.Ending.TheVariants.{Done, OtherWords
 ghost use Rattle.irpx.specs.Out.{risen};
 
 use crate::ending::Ending;
-use crate::irp_manager::{Book, KnowsNothing, Seat};
 use crate::irp_text::{Cause, Header, Out, write_transcript};
+use irp_manager::{Book, KnowsNothing, Seat};
 use irp_routines::{Ask, Dispatch, FixedTables, Parts, Store};
 use irp_types::{
     Call, DispatchId, DriverId, Entry, Known, LockNo, Party, Plan, Reply, Row, Shown, Status,

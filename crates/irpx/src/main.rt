@@ -3,9 +3,7 @@
 
 mod demo;
 mod ending;
-mod irp_manager;
 mod irp_text;
-mod irp_unwind;
 mod orders;
 #[cfg(test)]
 mod tests;

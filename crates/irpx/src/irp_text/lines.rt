@@ -8,7 +8,7 @@ ghost use Rattle.irpx.specs.Whole.{asked_whole, call_whole, entry_whole, header_
 use crate::irp_text::form::ToJson;
 use crate::irp_text::header::Header;
 use crate::irp_text::names::name_of_refusal;
-use irp_types::{Asked, Call, DeviceId, Entry, IrpRef, Known, Party, Reply, Status};
+use irp_types::{Asked, Call, DeviceId, Entry, IrpRef, Known, Party, Reply, Setting, Status};
 use serde_json::{Value, json};
 use std::alloc::{AllocError, Global};
 
@@ -61,6 +61,21 @@ fn form_of_set_next(
     json!(in alloc; {"by": party, "do": "set_next", "irp": irp, "major": major, "word": word})
 }
 
+/// The form of a call that sets a completion routine.
+fn form_of_set_routine(
+    alloc: Global,
+    party: Party,
+    irp: IrpRef,
+    setting: Setting,
+) -> Result<Value, AllocError>
+    ensures { IfOk result (λ value. view value ≡ call_json (Call.SetRoutine party irp setting)) }
+{
+    let party = party.to_json(alloc)?;
+    let irp = irp.to_json(alloc)?;
+    let setting = setting.to_json(alloc)?;
+    json!(in alloc; {"by": party, "do": "set_routine", "irp": irp, "set": setting})
+}
+
 /// The form of a call that sends a packet.
 fn form_of_call_driver(
     alloc: Global,
@@ -108,6 +123,11 @@ impl ToJson for Call {
                 major,
                 word,
             } => form_of_set_next(alloc, party, irp, major, word),
+            Call::SetRoutine {
+                party,
+                irp,
+                setting,
+            } => form_of_set_routine(alloc, party, irp, setting),
             Call::CallDriver { party, irp, target } => form_of_call_driver(
                 alloc, party, irp, target,
             ),

@@ -305,7 +305,16 @@ fn calls_have_their_forms(rt: HostRuntime) -> Result<(), Fail> {
         status: Status::CANCELLED,
         information: 18446744073709551615,
     };
+    let set_routine = Call::SetRoutine {
+        party: Party::Originator,
+        irp: IRP,
+        setting: setting(true, false, true),
+    };
     for (call, text) in [
+        (
+            set_routine,
+            r#"{"by":"o","do":"set_routine","irp":[0,1],"set":["watch",2,9,"sc"]}"#,
+        ),
         (
             complete,
             r#"{"by":2,"do":"complete","information":18446744073709551615,"irp":[0,1],"status":3221225760}"#,

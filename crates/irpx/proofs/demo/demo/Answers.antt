@@ -1,13 +1,12 @@
 -- Before anything went out, what went out is the beginning of any text, as of one with no entries.
-use Rattle.std.proofs.Common.{ℕ, ◌<◌, ◌≤◌, List, [], Option, length, subst, sym, refl, arith, length-append}
+use Rattle.std.proofs.Common.{ℕ, ◌<◌, ◌≤◌, List, [], ◌∷◌, Option, length, subst, sym, refl, arith, length-append}
 use Rattle.std.proofs.lemmas.List.Elements.{All-nil}
 use Rattle.irp_types.specs.Histories.{IsLegal}
 use Rattle.irpx.specs.declared.irp_text.header.Header.{Header}
 use Rattle.irpx.specs.Demo.{fixed_of, IsHeader, BeginsLegal}
 use Rattle.irpx.specs.Json.{line_text}
 use Rattle.irpx.specs.Lines.{lines, text_of, header_json}
-use Rattle.irp_types.specs.State.{no_routines}
-use Rattle.irpx.proofs.Recording.{leads_none}
+use Rattle.irp_types.specs.State.{no_routines, opening_state}
 use Rattle.irpx.proofs.Puts.{appends_none, text_cons, line_some}
 use Rattle.irpx.proofs.demo.demo.Goals as goal
 
@@ -43,7 +42,7 @@ fits = record {
 }
 
 none_legal : IsLegal (fixed_of some_header) []
-none_legal = ((leads_none (fixed_of some_header)).0, (leads_none (fixed_of some_header)).1)
+none_legal = (opening_state ∷ [], record { longer = refl; opens = refl; follows = λ number entry old new at. cc })
 
 text_some : 0 < length (text_of (lines some_header []))
 text_some =

@@ -1,0 +1,83 @@
+-- The standing facts once a packet or a device was made.
+use Rattle.std.proofs.Common.{◌≡◌, ℕ, ◌+◌, ◌<◌, ◌≤◌, false, ◌||◌, ◌==◌, Some, sym, ◌∙◌, ap, subst, arith, ◌⊎◌, inl, inr}
+use Rattle.std.specs.Prelude.{nat_lt, if◌then◌else◌, Result, Ok, Err}
+use Rattle.std.proofs.lemmas.Bool.{cases_eq, or_from, ne_eqb, cond-false}
+use Rattle.std.proofs.lemmas.Option.{same_Some}
+use Rattle.std.specs.FinMap as fin
+use Rattle.irp_types.specs.Limits.{most_locations}
+use Rattle.irp_types.specs.Packet.{PacketValue, new_packet}
+use Rattle.irp_types.specs.Stacks.{DevicesValue, AreStacks}
+use Rattle.irp_types.specs.State.{StateValue, LivePacket, live_at}
+use Rattle.irp_types.specs.Steps.{with_new_packet}
+use Rattle.irp_types.specs.Standing.{IsSound, StandingFacts}
+use Rattle.irp_types.specs.declared.routine.Known.{Known}
+use Rattle.irp_types.specs.declared.refusal.Refusal.{Refusal}
+use Rattle.irp_types.specs.declared.refusal.Refusal.TheVariants.{BadSize}
+use Rattle.irp_manager.proofs.Maps.{get_inserted, get_kept}
+
+-- a size in range gives a packet
+pub made : (size : ℕ) (packet : PacketValue) → 1 ≤ size → size ≤ most_locations
+    → ◌≡◌ {A = Result PacketValue Refusal} (Ok packet) (if (size == 0) || nat_lt most_locations size then Err BadSize else Ok (new_packet size)) → packet ≡ new_packet size
+made size packet some few is =
+    let not_none : (size == 0) ≡ false = ne_eqb size 0 (λ zero. omega arith) in
+    let not_many : nat_lt most_locations size ≡ false = grind arith in
+    let fits : ((size == 0) || nat_lt most_locations size) ≡ false = or_from (size == 0) (nat_lt most_locations size) not_none not_many in
+    let given : ◌≡◌ {A = Result PacketValue Refusal} (Ok packet) (Ok (new_packet size)) = is ∙ cond-false _ _ _ fits in
+    cc
+
+-- a live packet is the new one, or stood before
+new_or_old : (state : StateValue) (slot : ℕ) (packet : PacketValue) (other : ℕ) (there : LivePacket) → live_at (with_new_packet state slot packet) other ≡ Some there
+    → ((other ≡ slot) × (there ≡ record { packet = packet; use_no = state.next_use })) ⊎ (live_at state other ≡ Some there)
+new_or_old state slot packet other there at =
+    let new : LivePacket = record { packet = packet; use_no = state.next_use } in
+    elim (cases_eq other slot) as (λ _. ((other ≡ slot) × (there ≡ new)) ⊎ (live_at state other ≡ Some there)) [
+      | inl is ↦
+          let same : Some there ≡ Some new = sym at ∙ ap (fin.get (fin.insert state.live slot new)) is ∙ get_inserted state.live slot new in
+          inl (is, same_Some there new same)
+      | inr apart ↦ inr (sym (get_kept state.live slot new other apart) ∙ at)
+    ]
+
+pub stands_new : (counts : Known) (state : StateValue) (slot : ℕ) (packet : PacketValue) → IsSound counts packet → StandingFacts counts state → StandingFacts counts (with_new_packet state slot packet)
+stands_new counts state slot packet sound stands = record {
+  packets = λ other there at. elim (new_or_old state slot packet other there at) as (λ _. IsSound counts there.packet) [
+    | inl new ↦ subst (λ (live : LivePacket). IsSound counts live.packet) (sym new.1) sound
+    | inr old ↦ stands.packets other there old
+  ];
+  counter = omega arith;
+  positive = λ other there at. elim (new_or_old state slot packet other there at) as (λ _. 1 ≤ there.use_no) [
+    | inl new ↦ subst (λ (live : LivePacket). 1 ≤ live.use_no) (sym new.1) stands.counter
+    | inr old ↦ stands.positive other there old
+  ];
+  drawn = λ other there at. elim (new_or_old state slot packet other there at) as (λ _. there.use_no < state.next_use + 1) [
+    | inl new ↦ subst (λ (live : LivePacket). live.use_no < state.next_use + 1) (sym new.1) (omega arith)
+    | inr old ↦ let drawn = stands.drawn other there old in omega (arith, drawn)
+  ];
+  apart = λ one two first second at_one at_two same.
+      elim (new_or_old state slot packet one first at_one) as (λ _. one ≡ two) [
+        | inl new_one ↦ elim (new_or_old state slot packet two second at_two) as (λ _. one ≡ two) [
+          | inl new_two ↦ new_one.0 ∙ sym new_two.0
+          | inr old_two ↦
+              let drawn = stands.drawn two second old_two in
+              let number : first.use_no ≡ state.next_use = ap (λ (live : LivePacket). live.use_no) new_one.1 in
+              absurd (omega (arith, drawn, number, same))
+        ]
+        | inr old_one ↦ elim (new_or_old state slot packet two second at_two) as (λ _. one ≡ two) [
+          | inl new_two ↦
+              let drawn = stands.drawn one first old_one in
+              let number : second.use_no ≡ state.next_use = ap (λ (live : LivePacket). live.use_no) new_two.1 in
+              absurd (omega (arith, drawn, number, same))
+          | inr old_two ↦ stands.apart one two first second old_one old_two same
+        ]
+      ];
+  stacks = stands.stacks;
+}
+
+pub stands_devices : (counts : Known) (state : StateValue) (devices : DevicesValue) → AreStacks devices → StandingFacts counts state → StandingFacts counts (record state { devices = devices })
+stands_devices counts state devices stacks stands = record {
+  packets = stands.packets;
+  counter = stands.counter;
+  positive = stands.positive;
+  drawn = stands.drawn;
+  apart = stands.apart;
+  stacks = stacks;
+}

@@ -1,0 +1,10 @@
+pub mod Locations
+pub mod Sound
+pub mod Maps
+pub mod SlotMaps
+pub mod OnePacket
+pub mod Turns
+pub mod Questions
+pub mod Fresh
+pub mod Handed
+pub mod Recording

@@ -1,0 +1,48 @@
+-- The history of a book, as it opens and as it grows.
+use Rattle.std.proofs.Common.{◌≡◌, ℕ, Bool, false, List, [], ◌∷◌, ◌++◌, length, Option, Some, None, refl, sym, ◌∙◌, ap, subst, arith}
+use Rattle.std.proofs.lemmas.Option.{none-some}
+use Rattle.std.specs.Ordering.{nat_cmp}
+use Rattle.std.specs.FinMap as fin
+use Rattle.irp_types.specs.Stacks.{no_devices, AreStacks}
+use Rattle.irp_types.specs.State.{StateValue, LivePacket, Fixed, opening_state, live_at}
+use Rattle.irp_types.specs.Histories.{IsEntryAt, LeadsTo, IsLegal, HistoryGoesOn}
+use Rattle.irp_types.specs.declared.names.LockNo.{LockNo}
+use Rattle.irp_types.specs.declared.entry.Entry.{Entry}
+use Rattle.irp_types.specs.Standing.{StandingFacts}
+use Rattle.irp_types.specs.declared.routine.Known.{Known}
+use Rattle.irp_manager.specs.Notes.{known_by}
+
+pub leads_none : (fixed : Fixed) → LeadsTo fixed [] opening_state
+leads_none fixed = (opening_state ∷ [], record { longer = refl; opens = refl; follows = λ number entry old new at. cc }, refl)
+
+pub leads_more : HistoryGoesOn → (fixed : Fixed) (history longer : List Entry) (old new : StateValue) (entry : Entry)
+    → LeadsTo fixed history old → IsEntryAt fixed (length history) old entry new → longer ≡ history ++ entry ∷ [] → LeadsTo fixed longer new
+leads_more goes_on fixed history longer old new entry leads holds grown = subst (λ given. LeadsTo fixed given new) (sym grown) (goes_on fixed history old entry new leads holds)
+
+pub legal : (fixed : Fixed) (history : List Entry) (last : StateValue) → LeadsTo fixed history last → IsLegal fixed history
+legal fixed history last leads = (leads.0, leads.1)
+
+pub undrained : (knows : LockNo → Bool) (lock : Option LockNo) (drained : Bool) → drained ≡ known_by knows lock → lock ≡ None → drained ≡ false
+undrained knows lock drained noted none = noted ∙ ap (known_by knows) none
+
+none_live : (slot : ℕ) (live : LivePacket) → live_at opening_state slot ≡ Some live → ⊥
+none_live slot live at = none-some live (sym (fin.get-empty nat_cmp slot) ∙ at)
+
+no_stacks : AreStacks no_devices
+no_stacks = record {
+  counted = refl;
+  stands = λ device created. absurd (omega arith);
+  members = λ device place created within. absurd (omega arith);
+  few = λ device created. absurd (omega arith);
+  live = λ device created neighbour. absurd (omega arith);
+}
+
+pub stands_opening : (counts : Known) → StandingFacts counts opening_state
+stands_opening counts = record {
+  packets = λ slot live at. absurd (none_live slot live at);
+  counter = omega arith;
+  positive = λ slot live at. absurd (none_live slot live at);
+  drawn = λ slot live at. absurd (none_live slot live at);
+  apart = λ slot other live another at. absurd (none_live slot live at);
+  stacks = no_stacks;
+}

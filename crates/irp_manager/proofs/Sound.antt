@@ -1,0 +1,179 @@
+-- The standing facts of a packet, through each call.
+use Rattle.std.proofs.Common.{◌≡◌, ℕ, ◌+◌, ◌-◌, ◌<◌, ◌≤◌, Bool, true, false, not, List, [], ◌∷◌, length, replicate, Option, Some, None, is_some, refl, ap, sym, ◌∙◌, subst, arith, inl, inr}
+use Rattle.std.specs.Prelude.{if◌then◌else◌, nat_le, slice_index_or}
+use Rattle.std.proofs.lemmas.List.{length-set, length-replicate}
+use Rattle.std.proofs.lemmas.Bool.{false≢true, true≢false, leb-false, cases_eq}
+use Rattle.std.proofs.lemmas.Option.{none-some, same_Some}
+use Rattle.irp_types.specs.Limits.{most_locations}
+use Rattle.irp_types.specs.Rules.{is_known}
+use Rattle.irp_types.specs.Checks.{Check, first_failing, or_else}
+use Rattle.irp_types.specs.Packet.{PacketValue, size_of, location_at, location_with, with_location, with_status, cleared, new_packet, is_nothing, is_filled, is_skipped, lower_check, major_check, preparation_check, set_next_refusal, set_routine_refusal, after_set_next, after_set_routine}
+use Rattle.irp_types.specs.Refusals.{has_ended, is_owned_by_device, routine_refusal}
+use Rattle.irp_types.specs.Standing.{is_keeping, lowest_location, own_location, IsSound}
+use Rattle.irp_types.specs.declared.status.Status.{Status}
+use Rattle.irp_types.specs.declared.location.Location.{Location}
+use Rattle.irp_types.specs.declared.location.Owner.{Owner}
+use Rattle.irp_types.specs.declared.location.Owner.TheVariants.{Originator, Device, Ended}
+use Rattle.irp_types.specs.declared.location.Preparation.{Preparation}
+use Rattle.irp_types.specs.declared.location.Preparation.TheVariants.{Nothing, Filled, Skipped}
+use Rattle.irp_types.specs.declared.routine.Known.{Known}
+use Rattle.irp_types.specs.declared.routine.Setting.{Setting}
+use Rattle.irp_types.specs.declared.refusal.Refusal.{Refusal}
+use Rattle.irp_types.specs.declared.refusal.Refusal.TheVariants.{AfterSkip, NotPrepared, TooShort, NoRoutine}
+use Rattle.irp_manager.proofs.Locations.{at_written, at_other, at_cleared}
+
+-- a check that did not fail, and the others
+pub passed : (fails : Bool) (refusal : Refusal) (others : List Check) → first_failing ((fails, refusal) ∷ others) ≡ None → (fails ≡ false) × (first_failing others ≡ None)
+passed true refusal others none = absurd (none-some refusal (sym none))
+passed false refusal others none = (refl, none)
+
+-- the checks of two groups passed
+both_passed : (one two : Option Refusal) → or_else one two ≡ None → (one ≡ None) × (two ≡ None)
+both_passed None two none = (refl, none)
+both_passed (Some refusal) two none = absurd (none-some refusal (sym none))
+
+pub sound_new : (counts : Known) (size : ℕ) → 1 ≤ size → size ≤ most_locations → IsSound counts (new_packet size)
+sound_new counts size some few =
+    let count : length (replicate size cleared) ≡ size = length-replicate size cleared in
+    let bare : (number : ℕ) → (location_at (new_packet size) number).setting ≡ None = λ number. ap (λ (location : Location). location.setting) (at_cleared size (number - 1)) in
+    record {
+      some = omega arith;
+      few = omega arith;
+      placed = omega arith;
+      within = omega arith;
+      prepared = λ no. absurd (true≢false no);
+      marked = λ no. absurd (false≢true no);
+      devices = λ number from to. absurd (omega arith);
+      originator = λ _. ap (λ given. given + 1) (sym count);
+      routines = λ number setting there. absurd (none-some setting (sym (bare number) ∙ there));
+      cancel = λ routine there. absurd (none-some routine there);
+      keepers = λ number setting from below there keeps. absurd (none-some setting (sym (bare number) ∙ there));
+    }
+
+pub sound_with_status : (counts : Known) (packet : PacketValue) (status : Status) (information : ℕ) → IsSound counts packet → IsSound counts (with_status packet status information)
+sound_with_status counts packet status information sound = record {
+  some = sound.some;
+  few = sound.few;
+  placed = sound.placed;
+  within = sound.within;
+  prepared = sound.prepared;
+  marked = sound.marked;
+  devices = sound.devices;
+  originator = sound.originator;
+  routines = sound.routines;
+  cancel = λ routine there. let cancellable = sound.cancel routine there in record { there = cancellable.there; held = cancellable.held; unskipped = cancellable.unskipped };
+  keepers = sound.keepers;
+}
+
+-- the owner's own location is the current one where it did not skip
+pub pending_here : (counts : Known) (packet : PacketValue) → is_skipped packet.preparation ≡ false → IsSound counts packet
+    → is_owned_by_device packet.owner ≡ true → (location_at packet packet.current).pending ≡ true
+pending_here counts packet unskipped sound owned =
+    subst (λ skipped. (location_at packet (if skipped then packet.current - 1 else packet.current)).pending ≡ true) unskipped (sound.marked owned)
+
+-- the lowest location that counts is never above the current one
+low : (packet : PacketValue) (number : ℕ) → packet.current ≤ number → lowest_location packet ≤ number
+low packet number above = by packet.preparation refl
+  where
+    by : (preparation : Preparation) → packet.preparation ≡ preparation → (if is_nothing preparation then packet.current else packet.current - 1) ≤ number
+    by Nothing is = above
+    by Filled is = omega (arith, above)
+    by Skipped is = omega (arith, above)
+
+-- where its packet is used and stands in a location, the owner is a device
+owned_here : (counts : Known) (packet : PacketValue) → IsSound counts packet → has_ended packet.owner ≡ false → packet.current ≤ size_of packet → is_owned_by_device packet.owner ≡ true
+owned_here counts packet sound used within = by packet.owner refl used
+  where
+    by : (owner : Owner) → packet.owner ≡ owner → has_ended owner ≡ false → is_owned_by_device owner ≡ true
+    by Originator is _ = let top = sound.originator is in absurd (omega (arith, top, within))
+    by (Device device) is _ = refl
+    by Ended is unended = absurd (true≢false unended)
+
+-- another content of the next lower location, which the packet is prepared with: it keeps the standing facts where its
+-- routine is there, and stands above none that may keep but under a mark
+module _ (counts : Known) (packet : PacketValue) (location : Location) (two : 2 ≤ packet.current) (unskipped : is_skipped packet.preparation ≡ false) (sound : IsSound counts packet) where
+  abbrev pub lowered : PacketValue
+  lowered = record (with_location packet (packet.current - 1) location) { preparation = Filled }
+
+  within : packet.current ≤ size_of packet + 1
+  within = sound.within
+
+  size : size_of lowered ≡ size_of packet
+  size = length-set packet.locations (packet.current - 1 - 1) location
+
+  above : (number : ℕ) → packet.current ≤ number → location_at lowered number ≡ location_at packet number
+  above number from = at_other packet (packet.current - 1) number location (λ same. omega arith)
+
+  here : location_at lowered (packet.current - 1) ≡ location
+  here = at_written packet (packet.current - 1) location (omega arith) (omega (arith, within))
+
+  pub sound_lowered : ((setting : Setting) → location.setting ≡ Some setting → is_known counts setting ≡ true)
+      → ((setting : Setting) → location.setting ≡ Some setting → packet.current ≤ size_of packet → (location_at packet packet.current).pending ≡ true)
+      → IsSound counts lowered
+  sound_lowered known under = record {
+    some = omega (arith, size, sound.some);
+    few = omega (arith, size, sound.few);
+    placed = sound.placed;
+    within = omega (arith, size, sound.within);
+    prepared = λ _. two;
+    marked = λ owned. ap (λ (given : Location). given.pending) (above packet.current (omega arith)) ∙ pending_here counts packet unskipped sound owned;
+    devices = λ number from to. ap (λ (given : Location). is_some given.device) (above number from) ∙ sound.devices number from (omega (arith, size, to));
+    originator = λ is. sound.originator is ∙ ap (λ given. given + 1) (sym size);
+    routines = λ number setting there. elim (cases_eq (number - 1) (packet.current - 1 - 1)) as (λ _. is_known counts setting ≡ true) [
+      | inl same ↦ known setting (ap (λ (given : Location). given.setting) (sym here ∙ sym (ap (λ place. slice_index_or lowered.locations place cleared) same)) ∙ there)
+      | inr other ↦ sound.routines number setting (ap (λ (given : Location). given.setting) (sym (at_other packet (packet.current - 1) number location other)) ∙ there)
+    ];
+    cancel = λ routine there. let cancellable = sound.cancel routine there in record { there = cancellable.there; held = cancellable.held; unskipped = refl };
+    keepers = λ number setting from below there keeps. elim (cases_eq number (packet.current - 1)) as (λ _. (location_at lowered (number + 1)).pending ≡ true) [
+      | inl same ↦
+          let up : number + 1 ≡ packet.current = omega (arith, same, two) in
+          let set_here : location.setting ≡ Some setting = ap (λ (given : Location). given.setting) (sym here ∙ sym (ap (location_at lowered) same)) ∙ there in
+          ap (λ given. (location_at lowered given).pending) up ∙ ap (λ (given : Location). given.pending) (above packet.current (omega arith)) ∙ under setting set_here (omega (arith, size, below, same, two))
+      | inr other ↦
+          let higher : packet.current ≤ number = omega (arith, from, other, two) in
+          ap (λ (given : Location). given.pending) (above (number + 1) (omega (arith, higher)))
+          ∙ sound.keepers number setting (low packet number higher) (omega (arith, size, below)) (ap (λ (given : Location). given.setting) (sym (above number higher)) ∙ there) keeps
+    ];
+  }
+
+set_next_passed : (packet : PacketValue) (major : ℕ) → set_next_refusal packet major ≡ None → (is_skipped packet.preparation ≡ false) × (2 ≤ packet.current)
+set_next_passed packet major none =
+    let unskipped = passed (is_skipped packet.preparation) AfterSkip (lower_check packet ∷ major_check major ∷ []) none in
+    let lower = passed (nat_le packet.current 1) TooShort (major_check major ∷ []) unskipped.1 in
+    let two : 1 < packet.current = leb-false packet.current 1 lower.0 in
+    (unskipped.0, omega arith)
+
+pub sound_set_next : (counts : Known) (packet : PacketValue) (major word : ℕ) → set_next_refusal packet major ≡ None
+    → IsSound counts packet → IsSound counts (after_set_next packet major word)
+sound_set_next counts packet major word none sound =
+    let checks = set_next_passed packet major none in
+    sound_lowered counts packet (location_with major word) checks.1 checks.0 sound
+    (λ setting there. absurd (none-some setting there)) (λ setting there. absurd (none-some setting there))
+
+-- what doesn't fail to be so is so
+is_so : (fact : Bool) → not fact ≡ false → fact ≡ true
+is_so true _ = refl
+is_so false fails = absurd (true≢false fails)
+
+-- a packet that passes the checks of a setting was filled
+filled : (packet : PacketValue) (preparation : Preparation) → packet.preparation ≡ preparation
+    → first_failing ((is_skipped preparation, AfterSkip) ∷ (is_nothing preparation, NotPrepared) ∷ []) ≡ None → preparation ≡ Filled
+filled packet Nothing is none = absurd (none-some NotPrepared (sym none))
+filled packet Filled is none = refl
+filled packet Skipped is none = absurd (none-some AfterSkip (sym none))
+
+pub sound_set_routine : (counts : Known) (packet : PacketValue) (setting : Setting) → has_ended packet.owner ≡ false → routine_refusal counts packet setting ≡ None
+    → IsSound counts packet → IsSound counts (after_set_routine packet setting)
+sound_set_routine counts packet setting used none sound =
+    let checks = both_passed (set_routine_refusal packet) (first_failing ((not (is_known counts setting), NoRoutine) ∷ [])) none in
+    let is : packet.preparation ≡ Filled = filled packet packet.preparation refl checks.0 in
+    let unskipped : is_skipped packet.preparation ≡ false = ap is_skipped is in
+    let two : 2 ≤ packet.current = sound.prepared (ap is_nothing is) in
+    let unknown : not (is_known counts setting) ≡ false = (passed (not (is_known counts setting)) NoRoutine [] checks.1).0 in
+    let there = is_so (is_known counts setting) unknown in
+    let location : Location = record (location_at packet (packet.current - 1)) { setting = Some setting } in
+    let same : lowered counts packet location two unskipped sound ≡ after_set_routine packet setting = ap (λ given. record (after_set_routine packet setting) { preparation = given }) (sym is) in
+    subst (IsSound counts) same
+    (sound_lowered counts packet location two unskipped sound
+    (λ other set_there. subst (λ given. is_known counts given ≡ true) (same_Some setting other set_there) there)
+    (λ other set_there within. pending_here counts packet unskipped sound (owned_here counts packet sound used within)))

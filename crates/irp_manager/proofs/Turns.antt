@@ -1,0 +1,86 @@
+-- From what a call did with one packet to its step, and to the standing facts.
+use Rattle.std.proofs.Common.{◌≡◌, ℕ, Bool, false, List, [], Option, Some, None, MatchOption, refl, sym, ◌∙◌, ap, subst}
+use Rattle.irp_types.specs.Checks.{or_else}
+use Rattle.irp_types.specs.Packet.{PacketValue, set_next_refusal, after_set_next, after_set_routine}
+use Rattle.irp_types.specs.State.{StateValue, LivePacket, Fixed, packet_of, with_packet}
+use Rattle.irp_types.specs.Refusals.{has_ended, party_refusal, routine_refusal, send_refusal, complete_refusal}
+use Rattle.irp_types.specs.Steps.{Unasked, Effect, Step}
+use Rattle.irp_types.specs.Standing.{IsSound}
+use Rattle.irp_types.specs.declared.names.IrpRef.{IrpRef}
+use Rattle.irp_types.specs.declared.names.DeviceId.{DeviceId}
+use Rattle.irp_types.specs.declared.status.Status.{Status}
+use Rattle.irp_types.specs.declared.routine.Known.{Known}
+use Rattle.irp_types.specs.declared.routine.Setting.{Setting}
+use Rattle.irp_types.specs.declared.call.Party.{Party}
+use Rattle.irp_types.specs.declared.call.Call.TheVariants.{SetNext, SetRoutine, CallDriver, Complete}
+use Rattle.irp_types.specs.declared.asked.Asked.{Asked}
+use Rattle.irp_types.specs.declared.refusal.Refusal.{Refusal}
+use Rattle.irp_types.specs.declared.reply.Reply.{Reply}
+use Rattle.irp_types.specs.declared.reply.Reply.TheVariants.{Done, Refused}
+use Rattle.irp_manager.specs.Calls.{Goes, Fills, Sets, Sends, Finishes}
+use Rattle.irp_manager.proofs.OnePacket.{GoesOn}
+use Rattle.irp_manager.proofs.Sound.{sound_set_next, sound_set_routine}
+
+-- an effect in place of another, where nothing was refused
+if_none : (refusal : Option Refusal) (one two : Type 0) (refused : Refusal → Type 0) → (one → two) → MatchOption refusal one refused → MatchOption refusal two refused
+if_none None one two refused turn goes = turn goes
+if_none (Some given) one two refused turn goes = goes
+
+pub filled_step : (fixed : Fixed) (drained : Bool) (old : StateValue) (party : Party) (irp : IrpRef) (major word : ℕ) (reply : Reply) (new : StateValue)
+    → GoesOn (or_else (party_refusal old party irp) (set_next_refusal (packet_of old irp) major)) (Fills major word [] reply (packet_of old irp)) old irp.slot [] reply new
+    → Step fixed old drained (SetNext party irp major word) [] reply new
+filled_step fixed drained old party irp major word reply new goes =
+    if_none (or_else (party_refusal old party irp) (set_next_refusal (packet_of old irp) major))
+    ((packet : PacketValue) × Fills major word [] reply (packet_of old irp) packet × (new ≡ with_packet old irp.slot packet))
+    (Unasked [] reply new Done (with_packet old irp.slot (after_set_next (packet_of old irp) major word)))
+    (λ refusal. Unasked [] reply new (Refused refusal) old)
+    (λ done. (done.1.1, done.1.2, done.2 ∙ ap (with_packet old irp.slot) done.1.0)) goes
+
+-- what holds of a packet before a call that asks nothing, and of what the call makes of it, holds after the call
+kept_by : (P : PacketValue → Type 0) (refusal : Option Refusal) (after : PacketValue) (reply told : Reply) (live new : LivePacket)
+    → Goes refusal (λ packet. (packet ≡ after) × (◌≡◌ {A = List Asked} [] []) × (reply ≡ told)) live new [] reply
+    → (refusal ≡ None → P after) → P live.packet → P new.packet
+kept_by P None after reply told live new goes made before = subst P (sym (goes.1.0) ∙ ap (λ (given : LivePacket). given.packet) (sym goes.2)) (made refl)
+kept_by P (Some refusal) after reply told live new goes made before = subst P (ap (λ (given : LivePacket). given.packet) (sym goes.2)) before
+
+pub filled_sound : (counts : Known) (major word : ℕ) (reply : Reply) (live new : LivePacket) → Goes (set_next_refusal live.packet major) (Fills major word [] reply live.packet) live new [] reply
+    → IsSound counts live.packet → IsSound counts new.packet
+filled_sound counts major word reply live new goes sound =
+    kept_by (IsSound counts) (set_next_refusal live.packet major) (after_set_next live.packet major word) reply Done live new goes
+    (λ none. sound_set_next counts live.packet major word none sound) sound
+
+pub set_step : (fixed : Fixed) (drained : Bool) (old : StateValue) (party : Party) (irp : IrpRef) (setting : Setting) (reply : Reply) (new : StateValue)
+    → GoesOn (or_else (party_refusal old party irp) (routine_refusal fixed.tables.counts (packet_of old irp) setting)) (Sets setting [] reply (packet_of old irp)) old irp.slot [] reply new
+    → Step fixed old drained (SetRoutine party irp setting) [] reply new
+set_step fixed drained old party irp setting reply new goes =
+    if_none (or_else (party_refusal old party irp) (routine_refusal fixed.tables.counts (packet_of old irp) setting))
+    ((packet : PacketValue) × Sets setting [] reply (packet_of old irp) packet × (new ≡ with_packet old irp.slot packet))
+    (Unasked [] reply new Done (with_packet old irp.slot (after_set_routine (packet_of old irp) setting)))
+    (λ refusal. Unasked [] reply new (Refused refusal) old)
+    (λ done. (done.1.1, done.1.2, done.2 ∙ ap (with_packet old irp.slot) done.1.0)) goes
+
+pub set_sound : (counts : Known) (setting : Setting) (reply : Reply) (live new : LivePacket) → Goes (routine_refusal counts live.packet setting) (Sets setting [] reply live.packet) live new [] reply
+    → has_ended live.packet.owner ≡ false → IsSound counts live.packet → IsSound counts new.packet
+set_sound counts setting reply live new goes used sound =
+    kept_by (IsSound counts) (routine_refusal counts live.packet setting) (after_set_routine live.packet setting) reply Done live new goes
+    (λ none. sound_set_routine counts live.packet setting used none sound) sound
+
+pub sent_step : (fixed : Fixed) (drained : Bool) (old : StateValue) (party : Party) (irp : IrpRef) (target : DeviceId) (asked : List Asked) (reply : Reply) (new : StateValue)
+    → GoesOn (or_else (party_refusal old party irp) (send_refusal old.devices party (packet_of old irp) target.0)) (Sends fixed.tables irp old.devices target.0 asked reply (packet_of old irp)) old irp.slot asked reply new
+    → Step fixed old drained (CallDriver party irp target) asked reply new
+sent_step fixed drained old party irp target asked reply new goes =
+    if_none (or_else (party_refusal old party irp) (send_refusal old.devices party (packet_of old irp) target.0))
+    ((packet : PacketValue) × Sends fixed.tables irp old.devices target.0 asked reply (packet_of old irp) packet × (new ≡ with_packet old irp.slot packet))
+    (Effect fixed old (CallDriver party irp target) asked reply new)
+    (λ refusal. Unasked asked reply new (Refused refusal) old)
+    (λ done. (done.0, done.1.0, done.1.1, done.1.2, done.2)) goes
+
+pub finished_step : (fixed : Fixed) (drained : Bool) (old : StateValue) (party : Party) (irp : IrpRef) (status : Status) (information : ℕ) (asked : List Asked) (reply : Reply) (new : StateValue)
+    → GoesOn (or_else (party_refusal old party irp) (complete_refusal (packet_of old irp) status)) (Finishes irp status information asked reply (packet_of old irp)) old irp.slot asked reply new
+    → Step fixed old drained (Complete party irp status information) asked reply new
+finished_step fixed drained old party irp status information asked reply new goes =
+    if_none (or_else (party_refusal old party irp) (complete_refusal (packet_of old irp) status))
+    ((packet : PacketValue) × Finishes irp status information asked reply (packet_of old irp) packet × (new ≡ with_packet old irp.slot packet))
+    (Effect fixed old (Complete party irp status information) asked reply new)
+    (λ refusal. Unasked asked reply new (Refused refusal) old)
+    (λ done. (done.0, done.1.0, done.1.1, done.2)) goes

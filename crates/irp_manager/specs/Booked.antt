@@ -1,0 +1,57 @@
+-- A book, a seat and a receipt as callers see them, and what recording a call does.
+use Rattle.std.specs.Prelude.{ℕ, ◌≡◌, ◌≤◌, Bool, List, [], ◌∷◌, ◌++◌, length, Option}
+use Rattle.irp_types.specs.State.{Fixed}
+use Rattle.irp_types.specs.declared.names.LockNo.{LockNo}
+use Rattle.irp_types.specs.declared.call.Call.{Call}
+use Rattle.irp_types.specs.declared.reply.Reply.{Reply}
+use Rattle.irp_types.specs.declared.entry.Entry.{Entry}
+use Rattle.irp_types.specs.declared.asked.Asked.{Asked}
+use Rattle.irp_manager.specs.Notes.{known_by}
+
+-- entries that a history may have
+abbrev pub most_entries : ℕ
+most_entries = 1000000
+
+-- who is asked, what is fixed, and the history
+pub record Booked (A : Type 0) : Type 0 where
+  pub ask : A
+  pub fixed : Fixed
+  pub history : List Entry
+
+-- the seat's number, and how much of the history it has seen
+pub record Seated : Type 0 where
+  pub number : ℕ
+  pub seen : ℕ
+
+-- what a receipt tells of an entry
+pub record Receipted : Type 0 where
+  pub number : ℕ
+  pub seat : ℕ
+  pub call : Call
+  pub lock : Option LockNo
+  pub drained : Bool
+  pub reply : Reply
+
+-- the receipt of an entry
+abbrev pub receipt_of : Entry → Receipted
+receipt_of entry = record {
+  number = entry.number;
+  seat = entry.seat;
+  call = entry.call;
+  lock = entry.lock;
+  drained = entry.drained;
+  reply = entry.reply;
+}
+
+-- the history grew by one entry: it is this seat's and this call's, it stands after all that the seat had seen, its
+-- `drained` is what the note knows of its lock, its questions were answered as they may be, and the receipt tells of it
+pub record Records (are_answered : List Asked → Type 0) (seat : Seated) (call : Call) (knows : LockNo → Bool) (receipt : Receipted) (old new : List Entry) : Type 0 where
+  pub entry : Entry
+  pub appended : new ≡ old ++ entry ∷ []
+  pub numbered : entry.number ≡ length old
+  pub after : seat.seen ≤ entry.number
+  pub by : entry.seat ≡ seat.number
+  pub asks : entry.call ≡ call
+  pub noted : entry.drained ≡ known_by knows entry.lock
+  pub answered : are_answered entry.asked
+  pub told : receipt ≡ receipt_of entry

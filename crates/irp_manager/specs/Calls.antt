@@ -1,0 +1,52 @@
+-- What a call on one live packet does.
+use Rattle.std.specs.Prelude.{ℕ, ◌≡◌, not, ◌==◌, List, [], ◌∷◌, Option, Some, None}
+use Rattle.irp_types.specs.Checks.{first_failing}
+use Rattle.irp_types.specs.Packet.{PacketValue, with_status, after_set_next, after_set_routine}
+use Rattle.irp_types.specs.Stacks.{DevicesValue}
+use Rattle.irp_types.specs.State.{LivePacket, Tables}
+use Rattle.irp_types.specs.Descent.{Descended}
+use Rattle.irp_types.specs.Refusals.{has_ended, is_owner}
+use Rattle.irp_types.specs.Steps.{Completes}
+use Rattle.irp_types.specs.declared.names.IrpRef.{IrpRef}
+use Rattle.irp_types.specs.declared.status.Status.{Status}
+use Rattle.irp_types.specs.declared.routine.Setting.{Setting}
+use Rattle.irp_types.specs.declared.call.Party.{Party}
+use Rattle.irp_types.specs.declared.asked.Asked.{Asked}
+use Rattle.irp_types.specs.declared.refusal.Refusal.{Refusal}
+use Rattle.irp_types.specs.declared.refusal.Refusal.TheVariants.{NoIrp, Stale, NotOwner, Ended}
+use Rattle.irp_types.specs.declared.reply.Reply.{Reply}
+use Rattle.irp_types.specs.declared.reply.Reply.TheVariants.{Done, Status as StatusIs, Refused}
+
+-- the checks of a reference, at what stands in its slot
+abbrev pub packet_refusal_in : Option LivePacket → IrpRef → Option Refusal
+packet_refusal_in None irp = Some NoIrp
+packet_refusal_in (Some live) irp = first_failing ((not (live.use_no == irp.use_no), Stale) ∷ [])
+
+-- the checks of a reference and a party, at what stands in the slot
+abbrev pub party_refusal_in : Option LivePacket → Party → IrpRef → Option Refusal
+party_refusal_in None party irp = Some NoIrp
+party_refusal_in (Some live) party irp = first_failing (
+    (not (live.use_no == irp.use_no), Stale)
+    ∷ (has_ended live.packet.owner, Ended)
+    ∷ (not (is_owner party live.packet.owner), NotOwner) ∷ [])
+
+-- a live packet was refused and is as before, or it has become one that the relation allows
+abbrev pub Goes : Option Refusal → (PacketValue → Type 0) → LivePacket → LivePacket → List Asked → Reply → Type 0
+Goes None becomes old new asked reply = (packet : PacketValue) × becomes packet × (new ≡ record old { packet = packet })
+Goes (Some refusal) becomes old new asked reply = (asked ≡ []) × (reply ≡ Refused refusal) × (new ≡ old)
+
+-- the next location was filled
+abbrev pub Fills : ℕ → ℕ → List Asked → Reply → PacketValue → PacketValue → Type 0
+Fills major word asked reply old new = (new ≡ after_set_next old major word) × (asked ≡ []) × (reply ≡ Done)
+
+-- the next location was given a completion routine
+abbrev pub Sets : Setting → List Asked → Reply → PacketValue → PacketValue → Type 0
+Sets setting asked reply old new = (new ≡ after_set_routine old setting) × (asked ≡ []) × (reply ≡ Done)
+
+-- the packet was sent
+abbrev pub Sends : Tables → IrpRef → DevicesValue → ℕ → List Asked → Reply → PacketValue → PacketValue → Type 0
+Sends tables irp devices target asked reply old new = (status : Status) × Descended tables irp devices old target asked new status × (reply ≡ StatusIs status)
+
+-- the packet was completed
+abbrev pub Finishes : IrpRef → Status → ℕ → List Asked → Reply → PacketValue → PacketValue → Type 0
+Finishes irp status information asked reply old new = Completes irp (with_status old status information) asked new × (reply ≡ Done)

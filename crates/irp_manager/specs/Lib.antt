@@ -1,0 +1,7 @@
+pub mod Passing
+pub mod PassingFacts
+pub mod Slots
+pub mod Calls
+pub mod Notes
+pub mod Cores
+pub mod Booked

@@ -1,0 +1,162 @@
+//! The manager with its history.
+
+ghost use Rattle.std.specs.Prelude.{◌≡◌, ℕ, ◌<◌, ◌≤◌, [], length, slice_get, Err, IfOk, OnErr};
+ghost use Rattle.std.specs.Option.{option_copied};
+ghost use Rattle.irp_types.specs.Histories.{IsLegal};
+ghost use Rattle.irp_routines.specs.Answers.{AreAnswered};
+ghost use Rattle.irp_manager.specs.Passing.{PassesPlan, PassesAnswer, PassesCancel};
+ghost use Rattle.irp_manager.specs.Booked.{most_entries, Records};
+ghost use Rattle.irp_manager.specs.declared.not_recorded.NotRecorded.TheVariants.{Behind, HistoryFull};
+
+use crate::held_to_tables::HeldToTables;
+use crate::not_recorded::NotRecorded;
+use crate::note::DrainNote;
+use crate::receipt::Receipt;
+use crate::seat::Seat;
+use crate::sequential::Core;
+use irp_routines::{Ask, FixedTables};
+use irp_types::{Call, Entry, Row, history_goes_on};
+use std::alloc::Global;
+use std::marker::Model;
+
+/// How many entries a history may have.
+const MOST_ENTRIES: usize = 1_000_000;
+
+/// The manager, whom it asks, and the history of the calls that it was given: one that the sequential manager could have
+/// made with the book's tables, and that ends in the manager's state (this project's own rule).
+#[derive(Drop)]
+pub struct Book<A> {
+    held: HeldToTables<A>,
+    core: Core,
+    history: Vec<Entry>,
+}
+
+impl<A> Model for Book<A> {
+    ghost use Rattle.std.specs.Prelude.{◌≤◌, length};
+    ghost use Rattle.irp_types.specs.Histories.{LeadsTo};
+    ghost use Rattle.irp_types.specs.Standing.{StandingFacts};
+    ghost use Rattle.irp_manager.specs.Booked.{Booked, most_entries};
+    ghost use Rattle.irp_manager.specs.Cores.{state_of};
+
+    ghost Value = { Booked A };
+
+    ghost view = { λ book. record {
+      ask = book.held.ask;
+      fixed = record { locks = book.core.locks; tables = book.held.tables };
+      history = book.history.items;
+    } };
+
+    ghost invariant = { λ book. record {
+      leads : LeadsTo (record { locks = book.core.locks; tables = book.held.tables }) book.history.items (state_of book.core);
+      stands : StandingFacts book.held.tables.counts (state_of book.core);
+      few : length book.history.items ≤ most_entries;
+    } };
+}
+
+impl<A: Ask> Book<A> {
+    /// A manager that asks so, with this many remove locks, and no history, on condition that the tables are the
+    /// asker's own. It takes no memory.
+    pub fn new(alloc: Global, ask: A, tables: FixedTables, locks: u32) -> Book<A>
+        requires own { A.tables ask ≡ tables }
+        ensures { result ≡ record { ask = ask; fixed = record { locks = locks; tables = tables }; history = [] } }
+    {
+        Book {
+            held: HeldToTables::new(ask, tables),
+            core: Core::new(alloc, locks),
+            history: Vec::new(alloc),
+        }
+    }
+}
+
+impl<A> Book<A> {
+    /// How many entries the history has, at most 1,000,000.
+    pub fn length(&self) -> usize
+        ensures length { result ≡ length self.now.history }
+        ensures few { result ≤ most_entries }
+    {
+        self.history.len()
+    }
+
+    /// The entry of a number, if there is one.
+    pub fn entry(&self, number: usize) -> Option<&Entry>
+        ensures { option_copied result ≡ slice_get self.now.history number }
+    {
+        self.history.get(number)
+    }
+}
+
+impl<A: Ask> Book<A> {
+    /// Makes a call and records it. What is asked in it is answered as the book's asker may answer, where the book's
+    /// tables are the asker's own.
+    ///
+    /// # Errors
+    ///
+    /// `Behind` exactly where the history is shorter than what the seat has seen, else `HistoryFull` exactly where it
+    /// has 1,000,000 entries; `Memory` where a growth was refused. None of them changes anything.
+    pub fn record<N: DrainNote>(
+        &mut self,
+        alloc: Global,
+        seat: &Seat,
+        call: Call,
+        note: &N,
+    ) -> Result<Receipt, NotRecorded>
+        ensures recorded { IfOk result (λ receipt. Records (AreAnswered
+            (PassesPlan self.old.fixed.tables (A.tables self.old.ask ≡ self.old.fixed.tables) (A.may_plan self.old.ask))
+            (PassesAnswer self.old.fixed.tables (A.tables self.old.ask ≡ self.old.fixed.tables) (A.may_answer self.old.ask))
+            (PassesCancel self.old.fixed.tables (A.tables self.old.ask ≡ self.old.fixed.tables) (A.may_cancel self.old.ask)))
+            seat.now call (N.knows_drained note.now) receipt self.old.history self.new.history) }
+        ensures kept { (self.new.ask ≡ self.old.ask) × (self.new.fixed ≡ self.old.fixed) }
+        ensures legal { IsLegal self.new.fixed self.new.history }
+        ensures err { OnErr result (self.new ≡ self.old) }
+
+        ensures behind { length self.old.history < seat.now.seen → result ≡ Err (Behind (length self.old.history)) }
+        ensures only_behind { (told : ℕ) → result ≡ Err (Behind told) → (told ≡ length self.old.history) × (told < seat.now.seen) }
+        ensures full { seat.now.seen ≤ length self.old.history → length self.old.history ≡ most_entries → result ≡ Err HistoryFull }
+        ensures only_full { result ≡ Err HistoryFull → length self.old.history ≡ most_entries }
+    {
+        let length = self.history.len();
+        if (length as u64) < seat.seen() {
+            return Err(NotRecorded::Behind {
+                length: length as u64,
+            });
+        }
+        if length >= MOST_ENTRIES {
+            return Err(NotRecorded::HistoryFull);
+        }
+        if self.history.reserve(1).is_err() {
+            return Err(NotRecorded::Memory);
+        }
+        let Ok(applied) = self.core.apply(alloc, &self.held, call, note) else {
+            return Err(NotRecorded::Memory);
+        };
+        let entry = Entry {
+            number: length as u64,
+            seat: seat.number(),
+            call,
+            lock: applied.lock,
+            drained: applied.drained,
+            asked: Row::from_vec(applied.asked),
+            reply: applied.reply,
+        };
+        let receipt = Receipt::of(&entry);
+        self.history.push_reserved(entry);
+        history_goes_on();
+        Ok(receipt)
+    }
+}
+
+impl<A: Drop> Book<A> {
+    /// Ends it, and gives the tables and the history.
+    pub fn end(self) -> (FixedTables, Row<Entry>)
+        ensures tables { result.0 ≡ self.fixed.tables }
+        ensures history { result.1 ≡ self.history }
+        ensures legal { IsLegal self.fixed self.history }
+    {
+        let Book {
+            held,
+            core: _,
+            history,
+        } = self;
+        (held.into_tables(), Row::from_vec(history))
+    }
+}

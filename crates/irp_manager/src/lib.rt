@@ -1,0 +1,21 @@
+//! The sequential manager: what each call checks, does and is answered, the history of the calls, and who makes them.
+#![tactic(auto)]
+
+mod book;
+mod held_to_tables;
+mod not_recorded;
+mod note;
+mod packets;
+mod receipt;
+mod seat;
+mod sequential;
+mod slots;
+#[cfg(test)]
+mod tests;
+
+pub use book::Book;
+pub use held_to_tables::HeldToTables;
+pub use not_recorded::NotRecorded;
+pub use note::{DrainNote, KnowsNothing};
+pub use receipt::Receipt;
+pub use seat::Seat;

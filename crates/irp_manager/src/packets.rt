@@ -1,0 +1,243 @@
+//! What a call does to one live packet.
+
+ghost use Rattle.std.specs.Prelude.{◌≡◌, ◌+◌, ◌*◌, ◌<◌, ◌≤◌, false, Option, Some, None, [], length, vec_capacity, vec_len};
+ghost use Rattle.irp_types.specs.Limits.{most_locations};
+ghost use Rattle.irp_types.specs.Packet.{size_of, is_nothing, set_next_refusal};
+ghost use Rattle.irp_types.specs.Stacks.{stack_size_of};
+ghost use Rattle.irp_types.specs.Refusals.{is_owner, is_wrong_target, routine_refusal, send_refusal, complete_refusal};
+ghost use Rattle.irp_types.specs.Descent.{StaysUp};
+ghost use Rattle.irp_types.specs.Steps.{seen_of};
+ghost use Rattle.irp_types.specs.Standing.{IsSound};
+ghost use Rattle.irp_types.specs.declared.status.Status.{Status};
+ghost use Rattle.irp_types.specs.declared.reply.Reply.TheVariants.{Status as StatusIs};
+ghost use Rattle.irp_routines.specs.Answers.{AreAnswered};
+ghost use Rattle.irp_manager.specs.Calls.{packet_refusal_in, party_refusal_in, Goes, Fills, Sets, Sends, Finishes};
+
+use crate::slots::Live;
+use irp_packet::Packet;
+use irp_routines::Ask;
+use irp_stack::Stacks;
+use irp_types::{
+    Asked, DeviceId, IrpRef, Known, Owner, Party, Preparation, Refusal, Reply, Seen, Setting,
+    Status,
+};
+use irp_unwind::{descend, unwind};
+
+/// Whether the party is the owner.
+fn is_owner(party: Party, owner: Owner) -> bool
+    ensures { result ≡ is_owner party owner }
+{
+    match party {
+        Party::Originator => matches!(owner, Owner::Originator),
+        Party::Device(device) => match owner {
+            Owner::Device(own) => device.0 == own.0,
+            _ => false,
+        },
+    }
+}
+
+/// Why a call that names the packet by this reference is refused, if it is.
+pub fn packet_refusal(live: &Live, irp: IrpRef) -> Option<Refusal>
+    ensures { result ≡ packet_refusal_in (Some live.now) irp }
+{
+    if live.use_no != irp.use_no {
+        return Some(Refusal::Stale);
+    }
+    None
+}
+
+/// Why a call of this party on the packet is refused, if it is.
+pub fn party_refusal(live: &Live, party: Party, irp: IrpRef) -> Option<Refusal>
+    ensures { result ≡ party_refusal_in (Some live.now) party irp }
+{
+    if live.use_no != irp.use_no {
+        return Some(Refusal::Stale);
+    }
+    let owner = live.packet.owner();
+    if matches!(owner, Owner::Ended) {
+        return Some(Refusal::Ended);
+    }
+    if !is_owner(party, owner) {
+        return Some(Refusal::NotOwner);
+    }
+    None
+}
+
+/// Fills the next lower location.
+pub fn set_next(live: &mut Live, major: u8, word: u64) -> Reply
+    ensures goes { Goes (set_next_refusal live.old.packet major) (Fills major word [] result live.old.packet) live.old live.new [] result }
+{
+    match live.packet.set_next(major, word) {
+        Ok(()) => Reply::Done,
+        Err(refusal) => Reply::Refused(refusal),
+    }
+}
+
+/// Why a completion routine is not set where so many are there, if it is not.
+fn routine_check(packet: &Packet, counts: Known, setting: Setting) -> Option<Refusal>
+    ensures { result ≡ routine_refusal counts packet.now setting }
+{
+    match packet.preparation() {
+        Preparation::Skipped => Some(Refusal::AfterSkip),
+        Preparation::Nothing => Some(Refusal::NotPrepared),
+        Preparation::Filled => {
+            if counts.has(setting) {
+                None
+            } else {
+                Some(Refusal::NoRoutine)
+            }
+        }
+    }
+}
+
+/// Puts a completion routine into the next lower location.
+pub fn set_routine(live: &mut Live, counts: Known, setting: Setting) -> Reply
+    ensures goes { Goes (routine_refusal counts live.old.packet setting) (Sets setting [] result live.old.packet) live.old live.new [] result }
+{
+    if let Some(refusal) = routine_check(&live.packet, counts, setting) {
+        return Reply::Refused(refusal);
+    }
+    match live.packet.set_routine(setting) {
+        Ok(()) => Reply::Done,
+        Err(refusal) => Reply::Refused(refusal),
+    }
+}
+
+/// Why a device is not sent the packet, if it is not.
+fn send_check(packet: &Packet, stacks: &Stacks, party: Party, target: DeviceId) -> Option<Refusal>
+    ensures refusal { result ≡ send_refusal stacks.now party packet.now target.0 }
+    ensures created { result ≡ None → target.0 < length stacks.now.facts }
+    ensures prepared { result ≡ None → is_nothing packet.now.preparation ≡ false }
+    ensures deep { result ≡ None → stack_size_of stacks.now target.0 < packet.now.current }
+    ensures free { result ≡ None → packet.now.cancel_routine ≡ None }
+{
+    let Some(facts) = stacks.facts(target) else {
+        return Some(Refusal::NoDevice);
+    };
+    if !facts.live {
+        return Some(Refusal::DeviceGone);
+    }
+    if is_wrong_target(stacks, party, target) {
+        return Some(Refusal::WrongTarget);
+    }
+    if matches!(packet.preparation(), Preparation::Nothing) {
+        return Some(Refusal::NotPrepared);
+    }
+    if packet.current() - 1 < stacks.stack_size(target) {
+        return Some(Refusal::TooShort);
+    }
+    if packet.cancel_routine().is_some() {
+        return Some(Refusal::CancelRoutineSet);
+    }
+    None
+}
+
+/// Whether a device sends elsewhere than to the device below it.
+fn is_wrong_target(stacks: &Stacks, party: Party, target: DeviceId) -> bool
+    ensures { result ≡ is_wrong_target stacks.now party target.0 }
+{
+    match party {
+        Party::Originator => false,
+        Party::Device(sender) => match stacks.lower(sender) {
+            None => true,
+            Some(lower) => lower.0 != target.0,
+        },
+    }
+}
+
+/// Sends the packet to a device. The room is for a question to each device from there down, and to each location.
+pub fn send<A: Ask>(
+    live: &mut Live,
+    irp: IrpRef,
+    stacks: &Stacks,
+    ask: &A,
+    party: Party,
+    target: DeviceId,
+    asked: &mut Vec<Asked>,
+) -> Reply
+    requires sound { IsSound (A.tables ask.now).counts live.old.packet }
+    requires empty { asked.old.items ≡ [] }
+    requires room { vec_len asked.old + 2 * most_locations ≤ vec_capacity asked.old }
+    ensures goes { Goes (send_refusal stacks.now party live.old.packet target.0)
+        (Sends (A.tables ask.now) irp stacks.now target.0 asked.new.items result live.old.packet) live.old live.new asked.new.items result }
+    ensures may { AreAnswered (A.may_plan ask.now) (A.may_answer ask.now) (A.may_cancel ask.now) asked.new.items }
+    ensures stays { (status : Status) → result ≡ StatusIs status → StaysUp live.old.packet live.new.packet status }
+    ensures sound { IsSound (A.tables ask.now).counts live.new.packet }
+{
+    if let Some(refusal) = send_check(&live.packet, stacks, party, target) {
+        return Reply::Refused(refusal);
+    }
+    stacks.are_stacks();
+    let sent = descend(&mut live.packet, irp, stacks, ask, target, asked);
+    Reply::Status(sent.status)
+}
+
+/// Why the packet is not completed, if it is not.
+fn complete_check(packet: &Packet, status: Status) -> Option<Refusal>
+    ensures refusal { result ≡ complete_refusal packet.now status }
+    ensures placed { result ≡ None → packet.now.current ≤ size_of packet.now }
+    ensures free { result ≡ None → packet.now.cancel_routine ≡ None }
+{
+    let skipped = matches!(packet.preparation(), Preparation::Skipped);
+    let above_top = packet.current() > packet.size();
+    if above_top && !skipped {
+        return Some(Refusal::NoLocation);
+    }
+    if skipped {
+        return Some(Refusal::AfterSkip);
+    }
+    if !status.is_completable() {
+        return Some(Refusal::BadStatus);
+    }
+    if packet.cancel_routine().is_some() {
+        return Some(Refusal::CancelRoutineSet);
+    }
+    None
+}
+
+/// Completes the packet. The room is for a question to each location.
+pub fn complete<A: Ask>(
+    live: &mut Live,
+    irp: IrpRef,
+    ask: &A,
+    status: Status,
+    information: u64,
+    asked: &mut Vec<Asked>,
+) -> Reply
+    requires sound { IsSound (A.tables ask.now).counts live.old.packet }
+    requires empty { asked.old.items ≡ [] }
+    requires room { vec_len asked.old + most_locations ≤ vec_capacity asked.old }
+    ensures goes { Goes (complete_refusal live.old.packet status)
+        (Finishes irp status information asked.new.items result live.old.packet) live.old live.new asked.new.items result }
+    ensures may { AreAnswered (A.may_plan ask.now) (A.may_answer ask.now) (A.may_cancel ask.now) asked.new.items }
+    ensures sound { IsSound (A.tables ask.now).counts live.new.packet }
+{
+    if let Some(refusal) = complete_check(&live.packet, status) {
+        return Reply::Refused(refusal);
+    }
+    live.packet.set_status(status, information);
+    let _ending = unwind(&mut live.packet, irp, ask, asked);
+    Reply::Done
+}
+
+/// What Look shows of the packet.
+pub fn seen(packet: &Packet) -> Seen
+    ensures { result ≡ seen_of packet.now }
+{
+    let current = packet.current();
+    let marked = if current > packet.size() {
+        false
+    } else {
+        packet.location_at(current).pending
+    };
+    Seen {
+        owner: packet.owner(),
+        current,
+        status: packet.status(),
+        information: packet.information(),
+        cancel: packet.cancel(),
+        cancel_routine: packet.cancel_routine(),
+        pending_returned: packet.pending_returned(),
+        marked,
+    }
+}

@@ -1,0 +1,371 @@
+//! The state of the manager, and its calls.
+
+ghost use Rattle.std.specs.Prelude.{◌≡◌, ℕ, ◌+◌, ◌*◌, ◌<◌, ◌≤◌, ◌^◌, Option, Some, None, length, false, true, List, [], Bool, vec_len, vec_capacity, IfOk, OnErr, IfErr};
+ghost use Rattle.irp_types.specs.Limits.{most_locations};
+ghost use Rattle.irp_types.specs.Checks.{first_failing, or_else};
+ghost use Rattle.irp_types.specs.Stacks.{create_checks};
+ghost use Rattle.irp_types.specs.State.{Fixed, Tables, LivePacket, opening_state, live_at};
+ghost use Rattle.irp_types.specs.Refusals.{packet_refusal, party_refusal, first_refusal};
+ghost use Rattle.irp_types.specs.Histories.{lock_of};
+ghost use Rattle.irp_types.specs.declared.call.Call.TheVariants.{CreateDevice, Attach, Detach, Allocate, SetNext, SetRoutine, CallDriver, Complete, Look};
+ghost use Rattle.irp_types.specs.Standing.{StandingFacts};
+ghost use Rattle.irp_types.specs.declared.routine.Known.{Known};
+ghost use Rattle.irp_routines.specs.Answers.{AreAnswered};
+ghost use Rattle.irp_manager.specs.Notes.{known_by};
+ghost use Rattle.irp_manager.specs.Cores.{state_of, Stepped, SteppedAny, SentStays, SenderStays};
+
+use crate::note::DrainNote;
+use crate::packets;
+use crate::slots::{Live, Slots};
+use irp_packet::Packet;
+use irp_routines::Ask;
+use irp_stack::{NotCreated, Stacks};
+use irp_types::{
+    Asked, Call, DeviceId, DriverId, IrpRef, Known, LockNo, Party, Refusal, Reply, Setting, Status,
+};
+use std::alloc::{AllocError, Global};
+
+/// How many packets may be live.
+const MOST_LIVE: usize = 4096;
+
+/// Use numbers are below this.
+const USE_LIMIT: u64 = 0x8000_0000_0000_0000;
+
+/// How many questions a call may ask: one to each of 16 devices, and one to each of 16 locations.
+const MOST_ASKED: usize = 32;
+
+/// What a call did.
+#[derive(Drop)]
+pub struct Applied {
+    pub lock: Option<LockNo>,
+    pub drained: bool,
+    pub asked: Vec<Asked>,
+    pub reply: Reply,
+}
+
+/// The state of the manager.
+#[derive(Drop)]
+pub struct Core {
+    slots: Slots,
+    stacks: Stacks,
+    next_use: u64,
+    locks: u32,
+}
+
+impl Core {
+    /// A manager without packets and devices, with so many remove locks. It takes no memory.
+    pub fn new(alloc: Global, locks: u32) -> Core
+        ensures state { state_of result ≡ opening_state }
+        ensures locks { result.locks ≡ locks }
+    {
+        Core {
+            slots: Slots::new(alloc),
+            stacks: Stacks::new(alloc),
+            next_use: 1,
+            locks,
+        }
+    }
+
+    fn packet_refusal(&self, irp: IrpRef) -> Option<Refusal>
+        ensures { result ≡ packet_refusal (state_of self.now) irp }
+    {
+        match self.slots.get(irp.slot) {
+            None => Some(Refusal::NoIrp),
+            Some(live) => packets::packet_refusal(live, irp),
+        }
+    }
+
+    fn party_refusal(&self, party: Party, irp: IrpRef) -> Option<Refusal>
+        ensures { result ≡ party_refusal (state_of self.now) party irp }
+    {
+        match self.slots.get(irp.slot) {
+            None => Some(Refusal::NoIrp),
+            Some(live) => packets::party_refusal(live, party, irp),
+        }
+    }
+
+    fn set_next(&mut self, party: Party, irp: IrpRef, major: u8, word: u64) -> Reply
+        ensures { SteppedAny self.old (SetNext party irp major word) [] result self.new }
+    {
+        if let Some(refusal) = self.party_refusal(party, irp) {
+            return Reply::Refused(refusal);
+        }
+        let Some(mut live) = self.slots.take(irp.slot) else {
+            return Reply::Refused(Refusal::NoIrp);
+        };
+        let reply = packets::set_next(&mut live, major, word);
+        self.slots.put(irp.slot, live);
+        reply
+    }
+
+    fn set_routine(
+        &mut self,
+        counts: Known,
+        party: Party,
+        irp: IrpRef,
+        setting: Setting,
+    ) -> Reply
+        ensures { (tables : Tables) (drained : Bool) → tables.counts ≡ counts
+            → StandingFacts tables.counts (state_of self.old) → Stepped tables drained self.old (SetRoutine party irp setting) [] result self.new }
+    {
+        if let Some(refusal) = self.party_refusal(party, irp) {
+            return Reply::Refused(refusal);
+        }
+        let Some(mut live) = self.slots.take(irp.slot) else {
+            return Reply::Refused(Refusal::NoIrp);
+        };
+        let reply = packets::set_routine(&mut live, counts, setting);
+        self.slots.put(irp.slot, live);
+        reply
+    }
+
+    fn call_driver<A: Ask>(
+        &mut self,
+        ask: &A,
+        party: Party,
+        irp: IrpRef,
+        target: DeviceId,
+        asked: &mut Vec<Asked>,
+    ) -> Reply
+        requires stands { StandingFacts (A.tables ask.now).counts (state_of self.old) }
+        requires empty { asked.old.items ≡ [] }
+        requires room { vec_len asked.old + 2 * most_locations ≤ vec_capacity asked.old }
+        ensures stepped { (drained : Bool) → Stepped (A.tables ask.now) drained self.old (CallDriver party irp target) asked.new.items result self.new }
+        ensures may { AreAnswered (A.may_plan ask.now) (A.may_answer ask.now) (A.may_cancel ask.now) asked.new.items }
+        ensures stays { SentStays self.old irp result self.new }
+    {
+        if let Some(refusal) = self.party_refusal(party, irp) {
+            return Reply::Refused(refusal);
+        }
+        let Some(mut live) = self.slots.take(irp.slot) else {
+            return Reply::Refused(Refusal::NoIrp);
+        };
+        let reply = packets::send(&mut live, irp, &self.stacks, ask, party, target, asked);
+        self.slots.put(irp.slot, live);
+        reply
+    }
+
+    fn complete<A: Ask>(
+        &mut self,
+        ask: &A,
+        party: Party,
+        irp: IrpRef,
+        status: Status,
+        information: u64,
+        asked: &mut Vec<Asked>,
+    ) -> Reply
+        requires stands { StandingFacts (A.tables ask.now).counts (state_of self.old) }
+        requires empty { asked.old.items ≡ [] }
+        requires room { vec_len asked.old + 2 * most_locations ≤ vec_capacity asked.old }
+        ensures stepped { (drained : Bool) → Stepped (A.tables ask.now) drained self.old (Complete party irp status information) asked.new.items result self.new }
+        ensures may { AreAnswered (A.may_plan ask.now) (A.may_answer ask.now) (A.may_cancel ask.now) asked.new.items }
+    {
+        if let Some(refusal) = self.party_refusal(party, irp) {
+            return Reply::Refused(refusal);
+        }
+        let Some(mut live) = self.slots.take(irp.slot) else {
+            return Reply::Refused(Refusal::NoIrp);
+        };
+        let reply = packets::complete(&mut live, irp, ask, status, information, asked);
+        self.slots.put(irp.slot, live);
+        reply
+    }
+
+    fn look(&self, irp: IrpRef) -> Reply
+        ensures { SteppedAny self.now (Look irp) [] result self.now }
+    {
+        match self.slots.get(irp.slot) {
+            None => Reply::Refused(Refusal::NoIrp),
+            Some(live) => match packets::packet_refusal(live, irp) {
+                Some(refusal) => Reply::Refused(refusal),
+                None => Reply::Seen(packets::seen(&live.packet)),
+            },
+        }
+    }
+
+    fn create_refusal(&self, drivers: u32, driver: DriverId, lock: LockNo) -> Option<Refusal>
+        ensures { (fixed : Fixed) (drained : Bool) → length fixed.tables.drivers ≡ drivers → fixed.locks ≡ self.now.locks
+            → first_refusal fixed (state_of self.now) drained (CreateDevice driver lock)
+            ≡ or_else result (first_failing (create_checks self.now.stacks)) }
+    {
+        if driver.0 >= drivers {
+            return Some(Refusal::NoDriver);
+        }
+        if lock.0 >= self.locks {
+            return Some(Refusal::NoLock);
+        }
+        None
+    }
+
+    fn create_device(
+        &mut self,
+        drivers: u32,
+        driver: DriverId,
+        lock: LockNo,
+    ) -> Result<Reply, AllocError>
+        ensures stepped { IfOk result (λ reply. (tables : Tables) (drained : Bool) → length tables.drivers ≡ drivers
+            → StandingFacts tables.counts (state_of self.old) → Stepped tables drained self.old (CreateDevice driver lock) [] reply self.new) }
+        ensures err { OnErr result (state_of self.new ≡ state_of self.old) }
+        ensures locks { self.new.locks ≡ self.old.locks }
+    {
+        if let Some(refusal) = self.create_refusal(drivers, driver, lock) {
+            return Ok(Reply::Refused(refusal));
+        }
+        match self.stacks.create(driver, lock) {
+            Ok(device) => {
+                self.stacks.are_stacks();
+                Ok(Reply::Device(device))
+            }
+            Err(error) => match error {
+                NotCreated::Full => Ok(Reply::Refused(Refusal::Full)),
+                NotCreated::Memory => Err(AllocError),
+            },
+        }
+    }
+
+    fn attach(&mut self, device: DeviceId, to: DeviceId) -> Reply
+        ensures { SteppedAny self.old (Attach device to) [] result self.new }
+    {
+        let reply = match self.stacks.attach(device, to) {
+            Ok(top) => Reply::Device(top),
+            Err(refusal) => Reply::Refused(refusal),
+        };
+        self.stacks.are_stacks();
+        reply
+    }
+
+    fn detach(&mut self, lower: DeviceId) -> Reply
+        ensures { SteppedAny self.old (Detach lower) [] result self.new }
+    {
+        let reply = match self.stacks.detach(lower) {
+            Ok(upper) => Reply::Device(upper),
+            Err(refusal) => Reply::Refused(refusal),
+        };
+        self.stacks.are_stacks();
+        reply
+    }
+
+    fn allocate_refusal(&self, size: u8) -> Option<Refusal>
+        ensures refusal { (fixed : Fixed) (drained : Bool) → result ≡ first_refusal fixed (state_of self.now) drained (Allocate size) }
+        ensures fits { result ≡ None → (1 ≤ size) × (size ≤ most_locations) }
+        ensures counter { result ≡ None → self.now.next_use < 2 ^ 63 }
+    {
+        if size == 0 || size > 16 {
+            return Some(Refusal::BadSize);
+        }
+        if self.slots.len() >= MOST_LIVE || self.next_use >= USE_LIMIT {
+            return Some(Refusal::Full);
+        }
+        None
+    }
+
+    fn allocate(&mut self, alloc: Global, size: u8) -> Result<Reply, AllocError>
+        ensures stepped { IfOk result (λ reply. SteppedAny self.old (Allocate size) [] reply self.new) }
+        ensures err { OnErr result (state_of self.new ≡ state_of self.old) }
+        ensures locks { self.new.locks ≡ self.old.locks }
+    {
+        if let Some(refusal) = self.allocate_refusal(size) {
+            return Ok(Reply::Refused(refusal));
+        }
+        let packet = match Packet::new(alloc, size) {
+            Ok(packet) => packet,
+            Err(refusal) => return Ok(Reply::Refused(refusal)),
+        };
+        let slot = self.slots.reserve()?;
+        let use_no = self.next_use;
+        self.slots.put(slot, Live { packet, use_no });
+        self.next_use += 1;
+        Ok(Reply::Irp(IrpRef { slot, use_no }))
+    }
+
+    /// The lock of the device that a call deletes; no call here deletes one.
+    fn lock_of(&self, call: Call) -> Option<LockNo>
+        ensures { result ≡ lock_of (state_of self.now) call }
+    {
+        let _ = call;
+        None
+    }
+
+    fn answer<A: Ask>(
+        &mut self,
+        alloc: Global,
+        ask: &A,
+        call: Call,
+        asked: &mut Vec<Asked>,
+    ) -> Result<Reply, AllocError>
+        requires stands { StandingFacts (A.tables ask.now).counts (state_of self.old) }
+        requires empty { asked.old.items ≡ [] }
+        requires room { vec_len asked.old + 2 * most_locations ≤ vec_capacity asked.old }
+        ensures stepped { IfOk result (λ reply. (drained : Bool) → Stepped (A.tables ask.now) drained self.old call asked.new.items reply self.new) }
+        ensures may { IfOk result (λ reply. AreAnswered (A.may_plan ask.now) (A.may_answer ask.now) (A.may_cancel ask.now) asked.new.items) }
+        ensures stays { IfOk result (λ reply. SenderStays self.old call reply self.new) }
+        ensures err { OnErr result (state_of self.new ≡ state_of self.old) }
+        ensures locks { OnErr result (self.new.locks ≡ self.old.locks) }
+    {
+        match call {
+            Call::CreateDevice { driver, lock } => {
+                self.create_device(ask.drivers(), driver, lock)
+            }
+            Call::Attach { device, to } => Ok(self.attach(device, to)),
+            Call::Detach { lower } => Ok(self.detach(lower)),
+            Call::Allocate { size } => self.allocate(alloc, size),
+            Call::SetNext {
+                party,
+                irp,
+                major,
+                word,
+            } => Ok(self.set_next(party, irp, major, word)),
+            Call::SetRoutine {
+                party,
+                irp,
+                setting,
+            } => Ok(self.set_routine(ask.counts(), party, irp, setting)),
+            Call::CallDriver { party, irp, target } => {
+                Ok(self.call_driver(ask, party, irp, target, asked))
+            }
+            Call::Complete {
+                party,
+                irp,
+                status,
+                information,
+            } => Ok(self.complete(ask, party, irp, status, information, asked)),
+            Call::Look { irp } => Ok(self.look(irp)),
+        }
+    }
+
+    /// Makes one call, in one step of the sequential manager. Room for what it asks is made before anything changes.
+    ///
+    /// # Errors
+    ///
+    /// `AllocError` where a growth was refused. The state stays as it was.
+    pub fn apply<A: Ask, N: DrainNote>(
+        &mut self,
+        alloc: Global,
+        ask: &A,
+        call: Call,
+        note: &N,
+    ) -> Result<Applied, AllocError>
+        requires stands { StandingFacts (A.tables ask.now).counts (state_of self.old) }
+        ensures stepped { IfOk result (λ applied. Stepped (A.tables ask.now) applied.drained self.old call applied.asked.items applied.reply self.new) }
+        ensures may { IfOk result (λ applied. AreAnswered (A.may_plan ask.now) (A.may_answer ask.now) (A.may_cancel ask.now) applied.asked.items) }
+        ensures stays { IfOk result (λ applied. SenderStays self.old call applied.reply self.new) }
+        ensures lock { IfOk result (λ applied. applied.lock ≡ lock_of (state_of self.old) call) }
+        ensures drained { IfOk result (λ applied. applied.drained ≡ known_by (N.knows_drained note.now) applied.lock) }
+        ensures err { OnErr result (state_of self.new ≡ state_of self.old) }
+        ensures locks { OnErr result (self.new.locks ≡ self.old.locks) }
+    {
+        let mut asked = Vec::with_capacity(alloc, MOST_ASKED)?;
+        let lock = self.lock_of(call);
+        let drained = match lock {
+            Some(lock) => note.knows(lock),
+            None => false,
+        };
+        let reply = self.answer(alloc, ask, call, &mut asked)?;
+        Ok(Applied {
+            lock,
+            drained,
+            asked,
+            reply,
+        })
+    }
+}

@@ -1,4 +1,0 @@
-use Rattle.irpx.proofs.irp_manager.sequential.Core.apply.Goals as goal
-
-pub returns-clause-stepped : goal.returns-clause-stepped
-returns-clause-stepped g c = c.in_ok-reply.ensures.stepped c.match-lock.drained
