@@ -1,3 +1,4 @@
+pub mod Passed
 pub mod Locations
 pub mod Sound
 pub mod Maps

@@ -1,5 +1,4 @@
 pub mod Passing
-pub mod PassingFacts
 pub mod Slots
 pub mod Calls
 pub mod Notes

@@ -4,7 +4,6 @@ ghost use Rattle.std.specs.Prelude.{◌≡◌};
 ghost use Rattle.std.proofs.Props.{props};
 ghost use Rattle.irp_types.specs.State.{AreTables};
 ghost use Rattle.irp_manager.specs.Passing.{PassesPlan, PassesAnswer, PassesCancel};
-ghost use Rattle.irp_manager.specs.PassingFacts.{plan_passes, answer_passes, cancel_passes};
 
 use irp_routines::{Ask, FixedTables, guarded_answer, guarded_cancel, guarded_plan};
 use irp_types::{
@@ -111,11 +110,11 @@ impl<A: Ask> Ask for HeldToTables<A> {
         guarded_cancel(rule, answer)
     }
 
-    ghost answers_allowed = { λ held id shown answer may. answer_passes held.tables (A.tables held.ask ≡ held.tables) (A.may_answer held.ask) id shown answer may };
+    ghost answers_allowed = { λ held id shown answer may. may.allowed };
 
-    ghost plans_allowed = { λ held id shown plan may. plan_passes held.tables (A.tables held.ask ≡ held.tables) (A.may_plan held.ask) id shown plan may };
+    ghost plans_allowed = { λ held id shown plan may. may.allowed };
 
-    ghost cancels_allowed = { λ held id shown answer may. cancel_passes held.tables (A.tables held.ask ≡ held.tables) (A.may_cancel held.ask) id shown answer may };
+    ghost cancels_allowed = { λ held id shown answer may. may.allowed };
 
     ghost tables_agree = { λ held. held.agree };
 }

@@ -4,6 +4,8 @@ ghost use Rattle.std.specs.Prelude.{◌≡◌};
 ghost use Rattle.irp_types.specs.Status.{success};
 ghost use Rattle.irp_types.specs.declared.answer.Plan.TheVariants.{Finish};
 
+mod descent;
+
 use super::*;
 use irp_routines::{AnswerTable, Ask, Behaviour, Dispatch, DispatchClosure, Reaction, Store};
 use irp_types::{
@@ -49,6 +51,11 @@ impl Session {
         let dispatch = table.add_dispatch(Known::NONE, plan).ok()?;
         let pairs = [(READ, dispatch)].to_vec(alloc).ok()?;
         table.add_driver(pairs).ok()?;
+        Session::over(alloc, table)
+    }
+
+    /// These answers, and one remove lock.
+    fn over(alloc: Global, table: AnswerTable) -> Option<Session> {
         let tables = table.tables().copied().ok()?;
         Some(Session {
             alloc,
@@ -92,7 +99,7 @@ const ALLOCATE: Call = Call::Allocate { size: 1 };
 
 const LOOK: Call = Call::Look { irp: IRP };
 
-fn fill(irp: IrpRef, major: u8) -> Call {
+const fn fill(irp: IrpRef, major: u8) -> Call {
     Call::SetNext {
         party: ORIGINATOR,
         irp,
@@ -101,7 +108,7 @@ fn fill(irp: IrpRef, major: u8) -> Call {
     }
 }
 
-fn send(target: DeviceId) -> Call {
+const fn send(target: DeviceId) -> Call {
     Call::CallDriver {
         party: ORIGINATOR,
         irp: IRP,
@@ -109,24 +116,33 @@ fn send(target: DeviceId) -> Call {
     }
 }
 
-fn complete(party: Party, status: Status) -> Call {
+const fn complete_with(party: Party, status: Status, information: u64) -> Call {
     Call::Complete {
         party,
         irp: IRP,
         status,
-        information: 4,
+        information,
     }
 }
 
-fn refused(refusal: Refusal) -> Reply {
+const fn complete(party: Party, status: Status) -> Call {
+    complete_with(party, status, 4)
+}
+
+const fn refused(refusal: Refusal) -> Reply {
     Reply::Refused(refusal)
 }
 
-/// A packet of one location, as Look shows it once it has ended.
-fn ended(status: Status, information: u64, pending_returned: bool) -> Reply {
+/// A packet as Look shows it once it has ended.
+const fn ended_at(
+    current: u32,
+    status: Status,
+    information: u64,
+    pending_returned: bool,
+) -> Reply {
     Reply::Seen(Seen {
         owner: Owner::Ended,
-        current: 2,
+        current,
         status,
         information,
         cancel: false,
@@ -134,6 +150,11 @@ fn ended(status: Status, information: u64, pending_returned: bool) -> Reply {
         pending_returned,
         marked: false,
     })
+}
+
+/// A packet of one location, as Look shows it once it has ended.
+const fn ended(status: Status, information: u64, pending_returned: bool) -> Reply {
+    ended_at(2, status, information, pending_returned)
 }
 
 /// What the one dispatch is shown of a read.
@@ -385,15 +406,14 @@ fn an_asker_is_held_to_its_tables(rt: HostRuntime) -> Result<(), Fail> {
         has_lower: true,
         ..SHOWN
     };
-    let invalid = Plan::Finish {
-        status: Status(3221225488),
-        information: 0,
+    let hold = Plan::Hold {
+        cancel: Some(CancelId(0)),
     };
     if held.dispatches() == 3 && held.counts().change == 1 && held.counts().cancel == 1 {
         assert_eq!(rt; held.known_of(DispatchId(1)), Known::NONE);
-        assert_eq!(rt; held.plan(DispatchId(0), above), invalid);
+        assert_eq!(rt; held.plan(DispatchId(0), above), Plan::Skip);
         assert_eq!(rt; held.plan(DispatchId(1), above), FINISHES);
-        assert_eq!(rt; held.plan(DispatchId(2), above), invalid);
+        assert_eq!(rt; held.plan(DispatchId(2), above), hold);
         let routine = RoutineId {
             rule: Rule::Change,
             no: 0,
