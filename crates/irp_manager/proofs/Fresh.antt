@@ -1,10 +1,11 @@
 -- The standing facts once a packet or a device was made.
-use Rattle.std.proofs.Common.{◌≡◌, ℕ, ◌+◌, ◌<◌, ◌≤◌, false, ◌||◌, ◌==◌, Some, sym, ◌∙◌, ap, subst, arith, ◌⊎◌, inl, inr}
+use Rattle.std.proofs.Common.{◌≡◌, ℕ, ◌+◌, ◌<◌, ◌≤◌, true, false, refl, List, [], ◌∷◌, Option, None, ◌||◌, ◌==◌, Some, sym, ◌∙◌, ap, subst, arith, ◌⊎◌, inl, inr}
 use Rattle.std.specs.Prelude.{nat_lt, if◌then◌else◌, Result, Ok, Err}
 use Rattle.std.proofs.lemmas.Bool.{cases_eq, or_from, ne_eqb, cond-false}
-use Rattle.std.proofs.lemmas.Option.{same_Some}
+use Rattle.std.proofs.lemmas.Option.{same_Some, none-some}
 use Rattle.std.specs.FinMap as fin
 use Rattle.irp_types.specs.Limits.{most_locations}
+use Rattle.irp_types.specs.Checks.{Check, first_failing, or_else}
 use Rattle.irp_types.specs.Packet.{PacketValue, new_packet}
 use Rattle.irp_types.specs.Stacks.{DevicesValue, AreStacks}
 use Rattle.irp_types.specs.State.{StateValue, LivePacket, live_at}
@@ -13,7 +14,7 @@ use Rattle.irp_types.specs.Standing.{IsSound, StandingFacts}
 use Rattle.irp_types.specs.declared.routine.Known.{Known}
 use Rattle.irp_types.specs.declared.refusal.Refusal.{Refusal}
 use Rattle.irp_types.specs.declared.refusal.Refusal.TheVariants.{BadSize}
-use Rattle.irp_manager.proofs.Maps.{get_inserted, get_kept}
+use Rattle.irp_manager.proofs.Maps.{get_inserted, get_kept, get_removed, get_left}
 
 -- a size in range gives a packet
 pub made : (size : ℕ) (packet : PacketValue) → 1 ≤ size → size ≤ most_locations
@@ -81,3 +82,27 @@ stands_devices counts state devices stacks stands = record {
   apart = stands.apart;
   stacks = stacks;
 }
+
+-- which packet stood at a slot before one was taken out
+stood_before : (state : StateValue) (slot other : ℕ) (there : LivePacket) → fin.get (fin.remove state.live slot) other ≡ Some there → live_at state other ≡ Some there
+stood_before state slot other there at =
+    elim (cases_eq other slot) as (λ _. live_at state other ≡ Some there) [
+      | inl is ↦ absurd (none-some there (sym (get_removed state.live slot) ∙ ap (fin.get (fin.remove state.live slot)) (sym is) ∙ at))
+      | inr apart ↦ sym (get_left state.live slot other apart) ∙ at
+    ]
+
+pub stands_without : (counts : Known) (state : StateValue) (slot : ℕ) → StandingFacts counts state → StandingFacts counts (record state { live = fin.remove state.live slot })
+stands_without counts state slot stands = record {
+  packets = λ other there at. stands.packets other there (stood_before state slot other there at);
+  counter = stands.counter;
+  positive = λ other there at. stands.positive other there (stood_before state slot other there at);
+  drawn = λ other there at. stands.drawn other there (stood_before state slot other there at);
+  apart = λ one two first second at_one at_two same. stands.apart one two first second (stood_before state slot one first at_one) (stood_before state slot two second at_two) same;
+  stacks = stands.stacks;
+}
+
+-- the checks of a reuse, one after the other
+pub reuse_checks : (named : Option Refusal) (flight : Check) (later : List Check) → or_else named (first_failing (flight ∷ later)) ≡ or_else (or_else named (first_failing (flight ∷ []))) (first_failing later)
+reuse_checks (Some refusal) flight later = refl
+reuse_checks None (true, refusal) later = refl
+reuse_checks None (false, refusal) later = refl

@@ -28,7 +28,7 @@ use Rattle.irp_manager.proofs.Maps.{get_inserted, get_kept, put_back, insert_sam
 abbrev pub putting : StateValue → ℕ → LivePacket → StateValue
 putting state slot live = record state { live = fin.insert state.live slot live }
 
-found : (state : StateValue) (slot : ℕ) (live : LivePacket) → live_at state slot ≡ Some live → packet_at state slot ≡ live
+pub found : (state : StateValue) (slot : ℕ) (live : LivePacket) → live_at state slot ≡ Some live → packet_at state slot ≡ live
 found state slot live at = ap (λ given. unwrap_or given (record { packet = new_packet 1; use_no = 0 })) at
 
 -- where a packet that was taken out and put back stands

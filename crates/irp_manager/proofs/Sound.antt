@@ -1,16 +1,18 @@
 -- The standing facts of a packet, through each call.
-use Rattle.std.proofs.Common.{◌≡◌, ℕ, ◌+◌, ◌-◌, ◌<◌, ◌≤◌, Bool, true, false, not, List, [], ◌∷◌, length, replicate, Option, Some, None, is_some, refl, ap, sym, ◌∙◌, subst, arith, inl, inr}
-use Rattle.std.specs.Prelude.{if◌then◌else◌, nat_le, slice_index_or}
+use Rattle.std.proofs.Common.{◌≡◌, ℕ, ◌+◌, ◌-◌, ◌<◌, ◌≤◌, Bool, true, false, not, ◌&&◌, List, [], ◌∷◌, length, replicate, Option, Some, None, is_some, refl, ap, sym, ◌∙◌, subst, arith, ◌⊎◌, inl, inr}
+use Rattle.std.specs.Prelude.{if◌then◌else◌, nat_le, nat_lt, slice_index_or}
+use Rattle.std.specs.Option.{option_map_or}
 use Rattle.std.proofs.lemmas.List.{length-set, length-replicate}
-use Rattle.std.proofs.lemmas.Bool.{false≢true, true≢false, leb-false, cases_eq}
+use Rattle.std.proofs.lemmas.Bool.{false≢true, true≢false, leb-false, ltb-false, cases_eq, and_cases}
 use Rattle.std.proofs.lemmas.Option.{none-some, same_Some}
 use Rattle.irp_types.specs.Limits.{most_locations}
 use Rattle.irp_types.specs.Rules.{is_known}
 use Rattle.irp_types.specs.Checks.{Check, first_failing, or_else}
-use Rattle.irp_types.specs.Packet.{PacketValue, size_of, location_at, location_with, with_location, with_status, cleared, new_packet, is_nothing, is_filled, is_skipped, lower_check, major_check, preparation_check, set_next_refusal, set_routine_refusal, after_set_next, after_set_routine}
-use Rattle.irp_types.specs.Refusals.{has_ended, is_owned_by_device, routine_refusal}
+use Rattle.irp_types.specs.Packet.{PacketValue, size_of, location_at, location_with, with_location, with_status, cleared, new_packet, is_nothing, is_filled, is_skipped, lower_check, major_check, preparation_check, location_check, skip_check, is_above_top, set_next_refusal, copy_to_next_refusal, skip_refusal, set_routine_refusal, mark_pending_refusal, after_set_next, after_copy, after_skip, after_set_routine, after_mark, after_reset}
+use Rattle.irp_types.specs.Refusals.{has_ended, is_owned_by_device, leave_refusal, routine_refusal, cancel_refusal}
 use Rattle.irp_types.specs.Standing.{is_keeping, lowest_location, own_location, IsSound}
 use Rattle.irp_types.specs.declared.status.Status.{Status}
+use Rattle.irp_types.specs.declared.names.CancelId.{CancelId}
 use Rattle.irp_types.specs.declared.location.Location.{Location}
 use Rattle.irp_types.specs.declared.location.Owner.{Owner}
 use Rattle.irp_types.specs.declared.location.Owner.TheVariants.{Originator, Device, Ended}
@@ -19,7 +21,7 @@ use Rattle.irp_types.specs.declared.location.Preparation.TheVariants.{Nothing, F
 use Rattle.irp_types.specs.declared.routine.Known.{Known}
 use Rattle.irp_types.specs.declared.routine.Setting.{Setting}
 use Rattle.irp_types.specs.declared.refusal.Refusal.{Refusal}
-use Rattle.irp_types.specs.declared.refusal.Refusal.TheVariants.{AfterSkip, NotPrepared, TooShort, NoRoutine}
+use Rattle.irp_types.specs.declared.refusal.Refusal.TheVariants.{NoLocation, AfterSkip, NotPrepared, TooShort, NoRoutine, CancelRoutineSet, AlreadyCancelled}
 use Rattle.irp_manager.proofs.Locations.{at_written, at_other, at_cleared}
 
 -- a check that did not fail, and the others
@@ -177,3 +179,138 @@ sound_set_routine counts packet setting used none sound =
     (sound_lowered counts packet location two unskipped sound
     (λ other set_there. subst (λ given. is_known counts given ≡ true) (same_Some setting other set_there) there)
     (λ other set_there within. pending_here counts packet unskipped sound (owned_here counts packet sound used within)))
+
+-- where the checks of an own location passed, the packet stands in one, which was not given away
+own_passed : (packet : PacketValue) (others : List Check) → first_failing (location_check packet ∷ skip_check packet ∷ others) ≡ None
+    → (is_skipped packet.preparation ≡ false) × (packet.current ≤ size_of packet) × (first_failing others ≡ None)
+own_passed packet others none =
+    let above = passed (is_above_top packet && not (is_skipped packet.preparation)) NoLocation (skip_check packet ∷ others) none in
+    let skipped = passed (is_skipped packet.preparation) AfterSkip others above.1 in
+    let within : packet.current ≤ size_of packet = elim (and_cases (is_above_top packet) (not (is_skipped packet.preparation)) above.0) as (λ _. packet.current ≤ size_of packet) [
+      | inl low ↦ ltb-false (size_of packet) packet.current low
+      | inr gone ↦ absurd (true≢false (ap not (sym skipped.0) ∙ gone))
+    ] in
+    (skipped.0, within, skipped.1)
+
+pub sound_copy : (counts : Known) (packet : PacketValue) → copy_to_next_refusal packet ≡ None → IsSound counts packet → IsSound counts (after_copy packet None)
+sound_copy counts packet none sound =
+    let checks = own_passed packet (lower_check packet ∷ []) none in
+    let lower = passed (nat_le packet.current 1) TooShort [] checks.2 in
+    let two : 1 < packet.current = leb-false packet.current 1 lower.0 in
+    let here = location_at packet packet.current in
+    sound_lowered counts packet (record (location_with here.major here.word) { setting = None }) (omega arith) checks.0 sound
+    (λ setting there. absurd (none-some setting there)) (λ setting there. absurd (none-some setting there))
+
+pub sound_mark : (counts : Known) (packet : PacketValue) → mark_pending_refusal packet ≡ None → IsSound counts packet → IsSound counts (after_mark packet packet.current)
+sound_mark counts packet none sound =
+    let checks = own_passed packet [] none in
+    let current = packet.current in
+    let location : Location = record (location_at packet current) { pending = true } in
+    let marked : PacketValue = after_mark packet current in
+    let size : size_of marked ≡ size_of packet = length-set packet.locations (current - 1) location in
+    let here : location_at marked current ≡ location = at_written packet current location sound.placed checks.1 in
+    let at : (number : ℕ) → ((number - 1 ≡ current - 1) × (location_at marked number ≡ location)) ⊎ (location_at marked number ≡ location_at packet number) = λ number.
+        elim (cases_eq (number - 1) (current - 1)) as (λ _. ((number - 1 ≡ current - 1) × (location_at marked number ≡ location)) ⊎ (location_at marked number ≡ location_at packet number)) [
+          | inl same ↦ inl (same, ap (λ place. slice_index_or marked.locations place cleared) same ∙ here)
+          | inr other ↦ inr (at_other packet current number location other)
+        ] in
+    let device : (number : ℕ) → (location_at marked number).device ≡ (location_at packet number).device = λ number.
+        elim (at number) as (λ _. (location_at marked number).device ≡ (location_at packet number).device) [
+          | inl same ↦ ap (λ (given : Location). given.device) same.1 ∙ ap (λ place. (slice_index_or packet.locations place cleared).device) (sym same.0)
+          | inr other ↦ ap (λ (given : Location). given.device) other
+        ] in
+    let setting_of : (number : ℕ) → (location_at marked number).setting ≡ (location_at packet number).setting = λ number.
+        elim (at number) as (λ _. (location_at marked number).setting ≡ (location_at packet number).setting) [
+          | inl same ↦ ap (λ (given : Location). given.setting) same.1 ∙ ap (λ place. (slice_index_or packet.locations place cleared).setting) (sym same.0)
+          | inr other ↦ ap (λ (given : Location). given.setting) other
+        ] in
+    let still : (number : ℕ) → (location_at packet number).pending ≡ true → (location_at marked number).pending ≡ true = λ number was.
+        elim (at number) as (λ _. (location_at marked number).pending ≡ true) [
+          | inl same ↦ ap (λ (given : Location). given.pending) same.1
+          | inr other ↦ ap (λ (given : Location). given.pending) other ∙ was
+        ] in
+    record {
+      some = omega (arith, size, sound.some);
+      few = omega (arith, size, sound.few);
+      placed = sound.placed;
+      within = omega (arith, size, sound.within);
+      prepared = sound.prepared;
+      marked = λ owned. still (own_location packet) (sound.marked owned);
+      devices = λ number from to. ap is_some (device number) ∙ sound.devices number from (omega (arith, size, to));
+      originator = λ is. sound.originator is ∙ ap (λ given. given + 1) (sym size);
+      routines = λ number setting there. sound.routines number setting (sym (setting_of number) ∙ there);
+      cancel = λ routine there. let cancellable = sound.cancel routine there in record { there = cancellable.there; held = cancellable.held; unskipped = cancellable.unskipped };
+      keepers = λ number setting from below there keeps. still (number + 1) (sound.keepers number setting from (omega (arith, size, below)) (sym (setting_of number) ∙ there) keeps);
+    }
+
+-- a device gives its location to the next lower one
+skipped : (counts : Known) (packet : PacketValue) → is_skipped packet.preparation ≡ false → packet.current ≤ size_of packet → packet.cancel_routine ≡ None → is_owned_by_device packet.owner ≡ true
+    → IsSound counts packet → IsSound counts (record packet { current = packet.current + 1; preparation = Skipped })
+skipped counts packet unskipped within free owned sound =
+    let back : packet.current + 1 - 1 ≡ packet.current = omega arith in
+    let placed : 1 ≤ packet.current = sound.placed in
+    record {
+      some = sound.some;
+      few = sound.few;
+      placed = omega arith;
+      within = omega (arith, within);
+      prepared = λ _. omega (arith, placed);
+      marked = λ _. subst (λ number. (location_at packet number).pending ≡ true) (sym back) (pending_here counts packet unskipped sound owned);
+      devices = λ number from to. sound.devices number (omega (arith, from)) to;
+      originator = λ is. let top = sound.originator is in absurd (omega (arith, top, within));
+      routines = sound.routines;
+      cancel = λ routine there. absurd (none-some routine (sym free ∙ there));
+      keepers = λ number setting from below there keeps. sound.keepers number setting (low packet number (omega (arith, from, back))) below there keeps;
+    }
+
+-- nothing is set
+nothing_set : (cancel : Option CancelId) → is_some cancel ≡ false → cancel ≡ None
+nothing_set None _ = refl
+nothing_set (Some routine) set = absurd (true≢false set)
+
+pub sound_skip : (counts : Known) (packet : PacketValue) → has_ended packet.owner ≡ false → leave_refusal packet ≡ None → IsSound counts packet → IsSound counts (after_skip packet)
+sound_skip counts packet used none sound =
+    let checks = both_passed (skip_refusal packet) (first_failing ((is_some packet.cancel_routine, CancelRoutineSet) ∷ [])) none in
+    let own = own_passed packet [] checks.0 in
+    let free = nothing_set packet.cancel_routine (passed (is_some packet.cancel_routine) CancelRoutineSet [] checks.1).0 in
+    let owned = owned_here counts packet sound used own.1 in
+    by packet.preparation refl own.0 own.1 free owned
+  where
+    by : (preparation : Preparation) → packet.preparation ≡ preparation → is_skipped packet.preparation ≡ false → packet.current ≤ size_of packet → packet.cancel_routine ≡ None → is_owned_by_device packet.owner ≡ true
+        → IsSound counts (record (if is_filled preparation then with_location packet (packet.current - 1) cleared else packet) { current = packet.current + 1; preparation = Skipped })
+    by Nothing is unskipped within free owned = skipped counts packet unskipped within free owned sound
+    by Skipped is unskipped within free owned = skipped counts packet unskipped within free owned sound
+    by Filled is unskipped within free owned =
+        let two : 2 ≤ packet.current = sound.prepared (ap is_nothing is) in
+        let size : size_of (lowered counts packet cleared two unskipped sound) ≡ size_of packet = length-set packet.locations (packet.current - 1 - 1) cleared in
+        let bare = sound_lowered counts packet cleared two unskipped sound (λ setting there. absurd (none-some setting there)) (λ setting there. absurd (none-some setting there)) in
+        skipped counts (lowered counts packet cleared two unskipped sound) refl (omega (arith, size, within)) free owned bare
+
+pub sound_set_cancel : (counts : Known) (packet : PacketValue) (cancel : Option CancelId) → has_ended packet.owner ≡ false → cancel_refusal counts packet cancel ≡ None
+    → IsSound counts packet → IsSound counts (record packet { cancel_routine = cancel })
+sound_set_cancel counts packet cancel used none sound =
+    let twice : List Check = (is_some cancel && packet.cancel, AlreadyCancelled) ∷ [] in
+    let unknown : Bool = option_map_or (λ (routine : CancelId). nat_le counts.cancel routine.0) cancel false in
+    let own = own_passed packet ((unknown, NoRoutine) ∷ twice) none in
+    let known = passed unknown NoRoutine twice own.2 in
+    let owned = owned_here counts packet sound used own.1 in
+    record {
+      some = sound.some;
+      few = sound.few;
+      placed = sound.placed;
+      within = sound.within;
+      prepared = sound.prepared;
+      marked = sound.marked;
+      devices = sound.devices;
+      originator = sound.originator;
+      routines = sound.routines;
+      cancel = λ routine there. record {
+        there = leb-false counts.cancel routine.0 (ap (λ (given : Option CancelId). option_map_or (λ (number : CancelId). nat_le counts.cancel number.0) given false) (sym there) ∙ known.0);
+        held = owned;
+        unskipped = own.0;
+      };
+      keepers = sound.keepers;
+    }
+
+pub sound_reset : (counts : Known) (packet : PacketValue) (status : Status) → IsSound counts packet → IsSound counts (after_reset packet status)
+sound_reset counts packet status sound = sound_with_status counts (new_packet (size_of packet)) status 0 (sound_new counts (size_of packet) sound.some sound.few)

@@ -1,40 +1,46 @@
 -- From what a call did with one packet to its step, and to the standing facts.
 use Rattle.std.proofs.Common.{◌≡◌, ℕ, Bool, false, List, [], Option, Some, None, MatchOption, refl, sym, ◌∙◌, ap, subst}
 use Rattle.irp_types.specs.Checks.{or_else}
-use Rattle.irp_types.specs.Packet.{PacketValue, set_next_refusal, after_set_next, after_set_routine}
+use Rattle.irp_types.specs.Packet.{PacketValue, set_next_refusal, copy_to_next_refusal, mark_pending_refusal, after_set_next, after_copy, after_skip, after_set_routine, after_mark}
 use Rattle.irp_types.specs.State.{StateValue, LivePacket, Fixed, packet_of, with_packet}
-use Rattle.irp_types.specs.Refusals.{has_ended, party_refusal, routine_refusal, send_refusal, complete_refusal}
+use Rattle.irp_types.specs.Refusals.{has_ended, party_refusal, leave_refusal, routine_refusal, cancel_refusal, send_refusal, complete_refusal}
 use Rattle.irp_types.specs.Steps.{Unasked, Effect, Step}
 use Rattle.irp_types.specs.Standing.{IsSound}
 use Rattle.irp_types.specs.declared.names.IrpRef.{IrpRef}
 use Rattle.irp_types.specs.declared.names.DeviceId.{DeviceId}
+use Rattle.irp_types.specs.declared.names.CancelId.{CancelId}
 use Rattle.irp_types.specs.declared.status.Status.{Status}
 use Rattle.irp_types.specs.declared.routine.Known.{Known}
 use Rattle.irp_types.specs.declared.routine.Setting.{Setting}
 use Rattle.irp_types.specs.declared.call.Party.{Party}
-use Rattle.irp_types.specs.declared.call.Call.TheVariants.{SetNext, SetRoutine, CallDriver, Complete}
+use Rattle.irp_types.specs.declared.call.Call.TheVariants.{SetNext, CopyToNext, Skip, SetRoutine, MarkPending, CallDriver, Complete, SetCancelRoutine}
 use Rattle.irp_types.specs.declared.asked.Asked.{Asked}
 use Rattle.irp_types.specs.declared.refusal.Refusal.{Refusal}
 use Rattle.irp_types.specs.declared.reply.Reply.{Reply}
-use Rattle.irp_types.specs.declared.reply.Reply.TheVariants.{Done, Refused}
-use Rattle.irp_manager.specs.Calls.{Goes, Fills, Sets, Sends, Finishes}
+use Rattle.irp_types.specs.declared.reply.Reply.TheVariants.{Done, Previous, Refused}
+use Rattle.irp_manager.specs.Calls.{Goes, Fills, Copies, Leaves, Sets, Marks, Sends, Finishes, SetsCancel}
 use Rattle.irp_manager.proofs.OnePacket.{GoesOn}
-use Rattle.irp_manager.proofs.Sound.{sound_set_next, sound_set_routine}
+use Rattle.irp_manager.proofs.Sound.{sound_set_next, sound_copy, sound_skip, sound_set_routine, sound_mark, sound_set_cancel}
 
 -- an effect in place of another, where nothing was refused
 if_none : (refusal : Option Refusal) (one two : Type 0) (refused : Refusal → Type 0) → (one → two) → MatchOption refusal one refused → MatchOption refusal two refused
 if_none None one two refused turn goes = turn goes
 if_none (Some given) one two refused turn goes = goes
 
+-- a call that makes one packet of another and asks nothing
+quiet : (old : StateValue) (slot : ℕ) (refusal : Option Refusal) (after : PacketValue) (told reply : Reply) (new : StateValue)
+    → MatchOption refusal ((packet : PacketValue) × ((packet ≡ after) × (◌≡◌ {A = List Asked} [] []) × (reply ≡ told)) × (new ≡ with_packet old slot packet)) (λ given. Unasked [] reply new (Refused given) old)
+    → MatchOption refusal (Unasked [] reply new told (with_packet old slot after)) (λ given. Unasked [] reply new (Refused given) old)
+quiet old slot refusal after told reply new goes =
+    if_none refusal ((packet : PacketValue) × ((packet ≡ after) × (◌≡◌ {A = List Asked} [] []) × (reply ≡ told)) × (new ≡ with_packet old slot packet))
+    (Unasked [] reply new told (with_packet old slot after)) (λ given. Unasked [] reply new (Refused given) old)
+    (λ done. (done.1.1, done.1.2, done.2 ∙ ap (with_packet old slot) done.1.0)) goes
+
 pub filled_step : (fixed : Fixed) (drained : Bool) (old : StateValue) (party : Party) (irp : IrpRef) (major word : ℕ) (reply : Reply) (new : StateValue)
     → GoesOn (or_else (party_refusal old party irp) (set_next_refusal (packet_of old irp) major)) (Fills major word [] reply (packet_of old irp)) old irp.slot [] reply new
     → Step fixed old drained (SetNext party irp major word) [] reply new
 filled_step fixed drained old party irp major word reply new goes =
-    if_none (or_else (party_refusal old party irp) (set_next_refusal (packet_of old irp) major))
-    ((packet : PacketValue) × Fills major word [] reply (packet_of old irp) packet × (new ≡ with_packet old irp.slot packet))
-    (Unasked [] reply new Done (with_packet old irp.slot (after_set_next (packet_of old irp) major word)))
-    (λ refusal. Unasked [] reply new (Refused refusal) old)
-    (λ done. (done.1.1, done.1.2, done.2 ∙ ap (with_packet old irp.slot) done.1.0)) goes
+    quiet old irp.slot (or_else (party_refusal old party irp) (set_next_refusal (packet_of old irp) major)) (after_set_next (packet_of old irp) major word) Done reply new goes
 
 -- what holds of a packet before a call that asks nothing, and of what the call makes of it, holds after the call
 kept_by : (P : PacketValue → Type 0) (refusal : Option Refusal) (after : PacketValue) (reply told : Reply) (live new : LivePacket)
@@ -49,15 +55,57 @@ filled_sound counts major word reply live new goes sound =
     kept_by (IsSound counts) (set_next_refusal live.packet major) (after_set_next live.packet major word) reply Done live new goes
     (λ none. sound_set_next counts live.packet major word none sound) sound
 
+pub copied_step : (fixed : Fixed) (drained : Bool) (old : StateValue) (party : Party) (irp : IrpRef) (reply : Reply) (new : StateValue)
+    → GoesOn (or_else (party_refusal old party irp) (copy_to_next_refusal (packet_of old irp))) (Copies [] reply (packet_of old irp)) old irp.slot [] reply new
+    → Step fixed old drained (CopyToNext party irp) [] reply new
+copied_step fixed drained old party irp reply new goes =
+    quiet old irp.slot (or_else (party_refusal old party irp) (copy_to_next_refusal (packet_of old irp))) (after_copy (packet_of old irp) None) Done reply new goes
+
+pub copied_sound : (counts : Known) (reply : Reply) (live new : LivePacket) → Goes (copy_to_next_refusal live.packet) (Copies [] reply live.packet) live new [] reply
+    → IsSound counts live.packet → IsSound counts new.packet
+copied_sound counts reply live new goes sound =
+    kept_by (IsSound counts) (copy_to_next_refusal live.packet) (after_copy live.packet None) reply Done live new goes (λ none. sound_copy counts live.packet none sound) sound
+
+pub left_step : (fixed : Fixed) (drained : Bool) (old : StateValue) (party : Party) (irp : IrpRef) (reply : Reply) (new : StateValue)
+    → GoesOn (or_else (party_refusal old party irp) (leave_refusal (packet_of old irp))) (Leaves [] reply (packet_of old irp)) old irp.slot [] reply new
+    → Step fixed old drained (Skip party irp) [] reply new
+left_step fixed drained old party irp reply new goes =
+    quiet old irp.slot (or_else (party_refusal old party irp) (leave_refusal (packet_of old irp))) (after_skip (packet_of old irp)) Done reply new goes
+
+pub left_sound : (counts : Known) (reply : Reply) (live new : LivePacket) → Goes (leave_refusal live.packet) (Leaves [] reply live.packet) live new [] reply
+    → has_ended live.packet.owner ≡ false → IsSound counts live.packet → IsSound counts new.packet
+left_sound counts reply live new goes used sound =
+    kept_by (IsSound counts) (leave_refusal live.packet) (after_skip live.packet) reply Done live new goes (λ none. sound_skip counts live.packet used none sound) sound
+
+pub marked_step : (fixed : Fixed) (drained : Bool) (old : StateValue) (party : Party) (irp : IrpRef) (reply : Reply) (new : StateValue)
+    → GoesOn (or_else (party_refusal old party irp) (mark_pending_refusal (packet_of old irp))) (Marks [] reply (packet_of old irp)) old irp.slot [] reply new
+    → Step fixed old drained (MarkPending party irp) [] reply new
+marked_step fixed drained old party irp reply new goes =
+    quiet old irp.slot (or_else (party_refusal old party irp) (mark_pending_refusal (packet_of old irp))) (after_mark (packet_of old irp) (packet_of old irp).current) Done reply new goes
+
+pub marked_sound : (counts : Known) (reply : Reply) (live new : LivePacket) → Goes (mark_pending_refusal live.packet) (Marks [] reply live.packet) live new [] reply
+    → IsSound counts live.packet → IsSound counts new.packet
+marked_sound counts reply live new goes sound =
+    kept_by (IsSound counts) (mark_pending_refusal live.packet) (after_mark live.packet live.packet.current) reply Done live new goes (λ none. sound_mark counts live.packet none sound) sound
+
+pub cancel_step : (fixed : Fixed) (drained : Bool) (old : StateValue) (party : Party) (irp : IrpRef) (cancel : Option CancelId) (reply : Reply) (new : StateValue)
+    → GoesOn (or_else (party_refusal old party irp) (cancel_refusal fixed.tables.counts (packet_of old irp) cancel)) (SetsCancel cancel [] reply (packet_of old irp)) old irp.slot [] reply new
+    → Step fixed old drained (SetCancelRoutine party irp cancel) [] reply new
+cancel_step fixed drained old party irp cancel reply new goes =
+    quiet old irp.slot (or_else (party_refusal old party irp) (cancel_refusal fixed.tables.counts (packet_of old irp) cancel)) (record (packet_of old irp) { cancel_routine = cancel })
+    (Previous (packet_of old irp).cancel_routine) reply new goes
+
+pub cancel_sound : (counts : Known) (cancel : Option CancelId) (reply : Reply) (live new : LivePacket) → Goes (cancel_refusal counts live.packet cancel) (SetsCancel cancel [] reply live.packet) live new [] reply
+    → has_ended live.packet.owner ≡ false → IsSound counts live.packet → IsSound counts new.packet
+cancel_sound counts cancel reply live new goes used sound =
+    kept_by (IsSound counts) (cancel_refusal counts live.packet cancel) (record live.packet { cancel_routine = cancel }) reply (Previous live.packet.cancel_routine) live new goes
+    (λ none. sound_set_cancel counts live.packet cancel used none sound) sound
+
 pub set_step : (fixed : Fixed) (drained : Bool) (old : StateValue) (party : Party) (irp : IrpRef) (setting : Setting) (reply : Reply) (new : StateValue)
     → GoesOn (or_else (party_refusal old party irp) (routine_refusal fixed.tables.counts (packet_of old irp) setting)) (Sets setting [] reply (packet_of old irp)) old irp.slot [] reply new
     → Step fixed old drained (SetRoutine party irp setting) [] reply new
 set_step fixed drained old party irp setting reply new goes =
-    if_none (or_else (party_refusal old party irp) (routine_refusal fixed.tables.counts (packet_of old irp) setting))
-    ((packet : PacketValue) × Sets setting [] reply (packet_of old irp) packet × (new ≡ with_packet old irp.slot packet))
-    (Unasked [] reply new Done (with_packet old irp.slot (after_set_routine (packet_of old irp) setting)))
-    (λ refusal. Unasked [] reply new (Refused refusal) old)
-    (λ done. (done.1.1, done.1.2, done.2 ∙ ap (with_packet old irp.slot) done.1.0)) goes
+    quiet old irp.slot (or_else (party_refusal old party irp) (routine_refusal fixed.tables.counts (packet_of old irp) setting)) (after_set_routine (packet_of old irp) setting) Done reply new goes
 
 pub set_sound : (counts : Known) (setting : Setting) (reply : Reply) (live new : LivePacket) → Goes (routine_refusal counts live.packet setting) (Sets setting [] reply live.packet) live new [] reply
     → has_ended live.packet.owner ≡ false → IsSound counts live.packet → IsSound counts new.packet

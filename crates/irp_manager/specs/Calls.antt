@@ -1,21 +1,24 @@
 -- What a call on one live packet does.
-use Rattle.std.specs.Prelude.{ℕ, ◌≡◌, not, ◌==◌, List, [], ◌∷◌, Option, Some, None}
+use Rattle.std.specs.Prelude.{ℕ, ◌≡◌, Bool, true, false, not, ◌==◌, List, [], ◌∷◌, Option, Some, None}
 use Rattle.irp_types.specs.Checks.{first_failing}
-use Rattle.irp_types.specs.Packet.{PacketValue, with_status, after_set_next, after_set_routine}
+use Rattle.irp_types.specs.Packet.{PacketValue, with_status, after_set_next, after_copy, after_skip, after_set_routine, after_mark}
 use Rattle.irp_types.specs.Stacks.{DevicesValue}
 use Rattle.irp_types.specs.State.{LivePacket, Tables}
 use Rattle.irp_types.specs.Descent.{Descended}
 use Rattle.irp_types.specs.Refusals.{has_ended, is_owner}
 use Rattle.irp_types.specs.Steps.{Completes}
 use Rattle.irp_types.specs.declared.names.IrpRef.{IrpRef}
+use Rattle.irp_types.specs.declared.names.CancelId.{CancelId}
 use Rattle.irp_types.specs.declared.status.Status.{Status}
 use Rattle.irp_types.specs.declared.routine.Setting.{Setting}
 use Rattle.irp_types.specs.declared.call.Party.{Party}
+use Rattle.irp_types.specs.declared.call.Call.{Call}
+use Rattle.irp_types.specs.declared.call.Call.TheVariants.{CreateDevice, Attach, Detach, Allocate, Free, Reuse, SetNext, CopyToNext, Skip, SetRoutine, MarkPending, CallDriver, Complete, SetCancelRoutine, Look}
 use Rattle.irp_types.specs.declared.asked.Asked.{Asked}
 use Rattle.irp_types.specs.declared.refusal.Refusal.{Refusal}
 use Rattle.irp_types.specs.declared.refusal.Refusal.TheVariants.{NoIrp, Stale, NotOwner, Ended}
 use Rattle.irp_types.specs.declared.reply.Reply.{Reply}
-use Rattle.irp_types.specs.declared.reply.Reply.TheVariants.{Done, Status as StatusIs, Refused}
+use Rattle.irp_types.specs.declared.reply.Reply.TheVariants.{Done, Status as StatusIs, Previous, Refused}
 
 -- the checks of a reference, at what stands in its slot
 abbrev pub packet_refusal_in : Option LivePacket → IrpRef → Option Refusal
@@ -30,6 +33,24 @@ party_refusal_in (Some live) party irp = first_failing (
     ∷ (has_ended live.packet.owner, Ended)
     ∷ (not (is_owner party live.packet.owner), NotOwner) ∷ [])
 
+-- a call that names a party
+abbrev pub names_party : Call → Bool
+names_party (CreateDevice driver lock) = false
+names_party (Attach device to) = false
+names_party (Detach lower) = false
+names_party (Allocate size) = false
+names_party (Free irp) = false
+names_party (Reuse irp status) = false
+names_party (SetNext party irp major word) = true
+names_party (CopyToNext party irp) = true
+names_party (Skip party irp) = true
+names_party (SetRoutine party irp setting) = true
+names_party (MarkPending party irp) = true
+names_party (CallDriver party irp target) = true
+names_party (Complete party irp status information) = true
+names_party (SetCancelRoutine party irp cancel) = true
+names_party (Look irp) = false
+
 -- a live packet was refused and is as before, or it has become one that the relation allows
 abbrev pub Goes : Option Refusal → (PacketValue → Type 0) → LivePacket → LivePacket → List Asked → Reply → Type 0
 Goes None becomes old new asked reply = (packet : PacketValue) × becomes packet × (new ≡ record old { packet = packet })
@@ -38,6 +59,22 @@ Goes (Some refusal) becomes old new asked reply = (asked ≡ []) × (reply ≡ R
 -- the next location was filled
 abbrev pub Fills : ℕ → ℕ → List Asked → Reply → PacketValue → PacketValue → Type 0
 Fills major word asked reply old new = (new ≡ after_set_next old major word) × (asked ≡ []) × (reply ≡ Done)
+
+-- the next location became the copy of the current one
+abbrev pub Copies : List Asked → Reply → PacketValue → PacketValue → Type 0
+Copies asked reply old new = (new ≡ after_copy old None) × (asked ≡ []) × (reply ≡ Done)
+
+-- the owner gave its location away
+abbrev pub Leaves : List Asked → Reply → PacketValue → PacketValue → Type 0
+Leaves asked reply old new = (new ≡ after_skip old) × (asked ≡ []) × (reply ≡ Done)
+
+-- the current location was marked pending
+abbrev pub Marks : List Asked → Reply → PacketValue → PacketValue → Type 0
+Marks asked reply old new = (new ≡ after_mark old old.current) × (asked ≡ []) × (reply ≡ Done)
+
+-- the packet was given a cancel routine, or none
+abbrev pub SetsCancel : Option CancelId → List Asked → Reply → PacketValue → PacketValue → Type 0
+SetsCancel cancel asked reply old new = (new ≡ record old { cancel_routine = cancel }) × (asked ≡ []) × (reply ≡ Previous old.cancel_routine)
 
 -- the next location was given a completion routine
 abbrev pub Sets : Setting → List Asked → Reply → PacketValue → PacketValue → Type 0

@@ -1,25 +1,26 @@
 //! What a call does to one live packet.
 
-ghost use Rattle.std.specs.Prelude.{◌≡◌, ◌+◌, ◌*◌, ◌<◌, ◌≤◌, false, Option, Some, None, [], length, vec_capacity, vec_len};
+ghost use Rattle.std.specs.Prelude.{◌≡◌, ◌+◌, ◌*◌, ◌<◌, ◌≤◌, false, Option, Some, None, [], ◌∷◌, length, vec_capacity, vec_len};
 ghost use Rattle.irp_types.specs.Limits.{most_locations};
-ghost use Rattle.irp_types.specs.Packet.{size_of, is_nothing, set_next_refusal};
+ghost use Rattle.irp_types.specs.Checks.{first_failing};
+ghost use Rattle.irp_types.specs.Packet.{size_of, is_nothing, set_next_refusal, copy_to_next_refusal, mark_pending_refusal};
 ghost use Rattle.irp_types.specs.Stacks.{stack_size_of};
-ghost use Rattle.irp_types.specs.Refusals.{is_owner, is_wrong_target, routine_refusal, send_refusal, complete_refusal};
+ghost use Rattle.irp_types.specs.Refusals.{is_owner, is_wrong_target, flight_check, leave_refusal, routine_refusal, cancel_refusal, send_refusal, complete_refusal};
 ghost use Rattle.irp_types.specs.Descent.{StaysUp};
 ghost use Rattle.irp_types.specs.Steps.{seen_of};
 ghost use Rattle.irp_types.specs.Standing.{IsSound};
 ghost use Rattle.irp_types.specs.declared.status.Status.{Status};
 ghost use Rattle.irp_types.specs.declared.reply.Reply.TheVariants.{Status as StatusIs};
 ghost use Rattle.irp_routines.specs.Answers.{AreAnswered};
-ghost use Rattle.irp_manager.specs.Calls.{packet_refusal_in, party_refusal_in, Goes, Fills, Sets, Sends, Finishes};
+ghost use Rattle.irp_manager.specs.Calls.{packet_refusal_in, party_refusal_in, Goes, Fills, Copies, Leaves, Sets, Marks, Sends, Finishes, SetsCancel};
 
 use crate::slots::Live;
 use irp_packet::Packet;
 use irp_routines::Ask;
 use irp_stack::Stacks;
 use irp_types::{
-    Asked, DeviceId, IrpRef, Known, Owner, Party, Preparation, Refusal, Reply, Seen, Setting,
-    Status,
+    Asked, CancelId, DeviceId, IrpRef, Known, Owner, Party, Preparation, Refusal, Reply, Seen,
+    Setting, Status,
 };
 use irp_unwind::{descend, unwind};
 
@@ -71,6 +72,106 @@ pub fn set_next(live: &mut Live, major: u8, word: u64) -> Reply
         Ok(()) => Reply::Done,
         Err(refusal) => Reply::Refused(refusal),
     }
+}
+
+/// Copies the current location to the next lower one.
+pub fn copy_to_next(live: &mut Live) -> Reply
+    ensures goes { Goes (copy_to_next_refusal live.old.packet) (Copies [] result live.old.packet) live.old live.new [] result }
+{
+    match live.packet.copy_to_next() {
+        Ok(()) => Reply::Done,
+        Err(refusal) => Reply::Refused(refusal),
+    }
+}
+
+/// Why an owner has no location of its own to mark or to give away, if it has none.
+fn location_check(packet: &Packet) -> Option<Refusal>
+    ensures { result ≡ mark_pending_refusal packet.now }
+{
+    let skipped = matches!(packet.preparation(), Preparation::Skipped);
+    if packet.current() > packet.size() && !skipped {
+        return Some(Refusal::NoLocation);
+    }
+    if skipped {
+        return Some(Refusal::AfterSkip);
+    }
+    None
+}
+
+/// Why an owner does not give its location away, if it does not.
+fn leave_check(packet: &Packet) -> Option<Refusal>
+    ensures { result ≡ leave_refusal packet.now }
+{
+    if let Some(refusal) = location_check(packet) {
+        return Some(refusal);
+    }
+    if packet.cancel_routine().is_some() {
+        return Some(Refusal::CancelRoutineSet);
+    }
+    None
+}
+
+/// Gives the current location to the next lower device.
+pub fn skip(live: &mut Live) -> Reply
+    ensures goes { Goes (leave_refusal live.old.packet) (Leaves [] result live.old.packet) live.old live.new [] result }
+{
+    if let Some(refusal) = leave_check(&live.packet) {
+        return Reply::Refused(refusal);
+    }
+    match live.packet.skip() {
+        Ok(()) => Reply::Done,
+        Err(refusal) => Reply::Refused(refusal),
+    }
+}
+
+/// Marks the current location pending.
+pub fn mark_pending(live: &mut Live) -> Reply
+    ensures goes { Goes (mark_pending_refusal live.old.packet) (Marks [] result live.old.packet) live.old live.new [] result }
+{
+    match live.packet.mark_pending() {
+        Ok(()) => Reply::Done,
+        Err(refusal) => Reply::Refused(refusal),
+    }
+}
+
+/// Why a cancel routine is not set, or taken out, where so many are there, if it is not.
+fn cancel_check(packet: &Packet, counts: Known, cancel: Option<CancelId>) -> Option<Refusal>
+    ensures { result ≡ cancel_refusal counts packet.now cancel }
+{
+    if let Some(refusal) = location_check(packet) {
+        return Some(refusal);
+    }
+    if let Some(routine) = cancel {
+        if routine.0 >= counts.cancel {
+            return Some(Refusal::NoRoutine);
+        }
+        if packet.cancel() {
+            return Some(Refusal::AlreadyCancelled);
+        }
+    }
+    None
+}
+
+/// Puts a cancel routine into the packet, or none.
+pub fn set_cancel_routine(live: &mut Live, counts: Known, cancel: Option<CancelId>) -> Reply
+    ensures goes { Goes (cancel_refusal counts live.old.packet cancel) (SetsCancel cancel [] result live.old.packet) live.old live.new [] result }
+{
+    if let Some(refusal) = cancel_check(&live.packet, counts, cancel) {
+        return Reply::Refused(refusal);
+    }
+    let previous = live.packet.cancel_routine();
+    live.packet.set_cancel(live.packet.cancel(), cancel);
+    Reply::Previous(previous)
+}
+
+/// Why the packet is not given back or used again, if it is not.
+pub fn flight_refusal(live: &Live) -> Option<Refusal>
+    ensures { result ≡ first_failing (flight_check live.now.packet ∷ []) }
+{
+    if matches!(live.packet.owner(), Owner::Device(_)) {
+        return Some(Refusal::InFlight);
+    }
+    None
 }
 
 /// Why a completion routine is not set where so many are there, if it is not.

@@ -1,13 +1,15 @@
 //! The state of the manager, and its calls.
 
-ghost use Rattle.std.specs.Prelude.{◌≡◌, ℕ, ◌+◌, ◌*◌, ◌<◌, ◌≤◌, ◌^◌, Option, Some, None, length, false, true, List, [], Bool, vec_len, vec_capacity, IfOk, OnErr, IfErr};
+mod parties;
+
+ghost use Rattle.std.specs.Prelude.{◌≡◌, ℕ, ◌+◌, ◌*◌, ◌<◌, ◌≤◌, ◌^◌, Option, Some, None, length, false, true, List, [], ◌∷◌, Bool, vec_len, vec_capacity, IfOk, OnErr, IfErr};
 ghost use Rattle.irp_types.specs.Limits.{most_locations};
 ghost use Rattle.irp_types.specs.Checks.{first_failing, or_else};
 ghost use Rattle.irp_types.specs.Stacks.{create_checks};
-ghost use Rattle.irp_types.specs.State.{Fixed, Tables, LivePacket, opening_state, live_at};
-ghost use Rattle.irp_types.specs.Refusals.{packet_refusal, party_refusal, first_refusal};
+ghost use Rattle.irp_types.specs.State.{Fixed, Tables, LivePacket, opening_state, live_at, packet_of};
+ghost use Rattle.irp_types.specs.Refusals.{flight_check, packet_refusal, party_refusal, first_refusal};
 ghost use Rattle.irp_types.specs.Histories.{lock_of};
-ghost use Rattle.irp_types.specs.declared.call.Call.TheVariants.{CreateDevice, Attach, Detach, Allocate, SetNext, SetRoutine, CallDriver, Complete, Look};
+ghost use Rattle.irp_types.specs.declared.call.Call.TheVariants.{CreateDevice, Attach, Detach, Allocate, Free, Reuse, SetNext, CopyToNext, Skip, SetRoutine, MarkPending, CallDriver, Complete, SetCancelRoutine, Look};
 ghost use Rattle.irp_types.specs.Standing.{StandingFacts};
 ghost use Rattle.irp_types.specs.declared.routine.Known.{Known};
 ghost use Rattle.irp_routines.specs.Answers.{AreAnswered};
@@ -21,7 +23,8 @@ use irp_packet::Packet;
 use irp_routines::Ask;
 use irp_stack::{NotCreated, Stacks};
 use irp_types::{
-    Asked, Call, DeviceId, DriverId, IrpRef, Known, LockNo, Party, Refusal, Reply, Setting, Status,
+    Asked, Call, CancelId, DeviceId, DriverId, IrpRef, Known, LockNo, Party, Refusal, Reply,
+    Setting, Status,
 };
 use std::alloc::{AllocError, Global};
 
@@ -82,93 +85,6 @@ impl Core {
             None => Some(Refusal::NoIrp),
             Some(live) => packets::party_refusal(live, party, irp),
         }
-    }
-
-    fn set_next(&mut self, party: Party, irp: IrpRef, major: u8, word: u64) -> Reply
-        ensures { SteppedAny self.old (SetNext party irp major word) [] result self.new }
-    {
-        if let Some(refusal) = self.party_refusal(party, irp) {
-            return Reply::Refused(refusal);
-        }
-        let Some(mut live) = self.slots.take(irp.slot) else {
-            return Reply::Refused(Refusal::NoIrp);
-        };
-        let reply = packets::set_next(&mut live, major, word);
-        self.slots.put(irp.slot, live);
-        reply
-    }
-
-    fn set_routine(
-        &mut self,
-        counts: Known,
-        party: Party,
-        irp: IrpRef,
-        setting: Setting,
-    ) -> Reply
-        ensures { (tables : Tables) (drained : Bool) → tables.counts ≡ counts
-            → StandingFacts tables.counts (state_of self.old) → Stepped tables drained self.old (SetRoutine party irp setting) [] result self.new }
-    {
-        if let Some(refusal) = self.party_refusal(party, irp) {
-            return Reply::Refused(refusal);
-        }
-        let Some(mut live) = self.slots.take(irp.slot) else {
-            return Reply::Refused(Refusal::NoIrp);
-        };
-        let reply = packets::set_routine(&mut live, counts, setting);
-        self.slots.put(irp.slot, live);
-        reply
-    }
-
-    fn call_driver<A: Ask>(
-        &mut self,
-        ask: &A,
-        party: Party,
-        irp: IrpRef,
-        target: DeviceId,
-        asked: &mut Vec<Asked>,
-    ) -> Reply
-        requires stands { StandingFacts (A.tables ask.now).counts (state_of self.old) }
-        requires empty { asked.old.items ≡ [] }
-        requires room { vec_len asked.old + 2 * most_locations ≤ vec_capacity asked.old }
-        ensures stepped { (drained : Bool) → Stepped (A.tables ask.now) drained self.old (CallDriver party irp target) asked.new.items result self.new }
-        ensures may { AreAnswered (A.may_plan ask.now) (A.may_answer ask.now) (A.may_cancel ask.now) asked.new.items }
-        ensures stays { SentStays self.old irp result self.new }
-    {
-        if let Some(refusal) = self.party_refusal(party, irp) {
-            return Reply::Refused(refusal);
-        }
-        let Some(mut live) = self.slots.take(irp.slot) else {
-            return Reply::Refused(Refusal::NoIrp);
-        };
-        let reply = packets::send(&mut live, irp, &self.stacks, ask, party, target, asked);
-        self.slots.put(irp.slot, live);
-        reply
-    }
-
-    fn complete<A: Ask>(
-        &mut self,
-        ask: &A,
-        party: Party,
-        irp: IrpRef,
-        status: Status,
-        information: u64,
-        asked: &mut Vec<Asked>,
-    ) -> Reply
-        requires stands { StandingFacts (A.tables ask.now).counts (state_of self.old) }
-        requires empty { asked.old.items ≡ [] }
-        requires room { vec_len asked.old + 2 * most_locations ≤ vec_capacity asked.old }
-        ensures stepped { (drained : Bool) → Stepped (A.tables ask.now) drained self.old (Complete party irp status information) asked.new.items result self.new }
-        ensures may { AreAnswered (A.may_plan ask.now) (A.may_answer ask.now) (A.may_cancel ask.now) asked.new.items }
-    {
-        if let Some(refusal) = self.party_refusal(party, irp) {
-            return Reply::Refused(refusal);
-        }
-        let Some(mut live) = self.slots.take(irp.slot) else {
-            return Reply::Refused(Refusal::NoIrp);
-        };
-        let reply = packets::complete(&mut live, irp, ask, status, information, asked);
-        self.slots.put(irp.slot, live);
-        reply
     }
 
     fn look(&self, irp: IrpRef) -> Reply
@@ -278,6 +194,56 @@ impl Core {
         Ok(Reply::Irp(IrpRef { slot, use_no }))
     }
 
+    /// Why the packet of a reference is not given back or used again, if it is not.
+    fn flight_refusal(&self, irp: IrpRef) -> Option<Refusal>
+        ensures { result ≡ or_else (packet_refusal (state_of self.now) irp) (first_failing (flight_check (packet_of (state_of self.now) irp) ∷ [])) }
+    {
+        match self.slots.get(irp.slot) {
+            None => Some(Refusal::NoIrp),
+            Some(live) => {
+                packets::packet_refusal(live, irp).or(packets::flight_refusal(live))
+            }
+        }
+    }
+
+    fn free(&mut self, irp: IrpRef) -> Reply
+        ensures { SteppedAny self.old (Free irp) [] result self.new }
+    {
+        if let Some(refusal) = self.flight_refusal(irp) {
+            return Reply::Refused(refusal);
+        }
+        let _gone = self.slots.take(irp.slot);
+        Reply::Done
+    }
+
+    fn reuse(&mut self, irp: IrpRef, status: Status) -> Reply
+        ensures { SteppedAny self.old (Reuse irp status) [] result self.new }
+    {
+        if let Some(refusal) = self.flight_refusal(irp) {
+            return Reply::Refused(refusal);
+        }
+        if self.next_use >= USE_LIMIT {
+            return Reply::Refused(Refusal::Full);
+        }
+        let Some(mut live) = self.slots.take(irp.slot) else {
+            return Reply::Refused(Refusal::NoIrp);
+        };
+        let use_no = self.next_use;
+        live.packet.reset(status);
+        self.slots.put(
+            irp.slot,
+            Live {
+                packet: live.packet,
+                use_no,
+            },
+        );
+        self.next_use += 1;
+        Reply::Irp(IrpRef {
+            slot: irp.slot,
+            use_no,
+        })
+    }
+
     /// The lock of the device that a call deletes; no call here deletes one.
     fn lock_of(&self, call: Call) -> Option<LockNo>
         ensures { result ≡ lock_of (state_of self.now) call }
@@ -309,27 +275,10 @@ impl Core {
             Call::Attach { device, to } => Ok(self.attach(device, to)),
             Call::Detach { lower } => Ok(self.detach(lower)),
             Call::Allocate { size } => self.allocate(alloc, size),
-            Call::SetNext {
-                party,
-                irp,
-                major,
-                word,
-            } => Ok(self.set_next(party, irp, major, word)),
-            Call::SetRoutine {
-                party,
-                irp,
-                setting,
-            } => Ok(self.set_routine(ask.counts(), party, irp, setting)),
-            Call::CallDriver { party, irp, target } => {
-                Ok(self.call_driver(ask, party, irp, target, asked))
-            }
-            Call::Complete {
-                party,
-                irp,
-                status,
-                information,
-            } => Ok(self.complete(ask, party, irp, status, information, asked)),
+            Call::Free { irp } => Ok(self.free(irp)),
+            Call::Reuse { irp, status } => Ok(self.reuse(irp, status)),
             Call::Look { irp } => Ok(self.look(irp)),
+            _ => Ok(self.answer_party(ask, call, asked)),
         }
     }
 

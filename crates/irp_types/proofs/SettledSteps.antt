@@ -9,7 +9,7 @@ use Rattle.irp_types.specs.declared.names.IrpRef.{IrpRef}
 use Rattle.irp_types.specs.declared.refusal.Refusal.{Refusal}
 use Rattle.irp_types.specs.declared.asked.Asked.{Asked}
 use Rattle.irp_types.specs.declared.call.Call.{Call}
-use Rattle.irp_types.specs.declared.call.Call.TheVariants.{CreateDevice, Attach, Detach, Allocate, SetNext, SetRoutine, CallDriver, Complete, Look}
+use Rattle.irp_types.specs.declared.call.Call.TheVariants.{CreateDevice, Attach, Detach, Allocate, Free, Reuse, SetNext, CopyToNext, Skip, SetRoutine, MarkPending, CallDriver, Complete, SetCancelRoutine, Look}
 use Rattle.irp_types.specs.declared.reply.Reply.{Reply}
 use Rattle.irp_types.specs.declared.reply.Reply.TheVariants.{Irp, Refused}
 use Rattle.irp_types.proofs.SettledUnwinding.{same_askings, same_unwound}
@@ -27,8 +27,13 @@ same_effect fixed old (Allocate size) asked reply new other first second =
     let references : one ≡ two = cc in
     let slot : first.0 ≡ second.0 = ap (λ (irp : IrpRef). irp.slot) references in
     first.2.2 ∙ ap (λ at. with_new_packet old at (new_packet size)) slot ∙ sym second.2.2
+same_effect fixed old (Free irp) asked reply new other first second = first.2 ∙ sym second.2
+same_effect fixed old (Reuse irp status) asked reply new other first second = first.2 ∙ sym second.2
 same_effect fixed old (SetNext party irp major word) asked reply new other first second = first.2 ∙ sym second.2
+same_effect fixed old (CopyToNext party irp) asked reply new other first second = first.2 ∙ sym second.2
+same_effect fixed old (Skip party irp) asked reply new other first second = first.2 ∙ sym second.2
 same_effect fixed old (SetRoutine party irp setting) asked reply new other first second = first.2 ∙ sym second.2
+same_effect fixed old (MarkPending party irp) asked reply new other first second = first.2 ∙ sym second.2
 same_effect fixed old (CallDriver party irp target) asked reply new other first second =
     let packet = same_descent fixed.tables irp old.devices (packet_of old irp) target.0 asked first.0 second.0 first.1 second.1 first.2 second.2 in
     first.4 ∙ ap (with_packet old irp.slot) packet ∙ sym second.4
@@ -37,6 +42,7 @@ same_effect fixed old (Complete party irp status information) asked reply new ot
     let packet : first.0 ≡ second.0 =
     same_unwound irp (with_status (packet_of old irp) status information) first.0 second.0 first.1.0 second.1.0 asking first.1.1 second.1.1 in
     first.3 ∙ ap (with_packet old irp.slot) packet ∙ sym second.3
+same_effect fixed old (SetCancelRoutine party irp cancel) asked reply new other first second = first.2 ∙ sym second.2
 same_effect fixed old (Look irp) asked reply new other first second = first.2 ∙ sym second.2
 
 same_step : (fixed : Fixed) (old : StateValue) (call : Call) (asked : List Asked) (reply : Reply) (new other : StateValue) (refusal : Option Refusal)

@@ -1,16 +1,17 @@
 -- Which check of a call fails first.
-use Rattle.std.specs.Prelude.{ℕ, ◌-◌, ◌==◌, Bool, true, false, not, ◌||◌, nat_lt, nat_le, is_some, List, [], ◌∷◌, ◌++◌, length, Option}
+use Rattle.std.specs.Prelude.{ℕ, ◌-◌, ◌==◌, Bool, true, false, not, ◌||◌, ◌&&◌, nat_lt, nat_le, is_some, List, [], ◌∷◌, ◌++◌, length, Option}
 use Rattle.std.specs.Option.{option_map_or}
 use Rattle.std.specs.FinMap as fin
 use Rattle.irp_types.specs.Limits.{most_locations, most_live, use_limit}
 use Rattle.irp_types.specs.Status.{is_completable}
 use Rattle.irp_types.specs.Checks.{Check, first_failing, or_else}
 use Rattle.irp_types.specs.Rules.{is_known}
-use Rattle.irp_types.specs.Packet.{PacketValue, location_check, skip_check, preparation_check, set_next_refusal, set_routine_refusal}
+use Rattle.irp_types.specs.Packet.{PacketValue, location_check, skip_check, preparation_check, set_next_refusal, copy_to_next_refusal, skip_refusal, set_routine_refusal, mark_pending_refusal}
 use Rattle.irp_types.specs.Stacks.{DevicesValue, stack_size_of, lower_of, device_checks, create_checks, attach_checks, detach_checks}
 use Rattle.irp_types.specs.State.{StateValue, Fixed, live_at, packet_at, packet_of}
 use Rattle.irp_types.specs.declared.status.Status.{Status}
 use Rattle.irp_types.specs.declared.names.IrpRef.{IrpRef}
+use Rattle.irp_types.specs.declared.names.CancelId.{CancelId}
 use Rattle.irp_types.specs.declared.location.Owner.{Owner}
 use Rattle.irp_types.specs.declared.location.Owner.TheVariants.{Originator, Device, Ended}
 use Rattle.irp_types.specs.declared.routine.Known.{Known}
@@ -18,9 +19,9 @@ use Rattle.irp_types.specs.declared.routine.Setting.{Setting}
 use Rattle.irp_types.specs.declared.call.Party.{Party}
 use Rattle.irp_types.specs.declared.call.Party.TheVariants.{Originator as ByOriginator, Device as ByDevice}
 use Rattle.irp_types.specs.declared.call.Call.{Call}
-use Rattle.irp_types.specs.declared.call.Call.TheVariants.{CreateDevice, Attach, Detach, Allocate, SetNext, SetRoutine, CallDriver, Complete, Look}
+use Rattle.irp_types.specs.declared.call.Call.TheVariants.{CreateDevice, Attach, Detach, Allocate, Free, Reuse, SetNext, CopyToNext, Skip, SetRoutine, MarkPending, CallDriver, Complete, SetCancelRoutine, Look}
 use Rattle.irp_types.specs.declared.refusal.Refusal.{Refusal}
-use Rattle.irp_types.specs.declared.refusal.Refusal.TheVariants.{NoIrp, Stale, NotOwner, TooShort, WrongTarget, NoRoutine, BadStatus, CancelRoutineSet, Full, BadSize, NoDriver, Ended as HasEnded, NoLock}
+use Rattle.irp_types.specs.declared.refusal.Refusal.TheVariants.{NoIrp, Stale, NotOwner, TooShort, WrongTarget, NoRoutine, BadStatus, CancelRoutineSet, AlreadyCancelled, InFlight, Full, BadSize, NoDriver, Ended as HasEnded, NoLock}
 
 -- the use was completed
 abbrev pub has_ended : Owner → Bool
@@ -59,6 +60,10 @@ party_refusal state party irp =
     let owner = (packet_of state irp).owner in
     first_failing (packet_checks state irp ++ (has_ended owner, HasEnded) ∷ (not (is_owner party owner), NotOwner) ∷ [])
 
+-- why the owner can't skip, or none
+abbrev pub leave_refusal : PacketValue → Option Refusal
+leave_refusal packet = or_else (skip_refusal packet) (first_failing ((is_some packet.cancel_routine, CancelRoutineSet) ∷ []))
+
 -- why the owner can't set a completion routine where so many are there, or none
 abbrev pub routine_refusal : Known → PacketValue → Setting → Option Refusal
 routine_refusal counts packet setting =
@@ -85,6 +90,21 @@ complete_refusal packet status = first_failing (
     ∷ (not (is_completable status), BadStatus)
     ∷ (is_some packet.cancel_routine, CancelRoutineSet) ∷ [])
 
+-- why the owner can't set a cancel routine, or take it out, where so many are there, or none
+abbrev pub cancel_refusal : Known → PacketValue → Option CancelId → Option Refusal
+cancel_refusal counts packet cancel = first_failing (
+    location_check packet ∷ skip_check packet
+    ∷ (option_map_or (λ (routine : CancelId). nat_le counts.cancel routine.0) cancel false, NoRoutine)
+    ∷ (is_some cancel && packet.cancel, AlreadyCancelled) ∷ [])
+
+-- a device owns the packet
+abbrev pub flight_check : PacketValue → Check
+flight_check packet = (is_owned_by_device packet.owner, InFlight)
+
+-- no use number is left
+abbrev pub use_check : StateValue → Check
+use_check state = (nat_le use_limit state.next_use, Full)
+
 -- the refusal that a call is answered, or none
 abbrev pub first_refusal : Fixed → StateValue → Bool → Call → Option Refusal
 first_refusal fixed state drained (CreateDevice driver lock) = first_failing (
@@ -94,12 +114,23 @@ first_refusal fixed state drained (Detach lower) = first_failing (detach_checks 
 first_refusal fixed state drained (Allocate size) = first_failing (
     ((size == 0) || nat_lt most_locations size, BadSize)
     ∷ (nat_le most_live (fin.len state.live) || nat_le use_limit state.next_use, Full) ∷ [])
+first_refusal fixed state drained (Free irp) = or_else (packet_refusal state irp) (first_failing (flight_check (packet_of state irp) ∷ []))
+first_refusal fixed state drained (Reuse irp status) =
+    or_else (packet_refusal state irp) (first_failing (flight_check (packet_of state irp) ∷ use_check state ∷ []))
 first_refusal fixed state drained (SetNext party irp major word) =
     or_else (party_refusal state party irp) (set_next_refusal (packet_of state irp) major)
+first_refusal fixed state drained (CopyToNext party irp) =
+    or_else (party_refusal state party irp) (copy_to_next_refusal (packet_of state irp))
+first_refusal fixed state drained (Skip party irp) =
+    or_else (party_refusal state party irp) (leave_refusal (packet_of state irp))
 first_refusal fixed state drained (SetRoutine party irp setting) =
     or_else (party_refusal state party irp) (routine_refusal fixed.tables.counts (packet_of state irp) setting)
+first_refusal fixed state drained (MarkPending party irp) =
+    or_else (party_refusal state party irp) (mark_pending_refusal (packet_of state irp))
 first_refusal fixed state drained (CallDriver party irp target) =
     or_else (party_refusal state party irp) (send_refusal state.devices party (packet_of state irp) target.0)
 first_refusal fixed state drained (Complete party irp status information) =
     or_else (party_refusal state party irp) (complete_refusal (packet_of state irp) status)
+first_refusal fixed state drained (SetCancelRoutine party irp cancel) =
+    or_else (party_refusal state party irp) (cancel_refusal fixed.tables.counts (packet_of state irp) cancel)
 first_refusal fixed state drained (Look irp) = packet_refusal state irp

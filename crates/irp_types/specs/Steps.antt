@@ -1,7 +1,7 @@
 -- One step of the manager.
 use Rattle.std.specs.Prelude.{ℕ, ◌≡◌, ◌+◌, Bool, false, if◌then◌else◌, List, [], map, length, None, MatchOption}
 use Rattle.std.specs.FinMap as fin
-use Rattle.irp_types.specs.Packet.{PacketValue, location_at, new_packet, with_status, after_set_next, after_set_routine, is_above_top}
+use Rattle.irp_types.specs.Packet.{PacketValue, location_at, new_packet, with_status, after_set_next, after_copy, after_skip, after_set_routine, after_mark, after_reset, is_above_top}
 use Rattle.irp_types.specs.Unwinding.{Asking, as_asked, Unwound}
 use Rattle.irp_types.specs.Stacks.{top_of, cut_off_by, after_create, after_attach, after_detach}
 use Rattle.irp_types.specs.State.{StateValue, Fixed, live_at, packet_of, with_packet}
@@ -11,10 +11,10 @@ use Rattle.irp_types.specs.declared.status.Status.{Status}
 use Rattle.irp_types.specs.declared.names.IrpRef.{IrpRef}
 use Rattle.irp_types.specs.declared.asked.Asked.{Asked}
 use Rattle.irp_types.specs.declared.call.Call.{Call}
-use Rattle.irp_types.specs.declared.call.Call.TheVariants.{CreateDevice, Attach, Detach, Allocate, SetNext, SetRoutine, CallDriver, Complete, Look}
+use Rattle.irp_types.specs.declared.call.Call.TheVariants.{CreateDevice, Attach, Detach, Allocate, Free, Reuse, SetNext, CopyToNext, Skip, SetRoutine, MarkPending, CallDriver, Complete, SetCancelRoutine, Look}
 use Rattle.irp_types.specs.declared.reply.Seen.{Seen}
 use Rattle.irp_types.specs.declared.reply.Reply.{Reply}
-use Rattle.irp_types.specs.declared.reply.Reply.TheVariants.{Done, Device, Irp, Status as StatusIs, Seen as SeenAs, Refused}
+use Rattle.irp_types.specs.declared.reply.Reply.TheVariants.{Done, Device, Irp, Status as StatusIs, Previous, Seen as SeenAs, Refused}
 
 -- what Look shows of a packet
 abbrev pub seen_of : PacketValue → Seen
@@ -55,10 +55,19 @@ Effect fixed old (Detach lower) asked reply new =
 Effect fixed old (Allocate size) asked reply new =
     (slot : ℕ) × (live_at old slot ≡ None)
     × Unasked asked reply new (Irp (record { slot = slot; use_no = old.next_use })) (with_new_packet old slot (new_packet size))
+Effect fixed old (Free irp) asked reply new = Unasked asked reply new Done (record old { live = fin.remove old.live irp.slot })
+Effect fixed old (Reuse irp status) asked reply new =
+    Unasked asked reply new (Irp (record { slot = irp.slot; use_no = old.next_use })) (with_new_packet old irp.slot (after_reset (packet_of old irp) status))
 Effect fixed old (SetNext party irp major word) asked reply new =
     Unasked asked reply new Done (with_packet old irp.slot (after_set_next (packet_of old irp) major word))
+Effect fixed old (CopyToNext party irp) asked reply new =
+    Unasked asked reply new Done (with_packet old irp.slot (after_copy (packet_of old irp) None))
+Effect fixed old (Skip party irp) asked reply new =
+    Unasked asked reply new Done (with_packet old irp.slot (after_skip (packet_of old irp)))
 Effect fixed old (SetRoutine party irp setting) asked reply new =
     Unasked asked reply new Done (with_packet old irp.slot (after_set_routine (packet_of old irp) setting))
+Effect fixed old (MarkPending party irp) asked reply new =
+    Unasked asked reply new Done (with_packet old irp.slot (after_mark (packet_of old irp) (packet_of old irp).current))
 Effect fixed old (CallDriver party irp target) asked reply new =
     (packet : PacketValue) × (status : Status)
     × Descended fixed.tables irp old.devices (packet_of old irp) target.0 asked packet status
@@ -67,6 +76,8 @@ Effect fixed old (Complete party irp status information) asked reply new =
     (packet : PacketValue)
     × Completes irp (with_status (packet_of old irp) status information) asked packet
     × (reply ≡ Done) × (new ≡ with_packet old irp.slot packet)
+Effect fixed old (SetCancelRoutine party irp cancel) asked reply new =
+    Unasked asked reply new (Previous (packet_of old irp).cancel_routine) (with_packet old irp.slot (record (packet_of old irp) { cancel_routine = cancel }))
 Effect fixed old (Look irp) asked reply new = Unasked asked reply new (SeenAs (seen_of (packet_of old irp))) old
 
 -- one step: the first check that fails refuses the call, which changes nothing; else the call has its effect

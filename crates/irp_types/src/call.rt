@@ -1,6 +1,6 @@
 //! Calls of the manager.
 
-use crate::names::{DeviceId, DriverId, IrpRef, LockNo};
+use crate::names::{CancelId, DeviceId, DriverId, IrpRef, LockNo};
 use crate::routine::Setting;
 use crate::status::Status;
 
@@ -32,6 +32,15 @@ pub enum Call {
     Allocate {
         size: u8,
     },
+    /// Gives a packet back; its slot is not live any more (WDK: "IoFreeIrp").
+    Free {
+        irp: IrpRef,
+    },
+    /// Begins another use of a packet, which is as newly allocated, but for this status (WDK: "IoReuseIrp").
+    Reuse {
+        irp: IrpRef,
+        status: Status,
+    },
     /// Fills the next lower location with this major function code and word (WDK: "IoGetNextIrpStackLocation").
     SetNext {
         party: Party,
@@ -39,12 +48,28 @@ pub enum Call {
         major: u8,
         word: u64,
     },
+    /// Copies the current location's major function code and word to the next lower one
+    /// (WDK: "IoCopyCurrentIrpStackLocationToNext").
+    CopyToNext {
+        party: Party,
+        irp: IrpRef,
+    },
+    /// Gives the current location to the next lower device (WDK: "IoSkipCurrentIrpStackLocation").
+    Skip {
+        party: Party,
+        irp: IrpRef,
+    },
     /// Puts a completion routine, its context and its flags into the next lower location, in place of what was set
     /// there (WDK: "IoSetCompletionRoutine").
     SetRoutine {
         party: Party,
         irp: IrpRef,
         setting: Setting,
+    },
+    /// Marks the current location pending (WDK: "IoMarkIrpPending").
+    MarkPending {
+        party: Party,
+        irp: IrpRef,
     },
     /// Sends the packet to the target (WDK: "IoCallDriver").
     CallDriver {
@@ -58,6 +83,12 @@ pub enum Call {
         irp: IrpRef,
         status: Status,
         information: u64,
+    },
+    /// Puts a cancel routine into the packet, or none, in place of what was there (WDK: "IoSetCancelRoutine").
+    SetCancelRoutine {
+        party: Party,
+        irp: IrpRef,
+        cancel: Option<CancelId>,
     },
     /// Reads the packet and changes nothing (this project's own call).
     Look {

@@ -171,6 +171,7 @@ fn drivers(rt: &impl Abort, alloc: Global, plans: &[Option<Plan>]) -> Result<Ans
 
 /// A stack of a device for each plan, the lowest first, and a packet of as many locations that was filled for a read.
 fn tower(rt: &impl Abort, alloc: Global, plans: &[Option<Plan>]) -> Result<Session, Fail> {
+    assert!(rt; plans.len() <= 16);
     let table = drivers(rt, alloc, plans)?;
     let mut session = Session::over(alloc, table).ok_or("no tables")?;
     let count = plans.len() as u32;

@@ -1,7 +1,7 @@
 use Rattle.std.proofs.Common.{◌≡◌, Bool, length, sym, subst}
 use Rattle.irp_types.specs.State.{Tables}
 use Rattle.irp_types.specs.declared.call.Call.{Call}
-use Rattle.irp_types.specs.declared.call.Call.TheVariants.{CreateDevice, Attach, Detach, Allocate, SetNext, SetRoutine, Look}
+use Rattle.irp_types.specs.declared.call.Call.TheVariants.{CreateDevice, Attach, Detach, Allocate, Free, Reuse, Look}
 use Rattle.irp_types.specs.declared.reply.Reply.{Reply}
 use Rattle.std.proofs.Common.{[]}
 use Rattle.irp_types.specs.Standing.{StandingFacts}
@@ -21,46 +21,6 @@ returns-in-CreateDevice-clause-stepped g c =
     (stepped tables drained (sym c.drivers.ensures) c.requires.stands))
     c.create_device.result c.create_device.ensures.stepped
 
-pub returns-in-Allocate-clause-stepped : goal.returns-in-Allocate-clause-stepped
-returns-in-Allocate-clause-stepped g c =
-    let tables = g.A.Ask.tables c.args.ask.now in
-    let old = c.args.self.now in
-    let call : Call = Allocate c.in-Allocate.size in
-    if_ok
-    (λ (reply : Reply). SteppedAny old call [] reply c.allocate.new.self)
-    (λ (reply : Reply). (drained : Bool) → Stepped tables drained old c.args.call c.args.asked.now.items reply c.allocate.new.self)
-    (λ reply stepped drained. handed tables drained old c.args.call call c.args.asked.now.items reply c.allocate.new.self c.in-Allocate.is c.requires.empty (stepped tables drained c.requires.stands))
-    c.allocate.result c.allocate.ensures.stepped
-
-pub returns-in-SetNext-clause-stepped : goal.returns-in-SetNext-clause-stepped
-returns-in-SetNext-clause-stepped g c drained =
-    let tables = g.A.Ask.tables c.args.ask.now in
-    let call : Call = SetNext c.in-SetNext.party c.in-SetNext.irp c.in-SetNext.major c.in-SetNext.word in
-    handed tables drained c.args.self.now c.args.call call c.args.asked.now.items c.set_next.result c.set_next.new.self c.in-SetNext.is c.requires.empty (c.set_next.ensures tables drained c.requires.stands)
-
-pub returns-in-CallDriver-clause-stepped : goal.returns-in-CallDriver-clause-stepped
-returns-in-CallDriver-clause-stepped g c drained =
-    let tables = g.A.Ask.tables c.args.ask.now in
-    subst (λ (given : Call). Stepped tables drained c.args.self.now given c.call_driver.new.asked.items c.call_driver.result c.call_driver.new.self) (sym c.in-CallDriver.is) (c.call_driver.ensures.stepped drained)
-
-pub returns-in-SetRoutine-clause-stepped : goal.returns-in-SetRoutine-clause-stepped
-returns-in-SetRoutine-clause-stepped g c drained =
-    let tables = g.A.Ask.tables c.args.ask.now in
-    let call : Call = SetRoutine c.in-SetRoutine.party c.in-SetRoutine.irp c.in-SetRoutine.setting in
-    handed tables drained c.args.self.now c.args.call call c.args.asked.now.items c.set_routine.result c.set_routine.new.self c.in-SetRoutine.is c.requires.empty
-    (c.set_routine.ensures tables drained (sym c.counts.ensures) c.requires.stands)
-
-pub returns-in-Complete-clause-stepped : goal.returns-in-Complete-clause-stepped
-returns-in-Complete-clause-stepped g c drained =
-    let tables = g.A.Ask.tables c.args.ask.now in
-    subst (λ (given : Call). Stepped tables drained c.args.self.now given c.complete.new.asked.items c.complete.result c.complete.new.self) (sym c.in-Complete.is) (c.complete.ensures.stepped drained)
-
-pub returns-in-Look-clause-stepped : goal.returns-in-Look-clause-stepped
-returns-in-Look-clause-stepped g c drained =
-    let tables = g.A.Ask.tables c.args.ask.now in
-    let call : Call = Look c.in-Look.irp in
-    handed tables drained c.args.self.now c.args.call call c.args.asked.now.items c.look.result c.args.self.now c.in-Look.is c.requires.empty (c.look.ensures tables drained c.requires.stands)
-
 pub returns-in-Attach-clause-stepped : goal.returns-in-Attach-clause-stepped
 returns-in-Attach-clause-stepped g c drained =
     let tables = g.A.Ask.tables c.args.ask.now in
@@ -72,3 +32,32 @@ returns-in-Detach-clause-stepped g c drained =
     let tables = g.A.Ask.tables c.args.ask.now in
     let call : Call = Detach c.in-Detach.lower in
     handed tables drained c.args.self.now c.args.call call c.args.asked.now.items c.detach.result c.detach.new.self c.in-Detach.is c.requires.empty (c.detach.ensures tables drained c.requires.stands)
+
+pub returns-in-Allocate-clause-stepped : goal.returns-in-Allocate-clause-stepped
+returns-in-Allocate-clause-stepped g c =
+    let tables = g.A.Ask.tables c.args.ask.now in
+    let old = c.args.self.now in
+    let call : Call = Allocate c.in-Allocate.size in
+    if_ok
+    (λ (reply : Reply). SteppedAny old call [] reply c.allocate.new.self)
+    (λ (reply : Reply). (drained : Bool) → Stepped tables drained old c.args.call c.args.asked.now.items reply c.allocate.new.self)
+    (λ reply stepped drained. handed tables drained old c.args.call call c.args.asked.now.items reply c.allocate.new.self c.in-Allocate.is c.requires.empty (stepped tables drained c.requires.stands))
+    c.allocate.result c.allocate.ensures.stepped
+
+pub returns-in-Free-clause-stepped : goal.returns-in-Free-clause-stepped
+returns-in-Free-clause-stepped g c drained =
+    let tables = g.A.Ask.tables c.args.ask.now in
+    let call : Call = Free c.in-Free.irp in
+    handed tables drained c.args.self.now c.args.call call c.args.asked.now.items c.free.result c.free.new.self c.in-Free.is c.requires.empty (c.free.ensures tables drained c.requires.stands)
+
+pub returns-in-Reuse-clause-stepped : goal.returns-in-Reuse-clause-stepped
+returns-in-Reuse-clause-stepped g c drained =
+    let tables = g.A.Ask.tables c.args.ask.now in
+    let call : Call = Reuse c.in-Reuse.irp c.in-Reuse.status in
+    handed tables drained c.args.self.now c.args.call call c.args.asked.now.items c.reuse.result c.reuse.new.self c.in-Reuse.is c.requires.empty (c.reuse.ensures tables drained c.requires.stands)
+
+pub returns-in-Look-clause-stepped : goal.returns-in-Look-clause-stepped
+returns-in-Look-clause-stepped g c drained =
+    let tables = g.A.Ask.tables c.args.ask.now in
+    let call : Call = Look c.in-Look.irp in
+    handed tables drained c.args.self.now c.args.call call c.args.asked.now.items c.look.result c.args.self.now c.in-Look.is c.requires.empty (c.look.ensures tables drained c.requires.stands)

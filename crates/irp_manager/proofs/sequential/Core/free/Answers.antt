@@ -1,0 +1,27 @@
+use Rattle.std.proofs.Common.{◌≡◌, None, refl, sym, ◌∙◌, ap, subst, [], ◌∷◌, Option, MatchOption}
+use Rattle.std.specs.FinMap as fin
+use Rattle.irp_types.specs.Checks.{first_failing, or_else}
+use Rattle.irp_types.specs.State.{StateValue, packet_of}
+use Rattle.irp_types.specs.Refusals.{packet_refusal, flight_check}
+use Rattle.irp_types.specs.Standing.{StandingFacts}
+use Rattle.irp_types.specs.Steps.{Unasked}
+use Rattle.irp_types.specs.declared.refusal.Refusal.{Refusal}
+use Rattle.irp_types.specs.declared.reply.Reply.TheVariants.{Done, Refused}
+use Rattle.irp_manager.specs.Slots.{live_of}
+use Rattle.irp_manager.specs.Cores.{state_of}
+use Rattle.irp_manager.proofs.Fresh.{stands_without}
+use Rattle.irp_manager.proofs.sequential.Core.free.Goals as goal
+
+pub returns : goal.returns
+returns c tables drained stands =
+    let state : StateValue = state_of c.args.self.now in
+    let irp = c.args.irp in
+    let new : StateValue = record state { live = live_of c.take-gone.new.self.places.items } in
+    let left : new ≡ record state { live = fin.remove state.live irp.slot } = λ i. record state { live = c.take-gone.ensures.others i } in
+    record {
+      step = λ fixed same locks.
+          subst (λ (given : Option Refusal). MatchOption given (Unasked [] Done new Done (record state { live = fin.remove state.live irp.slot })) (λ refusal. Unasked [] Done new (Refused refusal) state))
+          (sym (sym c.flight_refusal.ensures ∙ c.in_default.is)) (refl, refl, left);
+      stands = subst (StandingFacts tables.counts) (sym left) (stands_without tables.counts state irp.slot stands);
+      locks = refl;
+    }
