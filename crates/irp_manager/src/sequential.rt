@@ -230,13 +230,8 @@ impl Core {
         };
         let use_no = self.next_use;
         live.packet.reset(status);
-        self.slots.put(
-            irp.slot,
-            Live {
-                packet: live.packet,
-                use_no,
-            },
-        );
+        live.use_no = use_no;
+        self.slots.put(irp.slot, live);
         self.next_use += 1;
         Reply::Irp(IrpRef {
             slot: irp.slot,

@@ -149,6 +149,15 @@ asked_json (asked.Completion id shown answer) =
 asked_json (asked.Cancel id shown answer) =
     fields ((codes "answer", cancel_answer_json answer) ∷ (codes "cancel", cancel_json id) ∷ (codes "shown", shown_json shown) ∷ [])
 
+-- a call on a packet that names nothing else, by its name
+abbrev pub irp_call_json : List ℕ → IrpRef → Data
+irp_call_json word irp = fields ((codes "do", string word) ∷ (codes "irp", irp_json irp) ∷ [])
+
+-- a call of a party on its packet that names nothing else, by its name
+abbrev pub party_call_json : List ℕ → Party → IrpRef → Data
+party_call_json word party irp =
+    fields ((codes "by", party_json party) ∷ (codes "do", string word) ∷ (codes "irp", irp_json irp) ∷ [])
+
 -- a call: its name as `do`, and its arguments
 abbrev pub call_json : Call → Data
 call_json (call.CreateDevice driver lock) =
@@ -157,19 +166,28 @@ call_json (call.Attach device to) =
     fields ((codes "device", device_json device) ∷ (codes "do", string (codes "attach")) ∷ (codes "to", device_json to) ∷ [])
 call_json (call.Detach lower) = fields ((codes "do", string (codes "detach")) ∷ (codes "lower", device_json lower) ∷ [])
 call_json (call.Allocate size) = fields ((codes "do", string (codes "allocate")) ∷ (codes "size", natural size) ∷ [])
+call_json (call.Free irp) = irp_call_json (codes "free") irp
+call_json (call.Reuse irp status) =
+    fields ((codes "do", string (codes "reuse")) ∷ (codes "irp", irp_json irp) ∷ (codes "status", status_json status) ∷ [])
 call_json (call.SetNext party irp major word) =
     fields ((codes "by", party_json party) ∷ (codes "do", string (codes "set_next")) ∷ (codes "irp", irp_json irp)
     ∷ (codes "major", natural major) ∷ (codes "word", natural word) ∷ [])
+call_json (call.CopyToNext party irp) = party_call_json (codes "copy_to_next") party irp
+call_json (call.Skip party irp) = party_call_json (codes "skip") party irp
 call_json (call.SetRoutine party irp setting) =
     fields ((codes "by", party_json party) ∷ (codes "do", string (codes "set_routine")) ∷ (codes "irp", irp_json irp)
     ∷ (codes "set", setting_json setting) ∷ [])
+call_json (call.MarkPending party irp) = party_call_json (codes "mark_pending") party irp
 call_json (call.CallDriver party irp target) =
     fields ((codes "by", party_json party) ∷ (codes "do", string (codes "call_driver")) ∷ (codes "irp", irp_json irp)
     ∷ (codes "target", device_json target) ∷ [])
 call_json (call.Complete party irp status information) =
     fields ((codes "by", party_json party) ∷ (codes "do", string (codes "complete")) ∷ (codes "information", natural information)
     ∷ (codes "irp", irp_json irp) ∷ (codes "status", status_json status) ∷ [])
-call_json (call.Look irp) = fields ((codes "do", string (codes "look")) ∷ (codes "irp", irp_json irp) ∷ [])
+call_json (call.SetCancelRoutine party irp cancel) =
+    fields ((codes "by", party_json party) ∷ (codes "cancel", or_null cancel_json cancel)
+    ∷ (codes "do", string (codes "set_cancel_routine")) ∷ (codes "irp", irp_json irp) ∷ [])
+call_json (call.Look irp) = irp_call_json (codes "look") irp
 
 -- the name of a refusal
 abbrev pub refusal_name : Refusal → List ℕ

@@ -86,10 +86,17 @@ call_whole (call.CreateDevice driver lock) = refl
 call_whole (call.Attach device to) = refl
 call_whole (call.Detach lower) = refl
 call_whole (call.Allocate size) = refl
+call_whole (call.Free irp) = refl
+call_whole (call.Reuse irp status) = refl
 call_whole (call.SetNext party irp major word) = or_whole _ _ (party_whole party) refl
+call_whole (call.CopyToNext party irp) = or_whole _ _ (party_whole party) refl
+call_whole (call.Skip party irp) = or_whole _ _ (party_whole party) refl
 call_whole (call.SetRoutine party irp setting) = or_whole _ _ (party_whole party) refl
+call_whole (call.MarkPending party irp) = or_whole _ _ (party_whole party) refl
 call_whole (call.CallDriver party irp target) = or_whole _ _ (party_whole party) refl
 call_whole (call.Complete party irp status information) = or_whole _ _ (party_whole party) refl
+call_whole (call.SetCancelRoutine party irp cancel) =
+    or_whole _ _ (party_whole party) (or_whole _ _ (or_null_whole cancel_json (λ _. refl) cancel) refl)
 call_whole (call.Look irp) = refl
 
 -- what a look sees has a whole form

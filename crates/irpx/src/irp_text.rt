@@ -1,5 +1,6 @@
 //! Transcripts as lines of JSON, and where they go.
 
+mod calls;
 mod form;
 mod header;
 mod lines;

@@ -1,5 +1,7 @@
 //! Packets that are passed down, held, kept and completed, over the calls of the manager.
 
+mod owners;
+
 use super::*;
 use irp_types::Setting;
 use std::process::Abort;
@@ -128,7 +130,7 @@ const fn consulted(rule: Rule, shown: Shown, answer: Answer) -> Asked {
     }
 }
 
-/// A Watch, a Keeper, and a Change that mends an error.
+/// A Watch, a Keeper, a Change that mends an error, and a cancel routine.
 fn routines(rt: &impl Abort, alloc: Global) -> AnswerTable {
     let goes_on = Reaction {
         keep: false,
@@ -145,6 +147,8 @@ fn routines(rt: &impl Abort, alloc: Global) -> AnswerTable {
     for rule in [Rule::Watch, Rule::Change, Rule::Keeper] {
         assert!(rt; table.add(rule, behaviour).is_ok());
     }
+    let added = table.add_cancel(CancelRule::MustLeave, CancelAnswer::Leave);
+    assert!(rt; added.is_ok());
     table
 }
 

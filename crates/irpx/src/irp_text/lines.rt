@@ -1,14 +1,14 @@
-//! The lines' own forms: questions, calls, replies, entries and the header.
+//! The lines' own forms: questions, replies, entries and the header.
 
 ghost use Rattle.std.specs.Prelude.{◌≡◌, IfOk};
 ghost use Rattle.serde_json.specs.View.{view};
-ghost use Rattle.irpx.specs.Lines.{asked_json, call_json, completions_json, entry_json, header_json, reply_json};
-ghost use Rattle.irpx.specs.Whole.{asked_whole, call_whole, entry_whole, header_whole, reply_whole};
+ghost use Rattle.irpx.specs.Lines.{asked_json, completions_json, entry_json, header_json, reply_json};
+ghost use Rattle.irpx.specs.Whole.{asked_whole, entry_whole, header_whole, reply_whole};
 
 use crate::irp_text::form::ToJson;
 use crate::irp_text::header::Header;
 use crate::irp_text::names::name_of_refusal;
-use irp_types::{Asked, Call, DeviceId, Entry, IrpRef, Known, Party, Reply, Setting, Status};
+use irp_types::{Asked, Entry, Known, Reply};
 use serde_json::{Value, json};
 use std::alloc::{AllocError, Global};
 
@@ -37,114 +37,6 @@ impl ToJson for Asked {
     }
 
     ghost whole = { asked_whole };
-}
-
-/// The form of a call that puts a device on another's stack.
-fn form_of_attach(alloc: Global, device: DeviceId, to: DeviceId) -> Result<Value, AllocError>
-    ensures { IfOk result (λ value. view value ≡ call_json (Call.Attach device to)) }
-{
-    json!(in alloc; {"device": (device.0), "do": "attach", "to": (to.0)})
-}
-
-/// The form of a call that fills the next lower location.
-fn form_of_set_next(
-    alloc: Global,
-    party: Party,
-    irp: IrpRef,
-    major: u8,
-    word: u64,
-) -> Result<Value, AllocError>
-    ensures { IfOk result (λ value. view value ≡ call_json (Call.SetNext party irp major word)) }
-{
-    let party = party.to_json(alloc)?;
-    let irp = irp.to_json(alloc)?;
-    json!(in alloc; {"by": party, "do": "set_next", "irp": irp, "major": major, "word": word})
-}
-
-/// The form of a call that sets a completion routine.
-fn form_of_set_routine(
-    alloc: Global,
-    party: Party,
-    irp: IrpRef,
-    setting: Setting,
-) -> Result<Value, AllocError>
-    ensures { IfOk result (λ value. view value ≡ call_json (Call.SetRoutine party irp setting)) }
-{
-    let party = party.to_json(alloc)?;
-    let irp = irp.to_json(alloc)?;
-    let setting = setting.to_json(alloc)?;
-    json!(in alloc; {"by": party, "do": "set_routine", "irp": irp, "set": setting})
-}
-
-/// The form of a call that sends a packet.
-fn form_of_call_driver(
-    alloc: Global,
-    party: Party,
-    irp: IrpRef,
-    target: DeviceId,
-) -> Result<Value, AllocError>
-    ensures { IfOk result (λ value. view value ≡ call_json (Call.CallDriver party irp target)) }
-{
-    let party = party.to_json(alloc)?;
-    let irp = irp.to_json(alloc)?;
-    json!(in alloc; {"by": party, "do": "call_driver", "irp": irp, "target": (target.0)})
-}
-
-/// The form of a call that completes a packet.
-fn form_of_complete(
-    alloc: Global,
-    party: Party,
-    irp: IrpRef,
-    status: Status,
-    information: u64,
-) -> Result<Value, AllocError>
-    ensures { IfOk result (λ value. view value ≡ call_json (Call.Complete party irp status information)) }
-{
-    let party = party.to_json(alloc)?;
-    let irp = irp.to_json(alloc)?;
-    let status = status.0;
-    json!(in alloc; {"by": party, "do": "complete", "information": information, "irp": irp, "status": status})
-}
-
-impl ToJson for Call {
-    ghost json = { call_json };
-
-    fn to_json(&self, alloc: Global) -> Result<Value, AllocError> {
-        match *self {
-            Call::CreateDevice { driver, lock } => {
-                json!(in alloc; {"do": "create_device", "driver": (driver.0), "lock": (lock.0)})
-            }
-            Call::Attach { device, to } => form_of_attach(alloc, device, to),
-            Call::Detach { lower } => json!(in alloc; {"do": "detach", "lower": (lower.0)}),
-            Call::Allocate { size } => json!(in alloc; {"do": "allocate", "size": size}),
-            Call::SetNext {
-                party,
-                irp,
-                major,
-                word,
-            } => form_of_set_next(alloc, party, irp, major, word),
-            Call::SetRoutine {
-                party,
-                irp,
-                setting,
-            } => form_of_set_routine(alloc, party, irp, setting),
-            Call::CallDriver { party, irp, target } => form_of_call_driver(
-                alloc, party, irp, target,
-            ),
-            Call::Complete {
-                party,
-                irp,
-                status,
-                information,
-            } => form_of_complete(alloc, party, irp, status, information),
-            Call::Look { irp } => {
-                let irp = irp.to_json(alloc)?;
-                json!(in alloc; {"do": "look", "irp": irp})
-            }
-        }
-    }
-
-    ghost whole = { call_whole };
 }
 
 impl ToJson for Reply {

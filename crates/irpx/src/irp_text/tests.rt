@@ -2,6 +2,8 @@
 
 ghost use Rattle.std.specs.Prelude.{Some};
 
+mod calls;
+
 use super::*;
 use irp_types::{
     Answer, Asked, Call, CancelAnswer, CancelId, CancelRule, DeviceId, DispatchId, DriverId, Entry,
@@ -295,59 +297,6 @@ fn questions_have_their_forms(rt: HostRuntime) -> Result<(), Fail> {
         assert!(rt; is_written(rt.alloc(), &asked, text)?, "{text}");
     }
     Ok(())
-}
-
-#[test]
-fn calls_have_their_forms(rt: HostRuntime) -> Result<(), Fail> {
-    let complete = Call::Complete {
-        party: Party::Device(DeviceId(2)),
-        irp: IRP,
-        status: Status::CANCELLED,
-        information: 18446744073709551615,
-    };
-    let set_routine = Call::SetRoutine {
-        party: Party::Originator,
-        irp: IRP,
-        setting: setting(true, false, true),
-    };
-    for (call, text) in [
-        (
-            set_routine,
-            r#"{"by":"o","do":"set_routine","irp":[0,1],"set":["watch",2,9,"sc"]}"#,
-        ),
-        (
-            complete,
-            r#"{"by":2,"do":"complete","information":18446744073709551615,"irp":[0,1],"status":3221225760}"#,
-        ),
-        (Call::Look { irp: IRP }, r#"{"do":"look","irp":[0,1]}"#),
-        (
-            Call::Attach {
-                device: DeviceId(1),
-                to: DeviceId(0),
-            },
-            r#"{"device":1,"do":"attach","to":0}"#,
-        ),
-        (
-            Call::Detach { lower: DeviceId(3) },
-            r#"{"do":"detach","lower":3}"#,
-        ),
-    ] {
-        assert!(rt; is_written(rt.alloc(), &call, text)?, "{text}");
-    }
-    Ok(())
-}
-
-fn seen(owner: Owner, cancel_routine: Option<CancelId>) -> Reply {
-    Reply::Seen(Seen {
-        owner,
-        current: 2,
-        status: Status::SUCCESS,
-        information: 7,
-        cancel: false,
-        cancel_routine,
-        pending_returned: true,
-        marked: false,
-    })
 }
 
 #[test]
