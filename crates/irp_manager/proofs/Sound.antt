@@ -1,6 +1,6 @@
 -- The standing facts of a packet, through each call.
 use Rattle.std.proofs.Common.{◌≡◌, ℕ, ◌+◌, ◌-◌, ◌<◌, ◌≤◌, Bool, true, false, not, ◌&&◌, List, [], ◌∷◌, length, replicate, Option, Some, None, is_some, refl, ap, sym, ◌∙◌, subst, arith, ◌⊎◌, inl, inr}
-use Rattle.std.specs.Prelude.{if◌then◌else◌, nat_le, nat_lt, slice_index_or}
+use Rattle.std.specs.Prelude.{if◌then◌else◌, nat_le, slice_index_or}
 use Rattle.std.specs.Option.{option_map_or}
 use Rattle.std.proofs.lemmas.List.{length-set, length-replicate}
 use Rattle.std.proofs.lemmas.Bool.{false≢true, true≢false, leb-false, ltb-false, cases_eq, and_cases}
@@ -8,9 +8,9 @@ use Rattle.std.proofs.lemmas.Option.{none-some, same_Some}
 use Rattle.irp_types.specs.Limits.{most_locations}
 use Rattle.irp_types.specs.Rules.{is_known}
 use Rattle.irp_types.specs.Checks.{Check, first_failing, or_else}
-use Rattle.irp_types.specs.Packet.{PacketValue, size_of, location_at, location_with, with_location, with_status, cleared, new_packet, is_nothing, is_filled, is_skipped, lower_check, major_check, preparation_check, location_check, skip_check, is_above_top, set_next_refusal, copy_to_next_refusal, skip_refusal, set_routine_refusal, mark_pending_refusal, after_set_next, after_copy, after_skip, after_set_routine, after_mark, after_reset}
+use Rattle.irp_types.specs.Packet.{PacketValue, size_of, location_at, location_with, with_location, with_status, cleared, new_packet, is_nothing, is_filled, is_skipped, lower_check, major_check, location_check, skip_check, is_above_top, set_next_refusal, copy_to_next_refusal, skip_refusal, set_routine_refusal, mark_pending_refusal, after_set_next, after_copy, after_skip, after_set_routine, after_mark, after_reset}
 use Rattle.irp_types.specs.Refusals.{has_ended, is_owned_by_device, leave_refusal, routine_refusal, cancel_refusal}
-use Rattle.irp_types.specs.Standing.{is_keeping, lowest_location, own_location, IsSound}
+use Rattle.irp_types.specs.Standing.{lowest_location, own_location, IsSound}
 use Rattle.irp_types.specs.declared.status.Status.{Status}
 use Rattle.irp_types.specs.declared.names.CancelId.{CancelId}
 use Rattle.irp_types.specs.declared.location.Location.{Location}
@@ -210,25 +210,25 @@ sound_mark counts packet none sound =
     let size : size_of marked ≡ size_of packet = length-set packet.locations (current - 1) location in
     let here : location_at marked current ≡ location = at_written packet current location sound.placed checks.1 in
     let at : (number : ℕ) → ((number - 1 ≡ current - 1) × (location_at marked number ≡ location)) ⊎ (location_at marked number ≡ location_at packet number) = λ number.
-        elim (cases_eq (number - 1) (current - 1)) as (λ _. ((number - 1 ≡ current - 1) × (location_at marked number ≡ location)) ⊎ (location_at marked number ≡ location_at packet number)) [
-          | inl same ↦ inl (same, ap (λ place. slice_index_or marked.locations place cleared) same ∙ here)
-          | inr other ↦ inr (at_other packet current number location other)
-        ] in
+    elim (cases_eq (number - 1) (current - 1)) as (λ _. ((number - 1 ≡ current - 1) × (location_at marked number ≡ location)) ⊎ (location_at marked number ≡ location_at packet number)) [
+      | inl same ↦ inl (same, ap (λ place. slice_index_or marked.locations place cleared) same ∙ here)
+      | inr other ↦ inr (at_other packet current number location other)
+    ] in
     let device : (number : ℕ) → (location_at marked number).device ≡ (location_at packet number).device = λ number.
-        elim (at number) as (λ _. (location_at marked number).device ≡ (location_at packet number).device) [
-          | inl same ↦ ap (λ (given : Location). given.device) same.1 ∙ ap (λ place. (slice_index_or packet.locations place cleared).device) (sym same.0)
-          | inr other ↦ ap (λ (given : Location). given.device) other
-        ] in
+    elim (at number) as (λ _. (location_at marked number).device ≡ (location_at packet number).device) [
+      | inl same ↦ ap (λ (given : Location). given.device) same.1 ∙ ap (λ place. (slice_index_or packet.locations place cleared).device) (sym same.0)
+      | inr other ↦ ap (λ (given : Location). given.device) other
+    ] in
     let setting_of : (number : ℕ) → (location_at marked number).setting ≡ (location_at packet number).setting = λ number.
-        elim (at number) as (λ _. (location_at marked number).setting ≡ (location_at packet number).setting) [
-          | inl same ↦ ap (λ (given : Location). given.setting) same.1 ∙ ap (λ place. (slice_index_or packet.locations place cleared).setting) (sym same.0)
-          | inr other ↦ ap (λ (given : Location). given.setting) other
-        ] in
+    elim (at number) as (λ _. (location_at marked number).setting ≡ (location_at packet number).setting) [
+      | inl same ↦ ap (λ (given : Location). given.setting) same.1 ∙ ap (λ place. (slice_index_or packet.locations place cleared).setting) (sym same.0)
+      | inr other ↦ ap (λ (given : Location). given.setting) other
+    ] in
     let still : (number : ℕ) → (location_at packet number).pending ≡ true → (location_at marked number).pending ≡ true = λ number was.
-        elim (at number) as (λ _. (location_at marked number).pending ≡ true) [
-          | inl same ↦ ap (λ (given : Location). given.pending) same.1
-          | inr other ↦ ap (λ (given : Location). given.pending) other ∙ was
-        ] in
+    elim (at number) as (λ _. (location_at marked number).pending ≡ true) [
+      | inl same ↦ ap (λ (given : Location). given.pending) same.1
+      | inr other ↦ ap (λ (given : Location). given.pending) other ∙ was
+    ] in
     record {
       some = omega (arith, size, sound.some);
       few = omega (arith, size, sound.few);

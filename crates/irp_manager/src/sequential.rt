@@ -200,9 +200,7 @@ impl Core {
     {
         match self.slots.get(irp.slot) {
             None => Some(Refusal::NoIrp),
-            Some(live) => {
-                packets::packet_refusal(live, irp).or(packets::flight_refusal(live))
-            }
+            Some(live) => { packets::packet_refusal(live, irp).or(packets::flight_refusal(live)) }
         }
     }
 

@@ -134,12 +134,7 @@ const fn refused(refusal: Refusal) -> Reply {
 }
 
 /// A packet as Look shows it once it has ended.
-const fn ended_at(
-    current: u32,
-    status: Status,
-    information: u64,
-    pending_returned: bool,
-) -> Reply {
+const fn ended_at(current: u32, status: Status, information: u64, pending_returned: bool) -> Reply {
     Reply::Seen(Seen {
         owner: Owner::Ended,
         current,

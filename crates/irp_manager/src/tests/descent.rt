@@ -370,10 +370,7 @@ fn the_reply_is_the_status_of_the_finish(rt: HostRuntime) -> Result<(), Fail> {
         ..CONTINUE
     };
     let shown = outcome(None, 1, UNSUCCESSFUL, 0, false);
-    let asked = [
-        planned(0, 1, failed),
-        consulted(Rule::Change, shown, mends),
-    ];
+    let asked = [planned(0, 1, failed), consulted(Rule::Change, shown, mends)];
     let steps: [(Call, Reply, &[Asked]); 3] = [
         (set_routine(on_error(Rule::Change)), Reply::Done, &[]),
         (send(DEVICE), Reply::Status(UNSUCCESSFUL), &asked),
@@ -402,7 +399,11 @@ fn sixteen_devices_are_entered(rt: HostRuntime) -> Result<(), Fail> {
     let attach = Call::Attach { device, to: DEVICE };
     let bad_size = refused(Refusal::BadSize);
     let steps: [(Call, Reply, &[Asked]); 6] = [
-        (send(DeviceId(15)), Reply::Status(Status::SUCCESS), asked.as_slice()),
+        (
+            send(DeviceId(15)),
+            Reply::Status(Status::SUCCESS),
+            asked.as_slice(),
+        ),
         (LOOK, ended_at(17, Status::SUCCESS, 1, false), &[]),
         (another, Reply::Device(device), &[]),
         (attach, refused(Refusal::TooDeep), &[]),

@@ -79,12 +79,7 @@ fn form_of_complete(
 }
 
 /// The form of a call of a party on its packet that names nothing else.
-fn form_of_party(
-    alloc: Global,
-    word: &str,
-    party: Party,
-    irp: IrpRef,
-) -> Result<Value, AllocError>
+fn form_of_party(alloc: Global, word: &str, party: Party, irp: IrpRef) -> Result<Value, AllocError>
     ensures { IfOk result (λ value. view value ≡ party_call_json word.now party irp) }
 {
     let party = party.to_json(alloc)?;

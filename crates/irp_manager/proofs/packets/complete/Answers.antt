@@ -1,4 +1,4 @@
-use Rattle.std.proofs.Common.{◌≡◌, List, [], ◌++◌, map, sym, ◌∙◌, ap, subst}
+use Rattle.std.proofs.Common.{◌≡◌, List, ◌++◌, map, sym, ◌∙◌, ap, subst}
 use Rattle.irp_types.specs.Unwinding.{as_asked}
 use Rattle.irp_types.specs.declared.asked.Asked.{Asked}
 use Rattle.irp_routines.specs.Answers.{AreAnswered}

@@ -116,7 +116,11 @@ fn a_skipped_packet_may_only_be_sent(rt: HostRuntime) -> Result<(), Fail> {
     let watch = set_by(UPPER, always(Rule::Watch));
     let steps: [(Call, Reply, &[Asked]); 9] = [
         (send(DeviceId(1)), PENDING, &asked),
-        (send_on(UPPER, DEVICE), refused(Refusal::NotPrepared), NOTHING),
+        (
+            send_on(UPPER, DEVICE),
+            refused(Refusal::NotPrepared),
+            NOTHING,
+        ),
         (skip(UPPER), Reply::Done, NOTHING),
         (watch, after_skip, NOTHING),
         (mark_pending(UPPER), after_skip, NOTHING),
@@ -136,7 +140,11 @@ fn a_cancel_routine_is_taken_out_first(rt: HostRuntime) -> Result<(), Fail> {
     let still_set = refused(Refusal::CancelRoutineSet);
     let steps: [(Call, Reply, &[Asked]); 8] = [
         (send(DEVICE), PENDING, &asked),
-        (set_cancel(Some(CancelId(1))), refused(Refusal::NoRoutine), NOTHING),
+        (
+            set_cancel(Some(CancelId(1))),
+            refused(Refusal::NoRoutine),
+            NOTHING,
+        ),
         (set_cancel(first), Reply::Previous(None), NOTHING),
         (complete(LOWEST, Status::SUCCESS), still_set, NOTHING),
         (skip(LOWEST), still_set, NOTHING),
@@ -170,7 +178,11 @@ fn a_packet_is_used_again(rt: HostRuntime) -> Result<(), Fail> {
     let steps: [(Call, Reply, &[Asked]); 5] = [
         (send(DEVICE), READ_DONE, &asked),
         (reuse, Reply::Irp(again), NOTHING),
-        (complete(LOWEST, Status::SUCCESS), refused(Refusal::Stale), NOTHING),
+        (
+            complete(LOWEST, Status::SUCCESS),
+            refused(Refusal::Stale),
+            NOTHING,
+        ),
         (reuse, refused(Refusal::Stale), NOTHING),
         (Call::Look { irp: again }, fresh, NOTHING),
     ];
@@ -219,7 +231,11 @@ fn the_first_check_of_a_held_packet_is_told(rt: HostRuntime) -> Result<(), Fail>
         (skip(ORIGINATOR), no_location, NOTHING),
         (send(DeviceId(2)), PENDING, &asked),
         (complete(top, pending), not_owner, NOTHING),
-        (send_on(LOWEST, DeviceId(9)), refused(Refusal::NoDevice), NOTHING),
+        (
+            send_on(LOWEST, DeviceId(9)),
+            refused(Refusal::NoDevice),
+            NOTHING,
+        ),
         (send_on(LOWEST, DEVICE), wrong_target, NOTHING),
         (fill_by(LOWEST, 28), refused(Refusal::TooShort), NOTHING),
         (copy_to_next(LOWEST), refused(Refusal::TooShort), NOTHING),

@@ -30,10 +30,7 @@ fn calls_have_their_forms(rt: HostRuntime) -> Result<(), Fail> {
         ),
         (Call::Look { irp: IRP }, r#"{"do":"look","irp":[0,1]}"#),
         (Call::Free { irp: IRP }, r#"{"do":"free","irp":[0,1]}"#),
-        (
-            reuse,
-            r#"{"do":"reuse","irp":[0,1],"status":3221225760}"#,
-        ),
+        (reuse, r#"{"do":"reuse","irp":[0,1],"status":3221225760}"#),
         (
             Call::Attach {
                 device: DeviceId(1),

@@ -1,4 +1,4 @@
-use Rattle.std.proofs.Common.{◌≡◌, ◌<◌, length, sym, ◌∙◌, ap, subst, arith}
+use Rattle.std.proofs.Common.{◌≡◌, length, sym, ap, subst, arith}
 use Rattle.irp_types.specs.State.{Tables}
 use Rattle.irp_types.specs.declared.answer.Plan.{Plan}
 use Rattle.irp_manager.proofs.Passed.{plan_passes}

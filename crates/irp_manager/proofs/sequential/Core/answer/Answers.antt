@@ -1,4 +1,4 @@
-use Rattle.std.proofs.Common.{◌≡◌, Bool, length, sym, subst}
+use Rattle.std.proofs.Common.{◌≡◌, Bool, length, sym}
 use Rattle.irp_types.specs.State.{Tables}
 use Rattle.irp_types.specs.declared.call.Call.{Call}
 use Rattle.irp_types.specs.declared.call.Call.TheVariants.{CreateDevice, Attach, Detach, Allocate, Free, Reuse, Look}

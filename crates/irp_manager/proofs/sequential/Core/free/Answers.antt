@@ -1,8 +1,6 @@
-use Rattle.std.proofs.Common.{◌≡◌, None, refl, sym, ◌∙◌, ap, subst, [], ◌∷◌, Option, MatchOption}
+use Rattle.std.proofs.Common.{◌≡◌, refl, sym, ◌∙◌, subst, [], Option, MatchOption}
 use Rattle.std.specs.FinMap as fin
-use Rattle.irp_types.specs.Checks.{first_failing, or_else}
-use Rattle.irp_types.specs.State.{StateValue, packet_of}
-use Rattle.irp_types.specs.Refusals.{packet_refusal, flight_check}
+use Rattle.irp_types.specs.State.{StateValue}
 use Rattle.irp_types.specs.Standing.{StandingFacts}
 use Rattle.irp_types.specs.Steps.{Unasked}
 use Rattle.irp_types.specs.declared.refusal.Refusal.{Refusal}

@@ -1,4 +1,4 @@
-use Rattle.std.proofs.Common.{◌≡◌, [], refl, sym, ◌∙◌, ap, subst}
+use Rattle.std.proofs.Common.{[], refl, sym, ◌∙◌, ap, subst}
 use Rattle.std.specs.FinMap as fin
 use Rattle.irp_types.specs.Checks.{or_else}
 use Rattle.irp_types.specs.State.{StateValue, LivePacket, Tables, packet_of}

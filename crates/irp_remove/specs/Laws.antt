@@ -1,0 +1,36 @@
+-- What holds in each state that keeps the rule.
+use Rattle.std.specs.Prelude.{◌≡◌, ℕ, ◌+◌, ◌*◌, ◌<◌, ◌≤◌, slice_index}
+use mathlib.Core.Option.{some}
+use lib.ListN.{get_elem?}
+use Rattle.atomic_table.specs.Table.{State}
+use Rattle.irp_remove.specs.declared.views.View.{View}
+use Rattle.irp_remove.specs.declared.views.Parties.{Parties}
+use Rattle.irp_remove.specs.Core.{total, began, staked, held, saw, knows_drained, Kept, acquired, given_back, begun, looked}
+
+-- The word of a lock is the removed bit plus twice the number of stakes that hold it or try it, and 8,193 at most. The
+-- bit is set exactly where an observer began the removal, and whoever found it set found it rightly
+abbrev pub WordLaw : Type 0
+WordLaw =
+    (key : Parties) (state : State (Unit {0}) View) (lock : ℕ) → Kept key state → lock < key.locks
+    → (slice_index state.words lock ≡ total (began lock) state.views + 2 * total (staked lock) state.views)
+    × (total (began lock) state.views ≤ 1) × (slice_index state.words lock ≤ 8193)
+    × ((party : ℕ) (view : View) → get_elem? state.views party ≡ some view → 0 < saw lock view → total (began lock) state.views ≡ 1)
+
+-- where some observer knows a lock drained, its removal has begun and no stake holds it
+abbrev pub IsHeldByNobody : Type 0
+IsHeldByNobody =
+    (key : Parties) (state : State (Unit {0}) View) (lock : ℕ) → Kept key state
+    → (party : ℕ) (view : View) → get_elem? state.views party ≡ some view → 0 < knows_drained lock view
+    → (total (began lock) state.views ≡ 1)
+    × ((other : ℕ) (other_view : View) → get_elem? state.views other ≡ some other_view → held lock other_view ≡ 0)
+
+-- what a party knows drained, it knows after each kind of step, at any lock and whatever word it finds
+abbrev pub IsKnownForGood : Type 0
+IsKnownForGood =
+    (lock : ℕ) (view : View) → 0 < knows_drained lock view → (tag other word : ℕ)
+    → (0 < knows_drained lock (acquired tag other word view)) × (0 < knows_drained lock (given_back view))
+    × (0 < knows_drained lock (begun other word view)) × (0 < knows_drained lock (looked other word view))
+
+-- a lock that some observer knows drained is held by nobody, for good
+abbrev pub DrainedLaw : Type 0
+DrainedLaw = IsHeldByNobody × IsKnownForGood

@@ -1,0 +1,15 @@
+//! What holds in each state that the rule of the table allows, and so between any two atomic steps of any threads.
+ghost use Rattle.irp_remove.specs.Laws.{WordLaw, DrainedLaw};
+
+/// The word of a lock is its removed bit plus twice the number of stakes that hold it or try it. The bit is set exactly
+/// where an observer began the removal, and wherever a party found it set. A word is 8,193 at most. (This project's own
+/// rule.)
+pub fn word_counts_references()
+    ensures { WordLaw }
+{}
+
+/// Where an observer knows a lock drained, its removal has begun and no stake holds it; and what an observer knows
+/// drained, it knows after each further step. (This project's own rule; WDK: "IoReleaseRemoveLockAndWait".)
+pub fn drained_for_good()
+    ensures { DrainedLaw }
+{}

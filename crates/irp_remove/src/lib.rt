@@ -1,0 +1,28 @@
+//! Remove locks: a reference count and a removed bit in one word, changed in single atomic steps.
+//!
+//! Any number of threads may share the [`Locks`], each with a [`RemoveSeat`] of its own. No call but `open` takes memory,
+//! none waits, and none tries again.
+#![tactic(auto)]
+
+mod calls;
+mod laws;
+mod opening;
+mod plays;
+mod reference;
+mod refusal;
+mod seat;
+mod table;
+#[cfg(test)]
+mod tests;
+mod views;
+
+pub use laws::{drained_for_good, word_counts_references};
+pub use opening::open;
+pub use plays::{Counted, Tagged};
+pub use reference::Reference;
+pub use refusal::{
+    AcquireRefusal, BeginRefusal, DrainRefusal, HandRefusal, OpenRefusal, ReleaseRefusal,
+};
+pub use seat::RemoveSeat;
+pub use table::Locks;
+pub use views::{Parties, Stage, View, Watch};

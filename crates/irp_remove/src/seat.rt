@@ -1,0 +1,66 @@
+//! A remove seat: one observer and 64 stakes.
+ghost use Rattle.std.specs.Prelude.{◌≡◌, ◌<◌, map};
+ghost use Rattle.irp_remove.specs.Core.{flag};
+ghost use Rattle.irp_remove.specs.Seats.{IsWhole};
+
+use crate::reference::Reference;
+use crate::views::View;
+use arrayvec::ArrayVec;
+use atomic_table::Seat;
+use irp_types::LockNo;
+use std::marker::Model;
+
+/// One user of the locks that it was opened with. It holds up to 64 references, and knows which locks it found drained
+/// (this project's own rule).
+///
+/// It can be moved to another thread. A seat that is dropped while it holds a reference gives nothing back: the lock is
+/// never drained from then on.
+///
+/// Contracts see it as the record `Holder` of this crate.
+#[derive(Drop)]
+pub struct RemoveSeat {
+    pub(crate) number: u32,
+    pub(crate) observer: Seat<(), View>,
+    pub(crate) idle: ArrayVec<Reference, 64>,
+    pub(crate) held: ArrayVec<Reference, 64>,
+    pub(crate) began: [bool; 64],
+    pub(crate) saw: [bool; 64],
+    pub(crate) drained: [bool; 64],
+}
+
+impl Model for RemoveSeat {
+    ghost use Rattle.std.specs.Prelude.{map};
+    ghost use Rattle.irp_remove.specs.Seats.{Holder, IsSeated, watch_of, pair_of, view_of};
+
+    ghost Value = { Holder };
+
+    ghost view = { λ seat. record { table = seat.observer.table_id; number = seat.number; watch = watch_of seat.observer.me.0; held = map pair_of seat.held.items; held_views = map view_of seat.held.items; idle_views = map view_of seat.idle.items } };
+
+    ghost invariant = { λ seat. IsSeated seat.observer seat.idle.items seat.held.items seat.began seat.saw seat.drained };
+}
+
+impl RemoveSeat {
+    /// Its number among the seats that were opened together, from 0 (this project's own rule).
+    pub fn number(&self) -> u32
+        ensures { result ≡ self.now.number }
+    {
+        self.number
+    }
+
+    /// Whether its own `drained` answered Yes for the lock. False for a lock that there isn't. Once true it stays so
+    /// (this project's own rule).
+    pub fn knows(&self, lock: LockNo) -> bool
+        ensures { result ≡ flag self.now.watch.drained lock.0 }
+    {
+        (lock.0 as usize) < 64 && self.drained[lock.0 as usize]
+    }
+
+    /// Tells that the views of its stakes say what it holds: each of its references is a stake that holds that lock
+    /// under that tag, its other stakes are idle, and there are 64 of them together. It changes nothing and answers
+    /// nothing (this project's own rule).
+    pub fn holds_what_it_lists(&self)
+        ensures { IsWhole self.now }
+    {
+        let _ = &self.held;
+    }
+}

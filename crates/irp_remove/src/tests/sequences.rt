@@ -1,0 +1,201 @@
+//! Sequences of calls on one thread.
+ghost use Rattle.std.specs.Prelude.{◌≡◌};
+ghost use Rattle.irp_remove.specs.Pairing.{IsSeatOf};
+
+use super::{LOCK, Opened, one_lock_two_seats};
+use crate::{
+    AcquireRefusal, BeginRefusal, DrainRefusal, HandRefusal, Locks, ReleaseRefusal, RemoveSeat,
+};
+use irp_types::LockNo;
+use std::test::Fail;
+
+/// Takes a reference under each tag from 10 until the seat is full, and tells how many.
+fn fill(locks: &Locks, mut seat: RemoveSeat) -> (RemoveSeat, u32)
+    requires { IsSeatOf locks.now seat }
+    ensures { result.0.table ≡ seat.table }
+{
+    let mut taken = 0u32;
+    for tag in 10..100u32 {
+        if locks.acquire(&mut seat, LOCK, tag).is_ok() {
+            taken = taken.wrapping_add(1);
+        }
+    }
+    (seat, taken)
+}
+
+#[test]
+fn a_lock_is_removed_and_drained(rt: HostRuntime) -> Result<(), Fail> {
+    let Opened {
+        locks,
+        mut first,
+        mut second,
+    } = one_lock_two_seats(rt.alloc())?;
+    assert_eq!(rt; locks.acquire(&mut first, LOCK, 1), Ok(()));
+    assert_eq!(rt; locks.acquire(&mut second, LOCK, 2), Ok(()));
+    assert_eq!(rt; locks.begin_remove(&mut first, LOCK, 1), Ok(()));
+    let pending = locks.acquire(&mut second, LOCK, 3);
+    assert_eq!(rt; pending, Err(AcquireRefusal::DeletePending));
+    assert_eq!(rt; locks.drained(&mut first, LOCK), Err(DrainRefusal::Busy(3)));
+    assert!(rt; !first.knows(LOCK));
+    assert_eq!(rt; locks.release(&mut second, LOCK, 2), Ok(()));
+    assert_eq!(rt; locks.drained(&mut first, LOCK), Ok(()));
+    assert!(rt; first.knows(LOCK));
+    assert!(rt; !second.knows(LOCK));
+    Ok(())
+}
+
+#[test]
+fn a_second_removal_keeps_its_reference(rt: HostRuntime) -> Result<(), Fail> {
+    let Opened {
+        locks,
+        mut first,
+        mut second,
+    } = one_lock_two_seats(rt.alloc())?;
+    assert_eq!(rt; locks.acquire(&mut first, LOCK, 1), Ok(()));
+    assert_eq!(rt; locks.acquire(&mut second, LOCK, 2), Ok(()));
+    assert_eq!(rt; locks.begin_remove(&mut first, LOCK, 1), Ok(()));
+    let late = locks.begin_remove(&mut second, LOCK, 2);
+    assert_eq!(rt; late, Err(BeginRefusal::AlreadyRemoving));
+    assert_eq!(rt; locks.drained(&mut first, LOCK), Err(DrainRefusal::Busy(3)));
+    assert_eq!(rt; locks.release(&mut second, LOCK, 2), Ok(()));
+    assert_eq!(rt; locks.drained(&mut second, LOCK), Ok(()));
+    Ok(())
+}
+
+#[test]
+fn a_tag_is_held_as_often_as_it_was_acquired(rt: HostRuntime) -> Result<(), Fail> {
+    let Opened {
+        locks,
+        mut first,
+        ..
+    } = one_lock_two_seats(rt.alloc())?;
+    assert_eq!(rt; locks.acquire(&mut first, LOCK, 5), Ok(()));
+    assert_eq!(rt; locks.acquire(&mut first, LOCK, 5), Ok(()));
+    assert_eq!(rt; locks.release(&mut first, LOCK, 5), Ok(()));
+    assert_eq!(rt; locks.release(&mut first, LOCK, 5), Ok(()));
+    let none_left = locks.release(&mut first, LOCK, 5);
+    assert_eq!(rt; none_left, Err(ReleaseRefusal::NotHeld));
+    Ok(())
+}
+
+#[test]
+fn a_full_seat_is_refused_before_removal_is(rt: HostRuntime) -> Result<(), Fail> {
+    let Opened {
+        locks,
+        first,
+        mut second,
+    } = one_lock_two_seats(rt.alloc())?;
+    let (mut first, taken) = fill(&locks, first);
+    assert_eq!(rt; taken, 64);
+    assert_eq!(rt; locks.acquire(&mut second, LOCK, 1), Ok(()));
+    assert_eq!(rt; locks.begin_remove(&mut second, LOCK, 1), Ok(()));
+    let full = locks.acquire(&mut first, LOCK, 2);
+    assert_eq!(rt; full, Err(AcquireRefusal::SeatFull));
+    assert_eq!(rt; locks.release(&mut first, LOCK, 73), Ok(()));
+    let pending = locks.acquire(&mut first, LOCK, 2);
+    assert_eq!(rt; pending, Err(AcquireRefusal::DeletePending));
+    assert_eq!(rt;
+        locks.drained(&mut second, LOCK),
+        Err(DrainRefusal::Busy(127))
+    );
+    Ok(())
+}
+
+#[test]
+fn a_removal_needs_a_reference_also_after_another(rt: HostRuntime) -> Result<(), Fail> {
+    let Opened {
+        locks,
+        mut first,
+        ..
+    } = one_lock_two_seats(rt.alloc())?;
+    assert_eq!(rt; locks.acquire(&mut first, LOCK, 1), Ok(()));
+    assert_eq!(rt; locks.begin_remove(&mut first, LOCK, 1), Ok(()));
+    let not_held = locks.begin_remove(&mut first, LOCK, 1);
+    assert_eq!(rt; not_held, Err(BeginRefusal::NotHeld));
+    let pending = locks.acquire(&mut first, LOCK, 1);
+    assert_eq!(rt; pending, Err(AcquireRefusal::DeletePending));
+    Ok(())
+}
+
+#[test]
+fn a_lock_that_there_is_not_is_refused_first(rt: HostRuntime) -> Result<(), Fail> {
+    let Opened {
+        locks,
+        mut first,
+        mut second,
+    } = one_lock_two_seats(rt.alloc())?;
+    let none = LockNo(1);
+    let acquired = locks.acquire(&mut first, none, 1);
+    assert_eq!(rt; acquired, Err(AcquireRefusal::NoLock));
+    let released = locks.release(&mut first, none, 1);
+    assert_eq!(rt; released, Err(ReleaseRefusal::NoLock));
+    let begun = locks.begin_remove(&mut first, none, 1);
+    assert_eq!(rt; begun, Err(BeginRefusal::NoLock));
+    assert_eq!(rt; locks.drained(&mut first, none), Err(DrainRefusal::NoLock));
+    let handed = locks.hand(&mut first, &mut second, none, 1);
+    assert_eq!(rt; handed, Err(HandRefusal::NoLock));
+    assert!(rt; !first.knows(none));
+    assert!(rt; !first.knows(LockNo(4_294_967_295)));
+    Ok(())
+}
+
+#[test]
+fn a_reference_is_handed_over_after_removal_has_begun(rt: HostRuntime) -> Result<(), Fail> {
+    let Opened {
+        locks,
+        mut first,
+        mut second,
+    } = one_lock_two_seats(rt.alloc())?;
+    assert_eq!(rt; locks.acquire(&mut first, LOCK, 1), Ok(()));
+    assert_eq!(rt; locks.acquire(&mut second, LOCK, 2), Ok(()));
+    assert_eq!(rt; locks.begin_remove(&mut second, LOCK, 2), Ok(()));
+    assert_eq!(rt; locks.hand(&mut first, &mut second, LOCK, 1), Ok(()));
+    let gone = locks.release(&mut first, LOCK, 1);
+    assert_eq!(rt; gone, Err(ReleaseRefusal::NotHeld));
+    assert_eq!(rt;
+        locks.drained(&mut second, LOCK),
+        Err(DrainRefusal::Busy(3))
+    );
+    assert_eq!(rt; locks.release(&mut second, LOCK, 1), Ok(()));
+    assert_eq!(rt; locks.drained(&mut second, LOCK), Ok(()));
+    Ok(())
+}
+
+#[test]
+fn a_full_seat_takes_no_reference_over(rt: HostRuntime) -> Result<(), Fail> {
+    let Opened {
+        locks,
+        mut first,
+        second,
+    } = one_lock_two_seats(rt.alloc())?;
+    let (mut second, taken) = fill(&locks, second);
+    assert_eq!(rt; taken, 64);
+    assert_eq!(rt; locks.acquire(&mut first, LOCK, 1), Ok(()));
+    let not_held = locks.hand(&mut first, &mut second, LOCK, 2);
+    assert_eq!(rt; not_held, Err(HandRefusal::NotHeld));
+    let full = locks.hand(&mut first, &mut second, LOCK, 1);
+    assert_eq!(rt; full, Err(HandRefusal::SeatFull));
+    let not_there = locks.release(&mut second, LOCK, 1);
+    assert_eq!(rt; not_there, Err(ReleaseRefusal::NotHeld));
+    assert_eq!(rt; locks.release(&mut second, LOCK, 10), Ok(()));
+    assert_eq!(rt; locks.release(&mut first, LOCK, 1), Ok(()));
+    first.holds_what_it_lists();
+    Ok(())
+}
+
+#[test]
+fn a_seat_dropped_while_it_holds_keeps_the_lock_busy(rt: HostRuntime) -> Result<(), Fail> {
+    let Opened {
+        locks,
+        mut first,
+        mut second,
+    } = one_lock_two_seats(rt.alloc())?;
+    assert_eq!(rt; locks.acquire(&mut first, LOCK, 1), Ok(()));
+    assert_eq!(rt; locks.acquire(&mut second, LOCK, 2), Ok(()));
+    assert_eq!(rt; locks.begin_remove(&mut first, LOCK, 1), Ok(()));
+    drop(second);
+    assert_eq!(rt; locks.drained(&mut first, LOCK), Err(DrainRefusal::Busy(3)));
+    assert_eq!(rt; locks.drained(&mut first, LOCK), Err(DrainRefusal::Busy(3)));
+    assert!(rt; !first.knows(LOCK));
+    Ok(())
+}
