@@ -299,6 +299,19 @@ fn questions_have_their_forms(rt: HostRuntime) -> Result<(), Fail> {
     Ok(())
 }
 
+fn seen(owner: Owner, cancel_routine: Option<CancelId>) -> Reply {
+    Reply::Seen(Seen {
+        owner,
+        current: 2,
+        status: Status::SUCCESS,
+        information: 7,
+        cancel: false,
+        cancel_routine,
+        pending_returned: true,
+        marked: false,
+    })
+}
+
 #[test]
 fn replies_have_their_forms(rt: HostRuntime) -> Result<(), Fail> {
     let device = Owner::Device(DeviceId(1));

@@ -48,25 +48,11 @@ fn calls_have_their_forms(rt: HostRuntime) -> Result<(), Fail> {
     Ok(())
 }
 
-fn seen(owner: Owner, cancel_routine: Option<CancelId>) -> Reply {
-    Reply::Seen(Seen {
-        owner,
-        current: 2,
-        status: Status::SUCCESS,
-        information: 7,
-        cancel: false,
-        cancel_routine,
-        pending_returned: true,
-        marked: false,
-    })
-}
-
 #[test]
 fn calls_of_owners_have_their_forms(rt: HostRuntime) -> Result<(), Fail> {
     let party = Party::Device(DeviceId(2));
     let irp = IRP;
     let cancel = Some(CancelId(3));
-    let none = Party::Originator;
     for (call, text) in [
         (
             Call::CopyToNext { party, irp },
@@ -86,7 +72,7 @@ fn calls_of_owners_have_their_forms(rt: HostRuntime) -> Result<(), Fail> {
         ),
         (
             Call::SetCancelRoutine {
-                party: none,
+                party: Party::Originator,
                 irp,
                 cancel: None,
             },
