@@ -139,8 +139,8 @@ pub(crate) fn end_at<A: Ask>(
 {
     let (status, information) = match plan {
         Some(Plan::Hold { cancel }) => {
-            let number = packet.current();
-            packet.mark(number);
+            let held_at = packet.current();
+            packet.mark(held_at);
             packet.set_owner(Owner::Device(device));
             packet.set_cancel(packet.cancel(), cancel);
             return Sent {
