@@ -3,6 +3,7 @@ pub mod Locations
 pub mod Sound
 pub mod Maps
 pub mod SlotMaps
+pub mod Scan
 pub mod OnePacket
 pub mod Turns
 pub mod Questions

@@ -1,15 +1,16 @@
 -- The standing facts of a packet, through each call.
-use Rattle.std.proofs.Common.{◌≡◌, ℕ, ◌+◌, ◌-◌, ◌<◌, ◌≤◌, Bool, true, false, not, ◌&&◌, List, [], ◌∷◌, length, replicate, Option, Some, None, is_some, refl, ap, sym, ◌∙◌, subst, arith, ◌⊎◌, inl, inr}
+use Rattle.std.proofs.Common.{◌≡◌, ℕ, zero, suc, ◌+◌, ◌-◌, ◌<◌, ◌≤◌, Bool, true, false, not, ◌&&◌, List, [], ◌∷◌, length, replicate, Option, Some, None, is_some, refl, ap, sym, ◌∙◌, subst, arith, ◌⊎◌, inl, inr}
 use Rattle.std.specs.Prelude.{if◌then◌else◌, nat_le, slice_index_or}
 use Rattle.std.specs.Option.{option_map_or}
 use Rattle.std.proofs.lemmas.List.{length-set, length-replicate}
-use Rattle.std.proofs.lemmas.Bool.{false≢true, true≢false, leb-false, ltb-false, cases_eq, and_cases}
+use Rattle.std.proofs.lemmas.Bool.{false≢true, true≢false, leb-false, ltb-false, cases_eq, cases_lt, and_cases}
 use Rattle.std.proofs.lemmas.Option.{none-some, same_Some}
 use Rattle.irp_types.specs.Limits.{most_locations}
 use Rattle.irp_types.specs.Rules.{is_known}
 use Rattle.irp_types.specs.Checks.{Check, first_failing, or_else}
 use Rattle.irp_types.specs.Packet.{PacketValue, size_of, location_at, location_with, with_location, with_status, cleared, new_packet, is_nothing, is_filled, is_skipped, lower_check, major_check, location_check, skip_check, is_above_top, set_next_refusal, copy_to_next_refusal, skip_refusal, set_routine_refusal, mark_pending_refusal, after_set_next, after_copy, after_skip, after_set_routine, after_mark, after_reset}
 use Rattle.irp_types.specs.Refusals.{has_ended, is_owned_by_device, leave_refusal, routine_refusal, cancel_refusal}
+use Rattle.irp_types.specs.Steps.{after_cancel}
 use Rattle.irp_types.specs.Standing.{lowest_location, own_location, IsSound}
 use Rattle.irp_types.specs.declared.status.Status.{Status}
 use Rattle.irp_types.specs.declared.names.CancelId.{CancelId}
@@ -314,3 +315,36 @@ sound_set_cancel counts packet cancel used none sound =
 
 pub sound_reset : (counts : Known) (packet : PacketValue) (status : Status) → IsSound counts packet → IsSound counts (after_reset packet status)
 sound_reset counts packet status sound = sound_with_status counts (new_packet (size_of packet)) status 0 (sound_new counts (size_of packet) sound.some sound.few)
+
+pub sound_cancel : (counts : Known) (packet : PacketValue) → IsSound counts packet → IsSound counts (after_cancel packet)
+sound_cancel counts packet sound = record {
+  some = sound.some;
+  few = sound.few;
+  placed = sound.placed;
+  within = sound.within;
+  prepared = sound.prepared;
+  marked = sound.marked;
+  devices = sound.devices;
+  originator = sound.originator;
+  routines = sound.routines;
+  cancel = λ routine there. absurd (none-some routine there);
+  keepers = sound.keepers;
+}
+
+-- a packet with a cancel routine stands in a location: its device's own, which is marked
+pub cancellable_here : (counts : Known) (packet : PacketValue) (routine : CancelId) → IsSound counts packet → packet.cancel_routine ≡ Some routine → packet.current ≤ size_of packet
+cancellable_here counts packet routine sound there =
+    let cancellable = sound.cancel routine there in
+    let marked = pending_here counts packet cancellable.unskipped sound cancellable.held in
+    let placed : 1 ≤ packet.current = sound.placed in
+    elim (cases_lt (size_of packet) packet.current) as (λ _. packet.current ≤ size_of packet) [
+      | inl above ↦
+          let bare : location_at packet packet.current ≡ cleared = past packet.locations (packet.current - 1) (omega (arith, above, placed)) in
+          absurd (false≢true (sym (ap (λ (location : Location). location.pending) bare) ∙ marked))
+      | inr within ↦ within
+    ]
+  where
+    past : (locations : List Location) (place : ℕ) → length locations ≤ place → slice_index_or locations place cleared ≡ cleared
+    past [] place far = refl
+    past (location ∷ others) zero far = absurd (omega arith)
+    past (location ∷ others) (suc place) far = past others place (omega arith)

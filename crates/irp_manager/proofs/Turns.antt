@@ -1,9 +1,10 @@
 -- From what a call did with one packet to its step, and to the standing facts.
-use Rattle.std.proofs.Common.{◌≡◌, ℕ, Bool, false, List, [], Option, Some, None, MatchOption, refl, sym, ◌∙◌, ap, subst}
-use Rattle.irp_types.specs.Checks.{or_else}
+use Rattle.std.proofs.Common.{◌≡◌, ℕ, Bool, true, false, not, List, [], ◌∷◌, ◌++◌, Option, Some, None, MatchOption, refl, sym, ◌∙◌, ap, subst}
+use Rattle.irp_types.specs.Checks.{Check, first_failing, or_else}
 use Rattle.irp_types.specs.Packet.{PacketValue, set_next_refusal, copy_to_next_refusal, mark_pending_refusal, after_set_next, after_copy, after_skip, after_set_routine, after_mark}
+use Rattle.irp_types.specs.Stacks.{delete_checks}
 use Rattle.irp_types.specs.State.{StateValue, LivePacket, Fixed, packet_of, with_packet}
-use Rattle.irp_types.specs.Refusals.{has_ended, party_refusal, leave_refusal, routine_refusal, cancel_refusal, send_refusal, complete_refusal}
+use Rattle.irp_types.specs.Refusals.{is_in_flight, has_ended, party_refusal, leave_refusal, routine_refusal, cancel_refusal, send_refusal, complete_refusal}
 use Rattle.irp_types.specs.Steps.{Unasked, Effect, Step}
 use Rattle.irp_types.specs.Standing.{IsSound}
 use Rattle.irp_types.specs.declared.names.IrpRef.{IrpRef}
@@ -16,6 +17,7 @@ use Rattle.irp_types.specs.declared.call.Party.{Party}
 use Rattle.irp_types.specs.declared.call.Call.TheVariants.{SetNext, CopyToNext, Skip, SetRoutine, MarkPending, CallDriver, Complete, SetCancelRoutine}
 use Rattle.irp_types.specs.declared.asked.Asked.{Asked}
 use Rattle.irp_types.specs.declared.refusal.Refusal.{Refusal}
+use Rattle.irp_types.specs.declared.refusal.Refusal.TheVariants.{InFlight, NotDrained}
 use Rattle.irp_types.specs.declared.reply.Reply.{Reply}
 use Rattle.irp_types.specs.declared.reply.Reply.TheVariants.{Done, Previous, Refused}
 use Rattle.irp_manager.specs.Calls.{Goes, Fills, Copies, Leaves, Sets, Marks, Sends, Finishes, SetsCancel}
@@ -132,3 +134,14 @@ finished_step fixed drained old party irp status information asked reply new goe
     (Effect fixed old (Complete party irp status information) asked reply new)
     (λ refusal. Unasked asked reply new (Refused refusal) old)
     (λ done. (done.0, done.1.0, done.1.1, done.2)) goes
+
+-- a device that no check of its deletion refuses passes those of its stack
+pub deletable : (state : StateValue) (drained : Bool) (device : ℕ)
+    → first_failing (delete_checks state.devices device ++ (is_in_flight state device, InFlight) ∷ (not drained, NotDrained) ∷ []) ≡ None
+    → first_failing (delete_checks state.devices device) ≡ None
+deletable state drained device none = front (delete_checks state.devices device) ((is_in_flight state device, InFlight) ∷ (not drained, NotDrained) ∷ []) none
+  where
+    front : (checks others : List Check) → first_failing (checks ++ others) ≡ None → first_failing checks ≡ None
+    front [] others none = refl
+    front ((true, refusal) ∷ checks) others none = none
+    front ((false, refusal) ∷ checks) others none = front checks others none

@@ -1,19 +1,20 @@
 -- What a call on one live packet does.
-use Rattle.std.specs.Prelude.{ℕ, ◌≡◌, Bool, true, false, not, ◌==◌, List, [], ◌∷◌, Option, Some, None}
+use Rattle.std.specs.Prelude.{ℕ, ◌≡◌, Bool, true, false, not, ◌==◌, List, [], ◌∷◌, ◌++◌, Option, Some, None}
 use Rattle.irp_types.specs.Checks.{first_failing}
 use Rattle.irp_types.specs.Packet.{PacketValue, with_status, after_set_next, after_copy, after_skip, after_set_routine, after_mark}
 use Rattle.irp_types.specs.Stacks.{DevicesValue}
 use Rattle.irp_types.specs.State.{LivePacket, Tables}
 use Rattle.irp_types.specs.Descent.{Descended}
 use Rattle.irp_types.specs.Refusals.{has_ended, is_owner}
-use Rattle.irp_types.specs.Steps.{Completes}
+use Rattle.irp_types.specs.Steps.{Completes, Follows, Cancels}
 use Rattle.irp_types.specs.declared.names.IrpRef.{IrpRef}
 use Rattle.irp_types.specs.declared.names.CancelId.{CancelId}
 use Rattle.irp_types.specs.declared.status.Status.{Status}
 use Rattle.irp_types.specs.declared.routine.Setting.{Setting}
+use Rattle.irp_types.specs.declared.answer.CancelAnswer.{CancelAnswer}
 use Rattle.irp_types.specs.declared.call.Party.{Party}
 use Rattle.irp_types.specs.declared.call.Call.{Call}
-use Rattle.irp_types.specs.declared.call.Call.TheVariants.{CreateDevice, Attach, Detach, Allocate, Free, Reuse, SetNext, CopyToNext, Skip, SetRoutine, MarkPending, CallDriver, Complete, SetCancelRoutine, Look}
+use Rattle.irp_types.specs.declared.call.Call.TheVariants.{CreateDevice, Attach, Detach, Delete, Allocate, Free, Reuse, SetNext, CopyToNext, Skip, SetRoutine, MarkPending, CallDriver, Complete, SetCancelRoutine, Cancel, Look}
 use Rattle.irp_types.specs.declared.asked.Asked.{Asked}
 use Rattle.irp_types.specs.declared.refusal.Refusal.{Refusal}
 use Rattle.irp_types.specs.declared.refusal.Refusal.TheVariants.{NoIrp, Stale, NotOwner, Ended}
@@ -38,6 +39,7 @@ abbrev pub names_party : Call → Bool
 names_party (CreateDevice driver lock) = false
 names_party (Attach device to) = false
 names_party (Detach lower) = false
+names_party (Delete device) = false
 names_party (Allocate size) = false
 names_party (Free irp) = false
 names_party (Reuse irp status) = false
@@ -49,6 +51,7 @@ names_party (MarkPending party irp) = true
 names_party (CallDriver party irp target) = true
 names_party (Complete party irp status information) = true
 names_party (SetCancelRoutine party irp cancel) = true
+names_party (Cancel irp) = false
 names_party (Look irp) = false
 
 -- a live packet was refused and is as before, or it has become one that the relation allows
@@ -87,3 +90,14 @@ Sends tables irp devices target asked reply old new = (status : Status) × Desce
 -- the packet was completed
 abbrev pub Finishes : IrpRef → Status → ℕ → List Asked → Reply → PacketValue → PacketValue → Type 0
 Finishes irp status information asked reply old new = Completes irp (with_status old status information) asked new × (reply ≡ Done)
+
+-- the packet was cancelled
+abbrev pub IsCancelled : Tables → IrpRef → List Asked → Reply → PacketValue → PacketValue → Type 0
+IsCancelled tables irp asked reply old new = Cancels tables irp old old.cancel_routine asked reply new
+
+-- what follows a cancel routine's answer was done, and what was asked in it stands behind the others
+pub record Followed (are_answered : List Asked → Type 0) (irp : IrpRef) (old new : PacketValue) (answer : CancelAnswer) (before after : List Asked) : Type 0 where
+  pub later : List Asked
+  pub follows : Follows irp old answer later new
+  pub listed : after ≡ before ++ later
+  pub answered : are_answered later

@@ -2,6 +2,7 @@
 #![tactic(auto)]
 
 mod book;
+mod cancellation;
 mod held_to_tables;
 mod not_recorded;
 mod note;

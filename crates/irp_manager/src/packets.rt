@@ -5,7 +5,9 @@ ghost use Rattle.irp_types.specs.Limits.{most_locations};
 ghost use Rattle.irp_types.specs.Checks.{first_failing};
 ghost use Rattle.irp_types.specs.Packet.{size_of, is_nothing, set_next_refusal, copy_to_next_refusal, mark_pending_refusal};
 ghost use Rattle.irp_types.specs.Stacks.{stack_size_of};
-ghost use Rattle.irp_types.specs.Refusals.{is_owner, is_wrong_target, flight_check, leave_refusal, routine_refusal, cancel_refusal, send_refusal, complete_refusal};
+ghost use Rattle.std.specs.List.{list_any};
+ghost use Rattle.irp_types.specs.Unwinding.{from_to};
+ghost use Rattle.irp_types.specs.Refusals.{is_owner, is_wrong_target, stands_at, has_packet, flight_check, leave_refusal, routine_refusal, cancel_refusal, send_refusal, complete_refusal};
 ghost use Rattle.irp_types.specs.Descent.{StaysUp};
 ghost use Rattle.irp_types.specs.Steps.{seen_of};
 ghost use Rattle.irp_types.specs.Standing.{IsSound};
@@ -162,6 +164,39 @@ pub fn set_cancel_routine(live: &mut Live, counts: Known, cancel: Option<CancelI
     let previous = live.packet.cancel_routine();
     live.packet.set_cancel(live.packet.cancel(), cancel);
     Reply::Previous(previous)
+}
+
+/// Whether a device stands in a location of the packet.
+fn stands_at(packet: &Packet, device: DeviceId, number: u32) -> bool
+    requires some { 1 ≤ number }
+    requires within { number ≤ size_of packet.now }
+    ensures { result ≡ stands_at packet.now device.0 number }
+{
+    match packet.location_at(number).device {
+        None => false,
+        Some(there) => there.0 == device.0,
+    }
+}
+
+/// Whether a device stands in a location of the packet, from the current one up.
+fn stands_in(packet: &Packet, device: DeviceId) -> bool
+    ensures { result ≡ list_any (stands_at packet.now device.0) (from_to packet.now.current (size_of packet.now)) }
+{
+    let start = packet.current();
+    let size = packet.size();
+    for number in start..size + 1 {
+        if stands_at(packet, device, number) {
+            return true;
+        }
+    }
+    false
+}
+
+/// Whether a device owns the packet, or stands in a location of it from the current one up.
+pub fn has_packet(live: &Live, device: DeviceId) -> bool
+    ensures { result ≡ has_packet device.0 live.now.packet }
+{
+    is_owner(Party::Device(device), live.packet.owner()) || stands_in(&live.packet, device)
 }
 
 /// Why the packet is not given back or used again, if it is not.

@@ -7,15 +7,16 @@ ghost use Rattle.irp_types.specs.Limits.{most_locations};
 ghost use Rattle.irp_types.specs.Checks.{first_failing, or_else};
 ghost use Rattle.irp_types.specs.Stacks.{create_checks};
 ghost use Rattle.irp_types.specs.State.{Fixed, Tables, LivePacket, opening_state, live_at, packet_of};
-ghost use Rattle.irp_types.specs.Refusals.{flight_check, packet_refusal, party_refusal, first_refusal};
+ghost use Rattle.irp_types.specs.Refusals.{is_in_flight, flight_check, packet_refusal, party_refusal, first_refusal};
 ghost use Rattle.irp_types.specs.Histories.{lock_of};
-ghost use Rattle.irp_types.specs.declared.call.Call.TheVariants.{CreateDevice, Attach, Detach, Allocate, Free, Reuse, SetNext, CopyToNext, Skip, SetRoutine, MarkPending, CallDriver, Complete, SetCancelRoutine, Look};
+ghost use Rattle.irp_types.specs.declared.call.Call.TheVariants.{CreateDevice, Attach, Detach, Delete, Allocate, Free, Reuse, SetNext, CopyToNext, Skip, SetRoutine, MarkPending, CallDriver, Complete, SetCancelRoutine, Cancel, Look};
 ghost use Rattle.irp_types.specs.Standing.{StandingFacts};
 ghost use Rattle.irp_types.specs.declared.routine.Known.{Known};
 ghost use Rattle.irp_routines.specs.Answers.{AreAnswered};
 ghost use Rattle.irp_manager.specs.Notes.{known_by};
 ghost use Rattle.irp_manager.specs.Cores.{state_of, Stepped, SteppedAny, SentStays, SenderStays};
 
+use crate::cancellation;
 use crate::note::DrainNote;
 use crate::packets;
 use crate::slots::{Live, Slots};
@@ -161,6 +162,46 @@ impl Core {
         reply
     }
 
+    /// Whether a device has a live packet.
+    fn is_in_flight(&self, device: DeviceId) -> bool
+        ensures { result ≡ is_in_flight (state_of self.now) device.0 }
+    {
+        for slot in 0..self.slots.end() {
+            if let Some(live) = self.slots.get(slot) {
+                if packets::has_packet(live, device) {
+                    return true;
+                }
+            }
+        }
+        false
+    }
+
+    fn delete_refusal(&self, device: DeviceId, drained: bool) -> Option<Refusal>
+        ensures { (fixed : Fixed) → result ≡ first_refusal fixed (state_of self.now) drained (Delete device) }
+    {
+        if let Some(refusal) = self.stacks.delete_refusal(device) {
+            return Some(refusal);
+        }
+        if self.is_in_flight(device) {
+            return Some(Refusal::InFlight);
+        }
+        if !drained {
+            return Some(Refusal::NotDrained);
+        }
+        None
+    }
+
+    fn delete(&mut self, device: DeviceId, drained: bool) -> Reply
+        ensures { (tables : Tables) → StandingFacts tables.counts (state_of self.old) → Stepped tables drained self.old (Delete device) [] result self.new }
+    {
+        if let Some(refusal) = self.delete_refusal(device, drained) {
+            return Reply::Refused(refusal);
+        }
+        let _deleted = self.stacks.delete(device);
+        self.stacks.are_stacks();
+        Reply::Done
+    }
+
     fn allocate_refusal(&self, size: u8) -> Option<Refusal>
         ensures refusal { (fixed : Fixed) (drained : Bool) → result ≡ first_refusal fixed (state_of self.now) drained (Allocate size) }
         ensures fits { result ≡ None → (1 ≤ size) × (size ≤ most_locations) }
@@ -237,12 +278,35 @@ impl Core {
         })
     }
 
-    /// The lock of the device that a call deletes; no call here deletes one.
+    fn cancel<A: Ask>(&mut self, ask: &A, irp: IrpRef, asked: &mut Vec<Asked>) -> Reply
+        requires stands { StandingFacts (A.tables ask.now).counts (state_of self.old) }
+        requires empty { asked.old.items ≡ [] }
+        requires room { vec_len asked.old + 2 * most_locations ≤ vec_capacity asked.old }
+        ensures stepped { (drained : Bool) → Stepped (A.tables ask.now) drained self.old (Cancel irp) asked.new.items result self.new }
+        ensures may { AreAnswered (A.may_plan ask.now) (A.may_answer ask.now) (A.may_cancel ask.now) asked.new.items }
+    {
+        if let Some(refusal) = self.packet_refusal(irp) {
+            return Reply::Refused(refusal);
+        }
+        let Some(mut live) = self.slots.take(irp.slot) else {
+            return Reply::Refused(Refusal::NoIrp);
+        };
+        let reply = cancellation::cancel(&mut live, irp, ask, asked);
+        self.slots.put(irp.slot, live);
+        reply
+    }
+
+    /// The lock of the device that a call deletes, where that device was created.
     fn lock_of(&self, call: Call) -> Option<LockNo>
         ensures { result ≡ lock_of (state_of self.now) call }
     {
-        let _ = call;
-        None
+        match call {
+            Call::Delete { device } => {
+                let facts = self.stacks.facts(device)?;
+                Some(facts.lock)
+            }
+            _ => None,
+        }
     }
 
     fn answer<A: Ask>(
@@ -250,12 +314,13 @@ impl Core {
         alloc: Global,
         ask: &A,
         call: Call,
+        drained: bool,
         asked: &mut Vec<Asked>,
     ) -> Result<Reply, AllocError>
         requires stands { StandingFacts (A.tables ask.now).counts (state_of self.old) }
         requires empty { asked.old.items ≡ [] }
         requires room { vec_len asked.old + 2 * most_locations ≤ vec_capacity asked.old }
-        ensures stepped { IfOk result (λ reply. (drained : Bool) → Stepped (A.tables ask.now) drained self.old call asked.new.items reply self.new) }
+        ensures stepped { IfOk result (λ reply. Stepped (A.tables ask.now) drained self.old call asked.new.items reply self.new) }
         ensures may { IfOk result (λ reply. AreAnswered (A.may_plan ask.now) (A.may_answer ask.now) (A.may_cancel ask.now) asked.new.items) }
         ensures stays { IfOk result (λ reply. SenderStays self.old call reply self.new) }
         ensures err { OnErr result (state_of self.new ≡ state_of self.old) }
@@ -267,9 +332,11 @@ impl Core {
             }
             Call::Attach { device, to } => Ok(self.attach(device, to)),
             Call::Detach { lower } => Ok(self.detach(lower)),
+            Call::Delete { device } => Ok(self.delete(device, drained)),
             Call::Allocate { size } => self.allocate(alloc, size),
             Call::Free { irp } => Ok(self.free(irp)),
             Call::Reuse { irp, status } => Ok(self.reuse(irp, status)),
+            Call::Cancel { irp } => Ok(self.cancel(ask, irp, asked)),
             Call::Look { irp } => Ok(self.look(irp)),
             _ => Ok(self.answer_party(ask, call, asked)),
         }
@@ -302,7 +369,7 @@ impl Core {
             Some(lock) => note.knows(lock),
             None => false,
         };
-        let reply = self.answer(alloc, ask, call, &mut asked)?;
+        let reply = self.answer(alloc, ask, call, drained, &mut asked)?;
         Ok(Applied {
             lock,
             drained,

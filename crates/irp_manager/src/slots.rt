@@ -54,6 +54,14 @@ impl Slots {
         count
     }
 
+    /// A number above each slot that has a packet.
+    #[tactic(auto, using(crate::proofs::SlotMaps::keep_rules))]
+    pub fn end(&self) -> usize
+        ensures { (slot : ℕ) → result ≤ slot → fin.get (live_of self.now.places.items) slot ≡ None }
+    {
+        self.places.len()
+    }
+
     /// The packet at a slot, if there is one.
     #[tactic(auto, using(crate::proofs::SlotMaps::keep_rules))]
     pub fn get(&self, slot: usize) -> Option<&Live>

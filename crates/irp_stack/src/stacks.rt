@@ -171,6 +171,20 @@ impl Stacks {
         Ok(())
     }
 
+    /// Why [`delete`](Stacks::delete) refuses the device, or `None` where it would delete it (this project's own rule).
+    pub fn delete_refusal(&self, device: DeviceId) -> Option<Refusal>
+        ensures { result ≡ first_failing (delete_checks self.now device.0) }
+    {
+        let own = match live_device(&self.devices, device) {
+            Ok(own) => own,
+            Err(refusal) => return Some(refusal),
+        };
+        if own.has_neighbour() {
+            return Some(Refusal::StillAttached);
+        }
+        None
+    }
+
     /// The device just below (WDK: "IoGetLowerDeviceObject"). `None` if nothing stands below, or if the device was
     /// never created. It takes constant time.
     pub fn lower(&self, device: DeviceId) -> Option<DeviceId>

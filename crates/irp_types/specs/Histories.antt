@@ -1,18 +1,21 @@
 -- Histories: which the sequential manager could have made, and what is read off one.
 use Rattle.std.specs.Prelude.{ℕ, ◌≡◌, ◌+◌, ◌-◌, ◌==◌, Bool, false, not, ◌&&◌, List, [], ◌∷◌, ◌++◌, length, filter, find, slice_get, slice_index_or, Option, Some, None}
-use Rattle.std.specs.Option.{option_map_or}
+use Rattle.std.specs.Option.{option_map, option_map_or}
 use Rattle.std.specs.List.{range_with_len}
 use Rattle.std.specs.FinMap as fin
+use Rattle.irp_types.specs.Stacks.{DeviceFacts}
 use Rattle.irp_types.specs.State.{StateValue, LivePacket, Fixed, opening_state}
 use Rattle.irp_types.specs.Refusals.{has_ended}
 use Rattle.irp_types.specs.Steps.{Step}
 use Rattle.irp_types.specs.declared.names.LockNo.{LockNo}
 use Rattle.irp_types.specs.declared.entry.Entry.{Entry}
 use Rattle.irp_types.specs.declared.call.Call.{Call}
+use Rattle.irp_types.specs.declared.call.Call.TheVariants.{Delete}
 
--- the lock of the device that a call deletes; no call here deletes one
+-- the lock of the device that a call deletes, where that device was created
 abbrev pub lock_of : StateValue → Call → Option LockNo
-lock_of state call = None
+lock_of state (Delete device) = option_map (λ (facts : DeviceFacts). facts.lock) (slice_get state.devices.facts device.0)
+lock_of state _ = None
 
 -- an entry has this number, and its step leads from the one state to the other
 pub record IsEntryAt (fixed : Fixed) (number : ℕ) (old : StateValue) (entry : Entry) (new : StateValue) : Type 0 where

@@ -1,17 +1,20 @@
 -- Which check of a call fails first.
 use Rattle.std.specs.Prelude.{ℕ, ◌-◌, ◌==◌, Bool, true, false, not, ◌||◌, ◌&&◌, nat_lt, nat_le, is_some, List, [], ◌∷◌, ◌++◌, length, Option}
+use Rattle.std.specs.List.{list_any}
 use Rattle.std.specs.Option.{option_map_or}
 use Rattle.std.specs.FinMap as fin
 use Rattle.irp_types.specs.Limits.{most_locations, most_live, use_limit}
 use Rattle.irp_types.specs.Status.{is_completable}
 use Rattle.irp_types.specs.Checks.{Check, first_failing, or_else}
 use Rattle.irp_types.specs.Rules.{is_known}
-use Rattle.irp_types.specs.Packet.{PacketValue, location_check, skip_check, preparation_check, set_next_refusal, copy_to_next_refusal, skip_refusal, set_routine_refusal, mark_pending_refusal}
-use Rattle.irp_types.specs.Stacks.{DevicesValue, stack_size_of, lower_of, device_checks, create_checks, attach_checks, detach_checks}
-use Rattle.irp_types.specs.State.{StateValue, Fixed, live_at, packet_at, packet_of}
+use Rattle.irp_types.specs.Packet.{PacketValue, size_of, location_at, location_check, skip_check, preparation_check, set_next_refusal, copy_to_next_refusal, skip_refusal, set_routine_refusal, mark_pending_refusal}
+use Rattle.irp_types.specs.Unwinding.{from_to}
+use Rattle.irp_types.specs.Stacks.{DevicesValue, stack_size_of, lower_of, device_checks, create_checks, attach_checks, detach_checks, delete_checks}
+use Rattle.irp_types.specs.State.{StateValue, LivePacket, Fixed, live_at, packet_at, packet_of}
 use Rattle.irp_types.specs.declared.status.Status.{Status}
 use Rattle.irp_types.specs.declared.names.IrpRef.{IrpRef}
 use Rattle.irp_types.specs.declared.names.CancelId.{CancelId}
+use Rattle.irp_types.specs.declared.names.DeviceId.{DeviceId}
 use Rattle.irp_types.specs.declared.location.Owner.{Owner}
 use Rattle.irp_types.specs.declared.location.Owner.TheVariants.{Originator, Device, Ended}
 use Rattle.irp_types.specs.declared.routine.Known.{Known}
@@ -19,9 +22,9 @@ use Rattle.irp_types.specs.declared.routine.Setting.{Setting}
 use Rattle.irp_types.specs.declared.call.Party.{Party}
 use Rattle.irp_types.specs.declared.call.Party.TheVariants.{Originator as ByOriginator, Device as ByDevice}
 use Rattle.irp_types.specs.declared.call.Call.{Call}
-use Rattle.irp_types.specs.declared.call.Call.TheVariants.{CreateDevice, Attach, Detach, Allocate, Free, Reuse, SetNext, CopyToNext, Skip, SetRoutine, MarkPending, CallDriver, Complete, SetCancelRoutine, Look}
+use Rattle.irp_types.specs.declared.call.Call.TheVariants.{CreateDevice, Attach, Detach, Delete, Allocate, Free, Reuse, SetNext, CopyToNext, Skip, SetRoutine, MarkPending, CallDriver, Complete, SetCancelRoutine, Cancel, Look}
 use Rattle.irp_types.specs.declared.refusal.Refusal.{Refusal}
-use Rattle.irp_types.specs.declared.refusal.Refusal.TheVariants.{NoIrp, Stale, NotOwner, TooShort, WrongTarget, NoRoutine, BadStatus, CancelRoutineSet, AlreadyCancelled, InFlight, Full, BadSize, NoDriver, Ended as HasEnded, NoLock}
+use Rattle.irp_types.specs.declared.refusal.Refusal.TheVariants.{NoIrp, Stale, NotOwner, TooShort, WrongTarget, NoRoutine, BadStatus, CancelRoutineSet, AlreadyCancelled, InFlight, Full, NotDrained, BadSize, NoDriver, Ended as HasEnded, NoLock}
 
 -- the use was completed
 abbrev pub has_ended : Owner → Bool
@@ -101,6 +104,24 @@ cancel_refusal counts packet cancel = first_failing (
 abbrev pub flight_check : PacketValue → Check
 flight_check packet = (is_owned_by_device packet.owner, InFlight)
 
+-- the use was completed
+abbrev pub ended_check : PacketValue → Check
+ended_check packet = (has_ended packet.owner, HasEnded)
+
+-- a device stands in a location of a packet
+abbrev pub stands_at : PacketValue → ℕ → ℕ → Bool
+stands_at packet device number = option_map_or (λ (there : DeviceId). there.0 == device) (location_at packet number).device false
+
+-- a device has a packet: it owns it, or stands in a location of it from the current one up
+abbrev pub has_packet : ℕ → PacketValue → Bool
+has_packet device packet =
+    is_owner (ByDevice (record { 0 = device })) packet.owner
+    || list_any (stands_at packet device) (from_to packet.current (size_of packet))
+
+-- a device has a live packet
+abbrev pub is_in_flight : StateValue → ℕ → Bool
+is_in_flight state device = list_any (λ (live : LivePacket). has_packet device live.packet) (fin.values state.live)
+
 -- no use number is left
 abbrev pub use_check : StateValue → Check
 use_check state = (nat_le use_limit state.next_use, Full)
@@ -111,6 +132,10 @@ first_refusal fixed state drained (CreateDevice driver lock) = first_failing (
     (nat_le (length fixed.tables.drivers) driver.0, NoDriver) ∷ (nat_le fixed.locks lock.0, NoLock) ∷ create_checks state.devices)
 first_refusal fixed state drained (Attach device to) = first_failing (attach_checks state.devices device.0 to.0)
 first_refusal fixed state drained (Detach lower) = first_failing (detach_checks state.devices lower.0)
+first_refusal fixed state drained (Delete device) = first_failing (
+    delete_checks state.devices device.0
+    ++ (is_in_flight state device.0, InFlight)
+    ∷ (not drained, NotDrained) ∷ [])
 first_refusal fixed state drained (Allocate size) = first_failing (
     ((size == 0) || nat_lt most_locations size, BadSize)
     ∷ (nat_le most_live (fin.len state.live) || nat_le use_limit state.next_use, Full) ∷ [])
@@ -133,4 +158,5 @@ first_refusal fixed state drained (Complete party irp status information) =
     or_else (party_refusal state party irp) (complete_refusal (packet_of state irp) status)
 first_refusal fixed state drained (SetCancelRoutine party irp cancel) =
     or_else (party_refusal state party irp) (cancel_refusal fixed.tables.counts (packet_of state irp) cancel)
+first_refusal fixed state drained (Cancel irp) = or_else (packet_refusal state irp) (first_failing (ended_check (packet_of state irp) ∷ []))
 first_refusal fixed state drained (Look irp) = packet_refusal state irp

@@ -28,6 +28,11 @@ pub enum Call {
     Detach {
         lower: DeviceId,
     },
+    /// Deletes a device that stands alone, has no packet, and whose remove lock is drained by what the caller knows
+    /// (WDK: "IoDeleteDevice").
+    Delete {
+        device: DeviceId,
+    },
     /// A new packet with this many locations, 1 to 16 (WDK: "IoAllocateIrp").
     Allocate {
         size: u8,
@@ -89,6 +94,10 @@ pub enum Call {
         party: Party,
         irp: IrpRef,
         cancel: Option<CancelId>,
+    },
+    /// Sets the packet's cancel flag, and takes its cancel routine and asks it, where there is one (WDK: "IoCancelIrp").
+    Cancel {
+        irp: IrpRef,
     },
     /// Reads the packet and changes nothing (this project's own call).
     Look {

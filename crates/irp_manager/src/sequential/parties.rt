@@ -7,7 +7,7 @@ ghost use Rattle.irp_types.specs.Stacks.{create_checks};
 ghost use Rattle.irp_types.specs.State.{Fixed, Tables, LivePacket, opening_state, live_at, packet_of};
 ghost use Rattle.irp_types.specs.Refusals.{flight_check, packet_refusal, party_refusal, first_refusal};
 ghost use Rattle.irp_types.specs.Histories.{lock_of};
-ghost use Rattle.irp_types.specs.declared.call.Call.TheVariants.{CreateDevice, Attach, Detach, Allocate, Free, Reuse, SetNext, CopyToNext, Skip, SetRoutine, MarkPending, CallDriver, Complete, SetCancelRoutine, Look};
+ghost use Rattle.irp_types.specs.declared.call.Call.TheVariants.{SetNext, CopyToNext, Skip, SetRoutine, MarkPending, CallDriver, Complete, SetCancelRoutine};
 ghost use Rattle.irp_types.specs.Standing.{StandingFacts};
 ghost use Rattle.irp_types.specs.declared.routine.Known.{Known};
 ghost use Rattle.irp_routines.specs.Answers.{AreAnswered};

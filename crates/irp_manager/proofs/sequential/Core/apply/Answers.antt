@@ -1,4 +1,4 @@
 use Rattle.irp_manager.proofs.sequential.Core.apply.Goals as goal
 
 pub returns-clause-stepped : goal.returns-clause-stepped
-returns-clause-stepped g c = c.in_ok-reply.ensures.stepped c.match-lock.drained
+returns-clause-stepped g c = c.in_ok-reply.ensures.stepped

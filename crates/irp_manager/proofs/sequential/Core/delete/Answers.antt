@@ -1,0 +1,42 @@
+use Rattle.std.proofs.Common.{◌≡◌, [], None, Option, MatchOption, refl, sym, ◌∙◌, ap, subst}
+use Rattle.irp_types.specs.Checks.{first_failing, value_unless}
+use Rattle.irp_types.specs.Stacks.{DevicesValue, delete_checks, after_delete}
+use Rattle.irp_types.specs.State.{StateValue, Fixed}
+use Rattle.irp_types.specs.Standing.{StandingFacts}
+use Rattle.irp_types.specs.Steps.{Unasked, Effect}
+use Rattle.irp_types.specs.declared.call.Call.TheVariants.{Delete}
+use Rattle.irp_types.specs.declared.refusal.Refusal.{Refusal}
+use Rattle.irp_types.specs.declared.reply.Reply.{Reply}
+use Rattle.irp_types.specs.declared.reply.Reply.TheVariants.{Done, Refused}
+use Rattle.irp_manager.specs.Cores.{state_of}
+use Rattle.irp_manager.proofs.Fresh.{stands_devices}
+use Rattle.irp_manager.proofs.Turns.{deletable}
+use Rattle.irp_manager.proofs.sequential.Core.delete.Goals as goal
+
+pub returns-in-Some : goal.returns-in-Some
+returns-in-Some c tables stands =
+    let state : StateValue = state_of c.args.self.now in
+    let reply : Reply = Refused c.in-Some.refusal in
+    record {
+      step = λ fixed same locks.
+          subst (λ (given : Option Refusal). MatchOption given (Effect fixed state (Delete c.args.device) [] reply state) (λ refusal. Unasked [] reply state (Refused refusal) state))
+          (sym c.in-Some.is ∙ c.delete_refusal.ensures fixed) (refl, refl, refl);
+      stands = stands;
+      locks = refl;
+    }
+
+pub returns : goal.returns
+returns c tables stands =
+    let state : StateValue = state_of c.args.self.now in
+    let device = c.args.device.0 in
+    let new : StateValue = record state { devices = c.delete-deleted.new.self } in
+    let checked : first_failing (delete_checks state.devices device) ≡ None = deletable state c.args.drained device (sym (c.delete_refusal.ensures (record { locks = c.args.self.now.locks; tables = tables })) ∙ c.in_default.is) in
+    let gone : c.delete-deleted.new.self ≡ after_delete state.devices device =
+    c.delete-deleted.ensures.changed ∙ ap (λ (given : Option Refusal). value_unless given state.devices (after_delete state.devices device)) checked in
+    record {
+      step = λ fixed same locks.
+          subst (λ (given : Option Refusal). MatchOption given (Effect fixed state (Delete c.args.device) [] Done new) (λ refusal. Unasked [] Done new (Refused refusal) state))
+          (sym c.in_default.is ∙ c.delete_refusal.ensures fixed) (refl, refl, λ i. record state { devices = gone i });
+      stands = stands_devices tables.counts state c.delete-deleted.new.self c.are_stacks.ensures stands;
+      locks = refl;
+    }

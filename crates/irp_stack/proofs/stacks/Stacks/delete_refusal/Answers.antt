@@ -1,0 +1,10 @@
+-- Which refusal a deletion would be answered.
+use Rattle.std.proofs.Common.{sym, ◌∙◌}
+use Rattle.irp_stack.proofs.Deleting.{out_kept, out_gone}
+use Rattle.irp_stack.proofs.stacks.Stacks.delete_refusal.Goals as goal
+
+pub returns-then-has_neighbour : goal.returns-then-has_neighbour
+returns-then-has_neighbour c = sym (out_kept c.self.view_is c.self.invariant.1 c.in-Ok.ensures (sym c.has_neighbour.ensures ∙ c.if-has_neighbour.true))
+
+pub returns : goal.returns
+returns c = sym (out_gone c.self.view_is c.self.invariant.1 c.in-Ok.ensures (sym c.has_neighbour.ensures ∙ c.if-has_neighbour.false)).fine
