@@ -5,14 +5,15 @@ use Rattle.irp_types.specs.State.{Tables}
 use Rattle.irp_types.specs.declared.call.Call.{Call}
 use Rattle.irp_types.specs.declared.asked.Asked.{Asked}
 use Rattle.irp_types.specs.declared.reply.Reply.{Reply}
+use Rattle.irp_manager.specs.Slots.{Slots}
 use Rattle.irp_manager.specs.Cores.{Stepped}
 use Rattle.irp_manager.specs.declared.sequential.Core.{Core}
 
 -- a call that asked nothing
-pub handed : (tables : Tables) (drained : Bool) (old : Core) (call is : Call) (asked : List Asked) (reply : Reply) (new : Core) → call ≡ is → asked ≡ []
-    → Stepped tables drained old is [] reply new → Stepped tables drained old call asked reply new
-handed tables drained old call is asked reply new same empty stepped =
-    subst (λ (given : Call × List Asked). Stepped tables drained old given.0 given.1 reply new) (λ i. (sym same i, sym empty i)) stepped
+pub handed : {K : Type 0} (live : K → Slots) (tables : Tables) (drained : Bool) (old : Core K) (call is : Call) (asked : List Asked) (reply : Reply) (new : Core K) → call ≡ is → asked ≡ []
+    → Stepped live tables drained old is [] reply new → Stepped live tables drained old call asked reply new
+handed live tables drained old call is asked reply new same empty stepped =
+    subst (λ (given : Call × List Asked). Stepped live tables drained old given.0 given.1 reply new) (λ i. (sym same i, sym empty i)) stepped
 
 -- another fact of a reply, where there is one
 pub if_ok : {E : Type 0} (P Q : Reply → Type 0) → ((reply : Reply) → P reply → Q reply) → (result : Result Reply E) → IfOk result P → IfOk result Q

@@ -1,6 +1,6 @@
 -- A scan of the live packets, and of a range.
-use Rattle.std.proofs.Common.{◌≡◌, ℕ, ◌+◌, ◌-◌, ◌<◌, ◌≤◌, Bool, true, false, cond, ◌||◌, ◌&&◌, List, [], ◌∷◌, map, Option, Some, None, zero, suc, refl, sym, ◌∙◌, ap, subst, arith, ◌⊎◌, inl, inr, T}
-use Rattle.std.proofs.lemmas.Bool.{cases_eq, false≢true, true≢false, and_parts, or_right}
+use Rattle.std.proofs.Common.{◌≡◌, ℕ, ◌+◌, ◌<◌, ◌≤◌, Bool, true, false, cond, ◌||◌, ◌&&◌, List, [], ◌∷◌, map, Some, None, zero, suc, refl, sym, ◌∙◌, ap, arith, inl, inr, T}
+use Rattle.std.proofs.lemmas.Bool.{cases_eq, or_right}
 use Rattle.std.proofs.lemmas.Option.{none-some, same_Some}
 use Rattle.std.specs.List.{list_any, range_with_len}
 use Rattle.std.specs.FinMap.{is_sorted, find}

@@ -1,39 +1,43 @@
 -- The state of a core, and what a call makes of it.
-use Rattle.std.specs.Prelude.{◌≡◌, Bool, List}
+use Rattle.std.specs.Prelude.{ℕ, ◌≡◌, Bool, List, Option}
 use Rattle.irp_types.specs.State.{StateValue, Fixed, Tables, packet_of}
 use Rattle.irp_types.specs.Descent.{StaysUp}
 use Rattle.irp_types.specs.Steps.{Step}
 use Rattle.irp_types.specs.Standing.{StandingFacts}
 use Rattle.irp_types.specs.declared.asked.Asked.{Asked}
 use Rattle.irp_types.specs.declared.call.Call.{Call}
-use Rattle.irp_types.specs.declared.call.Call.TheVariants.{CallDriver}
+use Rattle.irp_types.specs.declared.call.Call.TheVariants.{Allocate, CallDriver}
 use Rattle.irp_types.specs.declared.call.Party.{Party}
 use Rattle.irp_types.specs.declared.names.IrpRef.{IrpRef}
 use Rattle.irp_types.specs.declared.names.DeviceId.{DeviceId}
 use Rattle.irp_types.specs.declared.status.Status.{Status}
 use Rattle.irp_types.specs.declared.reply.Reply.{Reply}
-use Rattle.irp_types.specs.declared.reply.Reply.TheVariants.{Status as StatusIs}
-use Rattle.irp_manager.specs.Slots.{live_of}
+use Rattle.irp_types.specs.declared.reply.Reply.TheVariants.{Irp, Status as StatusIs}
+use Rattle.irp_manager.specs.Slots.{Slots}
 use Rattle.irp_manager.specs.declared.sequential.Core.{Core}
 
--- the state that a core stands for
-abbrev pub state_of : Core → StateValue
-state_of core = record { live = live_of core.slots.places.items; devices = core.stacks; next_use = core.next_use }
+-- the state that a core stands for, by what its keep has
+abbrev pub state_of : {K : Type 0} → (K → Slots) → Core K → StateValue
+state_of live core = record { live = live core.keep; devices = core.stacks; next_use = core.next_use }
 
 -- a call was answered by its step, and the standing facts are kept
-pub record Stepped (tables : Tables) (drained : Bool) (old : Core) (call : Call) (asked : List Asked) (reply : Reply) (new : Core) : Type 0 where
-  pub step : (fixed : Fixed) → fixed.tables ≡ tables → fixed.locks ≡ old.locks → Step fixed (state_of old) drained call asked reply (state_of new)
-  pub stands : StandingFacts tables.counts (state_of new)
+pub record Stepped {K : Type 0} (live : K → Slots) (tables : Tables) (drained : Bool) (old : Core K) (call : Call) (asked : List Asked) (reply : Reply) (new : Core K) : Type 0 where
+  pub step : (fixed : Fixed) → fixed.tables ≡ tables → fixed.locks ≡ old.locks → Step fixed (state_of live old) drained call asked reply (state_of live new)
+  pub stands : StandingFacts tables.counts (state_of live new)
   pub locks : new.locks ≡ old.locks
 
 -- so it was with any tables, where the standing facts held
-abbrev pub SteppedAny : Core → Call → List Asked → Reply → Core → Type 0
-SteppedAny old call asked reply new = (tables : Tables) (drained : Bool) → StandingFacts tables.counts (state_of old) → Stepped tables drained old call asked reply new
+abbrev pub SteppedAny : {K : Type 0} → (K → Slots) → Core K → Call → List Asked → Reply → Core K → Type 0
+SteppedAny live old call asked reply new = (tables : Tables) (drained : Bool) → StandingFacts tables.counts (state_of live old) → Stepped live tables drained old call asked reply new
 
 -- a reply with a status to one who sent this packet: the packet stands as `StaysUp` says
-abbrev pub SentStays : Core → IrpRef → Reply → Core → Type 0
-SentStays old irp reply new = (status : Status) → reply ≡ StatusIs status → StaysUp (packet_of (state_of old) irp) (packet_of (state_of new) irp) status
+abbrev pub SentStays : {K : Type 0} → (K → Slots) → Core K → IrpRef → Reply → Core K → Type 0
+SentStays live old irp reply new = (status : Status) → reply ≡ StatusIs status → StaysUp (packet_of (state_of live old) irp) (packet_of (state_of live new) irp) status
 
 -- where the call sends a packet, the packet stands so
-abbrev pub SenderStays : Core → Call → Reply → Core → Type 0
-SenderStays old call reply new = (party : Party) (irp : IrpRef) (target : DeviceId) → call ≡ CallDriver party irp target → SentStays old irp reply new
+abbrev pub SenderStays : {K : Type 0} → (K → Slots) → Core K → Call → Reply → Core K → Type 0
+SenderStays live old call reply new = (party : Party) (irp : IrpRef) (target : DeviceId) → call ≡ CallDriver party irp target → SentStays live old irp reply new
+
+-- where the call allocates a packet, its slot is as the keep promises for the wish
+abbrev pub SlotGranted : {K : Type 0} → (K → Option ℕ → ℕ → Type 0) → Core K → Option ℕ → Call → Reply → Type 0
+SlotGranted grants old wish call reply = (size : ℕ) (irp : IrpRef) → call ≡ Allocate size → reply ≡ Irp irp → grants old.keep wish irp.slot

@@ -1,5 +1,6 @@
 pub mod Passing
 pub mod Slots
+pub mod Keeps
 pub mod Calls
 pub mod Notes
 pub mod Cores

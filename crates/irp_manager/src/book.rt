@@ -9,6 +9,7 @@ ghost use Rattle.irp_manager.specs.Booked.{most_entries, Records};
 ghost use Rattle.irp_manager.specs.declared.not_recorded.NotRecorded.TheVariants.{Behind, HistoryFull};
 
 use crate::held_to_tables::HeldToTables;
+use crate::list_keep::ListKeep;
 use crate::not_recorded::NotRecorded;
 use crate::note::DrainNote;
 use crate::receipt::Receipt;
@@ -27,7 +28,7 @@ const MOST_ENTRIES: usize = 1_000_000;
 #[derive(Drop)]
 pub struct Book<A> {
     held: HeldToTables<A>,
-    core: Core,
+    core: Core<ListKeep>,
     history: Vec<Entry>,
 }
 
@@ -36,6 +37,7 @@ impl<A> Model for Book<A> {
     ghost use Rattle.irp_types.specs.Histories.{LeadsTo};
     ghost use Rattle.irp_types.specs.Standing.{StandingFacts};
     ghost use Rattle.irp_manager.specs.Booked.{Booked, most_entries};
+    ghost use Rattle.irp_manager.specs.Keeps.{listed};
     ghost use Rattle.irp_manager.specs.Cores.{state_of};
 
     ghost Value = { Booked A };
@@ -47,8 +49,8 @@ impl<A> Model for Book<A> {
     } };
 
     ghost invariant = { λ book. record {
-      leads : LeadsTo (record { locks = book.core.locks; tables = book.held.tables }) book.history.items (state_of book.core);
-      stands : StandingFacts book.held.tables.counts (state_of book.core);
+      leads : LeadsTo (record { locks = book.core.locks; tables = book.held.tables }) book.history.items (state_of listed book.core);
+      stands : StandingFacts book.held.tables.counts (state_of listed book.core);
       few : length book.history.items ≤ most_entries;
     } };
 }
@@ -62,7 +64,7 @@ impl<A: Ask> Book<A> {
     {
         Book {
             held: HeldToTables::new(ask, tables),
-            core: Core::new(alloc, locks),
+            core: Core::new(alloc, ListKeep::new(alloc), locks),
             history: Vec::new(alloc),
         }
     }
@@ -126,7 +128,7 @@ impl<A: Ask> Book<A> {
         if self.history.reserve(1).is_err() {
             return Err(NotRecorded::Memory);
         }
-        let Ok(applied) = self.core.apply(alloc, &self.held, call, note) else {
+        let Ok(applied) = self.core.apply(alloc, &self.held, call, note, None) else {
             return Err(NotRecorded::Memory);
         };
         let entry = Entry {

@@ -10,7 +10,7 @@ ghost use Rattle.irp_types.specs.Steps.{owning_device, shown_to_cancel, Cancels}
 ghost use Rattle.irp_routines.specs.Answers.{AreAnswered};
 ghost use Rattle.irp_manager.specs.Calls.{Goes, Followed, IsCancelled};
 
-use crate::slots::Live;
+use crate::keep::Live;
 use irp_packet::Packet;
 use irp_routines::Ask;
 use irp_types::{Asked, CancelAnswer, DeviceId, IrpRef, Owner, Refusal, Reply, Shown, Status};

@@ -4,19 +4,25 @@
 mod book;
 mod cancellation;
 mod held_to_tables;
+mod keep;
+mod list_keep;
+mod manager;
 mod not_recorded;
 mod note;
 mod packets;
 mod receipt;
 mod seat;
 mod sequential;
-mod slots;
 #[cfg(test)]
 mod tests;
 
 pub use book::Book;
 pub use held_to_tables::HeldToTables;
+pub use keep::{Keep, Live};
+pub use list_keep::ListKeep;
+pub use manager::Manager;
 pub use not_recorded::NotRecorded;
-pub use note::{DrainNote, KnowsNothing};
+pub use note::{DrainNote, KnowsAll, KnowsNothing};
 pub use receipt::Receipt;
 pub use seat::Seat;
+pub use sequential::{Applied, Core};

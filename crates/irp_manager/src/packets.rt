@@ -16,7 +16,7 @@ ghost use Rattle.irp_types.specs.declared.reply.Reply.TheVariants.{Status as Sta
 ghost use Rattle.irp_routines.specs.Answers.{AreAnswered};
 ghost use Rattle.irp_manager.specs.Calls.{packet_refusal_in, party_refusal_in, Goes, Fills, Copies, Leaves, Sets, Marks, Sends, Finishes, SetsCancel};
 
-use crate::slots::Live;
+use crate::keep::Live;
 use irp_packet::Packet;
 use irp_routines::Ask;
 use irp_stack::Stacks;

@@ -3,6 +3,7 @@
 mod parties;
 
 ghost use Rattle.std.specs.Prelude.{◌≡◌, ℕ, ◌+◌, ◌*◌, ◌<◌, ◌≤◌, ◌^◌, Option, Some, None, length, false, true, List, [], ◌∷◌, Bool, vec_len, vec_capacity, IfOk, OnErr, IfErr};
+ghost use Rattle.std.specs.FinMap as fin;
 ghost use Rattle.irp_types.specs.Limits.{most_locations};
 ghost use Rattle.irp_types.specs.Checks.{first_failing, or_else};
 ghost use Rattle.irp_types.specs.Stacks.{create_checks};
@@ -12,14 +13,16 @@ ghost use Rattle.irp_types.specs.Histories.{lock_of};
 ghost use Rattle.irp_types.specs.declared.call.Call.TheVariants.{CreateDevice, Attach, Detach, Delete, Allocate, Free, Reuse, SetNext, CopyToNext, Skip, SetRoutine, MarkPending, CallDriver, Complete, SetCancelRoutine, Cancel, Look};
 ghost use Rattle.irp_types.specs.Standing.{StandingFacts};
 ghost use Rattle.irp_types.specs.declared.routine.Known.{Known};
+ghost use Rattle.irp_types.specs.declared.names.IrpRef.{IrpRef};
+ghost use Rattle.irp_types.specs.declared.reply.Reply.TheVariants.{Irp};
 ghost use Rattle.irp_routines.specs.Answers.{AreAnswered};
 ghost use Rattle.irp_manager.specs.Notes.{known_by};
-ghost use Rattle.irp_manager.specs.Cores.{state_of, Stepped, SteppedAny, SentStays, SenderStays};
+ghost use Rattle.irp_manager.specs.Cores.{state_of, Stepped, SteppedAny, SentStays, SenderStays, SlotGranted};
 
 use crate::cancellation;
 use crate::note::DrainNote;
 use crate::packets;
-use crate::slots::{Live, Slots};
+use crate::keep::{Keep, Live};
 use irp_packet::Packet;
 use irp_routines::Ask;
 use irp_stack::{NotCreated, Stacks};
@@ -38,7 +41,8 @@ const USE_LIMIT: u64 = 0x8000_0000_0000_0000;
 /// How many questions a call may ask: one to each of 16 devices, and one to each of 16 locations.
 const MOST_ASKED: usize = 32;
 
-/// What a call did.
+/// What a call did: the lock of the device that it deletes, where that one was created; whether the note knew that lock to
+/// be drained; what was asked, in order; and the reply.
 #[derive(Drop)]
 pub struct Applied {
     pub lock: Option<LockNo>,
@@ -47,23 +51,27 @@ pub struct Applied {
     pub reply: Reply,
 }
 
-/// The state of the manager.
+/// The state of the sequential manager: its live packets, its devices, the next use number, and how many remove locks there
+/// are (this project's own rule). It is lent whom it asks, for each call.
 #[derive(Drop)]
-pub struct Core {
-    slots: Slots,
+pub struct Core<K> {
+    keep: K,
     stacks: Stacks,
     next_use: u64,
     locks: u32,
 }
 
-impl Core {
-    /// A manager without packets and devices, with so many remove locks. It takes no memory.
-    pub fn new(alloc: Global, locks: u32) -> Core
-        ensures state { state_of result ≡ opening_state }
+impl<K: Keep> Core<K> {
+    /// A manager without packets and devices, with so many remove locks, on condition that nothing is kept yet. It takes
+    /// no memory.
+    pub fn new(alloc: Global, keep: K, locks: u32) -> Core<K>
+        requires empty { K.live keep ≡ fin.empty }
+        ensures state { state_of K.live result ≡ opening_state }
+        ensures stands { (counts : Known) → StandingFacts counts (state_of K.live result) }
         ensures locks { result.locks ≡ locks }
     {
         Core {
-            slots: Slots::new(alloc),
+            keep,
             stacks: Stacks::new(alloc),
             next_use: 1,
             locks,
@@ -71,27 +79,27 @@ impl Core {
     }
 
     fn packet_refusal(&self, irp: IrpRef) -> Option<Refusal>
-        ensures { result ≡ packet_refusal (state_of self.now) irp }
+        ensures { result ≡ packet_refusal (state_of K.live self.now) irp }
     {
-        match self.slots.get(irp.slot) {
+        match self.keep.get(irp.slot) {
             None => Some(Refusal::NoIrp),
             Some(live) => packets::packet_refusal(live, irp),
         }
     }
 
     fn party_refusal(&self, party: Party, irp: IrpRef) -> Option<Refusal>
-        ensures { result ≡ party_refusal (state_of self.now) party irp }
+        ensures { result ≡ party_refusal (state_of K.live self.now) party irp }
     {
-        match self.slots.get(irp.slot) {
+        match self.keep.get(irp.slot) {
             None => Some(Refusal::NoIrp),
             Some(live) => packets::party_refusal(live, party, irp),
         }
     }
 
     fn look(&self, irp: IrpRef) -> Reply
-        ensures { SteppedAny self.now (Look irp) [] result self.now }
+        ensures { SteppedAny K.live self.now (Look irp) [] result self.now }
     {
-        match self.slots.get(irp.slot) {
+        match self.keep.get(irp.slot) {
             None => Reply::Refused(Refusal::NoIrp),
             Some(live) => match packets::packet_refusal(live, irp) {
                 Some(refusal) => Reply::Refused(refusal),
@@ -102,7 +110,7 @@ impl Core {
 
     fn create_refusal(&self, drivers: u32, driver: DriverId, lock: LockNo) -> Option<Refusal>
         ensures { (fixed : Fixed) (drained : Bool) → length fixed.tables.drivers ≡ drivers → fixed.locks ≡ self.now.locks
-            → first_refusal fixed (state_of self.now) drained (CreateDevice driver lock)
+            → first_refusal fixed (state_of K.live self.now) drained (CreateDevice driver lock)
             ≡ or_else result (first_failing (create_checks self.now.stacks)) }
     {
         if driver.0 >= drivers {
@@ -121,8 +129,8 @@ impl Core {
         lock: LockNo,
     ) -> Result<Reply, AllocError>
         ensures stepped { IfOk result (λ reply. (tables : Tables) (drained : Bool) → length tables.drivers ≡ drivers
-            → StandingFacts tables.counts (state_of self.old) → Stepped tables drained self.old (CreateDevice driver lock) [] reply self.new) }
-        ensures err { OnErr result (state_of self.new ≡ state_of self.old) }
+            → StandingFacts tables.counts (state_of K.live self.old) → Stepped K.live tables drained self.old (CreateDevice driver lock) [] reply self.new) }
+        ensures err { OnErr result (state_of K.live self.new ≡ state_of K.live self.old) }
         ensures locks { self.new.locks ≡ self.old.locks }
     {
         if let Some(refusal) = self.create_refusal(drivers, driver, lock) {
@@ -141,7 +149,7 @@ impl Core {
     }
 
     fn attach(&mut self, device: DeviceId, to: DeviceId) -> Reply
-        ensures { SteppedAny self.old (Attach device to) [] result self.new }
+        ensures { SteppedAny K.live self.old (Attach device to) [] result self.new }
     {
         let reply = match self.stacks.attach(device, to) {
             Ok(top) => Reply::Device(top),
@@ -152,7 +160,7 @@ impl Core {
     }
 
     fn detach(&mut self, lower: DeviceId) -> Reply
-        ensures { SteppedAny self.old (Detach lower) [] result self.new }
+        ensures { SteppedAny K.live self.old (Detach lower) [] result self.new }
     {
         let reply = match self.stacks.detach(lower) {
             Ok(upper) => Reply::Device(upper),
@@ -164,10 +172,10 @@ impl Core {
 
     /// Whether a device has a live packet.
     fn is_in_flight(&self, device: DeviceId) -> bool
-        ensures { result ≡ is_in_flight (state_of self.now) device.0 }
+        ensures { result ≡ is_in_flight (state_of K.live self.now) device.0 }
     {
-        for slot in 0..self.slots.end() {
-            if let Some(live) = self.slots.get(slot) {
+        for slot in 0..self.keep.end() {
+            if let Some(live) = self.keep.get(slot) {
                 if packets::has_packet(live, device) {
                     return true;
                 }
@@ -177,7 +185,7 @@ impl Core {
     }
 
     fn delete_refusal(&self, device: DeviceId, drained: bool) -> Option<Refusal>
-        ensures { (fixed : Fixed) → result ≡ first_refusal fixed (state_of self.now) drained (Delete device) }
+        ensures { (fixed : Fixed) → result ≡ first_refusal fixed (state_of K.live self.now) drained (Delete device) }
     {
         if let Some(refusal) = self.stacks.delete_refusal(device) {
             return Some(refusal);
@@ -192,7 +200,7 @@ impl Core {
     }
 
     fn delete(&mut self, device: DeviceId, drained: bool) -> Reply
-        ensures { (tables : Tables) → StandingFacts tables.counts (state_of self.old) → Stepped tables drained self.old (Delete device) [] result self.new }
+        ensures { (tables : Tables) → StandingFacts tables.counts (state_of K.live self.old) → Stepped K.live tables drained self.old (Delete device) [] result self.new }
     {
         if let Some(refusal) = self.delete_refusal(device, drained) {
             return Reply::Refused(refusal);
@@ -203,22 +211,28 @@ impl Core {
     }
 
     fn allocate_refusal(&self, size: u8) -> Option<Refusal>
-        ensures refusal { (fixed : Fixed) (drained : Bool) → result ≡ first_refusal fixed (state_of self.now) drained (Allocate size) }
+        ensures refusal { (fixed : Fixed) (drained : Bool) → result ≡ first_refusal fixed (state_of K.live self.now) drained (Allocate size) }
         ensures fits { result ≡ None → (1 ≤ size) × (size ≤ most_locations) }
         ensures counter { result ≡ None → self.now.next_use < 2 ^ 63 }
     {
         if size == 0 || size > 16 {
             return Some(Refusal::BadSize);
         }
-        if self.slots.len() >= MOST_LIVE || self.next_use >= USE_LIMIT {
+        if self.keep.len() >= MOST_LIVE || self.next_use >= USE_LIMIT {
             return Some(Refusal::Full);
         }
         None
     }
 
-    fn allocate(&mut self, alloc: Global, size: u8) -> Result<Reply, AllocError>
-        ensures stepped { IfOk result (λ reply. SteppedAny self.old (Allocate size) [] reply self.new) }
-        ensures err { OnErr result (state_of self.new ≡ state_of self.old) }
+    fn allocate(
+        &mut self,
+        alloc: Global,
+        size: u8,
+        wish: Option<usize>,
+    ) -> Result<Reply, AllocError>
+        ensures stepped { IfOk result (λ reply. SteppedAny K.live self.old (Allocate size) [] reply self.new) }
+        ensures granted { IfOk result (λ reply. (irp : IrpRef) → reply ≡ Irp irp → K.grants self.old.keep wish irp.slot) }
+        ensures err { OnErr result (state_of K.live self.new ≡ state_of K.live self.old) }
         ensures locks { self.new.locks ≡ self.old.locks }
     {
         if let Some(refusal) = self.allocate_refusal(size) {
@@ -228,35 +242,35 @@ impl Core {
             Ok(packet) => packet,
             Err(refusal) => return Ok(Reply::Refused(refusal)),
         };
-        let slot = self.slots.reserve()?;
+        let slot = self.keep.reserve(wish)?;
         let use_no = self.next_use;
-        self.slots.put(slot, Live { packet, use_no });
+        self.keep.put(slot, Live { packet, use_no });
         self.next_use += 1;
         Ok(Reply::Irp(IrpRef { slot, use_no }))
     }
 
     /// Why the packet of a reference is not given back or used again, if it is not.
     fn flight_refusal(&self, irp: IrpRef) -> Option<Refusal>
-        ensures { result ≡ or_else (packet_refusal (state_of self.now) irp) (first_failing (flight_check (packet_of (state_of self.now) irp) ∷ [])) }
+        ensures { result ≡ or_else (packet_refusal (state_of K.live self.now) irp) (first_failing (flight_check (packet_of (state_of K.live self.now) irp) ∷ [])) }
     {
-        match self.slots.get(irp.slot) {
+        match self.keep.get(irp.slot) {
             None => Some(Refusal::NoIrp),
             Some(live) => { packets::packet_refusal(live, irp).or(packets::flight_refusal(live)) }
         }
     }
 
     fn free(&mut self, irp: IrpRef) -> Reply
-        ensures { SteppedAny self.old (Free irp) [] result self.new }
+        ensures { SteppedAny K.live self.old (Free irp) [] result self.new }
     {
         if let Some(refusal) = self.flight_refusal(irp) {
             return Reply::Refused(refusal);
         }
-        let _gone = self.slots.take(irp.slot);
+        let _gone = self.keep.take(irp.slot);
         Reply::Done
     }
 
     fn reuse(&mut self, irp: IrpRef, status: Status) -> Reply
-        ensures { SteppedAny self.old (Reuse irp status) [] result self.new }
+        ensures { SteppedAny K.live self.old (Reuse irp status) [] result self.new }
     {
         if let Some(refusal) = self.flight_refusal(irp) {
             return Reply::Refused(refusal);
@@ -264,13 +278,13 @@ impl Core {
         if self.next_use >= USE_LIMIT {
             return Reply::Refused(Refusal::Full);
         }
-        let Some(mut live) = self.slots.take(irp.slot) else {
+        let Some(mut live) = self.keep.take(irp.slot) else {
             return Reply::Refused(Refusal::NoIrp);
         };
         let use_no = self.next_use;
         live.packet.reset(status);
         live.use_no = use_no;
-        self.slots.put(irp.slot, live);
+        self.keep.put(irp.slot, live);
         self.next_use += 1;
         Reply::Irp(IrpRef {
             slot: irp.slot,
@@ -279,26 +293,26 @@ impl Core {
     }
 
     fn cancel<A: Ask>(&mut self, ask: &A, irp: IrpRef, asked: &mut Vec<Asked>) -> Reply
-        requires stands { StandingFacts (A.tables ask.now).counts (state_of self.old) }
+        requires stands { StandingFacts (A.tables ask.now).counts (state_of K.live self.old) }
         requires empty { asked.old.items ≡ [] }
         requires room { vec_len asked.old + 2 * most_locations ≤ vec_capacity asked.old }
-        ensures stepped { (drained : Bool) → Stepped (A.tables ask.now) drained self.old (Cancel irp) asked.new.items result self.new }
+        ensures stepped { (drained : Bool) → Stepped K.live (A.tables ask.now) drained self.old (Cancel irp) asked.new.items result self.new }
         ensures may { AreAnswered (A.may_plan ask.now) (A.may_answer ask.now) (A.may_cancel ask.now) asked.new.items }
     {
         if let Some(refusal) = self.packet_refusal(irp) {
             return Reply::Refused(refusal);
         }
-        let Some(mut live) = self.slots.take(irp.slot) else {
+        let Some(mut live) = self.keep.take(irp.slot) else {
             return Reply::Refused(Refusal::NoIrp);
         };
         let reply = cancellation::cancel(&mut live, irp, ask, asked);
-        self.slots.put(irp.slot, live);
+        self.keep.put(irp.slot, live);
         reply
     }
 
     /// The lock of the device that a call deletes, where that device was created.
     fn lock_of(&self, call: Call) -> Option<LockNo>
-        ensures { result ≡ lock_of (state_of self.now) call }
+        ensures { result ≡ lock_of (state_of K.live self.now) call }
     {
         match call {
             Call::Delete { device } => {
@@ -315,15 +329,17 @@ impl Core {
         ask: &A,
         call: Call,
         drained: bool,
+        wish: Option<usize>,
         asked: &mut Vec<Asked>,
     ) -> Result<Reply, AllocError>
-        requires stands { StandingFacts (A.tables ask.now).counts (state_of self.old) }
+        requires stands { StandingFacts (A.tables ask.now).counts (state_of K.live self.old) }
         requires empty { asked.old.items ≡ [] }
         requires room { vec_len asked.old + 2 * most_locations ≤ vec_capacity asked.old }
-        ensures stepped { IfOk result (λ reply. Stepped (A.tables ask.now) drained self.old call asked.new.items reply self.new) }
+        ensures stepped { IfOk result (λ reply. Stepped K.live (A.tables ask.now) drained self.old call asked.new.items reply self.new) }
         ensures may { IfOk result (λ reply. AreAnswered (A.may_plan ask.now) (A.may_answer ask.now) (A.may_cancel ask.now) asked.new.items) }
-        ensures stays { IfOk result (λ reply. SenderStays self.old call reply self.new) }
-        ensures err { OnErr result (state_of self.new ≡ state_of self.old) }
+        ensures stays { IfOk result (λ reply. SenderStays K.live self.old call reply self.new) }
+        ensures granted { IfOk result (λ reply. SlotGranted K.grants self.old wish call reply) }
+        ensures err { OnErr result (state_of K.live self.new ≡ state_of K.live self.old) }
         ensures locks { OnErr result (self.new.locks ≡ self.old.locks) }
     {
         match call {
@@ -333,7 +349,7 @@ impl Core {
             Call::Attach { device, to } => Ok(self.attach(device, to)),
             Call::Detach { lower } => Ok(self.detach(lower)),
             Call::Delete { device } => Ok(self.delete(device, drained)),
-            Call::Allocate { size } => self.allocate(alloc, size),
+            Call::Allocate { size } => self.allocate(alloc, size, wish),
             Call::Free { irp } => Ok(self.free(irp)),
             Call::Reuse { irp, status } => Ok(self.reuse(irp, status)),
             Call::Cancel { irp } => Ok(self.cancel(ask, irp, asked)),
@@ -342,7 +358,9 @@ impl Core {
         }
     }
 
-    /// Makes one call, in one step of the sequential manager. Room for what it asks is made before anything changes.
+    /// Makes one call, in one step of the sequential manager, on condition that the standing facts hold with the routines of
+    /// whom it asks; they hold after it too. Room for what it asks is made before anything changes. A new packet gets a
+    /// slot as the keep promises for the wish.
     ///
     /// # Errors
     ///
@@ -353,14 +371,16 @@ impl Core {
         ask: &A,
         call: Call,
         note: &N,
+        wish: Option<usize>,
     ) -> Result<Applied, AllocError>
-        requires stands { StandingFacts (A.tables ask.now).counts (state_of self.old) }
-        ensures stepped { IfOk result (λ applied. Stepped (A.tables ask.now) applied.drained self.old call applied.asked.items applied.reply self.new) }
+        requires stands { StandingFacts (A.tables ask.now).counts (state_of K.live self.old) }
+        ensures stepped { IfOk result (λ applied. Stepped K.live (A.tables ask.now) applied.drained self.old call applied.asked.items applied.reply self.new) }
         ensures may { IfOk result (λ applied. AreAnswered (A.may_plan ask.now) (A.may_answer ask.now) (A.may_cancel ask.now) applied.asked.items) }
-        ensures stays { IfOk result (λ applied. SenderStays self.old call applied.reply self.new) }
-        ensures lock { IfOk result (λ applied. applied.lock ≡ lock_of (state_of self.old) call) }
+        ensures stays { IfOk result (λ applied. SenderStays K.live self.old call applied.reply self.new) }
+        ensures granted { IfOk result (λ applied. SlotGranted K.grants self.old wish call applied.reply) }
+        ensures lock { IfOk result (λ applied. applied.lock ≡ lock_of (state_of K.live self.old) call) }
         ensures drained { IfOk result (λ applied. applied.drained ≡ known_by (N.knows_drained note.now) applied.lock) }
-        ensures err { OnErr result (state_of self.new ≡ state_of self.old) }
+        ensures err { OnErr result (state_of K.live self.new ≡ state_of K.live self.old) }
         ensures locks { OnErr result (self.new.locks ≡ self.old.locks) }
     {
         let mut asked = Vec::with_capacity(alloc, MOST_ASKED)?;
@@ -369,7 +389,7 @@ impl Core {
             Some(lock) => note.knows(lock),
             None => false,
         };
-        let reply = self.answer(alloc, ask, call, drained, &mut asked)?;
+        let reply = self.answer(alloc, ask, call, drained, wish, &mut asked)?;
         Ok(Applied {
             lock,
             drained,

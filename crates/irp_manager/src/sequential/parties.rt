@@ -16,52 +16,53 @@ ghost use Rattle.irp_manager.specs.Calls.{names_party};
 ghost use Rattle.irp_manager.specs.Cores.{state_of, Stepped, SteppedAny, SentStays, SenderStays};
 
 use super::Core;
+use crate::keep::Keep;
 use crate::packets;
 use irp_routines::Ask;
 use irp_types::{
     Asked, Call, CancelId, DeviceId, IrpRef, Known, Party, Refusal, Reply, Setting, Status,
 };
 
-impl Core {
+impl<K: Keep> Core<K> {
     pub(super) fn set_next(&mut self, party: Party, irp: IrpRef, major: u8, word: u64) -> Reply
-        ensures { SteppedAny self.old (SetNext party irp major word) [] result self.new }
+        ensures { SteppedAny K.live self.old (SetNext party irp major word) [] result self.new }
     {
         if let Some(refusal) = self.party_refusal(party, irp) {
             return Reply::Refused(refusal);
         }
-        let Some(mut live) = self.slots.take(irp.slot) else {
+        let Some(mut live) = self.keep.take(irp.slot) else {
             return Reply::Refused(Refusal::NoIrp);
         };
         let reply = packets::set_next(&mut live, major, word);
-        self.slots.put(irp.slot, live);
+        self.keep.put(irp.slot, live);
         reply
     }
 
     pub(super) fn copy_to_next(&mut self, party: Party, irp: IrpRef) -> Reply
-        ensures { SteppedAny self.old (CopyToNext party irp) [] result self.new }
+        ensures { SteppedAny K.live self.old (CopyToNext party irp) [] result self.new }
     {
         if let Some(refusal) = self.party_refusal(party, irp) {
             return Reply::Refused(refusal);
         }
-        let Some(mut live) = self.slots.take(irp.slot) else {
+        let Some(mut live) = self.keep.take(irp.slot) else {
             return Reply::Refused(Refusal::NoIrp);
         };
         let reply = packets::copy_to_next(&mut live);
-        self.slots.put(irp.slot, live);
+        self.keep.put(irp.slot, live);
         reply
     }
 
     pub(super) fn skip(&mut self, party: Party, irp: IrpRef) -> Reply
-        ensures { SteppedAny self.old (Skip party irp) [] result self.new }
+        ensures { SteppedAny K.live self.old (Skip party irp) [] result self.new }
     {
         if let Some(refusal) = self.party_refusal(party, irp) {
             return Reply::Refused(refusal);
         }
-        let Some(mut live) = self.slots.take(irp.slot) else {
+        let Some(mut live) = self.keep.take(irp.slot) else {
             return Reply::Refused(Refusal::NoIrp);
         };
         let reply = packets::skip(&mut live);
-        self.slots.put(irp.slot, live);
+        self.keep.put(irp.slot, live);
         reply
     }
 
@@ -73,30 +74,30 @@ impl Core {
         setting: Setting,
     ) -> Reply
         ensures { (tables : Tables) (drained : Bool) → tables.counts ≡ counts
-            → StandingFacts tables.counts (state_of self.old) → Stepped tables drained self.old (SetRoutine party irp setting) [] result self.new }
+            → StandingFacts tables.counts (state_of K.live self.old) → Stepped K.live tables drained self.old (SetRoutine party irp setting) [] result self.new }
     {
         if let Some(refusal) = self.party_refusal(party, irp) {
             return Reply::Refused(refusal);
         }
-        let Some(mut live) = self.slots.take(irp.slot) else {
+        let Some(mut live) = self.keep.take(irp.slot) else {
             return Reply::Refused(Refusal::NoIrp);
         };
         let reply = packets::set_routine(&mut live, counts, setting);
-        self.slots.put(irp.slot, live);
+        self.keep.put(irp.slot, live);
         reply
     }
 
     pub(super) fn mark_pending(&mut self, party: Party, irp: IrpRef) -> Reply
-        ensures { SteppedAny self.old (MarkPending party irp) [] result self.new }
+        ensures { SteppedAny K.live self.old (MarkPending party irp) [] result self.new }
     {
         if let Some(refusal) = self.party_refusal(party, irp) {
             return Reply::Refused(refusal);
         }
-        let Some(mut live) = self.slots.take(irp.slot) else {
+        let Some(mut live) = self.keep.take(irp.slot) else {
             return Reply::Refused(Refusal::NoIrp);
         };
         let reply = packets::mark_pending(&mut live);
-        self.slots.put(irp.slot, live);
+        self.keep.put(irp.slot, live);
         reply
     }
 
@@ -108,21 +109,21 @@ impl Core {
         target: DeviceId,
         asked: &mut Vec<Asked>,
     ) -> Reply
-        requires stands { StandingFacts (A.tables ask.now).counts (state_of self.old) }
+        requires stands { StandingFacts (A.tables ask.now).counts (state_of K.live self.old) }
         requires empty { asked.old.items ≡ [] }
         requires room { vec_len asked.old + 2 * most_locations ≤ vec_capacity asked.old }
-        ensures stepped { (drained : Bool) → Stepped (A.tables ask.now) drained self.old (CallDriver party irp target) asked.new.items result self.new }
+        ensures stepped { (drained : Bool) → Stepped K.live (A.tables ask.now) drained self.old (CallDriver party irp target) asked.new.items result self.new }
         ensures may { AreAnswered (A.may_plan ask.now) (A.may_answer ask.now) (A.may_cancel ask.now) asked.new.items }
-        ensures stays { SentStays self.old irp result self.new }
+        ensures stays { SentStays K.live self.old irp result self.new }
     {
         if let Some(refusal) = self.party_refusal(party, irp) {
             return Reply::Refused(refusal);
         }
-        let Some(mut live) = self.slots.take(irp.slot) else {
+        let Some(mut live) = self.keep.take(irp.slot) else {
             return Reply::Refused(Refusal::NoIrp);
         };
         let reply = packets::send(&mut live, irp, &self.stacks, ask, party, target, asked);
-        self.slots.put(irp.slot, live);
+        self.keep.put(irp.slot, live);
         reply
     }
 
@@ -135,20 +136,20 @@ impl Core {
         information: u64,
         asked: &mut Vec<Asked>,
     ) -> Reply
-        requires stands { StandingFacts (A.tables ask.now).counts (state_of self.old) }
+        requires stands { StandingFacts (A.tables ask.now).counts (state_of K.live self.old) }
         requires empty { asked.old.items ≡ [] }
         requires room { vec_len asked.old + 2 * most_locations ≤ vec_capacity asked.old }
-        ensures stepped { (drained : Bool) → Stepped (A.tables ask.now) drained self.old (Complete party irp status information) asked.new.items result self.new }
+        ensures stepped { (drained : Bool) → Stepped K.live (A.tables ask.now) drained self.old (Complete party irp status information) asked.new.items result self.new }
         ensures may { AreAnswered (A.may_plan ask.now) (A.may_answer ask.now) (A.may_cancel ask.now) asked.new.items }
     {
         if let Some(refusal) = self.party_refusal(party, irp) {
             return Reply::Refused(refusal);
         }
-        let Some(mut live) = self.slots.take(irp.slot) else {
+        let Some(mut live) = self.keep.take(irp.slot) else {
             return Reply::Refused(Refusal::NoIrp);
         };
         let reply = packets::complete(&mut live, irp, ask, status, information, asked);
-        self.slots.put(irp.slot, live);
+        self.keep.put(irp.slot, live);
         reply
     }
 
@@ -160,16 +161,16 @@ impl Core {
         cancel: Option<CancelId>,
     ) -> Reply
         ensures { (tables : Tables) (drained : Bool) → tables.counts ≡ counts
-            → StandingFacts tables.counts (state_of self.old) → Stepped tables drained self.old (SetCancelRoutine party irp cancel) [] result self.new }
+            → StandingFacts tables.counts (state_of K.live self.old) → Stepped K.live tables drained self.old (SetCancelRoutine party irp cancel) [] result self.new }
     {
         if let Some(refusal) = self.party_refusal(party, irp) {
             return Reply::Refused(refusal);
         }
-        let Some(mut live) = self.slots.take(irp.slot) else {
+        let Some(mut live) = self.keep.take(irp.slot) else {
             return Reply::Refused(Refusal::NoIrp);
         };
         let reply = packets::set_cancel_routine(&mut live, counts, cancel);
-        self.slots.put(irp.slot, live);
+        self.keep.put(irp.slot, live);
         reply
     }
 
@@ -181,12 +182,12 @@ impl Core {
         asked: &mut Vec<Asked>,
     ) -> Reply
         requires named { names_party call ≡ true }
-        requires stands { StandingFacts (A.tables ask.now).counts (state_of self.old) }
+        requires stands { StandingFacts (A.tables ask.now).counts (state_of K.live self.old) }
         requires empty { asked.old.items ≡ [] }
         requires room { vec_len asked.old + 2 * most_locations ≤ vec_capacity asked.old }
-        ensures stepped { (drained : Bool) → Stepped (A.tables ask.now) drained self.old call asked.new.items result self.new }
+        ensures stepped { (drained : Bool) → Stepped K.live (A.tables ask.now) drained self.old call asked.new.items result self.new }
         ensures may { AreAnswered (A.may_plan ask.now) (A.may_answer ask.now) (A.may_cancel ask.now) asked.new.items }
-        ensures stays { SenderStays self.old call result self.new }
+        ensures stays { SenderStays K.live self.old call result self.new }
     {
         let counts = ask.counts();
         match call {

@@ -4,7 +4,6 @@ use Rattle.irp_types.specs.Status.{cancelled}
 use Rattle.irp_types.specs.Steps.{Completes, Follows}
 use Rattle.irp_types.specs.Unwinding.{as_asked, Unwound}
 use Rattle.irp_types.specs.declared.answer.CancelAnswer.{CancelAnswer}
-use Rattle.irp_types.specs.declared.answer.CancelAnswer.TheVariants.{Finish}
 use Rattle.irp_manager.proofs.Questions.{given_answered}
 use Rattle.irp_manager.proofs.cancellation.follow.Goals as goal
 

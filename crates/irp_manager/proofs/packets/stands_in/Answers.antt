@@ -1,4 +1,4 @@
-use Rattle.std.proofs.Common.{◌≡◌, ℕ, ◌+◌, ◌-◌, true, sym, ◌∙◌, arith}
+use Rattle.std.proofs.Common.{◌≡◌, ◌+◌, ◌-◌, true, sym, ◌∙◌, arith}
 use Rattle.irp_types.specs.Packet.{size_of}
 use Rattle.irp_types.specs.Refusals.{stands_at}
 use Rattle.irp_manager.proofs.Scan.{range_none, range_some}

@@ -6,6 +6,7 @@ use Rattle.irp_types.specs.declared.asked.Asked.{Asked}
 use Rattle.irp_types.specs.declared.entry.Entry.{Entry}
 use Rattle.irp_routines.specs.Answers.{AreAnswered}
 use Rattle.irp_manager.specs.Passing.{PassesPlan, PassesAnswer, PassesCancel}
+use Rattle.irp_manager.specs.Keeps.{listed}
 use Rattle.irp_manager.specs.Cores.{state_of}
 use Rattle.irp_manager.proofs.Recording.{leads_more, legal, undrained}
 use Rattle.irp_manager.proofs.book.Book.record.Goals as goal
@@ -34,11 +35,11 @@ place g c = search rules
 before : (g : Over) → goal.After-history_goes_on g → Fixed
 before g c = record { locks = c.self.inside.core.locks; tables = c.self.inside.held.tables }
 
-leads : (g : Over) (c : goal.After-history_goes_on g) → LeadsTo (before g c) c.push_reserved.new.self.items (state_of c.apply.new.self)
+leads : (g : Over) (c : goal.After-history_goes_on g) → LeadsTo (before g c) c.push_reserved.new.self.items (state_of listed c.apply.new.self)
 unfolding entry before
 leads g c =
-    let old = state_of c.self.inside.core in
-    let new = state_of c.apply.new.self in
+    let old = state_of listed c.self.inside.core in
+    let new = state_of listed c.apply.new.self in
     let applied = c.in-Ok.applied in
     let step : Step (before g c) old applied.drained c.args.call c.from_vec.result applied.reply new =
     subst (λ (asked : List Asked). Step (before g c) old applied.drained c.args.call asked applied.reply new) (sym c.from_vec.ensures) (c.in-Ok.ensures.stepped.step (before g c) refl refl) in
@@ -51,11 +52,11 @@ leads g c =
     leads_more c.history_goes_on.ensures (before g c) c.self.inside.history.items c.push_reserved.new.self.items old new (entry g c) c.self.invariant.leads holds (grown g c)
 
 -- the same, with what is fixed after the call
-leads_on : (g : Over) (c : goal.After-history_goes_on g) → LeadsTo (record { locks = c.apply.new.self.locks; tables = c.self.inside.held.tables }) c.push_reserved.new.self.items (state_of c.apply.new.self)
+leads_on : (g : Over) (c : goal.After-history_goes_on g) → LeadsTo (record { locks = c.apply.new.self.locks; tables = c.self.inside.held.tables }) c.push_reserved.new.self.items (state_of listed c.apply.new.self)
 unfolding before
 leads_on g c =
     let tables = c.self.inside.held.tables in
-    subst (λ (locks : ℕ). LeadsTo (record { locks = locks; tables = tables }) c.push_reserved.new.self.items (state_of c.apply.new.self)) (sym c.in-Ok.ensures.stepped.locks) (leads g c)
+    subst (λ (locks : ℕ). LeadsTo (record { locks = locks; tables = tables }) c.push_reserved.new.self.items (state_of listed c.apply.new.self)) (sym c.in-Ok.ensures.stepped.locks) (leads g c)
 
 pub invariant_of-self-2 : goal.invariant_of-self-2
 invariant_of-self-2 g c =
@@ -70,7 +71,7 @@ invariant_of-self-2 g c =
 pub returns-clause-legal : goal.returns-clause-legal
 returns-clause-legal g c =
     let fixed : Fixed = record { locks = c.apply.new.self.locks; tables = c.self.inside.held.tables } in
-    legal fixed c.push_reserved.new.self.items (state_of c.apply.new.self) (leads_on g c)
+    legal fixed c.push_reserved.new.self.items (state_of listed c.apply.new.self) (leads_on g c)
 
 pub returns-clause-recorded : goal.returns-clause-recorded
 unfolding entry

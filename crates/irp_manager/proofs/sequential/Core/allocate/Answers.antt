@@ -1,4 +1,4 @@
-use Rattle.std.proofs.Common.{◌≡◌, ℕ, ◌+◌, [], Option, None, MatchOption, refl, sym, ◌∙◌, ap, subst}
+use Rattle.std.proofs.Common.{◌≡◌, ℕ, ◌+◌, [], Option, None, MatchOption, refl, sym, ◌∙◌, subst}
 use Rattle.std.specs.FinMap as fin
 use Rattle.irp_types.specs.Packet.{new_packet}
 use Rattle.irp_types.specs.State.{StateValue}
@@ -8,15 +8,14 @@ use Rattle.irp_types.specs.declared.refusal.Refusal.{Refusal}
 use Rattle.irp_types.specs.declared.reply.Reply.{Reply}
 use Rattle.irp_types.specs.declared.reply.Reply.TheVariants.{Refused, Irp}
 use Rattle.irp_types.specs.Standing.{StandingFacts}
-use Rattle.irp_manager.specs.Slots.{Slots, live_of}
 use Rattle.irp_manager.specs.Cores.{state_of}
 use Rattle.irp_manager.proofs.Sound.{sound_new}
 use Rattle.irp_manager.proofs.Fresh.{made, stands_new}
 use Rattle.irp_manager.proofs.sequential.Core.allocate.Goals as goal
 
 pub returns-in-Some-clause-stepped : goal.returns-in-Some-clause-stepped
-returns-in-Some-clause-stepped c tables drained stands =
-    let state : StateValue = state_of c.args.self.now in
+returns-in-Some-clause-stepped g c tables drained stands =
+    let state : StateValue = state_of g.K.Keep.live c.args.self.now in
     let reply : Reply = Refused c.in-Some.refusal in
     record {
       step = λ fixed same locks.
@@ -27,18 +26,18 @@ returns-in-Some-clause-stepped c tables drained stands =
     }
 
 pub returns-clause-stepped : goal.returns-clause-stepped
-returns-clause-stepped c tables drained stands =
-    let state : StateValue = state_of c.args.self.now in
+returns-clause-stepped g c tables drained stands =
+    let state : StateValue = state_of g.K.Keep.live c.args.self.now in
     let size : ℕ = c.args.size in
     let slot : ℕ = c.in_ok-slot.slot in
     let number : ℕ = c.args.self.now.next_use in
     let fits = c.allocate_refusal.ensures.fits c.in_default.is in
     let packet : c.in-Ok.packet ≡ new_packet size = made size c.in-Ok.packet fits.0 fits.1 c.in-Ok.ensures in
     let same_slots = c.in_ok-slot.ensures.same in
-    let vacant : fin.get state.live slot ≡ None = ap (λ (slots : Slots). fin.get slots slot) (sym same_slots) ∙ c.in_ok-slot.ensures.slot.0 in
-    let put : live_of c.put.new.self.places.items ≡ fin.insert state.live slot (record { packet = new_packet size; use_no = number }) =
+    let vacant : fin.get state.live slot ≡ None = c.in_ok-slot.ensures.vacant in
+    let put : g.K.Keep.live c.put.new.self ≡ fin.insert state.live slot (record { packet = new_packet size; use_no = number }) =
     c.put.ensures ∙ (λ i. fin.insert (same_slots i) slot (record { packet = packet i; use_no = number })) in
-    let new : StateValue = record state { live = live_of c.put.new.self.places.items; next_use = number + 1 } in
+    let new : StateValue = record state { live = g.K.Keep.live c.put.new.self; next_use = number + 1 } in
     let is : new ≡ with_new_packet state slot (new_packet size) = λ i. record state { live = put i; next_use = number + 1 } in
     let reply : Reply = Irp (record { slot = slot; use_no = number }) in
     record {

@@ -3,7 +3,6 @@ use Rattle.std.specs.FinMap as fin
 use Rattle.irp_types.specs.State.{StateValue, LivePacket, Tables}
 use Rattle.irp_types.specs.Refusals.{party_refusal, send_refusal}
 use Rattle.irp_types.specs.declared.names.DeviceId.{DeviceId}
-use Rattle.irp_manager.specs.Slots.{live_of}
 use Rattle.irp_manager.specs.Cores.{state_of}
 use Rattle.irp_manager.specs.Calls.{Goes, Sends}
 use Rattle.irp_manager.proofs.OnePacket.{goes_on, stands_on, stays_on}
@@ -13,7 +12,7 @@ use Rattle.irp_manager.proofs.sequential.Core.call_driver.Goals as goal
 pub returns-clause-stepped : goal.returns-clause-stepped
 returns-clause-stepped g c drained =
     let tables = g.A.Ask.tables c.args.ask.now in
-    let state : StateValue = state_of c.args.self.now in
+    let state : StateValue = state_of g.K.Keep.live c.args.self.now in
     let irp = c.args.irp in
     let target : DeviceId = c.args.target in
     let live : LivePacket = c.in-Some-take.live in
@@ -22,7 +21,7 @@ returns-clause-stepped g c drained =
     let reply = c.send-reply.result in
     let none = sym c.party_refusal.ensures ∙ c.in_default.is in
     let at = sym c.take.ensures.value ∙ c.in-Some-take.is in
-    let slots = live_of c.put.new.self.places.items in
+    let slots = g.K.Keep.live c.put.new.self in
     let put = c.put.ensures ∙ ap (λ given. fin.insert given irp.slot new) c.take.ensures.others in
     let goes = c.send-reply.ensures.goes in
     record {
@@ -36,11 +35,11 @@ returns-clause-stepped g c drained =
 
 pub returns-clause-stays : goal.returns-clause-stays
 returns-clause-stays g c status is =
-    let state : StateValue = state_of c.args.self.now in
+    let state : StateValue = state_of g.K.Keep.live c.args.self.now in
     let irp = c.args.irp in
     let at = sym c.take.ensures.value ∙ c.in-Some-take.is in
     let put = c.put.ensures ∙ ap (λ given. fin.insert given irp.slot c.send-reply.new.live) c.take.ensures.others in
-    stays_on state irp c.in-Some-take.live c.send-reply.new.live (live_of c.put.new.self.places.items) status at put (c.send-reply.ensures.stays status is)
+    stays_on state irp c.in-Some-take.live c.send-reply.new.live (g.K.Keep.live c.put.new.self) status at put (c.send-reply.ensures.stays status is)
 
 pub send-reply-requires-clause-sound : goal.send-reply-requires-clause-sound
 send-reply-requires-clause-sound g c = c.requires.stands.packets c.args.irp.slot c.in-Some-take.live (sym c.take.ensures.value ∙ c.in-Some-take.is)

@@ -3,7 +3,6 @@ use Rattle.std.specs.FinMap as fin
 use Rattle.irp_types.specs.Checks.{first_failing}
 use Rattle.irp_types.specs.State.{StateValue, LivePacket, Tables}
 use Rattle.irp_types.specs.Refusals.{packet_refusal, ended_check}
-use Rattle.irp_manager.specs.Slots.{live_of}
 use Rattle.irp_manager.specs.Cores.{state_of}
 use Rattle.irp_manager.specs.Calls.{Goes, IsCancelled}
 use Rattle.irp_manager.proofs.OnePacket.{goes_on, stands_on}
@@ -12,7 +11,7 @@ use Rattle.irp_manager.proofs.sequential.Core.cancel.Goals as goal
 pub returns-clause-stepped : goal.returns-clause-stepped
 returns-clause-stepped g c drained =
     let tables = g.A.Ask.tables c.args.ask.now in
-    let state : StateValue = state_of c.args.self.now in
+    let state : StateValue = state_of g.K.Keep.live c.args.self.now in
     let irp = c.args.irp in
     let live : LivePacket = c.in-Some-take.live in
     let new : LivePacket = c.cancel-reply.new.live in
@@ -20,7 +19,7 @@ returns-clause-stepped g c drained =
     let reply = c.cancel-reply.result in
     let none = sym c.packet_refusal.ensures ∙ c.in_default.is in
     let at = sym c.take.ensures.value ∙ c.in-Some-take.is in
-    let slots = live_of c.put.new.self.places.items in
+    let slots = g.K.Keep.live c.put.new.self in
     let put = c.put.ensures ∙ ap (λ given. fin.insert given irp.slot new) c.take.ensures.others in
     let goes = c.cancel-reply.ensures.goes in
     record {

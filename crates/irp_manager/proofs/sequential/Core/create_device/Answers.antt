@@ -14,8 +14,8 @@ use Rattle.irp_manager.proofs.Fresh.{stands_devices}
 use Rattle.irp_manager.proofs.sequential.Core.create_device.Goals as goal
 
 pub returns-in-Some-clause-stepped : goal.returns-in-Some-clause-stepped
-returns-in-Some-clause-stepped c tables drained drivers stands =
-    let state : StateValue = state_of c.args.self.now in
+returns-in-Some-clause-stepped g c tables drained drivers stands =
+    let state : StateValue = state_of g.K.Keep.live c.args.self.now in
     let reply : Reply = Refused c.in-Some.refusal in
     record {
       step = λ fixed same locks.
@@ -28,8 +28,8 @@ returns-in-Some-clause-stepped c tables drained drivers stands =
     }
 
 pub returns-in-Ok-clause-stepped : goal.returns-in-Ok-clause-stepped
-returns-in-Ok-clause-stepped c tables drained drivers stands =
-    let state : StateValue = state_of c.args.self.now in
+returns-in-Ok-clause-stepped g c tables drained drivers stands =
+    let state : StateValue = state_of g.K.Keep.live c.args.self.now in
     let created = c.in-Ok.ensures.created in
     let new : StateValue = record state { devices = c.create.new.self } in
     let reply : Reply = Device c.in-Ok.device in
@@ -46,8 +46,8 @@ returns-in-Ok-clause-stepped c tables drained drivers stands =
     }
 
 pub returns-in-Full-clause-stepped : goal.returns-in-Full-clause-stepped
-returns-in-Full-clause-stepped c tables drained drivers stands =
-    let state : StateValue = state_of c.args.self.now in
+returns-in-Full-clause-stepped g c tables drained drivers stands =
+    let state : StateValue = state_of g.K.Keep.live c.args.self.now in
     let kept = c.in-Err.ensures.refused in
     let full = c.in-Err.ensures.full.0 c.in-Full.is in
     let new : StateValue = record state { devices = c.create.new.self } in

@@ -1,8 +1,7 @@
 use Rattle.std.proofs.Common.{◌≡◌, [], None, Option, MatchOption, refl, sym, ◌∙◌, ap, subst}
 use Rattle.irp_types.specs.Checks.{first_failing, value_unless}
-use Rattle.irp_types.specs.Stacks.{DevicesValue, delete_checks, after_delete}
-use Rattle.irp_types.specs.State.{StateValue, Fixed}
-use Rattle.irp_types.specs.Standing.{StandingFacts}
+use Rattle.irp_types.specs.Stacks.{delete_checks, after_delete}
+use Rattle.irp_types.specs.State.{StateValue}
 use Rattle.irp_types.specs.Steps.{Unasked, Effect}
 use Rattle.irp_types.specs.declared.call.Call.TheVariants.{Delete}
 use Rattle.irp_types.specs.declared.refusal.Refusal.{Refusal}
@@ -14,8 +13,8 @@ use Rattle.irp_manager.proofs.Turns.{deletable}
 use Rattle.irp_manager.proofs.sequential.Core.delete.Goals as goal
 
 pub returns-in-Some : goal.returns-in-Some
-returns-in-Some c tables stands =
-    let state : StateValue = state_of c.args.self.now in
+returns-in-Some g c tables stands =
+    let state : StateValue = state_of g.K.Keep.live c.args.self.now in
     let reply : Reply = Refused c.in-Some.refusal in
     record {
       step = λ fixed same locks.
@@ -26,8 +25,8 @@ returns-in-Some c tables stands =
     }
 
 pub returns : goal.returns
-returns c tables stands =
-    let state : StateValue = state_of c.args.self.now in
+returns g c tables stands =
+    let state : StateValue = state_of g.K.Keep.live c.args.self.now in
     let device = c.args.device.0 in
     let new : StateValue = record state { devices = c.delete-deleted.new.self } in
     let checked : first_failing (delete_checks state.devices device) ≡ None = deletable state c.args.drained device (sym (c.delete_refusal.ensures (record { locks = c.args.self.now.locks; tables = tables })) ∙ c.in_default.is) in

@@ -5,16 +5,15 @@ use Rattle.irp_types.specs.Standing.{StandingFacts}
 use Rattle.irp_types.specs.Steps.{Unasked}
 use Rattle.irp_types.specs.declared.refusal.Refusal.{Refusal}
 use Rattle.irp_types.specs.declared.reply.Reply.TheVariants.{Done, Refused}
-use Rattle.irp_manager.specs.Slots.{live_of}
 use Rattle.irp_manager.specs.Cores.{state_of}
 use Rattle.irp_manager.proofs.Fresh.{stands_without}
 use Rattle.irp_manager.proofs.sequential.Core.free.Goals as goal
 
 pub returns : goal.returns
-returns c tables drained stands =
-    let state : StateValue = state_of c.args.self.now in
+returns g c tables drained stands =
+    let state : StateValue = state_of g.K.Keep.live c.args.self.now in
     let irp = c.args.irp in
-    let new : StateValue = record state { live = live_of c.take-gone.new.self.places.items } in
+    let new : StateValue = record state { live = g.K.Keep.live c.take-gone.new.self } in
     let left : new ≡ record state { live = fin.remove state.live irp.slot } = λ i. record state { live = c.take-gone.ensures.others i } in
     record {
       step = λ fixed same locks.

@@ -2,9 +2,8 @@ use Rattle.std.proofs.Common.{◌≡◌, ℕ, ◌<◌, false, Some}
 use Rattle.std.specs.FinMap as fin
 use Rattle.irp_types.specs.State.{LivePacket}
 use Rattle.irp_types.specs.Refusals.{has_packet}
-use Rattle.irp_manager.specs.Slots.{live_of}
 use Rattle.irp_manager.proofs.sequential.Core.is_in_flight.Given as goal
 
 -- the device has none of the packets so far
 abbrev pub invariant-loop-slot : goal.invariant-loop-slot
-invariant-loop-slot l = (lower : ℕ) (live : LivePacket) → lower < l.slot → fin.get (live_of l.self.slots.places.items) lower ≡ Some live → has_packet l.device.0 live.packet ≡ false
+invariant-loop-slot g l = (lower : ℕ) (live : LivePacket) → lower < l.slot → fin.get (g.K.Keep.live l.self.keep) lower ≡ Some live → has_packet l.device.0 live.packet ≡ false

@@ -13,7 +13,7 @@ use Rattle.irp_types.specs.declared.refusal.Refusal.{Refusal}
 use Rattle.irp_types.specs.declared.refusal.Refusal.TheVariants.{Full}
 use Rattle.irp_types.specs.declared.reply.Reply.{Reply}
 use Rattle.irp_types.specs.declared.reply.Reply.TheVariants.{Irp, Refused}
-use Rattle.irp_manager.specs.Slots.{Slots, live_of}
+use Rattle.irp_manager.specs.Slots.{Slots}
 use Rattle.irp_manager.specs.Cores.{state_of}
 use Rattle.irp_manager.proofs.Sound.{sound_reset}
 use Rattle.irp_manager.proofs.Maps.{put_back}
@@ -22,15 +22,15 @@ use Rattle.irp_manager.proofs.Fresh.{stands_new, reuse_checks}
 use Rattle.irp_manager.proofs.sequential.Core.reuse.Goals as goal
 
 pub returns : goal.returns
-returns c tables drained stands =
-    let state : StateValue = state_of c.args.self.now in
+returns g c tables drained stands =
+    let state : StateValue = state_of g.K.Keep.live c.args.self.now in
     let irp = c.args.irp in
     let status = c.args.status in
     let live : LivePacket = c.in-Some-take.live in
     let packet : PacketValue = c.reset.new.self in
     let again : LivePacket = record { packet = packet; use_no = state.next_use } in
     let at = sym c.take.ensures.value ∙ c.in-Some-take.is in
-    let slots : Slots = live_of c.put.new.self.places.items in
+    let slots : Slots = g.K.Keep.live c.put.new.self in
     let put : slots ≡ fin.insert state.live irp.slot again = c.put.ensures ∙ ap (λ given. fin.insert given irp.slot again) c.take.ensures.others ∙ put_back state.live irp.slot again in
     let new : StateValue = record state { live = slots; next_use = state.next_use + 1 } in
     let made : new ≡ with_new_packet state irp.slot packet = λ i. record state { live = put i; next_use = state.next_use + 1 } in

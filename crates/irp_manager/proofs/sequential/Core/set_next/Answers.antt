@@ -3,7 +3,6 @@ use Rattle.std.specs.FinMap as fin
 use Rattle.irp_types.specs.Packet.{set_next_refusal}
 use Rattle.irp_types.specs.State.{StateValue, LivePacket}
 use Rattle.irp_types.specs.Refusals.{party_refusal}
-use Rattle.irp_manager.specs.Slots.{live_of}
 use Rattle.irp_manager.specs.Cores.{state_of}
 use Rattle.irp_manager.specs.Calls.{Fills}
 use Rattle.irp_manager.proofs.OnePacket.{goes_on, stands_on}
@@ -11,14 +10,14 @@ use Rattle.irp_manager.proofs.Turns.{filled_step, filled_sound}
 use Rattle.irp_manager.proofs.sequential.Core.set_next.Goals as goal
 
 pub returns : goal.returns
-returns c tables drained stands =
-    let state : StateValue = state_of c.args.self.now in
+returns g c tables drained stands =
+    let state : StateValue = state_of g.K.Keep.live c.args.self.now in
     let live : LivePacket = c.in-Some-take.live in
     let new : LivePacket = c.set_next-reply.new.live in
     let reply = c.set_next-reply.result in
     let none = sym c.party_refusal.ensures ∙ c.in_default.is in
     let at = sym c.take.ensures.value ∙ c.in-Some-take.is in
-    let slots = live_of c.put.new.self.places.items in
+    let slots = g.K.Keep.live c.put.new.self in
     let put = c.put.ensures ∙ ap (λ given. fin.insert given c.args.irp.slot new) c.take.ensures.others in
     let goes = c.set_next-reply.ensures.goes in
     record {

@@ -4,7 +4,6 @@ use Rattle.irp_types.specs.Checks.{or_else}
 use Rattle.irp_types.specs.State.{StateValue, LivePacket, Tables, packet_of}
 use Rattle.irp_types.specs.Refusals.{party_refusal, routine_refusal}
 use Rattle.irp_types.specs.declared.routine.Known.{Known}
-use Rattle.irp_manager.specs.Slots.{live_of}
 use Rattle.irp_manager.specs.Cores.{state_of}
 use Rattle.irp_manager.specs.Calls.{Goes, Sets}
 use Rattle.irp_manager.proofs.OnePacket.{GoesOn, goes_on, stands_on, not_ended}
@@ -12,8 +11,8 @@ use Rattle.irp_manager.proofs.Turns.{set_step, set_sound}
 use Rattle.irp_manager.proofs.sequential.Core.set_routine.Goals as goal
 
 pub returns : goal.returns
-returns c tables drained counted stands =
-    let state : StateValue = state_of c.args.self.now in
+returns g c tables drained counted stands =
+    let state : StateValue = state_of g.K.Keep.live c.args.self.now in
     let irp = c.args.irp in
     let setting = c.args.setting in
     let live : LivePacket = c.in-Some-take.live in
@@ -21,7 +20,7 @@ returns c tables drained counted stands =
     let reply = c.set_routine-reply.result in
     let none = sym c.party_refusal.ensures ∙ c.in_default.is in
     let at = sym c.take.ensures.value ∙ c.in-Some-take.is in
-    let slots = live_of c.put.new.self.places.items in
+    let slots = g.K.Keep.live c.put.new.self in
     let put = c.put.ensures ∙ ap (λ given. fin.insert given irp.slot new) c.take.ensures.others in
     let goes : Goes (routine_refusal tables.counts live.packet setting) (Sets setting [] reply live.packet) live new [] reply =
     subst (λ (counts : Known). Goes (routine_refusal counts live.packet setting) (Sets setting [] reply live.packet) live new [] reply) (sym counted) c.set_routine-reply.ensures.goes in

@@ -2,7 +2,6 @@ use Rattle.std.proofs.Common.{[], refl, sym, ◌∙◌, ap}
 use Rattle.std.specs.FinMap as fin
 use Rattle.irp_types.specs.State.{StateValue, LivePacket}
 use Rattle.irp_types.specs.Refusals.{party_refusal, leave_refusal}
-use Rattle.irp_manager.specs.Slots.{live_of}
 use Rattle.irp_manager.specs.Cores.{state_of}
 use Rattle.irp_manager.specs.Calls.{Leaves}
 use Rattle.irp_manager.proofs.OnePacket.{goes_on, stands_on, not_ended}
@@ -10,15 +9,15 @@ use Rattle.irp_manager.proofs.Turns.{left_step, left_sound}
 use Rattle.irp_manager.proofs.sequential.Core.skip.Goals as goal
 
 pub returns : goal.returns
-returns c tables drained stands =
-    let state : StateValue = state_of c.args.self.now in
+returns g c tables drained stands =
+    let state : StateValue = state_of g.K.Keep.live c.args.self.now in
     let irp = c.args.irp in
     let live : LivePacket = c.in-Some-take.live in
     let new : LivePacket = c.skip-reply.new.live in
     let reply = c.skip-reply.result in
     let none = sym c.party_refusal.ensures ∙ c.in_default.is in
     let at = sym c.take.ensures.value ∙ c.in-Some-take.is in
-    let slots = live_of c.put.new.self.places.items in
+    let slots = g.K.Keep.live c.put.new.self in
     let put = c.put.ensures ∙ ap (λ given. fin.insert given irp.slot new) c.take.ensures.others in
     let goes = c.skip-reply.ensures.goes in
     let used = not_ended state c.args.party irp live none at in
