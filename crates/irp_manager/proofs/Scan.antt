@@ -63,10 +63,10 @@ none_in f [] s h = refl
 none_in {X} f (e ∷ es) s h =
     let head : f e.1 ≡ false = h e.0 e.1 (ap (λ b. cond b (Some e.1) (find nat_cmp e.0 es)) (here_same e.0)) in
     let tail : list_any f (map (λ e. e.1) es) ≡ false = none_in f es (right_of (below e.0 es) (is_sorted nat_cmp es) s) (λ k x i.
-        elim (cases_eq k e.0) as (λ _. f x ≡ false) [
-          | inl same ↦ absurd (none-some x (sym (first_absent es e.0 e.1 s) ∙ ap (λ q. find nat_cmp q es) (sym same) ∙ i))
-          | inr d ↦ h k x (ap (λ b. cond b (Some e.1) (find nat_cmp k es)) (here_other k e.0 d) ∙ i)
-        ]) in
+    elim (cases_eq k e.0) as (λ _. f x ≡ false) [
+      | inl same ↦ absurd (none-some x (sym (first_absent es e.0 e.1 s) ∙ ap (λ q. find nat_cmp q es) (sym same) ∙ i))
+      | inr d ↦ h k x (ap (λ b. cond b (Some e.1) (find nat_cmp k es)) (here_other k e.0 d) ∙ i)
+    ]) in
     (λ i. head i || tail i)
 
 pub none_of : {X : Type 0} (f : X → Bool) (m : fin.FinMap nat_cmp X) → ((k : ℕ) (x : X) → fin.get m k ≡ Some x → f x ≡ false) → list_any f (fin.values m) ≡ false

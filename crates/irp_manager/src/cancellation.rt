@@ -83,12 +83,7 @@ fn follow<A: Ask>(
 }
 
 /// Sets the cancel flag, takes the cancel routine, and asks it where there is one.
-fn cancel_packet<A: Ask>(
-    packet: &mut Packet,
-    irp: IrpRef,
-    ask: &A,
-    asked: &mut Vec<Asked>,
-) -> Reply
+fn cancel_packet<A: Ask>(packet: &mut Packet, irp: IrpRef, ask: &A, asked: &mut Vec<Asked>) -> Reply
     requires sound { IsSound (A.tables ask.now).counts packet.old }
     requires empty { asked.old.items ≡ [] }
     requires room { vec_len asked.old + 2 * most_locations ≤ vec_capacity asked.old }

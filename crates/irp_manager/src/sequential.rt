@@ -19,10 +19,9 @@ ghost use Rattle.irp_routines.specs.Answers.{AreAnswered};
 ghost use Rattle.irp_manager.specs.Notes.{known_by};
 ghost use Rattle.irp_manager.specs.Cores.{state_of, Stepped, SteppedAny, SentStays, SenderStays, SlotGranted};
 
-use crate::cancellation;
-use crate::note::DrainNote;
-use crate::packets;
 use crate::keep::{Keep, Live};
+use crate::note::DrainNote;
+use crate::{cancellation, packets};
 use irp_packet::Packet;
 use irp_routines::Ask;
 use irp_stack::{NotCreated, Stacks};

@@ -5,6 +5,7 @@ ghost use Rattle.irp_types.specs.Status.{success};
 ghost use Rattle.irp_types.specs.declared.answer.Plan.TheVariants.{Finish};
 
 mod descent;
+mod managers;
 
 use super::*;
 use irp_routines::{AnswerTable, Ask, Behaviour, Dispatch, DispatchClosure, Reaction, Store};
@@ -64,12 +65,15 @@ impl Session {
         })
     }
 
-    fn call(&mut self, call: Call) -> Result<Reply, NotRecorded> {
-        let receipt = self
-            .book
-            .record(self.alloc, &self.seat, call, &KnowsNothing)?;
+    /// Makes a call with what this note knows of the remove locks.
+    fn record<N: DrainNote>(&mut self, call: Call, note: &N) -> Result<Receipt, NotRecorded> {
+        let receipt = self.book.record(self.alloc, &self.seat, call, note)?;
         self.seat.saw(receipt.number() + 1);
-        Ok(receipt.reply())
+        Ok(receipt)
+    }
+
+    fn call(&mut self, call: Call) -> Result<Reply, NotRecorded> {
+        Ok(self.record(call, &KnowsNothing)?.reply())
     }
 
     /// Makes these calls in order, and answers the place of the first that is given another reply than the one beside

@@ -1,6 +1,9 @@
 //! Packets that are passed down, held, kept and completed, over the calls of the manager.
 
+mod cancelling;
+mod deleting;
 mod owners;
+mod refusing;
 
 use super::*;
 use irp_types::Setting;
@@ -130,7 +133,7 @@ const fn consulted(rule: Rule, shown: Shown, answer: Answer) -> Asked {
     }
 }
 
-/// A Watch, a Keeper, a Change that mends an error, and a cancel routine.
+/// A Watch, a Keeper, a Change that mends an error, a cancel routine that leaves, and one that finishes.
 fn routines(rt: &impl Abort, alloc: Global) -> AnswerTable {
     let goes_on = Reaction {
         keep: false,
@@ -147,8 +150,10 @@ fn routines(rt: &impl Abort, alloc: Global) -> AnswerTable {
     for rule in [Rule::Watch, Rule::Change, Rule::Keeper] {
         assert!(rt; table.add(rule, behaviour).is_ok());
     }
-    let added = table.add_cancel(CancelRule::MustLeave, CancelAnswer::Leave);
-    assert!(rt; added.is_ok());
+    let finish = CancelAnswer::Finish { information: 0 };
+    let leaves = table.add_cancel(CancelRule::MustLeave, CancelAnswer::Leave);
+    let finishes = table.add_cancel(CancelRule::MustFinish, finish);
+    assert!(rt; leaves.is_ok() && finishes.is_ok());
     table
 }
 
@@ -158,6 +163,7 @@ fn drivers(rt: &impl Abort, alloc: Global, plans: &[Option<Plan>]) -> Result<Ans
         watch: 1,
         change: 1,
         keeper: 1,
+        cancel: 2,
         ..Known::NONE
     };
     let mut table = routines(rt, alloc);

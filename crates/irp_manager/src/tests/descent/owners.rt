@@ -141,7 +141,7 @@ fn a_cancel_routine_is_taken_out_first(rt: HostRuntime) -> Result<(), Fail> {
     let steps: [(Call, Reply, &[Asked]); 8] = [
         (send(DEVICE), PENDING, &asked),
         (
-            set_cancel(Some(CancelId(1))),
+            set_cancel(Some(CancelId(2))),
             refused(Refusal::NoRoutine),
             NOTHING,
         ),

@@ -15,7 +15,7 @@ returns-then-has_packet g c =
 pub returns : goal.returns
 returns g c =
     sym (none_of (λ (live : LivePacket). has_packet c.args.device.0 live.packet) (g.K.Keep.live c.args.self.now.keep) (λ slot live at.
-        elim (cases_lt slot c.loop-slot.slot) as (λ _. has_packet c.args.device.0 live.packet ≡ false) [
-          | inl below ↦ c.loop-slot.invariant slot live below at
-          | inr above ↦ absurd (none-some live (sym (c.end-slot-end.ensures slot (omega (arith, c.loop-slot-test.false))) ∙ at))
-        ]))
+    elim (cases_lt slot c.loop-slot.slot) as (λ _. has_packet c.args.device.0 live.packet ≡ false) [
+      | inl below ↦ c.loop-slot.invariant slot live below at
+      | inr above ↦ absurd (none-some live (sym (c.end-slot-end.ensures slot (omega (arith, c.loop-slot-test.false))) ∙ at))
+    ]))

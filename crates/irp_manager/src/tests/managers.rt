@@ -1,0 +1,47 @@
+//! Managers without a history.
+
+use super::*;
+
+/// A store whose one dispatch, for reads, finishes with success and information 5.
+fn finishing(alloc: Global) -> Result<Store, Fail> {
+    let run: DispatchClosure = Box::new(
+        alloc,
+        |_shown: Shown| -> Plan
+            ensures { result ≡ Finish success 5 }
+        { FINISHES },
+    )?;
+    let mut store = Store::new(alloc);
+    let Ok(dispatch) = store.add_dispatch(Dispatch::new(Known::NONE, run)) else {
+        return Err("not added".into());
+    };
+    let Ok(_driver) = store.add_driver([(READ, dispatch)].to_vec(alloc)?) else {
+        return Err("not added".into());
+    };
+    Ok(store)
+}
+
+/// One device finishes one packet: each call's reply and questions, and what Look shows at the end.
+#[test]
+fn a_manager_over_a_store_makes_calls(rt: HostRuntime) -> Result<(), Fail> {
+    let alloc = rt.alloc();
+    let mut manager = Manager::new(alloc, finishing(alloc)?, 1);
+    let created = manager.apply(alloc, CREATE, &KnowsNothing)?;
+    assert_eq!(rt; created.reply, Reply::Device(DEVICE));
+    let allocated = manager.apply(alloc, ALLOCATE, &KnowsNothing)?;
+    assert_eq!(rt; allocated.reply, Reply::Irp(IRP));
+    let filled = manager.apply(alloc, fill(IRP, READ), &KnowsNothing)?;
+    assert_eq!(rt; filled.reply, Reply::Done);
+    let sent = manager.apply(alloc, send(DEVICE), &KnowsNothing)?;
+    assert_eq!(rt; sent.reply, Reply::Status(Status::SUCCESS));
+    assert_eq!(rt; sent.asked.as_slice(), [asked_of(FINISHES)].as_slice());
+    let looked = manager.apply(alloc, LOOK, &KnowsNothing)?;
+    assert_eq!(rt; looked.reply, ended(Status::SUCCESS, 5, false));
+    let delete = Call::Delete { device: DEVICE };
+    let kept = manager.apply(alloc, delete, &KnowsNothing)?;
+    assert_eq!(rt; (kept.lock, kept.drained), (Some(LockNo(0)), false));
+    assert_eq!(rt; kept.reply, refused(Refusal::NotDrained));
+    let deleted = manager.apply(alloc, delete, &KnowsAll)?;
+    assert_eq!(rt; (deleted.lock, deleted.drained), (Some(LockNo(0)), true));
+    assert_eq!(rt; deleted.reply, Reply::Done);
+    Ok(())
+}
