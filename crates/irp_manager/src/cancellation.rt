@@ -91,12 +91,12 @@ fn cancel_packet<A: Ask>(packet: &mut Packet, irp: IrpRef, ask: &A, asked: &mut 
     ensures may { AreAnswered (A.may_plan ask.now) (A.may_answer ask.now) (A.may_cancel ask.now) asked.new.items }
     ensures sound { IsSound (A.tables ask.now).counts packet.new }
 {
-    let Some(id) = packet.cancel_routine() else {
-        packet.set_cancel(true, None);
+    let routine = packet.cancel_routine();
+    packet.set_cancel(true, None);
+    let Some(id) = routine else {
         return Reply::Cancelled(false);
     };
     let shown = shown_to_cancel(packet, irp);
-    packet.set_cancel(true, None);
     let answer = ask.cancel_answer(id, shown);
     asked.push_reserved(Asked::Cancel { id, shown, answer });
     follow(packet, irp, ask, answer, asked);

@@ -314,13 +314,8 @@ fn complete_check(packet: &Packet, status: Status) -> Option<Refusal>
     ensures placed { result ≡ None → packet.now.current ≤ size_of packet.now }
     ensures free { result ≡ None → packet.now.cancel_routine ≡ None }
 {
-    let skipped = matches!(packet.preparation(), Preparation::Skipped);
-    let above_top = packet.current() > packet.size();
-    if above_top && !skipped {
-        return Some(Refusal::NoLocation);
-    }
-    if skipped {
-        return Some(Refusal::AfterSkip);
+    if let Some(refusal) = location_check(packet) {
+        return Some(refusal);
     }
     if !status.is_completable() {
         return Some(Refusal::BadStatus);
