@@ -199,7 +199,7 @@ call_json (call.SetCancelRoutine party irp cancel) _ _ =
 call_json (call.Cancel irp) _ _ = irp_call_json (codes "cancel") irp
 call_json (call.Look irp) _ _ = irp_call_json (codes "look") irp
 
--- the form is the call's in every entry, whatever its lock
+-- the form is the call's in every entry, whatever the entry's lock and `drained`
 abbrev pub IsFormOf : Call → Data → Type 0
 IsFormOf call form = (lock : Option LockNo) (drained : Bool) → form ≡ call_json call lock drained
 

@@ -164,8 +164,8 @@ fn form_of_party_call(alloc: Global, call: Call) -> Result<Value, AllocError>
     }
 }
 
-/// The form of an entry's call, from the call and the entry's `lock` and `drained`, which only a delete tells
-/// (this project's own format, docs/FORMATS.md).
+/// The form of an entry's call, from the call and the entry's `lock` and `drained`, which only a delete tells. The one
+/// error is want of memory (this project's own format, docs/FORMATS.md).
 pub fn form_of_call(
     alloc: Global,
     call: Call,

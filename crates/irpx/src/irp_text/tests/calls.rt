@@ -4,7 +4,7 @@ use super::*;
 use crate::irp_text::calls::form_of_call;
 
 /// Whether this text is the call's in an entry without a lock.
-fn is_called(alloc: Global, call: Call, text: &str) -> Result<bool, AllocError> {
+fn call_is_written(alloc: Global, call: Call, text: &str) -> Result<bool, AllocError> {
     let form = form_of_call(alloc, call, None, false)?;
     Ok(form.to_vec(alloc)?.as_slice() == text.as_bytes())
 }
@@ -57,7 +57,7 @@ fn calls_have_their_forms(rt: HostRuntime) -> Result<(), Fail> {
             r#"{"do":"detach","lower":3}"#,
         ),
     ] {
-        assert!(rt; is_called(rt.alloc(), call, text)?, "{text}");
+        assert!(rt; call_is_written(rt.alloc(), call, text)?, "{text}");
     }
     Ok(())
 }
@@ -93,7 +93,7 @@ fn calls_of_owners_have_their_forms(rt: HostRuntime) -> Result<(), Fail> {
             r#"{"by":"o","cancel":null,"do":"set_cancel_routine","irp":[0,1]}"#,
         ),
     ] {
-        assert!(rt; is_called(rt.alloc(), call, text)?, "{text}");
+        assert!(rt; call_is_written(rt.alloc(), call, text)?, "{text}");
     }
     Ok(())
 }
