@@ -1,5 +1,5 @@
 -- The forms that a transcript's lines are made of, and the lines.
-use Rattle.std.specs.Prelude.{ℕ, List, [], ◌∷◌, ◌++◌, Bool, true, false, map, codes}
+use Rattle.std.specs.Prelude.{◌≡◌, ℕ, List, [], ◌∷◌, ◌++◌, Bool, true, false, map, codes, Option}
 use Rattle.std.specs.List.{flat_map}
 use Rattle.serde_json.specs.Data.{Data, boolean, string}
 use Rattle.irpx.specs.Json.{natural, list, fields, or_null, line_text}
@@ -22,6 +22,7 @@ use Rattle.irp_types.specs.declared.names.CancelId.{CancelId}
 use Rattle.irp_types.specs.declared.names.DeviceId.{DeviceId}
 use Rattle.irp_types.specs.declared.names.DispatchId.{DispatchId}
 use Rattle.irp_types.specs.declared.names.IrpRef.{IrpRef}
+use Rattle.irp_types.specs.declared.names.LockNo.{LockNo}
 use Rattle.irp_types.specs.declared.refusal.Refusal.{Refusal}
 use Rattle.irp_types.specs.declared.refusal.Refusal.TheVariants as refusal
 use Rattle.irp_types.specs.declared.reply.Reply.{Reply}
@@ -49,6 +50,10 @@ dispatch_json dispatch = natural dispatch.0
 -- a cancel routine by its number
 abbrev pub cancel_json : CancelId → Data
 cancel_json cancel = natural cancel.0
+
+-- a remove lock by its number
+abbrev pub lock_json : LockNo → Data
+lock_json lock = natural lock.0
 
 -- a status by its number
 abbrev pub status_json : Status → Data
@@ -158,36 +163,45 @@ abbrev pub party_call_json : List ℕ → Party → IrpRef → Data
 party_call_json word party irp =
     fields ((codes "by", party_json party) ∷ (codes "do", string word) ∷ (codes "irp", irp_json irp) ∷ [])
 
--- a call: its name as `do`, and its arguments
-abbrev pub call_json : Call → Data
-call_json (call.CreateDevice driver lock) =
-    fields ((codes "do", string (codes "create_device")) ∷ (codes "driver", natural driver.0) ∷ (codes "lock", natural lock.0) ∷ [])
-call_json (call.Attach device to) =
+-- an entry's call: its name as `do` and its arguments, for a delete also the entry's lock, or null, and whether that was
+-- known to be drained
+abbrev pub call_json : Call → Option LockNo → Bool → Data
+call_json (call.CreateDevice driver lock) _ _ =
+    fields ((codes "do", string (codes "create_device")) ∷ (codes "driver", natural driver.0) ∷ (codes "lock", lock_json lock) ∷ [])
+call_json (call.Attach device to) _ _ =
     fields ((codes "device", device_json device) ∷ (codes "do", string (codes "attach")) ∷ (codes "to", device_json to) ∷ [])
-call_json (call.Detach lower) = fields ((codes "do", string (codes "detach")) ∷ (codes "lower", device_json lower) ∷ [])
-call_json (call.Allocate size) = fields ((codes "do", string (codes "allocate")) ∷ (codes "size", natural size) ∷ [])
-call_json (call.Free irp) = irp_call_json (codes "free") irp
-call_json (call.Reuse irp status) =
+call_json (call.Detach lower) _ _ = fields ((codes "do", string (codes "detach")) ∷ (codes "lower", device_json lower) ∷ [])
+call_json (call.Delete device) lock drained =
+    fields ((codes "device", device_json device) ∷ (codes "do", string (codes "delete")) ∷ (codes "drained", boolean drained)
+    ∷ (codes "lock", or_null lock_json lock) ∷ [])
+call_json (call.Allocate size) _ _ = fields ((codes "do", string (codes "allocate")) ∷ (codes "size", natural size) ∷ [])
+call_json (call.Free irp) _ _ = irp_call_json (codes "free") irp
+call_json (call.Reuse irp status) _ _ =
     fields ((codes "do", string (codes "reuse")) ∷ (codes "irp", irp_json irp) ∷ (codes "status", status_json status) ∷ [])
-call_json (call.SetNext party irp major word) =
+call_json (call.SetNext party irp major word) _ _ =
     fields ((codes "by", party_json party) ∷ (codes "do", string (codes "set_next")) ∷ (codes "irp", irp_json irp)
     ∷ (codes "major", natural major) ∷ (codes "word", natural word) ∷ [])
-call_json (call.CopyToNext party irp) = party_call_json (codes "copy_to_next") party irp
-call_json (call.Skip party irp) = party_call_json (codes "skip") party irp
-call_json (call.SetRoutine party irp setting) =
+call_json (call.CopyToNext party irp) _ _ = party_call_json (codes "copy_to_next") party irp
+call_json (call.Skip party irp) _ _ = party_call_json (codes "skip") party irp
+call_json (call.SetRoutine party irp setting) _ _ =
     fields ((codes "by", party_json party) ∷ (codes "do", string (codes "set_routine")) ∷ (codes "irp", irp_json irp)
     ∷ (codes "set", setting_json setting) ∷ [])
-call_json (call.MarkPending party irp) = party_call_json (codes "mark_pending") party irp
-call_json (call.CallDriver party irp target) =
+call_json (call.MarkPending party irp) _ _ = party_call_json (codes "mark_pending") party irp
+call_json (call.CallDriver party irp target) _ _ =
     fields ((codes "by", party_json party) ∷ (codes "do", string (codes "call_driver")) ∷ (codes "irp", irp_json irp)
     ∷ (codes "target", device_json target) ∷ [])
-call_json (call.Complete party irp status information) =
+call_json (call.Complete party irp status information) _ _ =
     fields ((codes "by", party_json party) ∷ (codes "do", string (codes "complete")) ∷ (codes "information", natural information)
     ∷ (codes "irp", irp_json irp) ∷ (codes "status", status_json status) ∷ [])
-call_json (call.SetCancelRoutine party irp cancel) =
+call_json (call.SetCancelRoutine party irp cancel) _ _ =
     fields ((codes "by", party_json party) ∷ (codes "cancel", or_null cancel_json cancel)
     ∷ (codes "do", string (codes "set_cancel_routine")) ∷ (codes "irp", irp_json irp) ∷ [])
-call_json (call.Look irp) = irp_call_json (codes "look") irp
+call_json (call.Cancel irp) _ _ = irp_call_json (codes "cancel") irp
+call_json (call.Look irp) _ _ = irp_call_json (codes "look") irp
+
+-- the form is the call's in every entry, whatever the entry's lock and `drained`
+abbrev pub IsFormOf : Call → Data → Type 0
+IsFormOf call form = (lock : Option LockNo) (drained : Bool) → form ≡ call_json call lock drained
 
 -- the name of a refusal
 abbrev pub refusal_name : Refusal → List ℕ
@@ -241,7 +255,7 @@ reply_json (reply.Refused reason) = fields ((codes "refused", string (refusal_na
 -- an entry: what was asked, the call, the entry's number, the reply and the seat
 abbrev pub entry_json : Entry → Data
 entry_json entry =
-    fields ((codes "asked", list (map asked_json entry.asked)) ∷ (codes "call", call_json entry.call)
+    fields ((codes "asked", list (map asked_json entry.asked)) ∷ (codes "call", call_json entry.call entry.lock entry.drained)
     ∷ (codes "n", natural entry.number) ∷ (codes "reply", reply_json entry.reply) ∷ (codes "seat", natural entry.seat) ∷ [])
 
 -- how many completion routines of each rule

@@ -4,7 +4,7 @@ use Rattle.std.proofs.Common.{ap, ◌∙◌}
 use Rattle.serde_json.specs.Data.{Data}
 use Rattle.serde_json.specs.Written.{has_float}
 use Rattle.irpx.specs.Json.{list, or_null}
-use Rattle.irpx.specs.Lines.{party_json, owner_json, cancel_json, device_json, setting_json, plan_json, replacement_json, answer_json, cancel_answer_json, shown_json, asked_json, call_json, seen_json, reply_json, entry_json, cancel_rule_json, known_json, handler_json, driver_json, header_json}
+use Rattle.irpx.specs.Lines.{party_json, owner_json, cancel_json, device_json, lock_json, setting_json, plan_json, replacement_json, answer_json, cancel_answer_json, shown_json, asked_json, call_json, seen_json, reply_json, entry_json, cancel_rule_json, known_json, handler_json, driver_json, header_json}
 use Rattle.irp_types.specs.declared.answer.Answer.{Answer}
 use Rattle.irp_types.specs.declared.answer.CancelAnswer.{CancelAnswer}
 use Rattle.irp_types.specs.declared.answer.CancelAnswer.TheVariants as cancel_answer
@@ -19,6 +19,7 @@ use Rattle.irp_types.specs.declared.call.Party.TheVariants as party
 use Rattle.irp_types.specs.declared.entry.Entry.{Entry}
 use Rattle.irp_types.specs.declared.location.Owner.{Owner}
 use Rattle.irp_types.specs.declared.location.Owner.TheVariants as owner
+use Rattle.irp_types.specs.declared.names.LockNo.{LockNo}
 use Rattle.irp_types.specs.declared.reply.Reply.{Reply}
 use Rattle.irp_types.specs.declared.reply.Reply.TheVariants as reply
 use Rattle.irp_types.specs.declared.reply.Seen.{Seen}
@@ -81,23 +82,25 @@ asked_whole (asked.Completion id shown answer) = or_whole _ _ (answer_whole answ
 asked_whole (asked.Cancel id shown answer) = or_whole _ _ (cancel_answer_whole answer) (or_whole _ _ (shown_whole shown) refl)
 
 -- a call has a whole form
-pub call_whole : (call : Call) → IsWhole (call_json call)
-call_whole (call.CreateDevice driver lock) = refl
-call_whole (call.Attach device to) = refl
-call_whole (call.Detach lower) = refl
-call_whole (call.Allocate size) = refl
-call_whole (call.Free irp) = refl
-call_whole (call.Reuse irp status) = refl
-call_whole (call.SetNext party irp major word) = or_whole _ _ (party_whole party) refl
-call_whole (call.CopyToNext party irp) = or_whole _ _ (party_whole party) refl
-call_whole (call.Skip party irp) = or_whole _ _ (party_whole party) refl
-call_whole (call.SetRoutine party irp setting) = or_whole _ _ (party_whole party) refl
-call_whole (call.MarkPending party irp) = or_whole _ _ (party_whole party) refl
-call_whole (call.CallDriver party irp target) = or_whole _ _ (party_whole party) refl
-call_whole (call.Complete party irp status information) = or_whole _ _ (party_whole party) refl
-call_whole (call.SetCancelRoutine party irp cancel) =
+pub call_whole : (call : Call) (lock : Option LockNo) (drained : Bool) → IsWhole (call_json call lock drained)
+call_whole (call.CreateDevice driver lock) _ _ = refl
+call_whole (call.Attach device to) _ _ = refl
+call_whole (call.Detach lower) _ _ = refl
+call_whole (call.Delete device) lock drained = or_whole _ _ (or_null_whole lock_json (λ _. refl) lock) refl
+call_whole (call.Allocate size) _ _ = refl
+call_whole (call.Free irp) _ _ = refl
+call_whole (call.Reuse irp status) _ _ = refl
+call_whole (call.SetNext party irp major word) _ _ = or_whole _ _ (party_whole party) refl
+call_whole (call.CopyToNext party irp) _ _ = or_whole _ _ (party_whole party) refl
+call_whole (call.Skip party irp) _ _ = or_whole _ _ (party_whole party) refl
+call_whole (call.SetRoutine party irp setting) _ _ = or_whole _ _ (party_whole party) refl
+call_whole (call.MarkPending party irp) _ _ = or_whole _ _ (party_whole party) refl
+call_whole (call.CallDriver party irp target) _ _ = or_whole _ _ (party_whole party) refl
+call_whole (call.Complete party irp status information) _ _ = or_whole _ _ (party_whole party) refl
+call_whole (call.SetCancelRoutine party irp cancel) _ _ =
     or_whole _ _ (party_whole party) (or_whole _ _ (or_null_whole cancel_json (λ _. refl) cancel) refl)
-call_whole (call.Look irp) = refl
+call_whole (call.Cancel irp) _ _ = refl
+call_whole (call.Look irp) _ _ = refl
 
 -- what a look sees has a whole form
 pub seen_whole : (seen : Seen) → IsWhole (seen_json seen)
@@ -117,7 +120,7 @@ reply_whole (reply.Refused reason) = refl
 -- an entry has a whole form
 pub entry_whole : (entry : Entry) → IsWhole (entry_json entry)
 entry_whole entry =
-    or_whole _ _ (each_whole asked_json asked_whole entry.asked) (or_whole _ _ (call_whole entry.call) (or_whole _ _ (reply_whole entry.reply) refl))
+    or_whole _ _ (each_whole asked_json asked_whole entry.asked) (or_whole _ _ (call_whole entry.call entry.lock entry.drained) (or_whole _ _ (reply_whole entry.reply) refl))
 
 -- a header has a whole form
 pub header_whole : (header : Header) → IsWhole (header_json header)

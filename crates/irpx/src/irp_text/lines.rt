@@ -5,6 +5,7 @@ ghost use Rattle.serde_json.specs.View.{view};
 ghost use Rattle.irpx.specs.Lines.{asked_json, completions_json, entry_json, header_json, reply_json};
 ghost use Rattle.irpx.specs.Whole.{asked_whole, entry_whole, header_whole, reply_whole};
 
+use crate::irp_text::calls::form_of_call;
 use crate::irp_text::form::ToJson;
 use crate::irp_text::header::Header;
 use crate::irp_text::names::name_of_refusal;
@@ -77,7 +78,7 @@ impl ToJson for Entry {
         let number = self.number;
         let seat = self.seat;
         let asked = self.asked.to_json(alloc)?;
-        let call = self.call.to_json(alloc)?;
+        let call = form_of_call(alloc, self.call, self.lock, self.drained)?;
         let reply = self.reply.to_json(alloc)?;
         json!(in alloc; {"asked": asked, "call": call, "n": number, "reply": reply, "seat": seat})
     }

@@ -12,6 +12,7 @@ ghost use Rattle.irpx.specs.Lines.{
   handler_json,
   irp_json,
   known_json,
+  lock_json,
   owner_json,
   party_json,
   plan_json,
@@ -36,8 +37,8 @@ ghost use Rattle.irpx.specs.Whole.{
 use crate::irp_text::form::ToJson;
 use crate::irp_text::names::{flags_of, name_of_answer, name_of_cancel_rule, name_of_rule};
 use irp_types::{
-    Answer, CancelAnswer, CancelId, CancelRule, DeviceId, DispatchId, IrpRef, Known, Owner, Party,
-    Plan, Replacement, RoutineId, Seen, Setting, Shown, Status,
+    Answer, CancelAnswer, CancelId, CancelRule, DeviceId, DispatchId, IrpRef, Known, LockNo, Owner,
+    Party, Plan, Replacement, RoutineId, Seen, Setting, Shown, Status,
 };
 use serde_json::{Value, json};
 use std::alloc::{AllocError, Global};
@@ -64,6 +65,16 @@ impl ToJson for DispatchId {
 
 impl ToJson for CancelId {
     ghost json = { cancel_json };
+
+    fn to_json(&self, _alloc: Global) -> Result<Value, AllocError> {
+        Ok(Value::from(self.0))
+    }
+
+    ghost whole = { λ _. refl };
+}
+
+impl ToJson for LockNo {
+    ghost json = { lock_json };
 
     fn to_json(&self, _alloc: Global) -> Result<Value, AllocError> {
         Ok(Value::from(self.0))
