@@ -16,7 +16,7 @@ status_of Failed = 5
 abbrev pub complaint_of : Ending → List ℕ
 complaint_of Done = codes ""
 complaint_of NoMemory = codes "irp_bench: out of memory"
-complaint_of OtherWords = codes "irp_bench: usage: irp_bench, or irp_bench locks"
+complaint_of OtherWords = codes "irp_bench: usage: irp_bench [locks]"
 complaint_of Failed = codes "irp_bench: the clock, the output or a pair failed"
 
 -- the ending of a program whose timing came out so

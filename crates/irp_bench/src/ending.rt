@@ -58,8 +58,27 @@ impl Ending {
         match self {
             Ending::Done => "",
             Ending::NoMemory => "irp_bench: out of memory",
-            Ending::OtherWords => "irp_bench: usage: irp_bench, or irp_bench locks",
+            Ending::OtherWords => "irp_bench: usage: irp_bench [locks]",
             Ending::Failed => "irp_bench: the clock, the output or a pair failed",
         }
+    }
+}
+
+#[cfg(test)]
+mod tests {
+    use super::*;
+
+    #[test]
+    fn endings_have_their_status_and_line(rt: HostRuntime) {
+        assert_eq!(rt; Ending::Done.status(), 0);
+        assert_eq!(rt; Ending::NoMemory.status(), 3);
+        assert_eq!(rt; Ending::OtherWords.status(), 4);
+        assert_eq!(rt; Ending::Failed.status(), 5);
+        assert_eq!(rt; Ending::Done.line(), "");
+        assert_eq!(rt; Ending::NoMemory.line(), "irp_bench: out of memory");
+        let usage = "irp_bench: usage: irp_bench [locks]";
+        assert_eq!(rt; Ending::OtherWords.line(), usage);
+        let failed = "irp_bench: the clock, the output or a pair failed";
+        assert_eq!(rt; Ending::Failed.line(), failed);
     }
 }

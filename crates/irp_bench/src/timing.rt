@@ -1,6 +1,6 @@
 //! How long loads take in threads.
 ghost use Rattle.std.specs.Prelude.{◌≡◌, ◌<◌, ◌≤◌, [], IfOk};
-ghost use Rattle.irp_remove.specs.Pairing.{IsSeatOf};
+ghost use Rattle.irp_remove.specs.Pairing.{IsSeatOf, lock_count};
 
 use crate::fault::Fault;
 use crate::figures::Figures;
@@ -30,15 +30,15 @@ fn lock_round<R: Threads + Sync + Clock + AllocGlobal>(
     };
     let shared = &locks;
     let start = Instant::now(rt)?;
-    let granted = thread::map_vec(
+    let made = thread::map_vec(
         rt,
         seats,
         &|mut seat: RemoveSeat| -> u32
-            requires { (IsSeatOf shared.now seat) × (seat.held ≡ []) }
+            requires { (IsSeatOf shared.now seat) × (0 < lock_count shared.now) × (seat.held ≡ []) }
         { reference_pairs(shared, &mut seat, PAIRS) },
     )?;
     let taken = start.elapsed(rt)?;
-    if granted.iter().all(|&granted| granted == PAIRS) {
+    if made.iter().all(|&pairs| pairs == PAIRS) {
         Ok(taken)
     } else {
         Err(Fault::Refused)

@@ -22,8 +22,8 @@ fn command<'a>(alloc: Global) -> Result<Command<'a>, AllocError>
 
 /// What clap's matches ask for.
 fn order_of(matches: &ArgMatches<'_>) -> Result<Order, Unread>
-    ensures nothing { subcommand_name_of matches.now ≡ None → result ≡ Ok Order.Nothing }
-    ensures locks { subcommand_name_of matches.now ≡ Some (codes "locks") → result ≡ Ok Order.Locks }
+    ensures nothing { (result ≡ Ok Order.Nothing) ↔ (subcommand_name_of matches.now ≡ None) }
+    ensures locks { (result ≡ Ok Order.Locks) ↔ (subcommand_name_of matches.now ≡ Some (codes "locks")) }
 {
     let Some((name, _)) = matches.subcommand() else {
         return Ok(Order::Nothing);

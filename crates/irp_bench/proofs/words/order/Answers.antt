@@ -8,12 +8,12 @@ returns-in-Ok-clause-ok g c = on_ok c.order_of.result (no_fault _ _ c.in_ok-comm
 pub returns-in-Ok-clause-nothing : goal.returns-in-Ok-clause-nothing
 returns-in-Ok-clause-nothing g c called =
     just _ c.order_of.result _
-    (c.order_of.ensures.nothing (none_is_named _ c.in-Ok.matches called.0 _ c.in_ok-command.ensures called.1 c.in-Ok.ensures.matches))
+    (c.order_of.ensures.nothing.1 (none_is_named _ c.in-Ok.matches called.0 _ c.in_ok-command.ensures called.1 c.in-Ok.ensures.matches))
 
 pub returns-in-Ok-clause-locks : goal.returns-in-Ok-clause-locks
 returns-in-Ok-clause-locks g c called =
     just _ c.order_of.result _
-    (c.order_of.ensures.locks (locks_is_named _ c.in-Ok.matches called.0 _ c.in_ok-command.ensures called.1 c.in-Ok.ensures.matches))
+    (c.order_of.ensures.locks.1 (locks_is_named _ c.in-Ok.matches called.0 _ c.in_ok-command.ensures called.1 c.in-Ok.ensures.matches))
 
 pub returns-in-Err-clause-nothing : goal.returns-in-Err-clause-nothing
 returns-in-Err-clause-nothing g c called =
