@@ -1,4 +1,4 @@
-//! How long loads take in threads.
+//! How long loads take in threads. Where the system starts no thread, a round's threads run one after another.
 ghost use Rattle.std.specs.Prelude.{◌≡◌, ◌<◌, ◌≤◌, [], IfOk};
 ghost use Rattle.irp_remove.specs.Pairing.{IsSeatOf, lock_count};
 
@@ -57,7 +57,7 @@ fn bare_round<R: Threads + Sync + Clock + AllocGlobal>(
         rt,
         rt.alloc(),
         threads as usize,
-        &|_| { bare_pairs(shared, PAIRS) },
+        &|_| bare_pairs(shared, PAIRS),
     )?;
     Ok(start.elapsed(rt)?)
 }
