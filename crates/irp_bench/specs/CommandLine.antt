@@ -1,0 +1,11 @@
+-- The command line that the program takes, as clap has it.
+use Rattle.std.specs.Prelude.{◌≡◌, ℕ, List, ◌∷◌, codes}
+use Rattle.clap.specs.Simple.{App, new_app, with_subcommand}
+
+-- the program, which has the subcommand `locks` and needs none
+abbrev pub command_line : App
+command_line = with_subcommand (new_app (codes "irp_bench")) (new_app (codes "locks")).top
+
+-- the program's name, whatever it is, and these words behind it
+abbrev pub IsCalledWith : List (List ℕ) → List (List ℕ) → Type 0
+IsCalledWith rest words = (name : List ℕ) × (words ≡ name ∷ rest)

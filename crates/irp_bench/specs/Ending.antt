@@ -1,0 +1,27 @@
+-- The exit statuses, and the lines for standard error.
+use Rattle.std.specs.Prelude.{ℕ, List, Result, Ok, Err, codes}
+use Rattle.irp_bench.specs.declared.ending.Ending.{Ending}
+use Rattle.irp_bench.specs.declared.ending.Ending.TheVariants.{Done, NoMemory, OtherWords, Failed}
+use Rattle.irp_bench.specs.declared.fault.Fault.{Fault}
+use Rattle.irp_bench.specs.declared.fault.Fault.TheVariants.{Memory, Io, Refused}
+
+-- the exit status of an ending
+abbrev pub status_of : Ending → ℕ
+status_of Done = 0
+status_of NoMemory = 3
+status_of OtherWords = 4
+status_of Failed = 5
+
+-- the line for standard error, without its newline
+abbrev pub complaint_of : Ending → List ℕ
+complaint_of Done = codes ""
+complaint_of NoMemory = codes "irp_bench: out of memory"
+complaint_of OtherWords = codes "irp_bench: usage: irp_bench [locks]"
+complaint_of Failed = codes "irp_bench: the clock, the output or a pair failed"
+
+-- the ending of a program whose timing came out so
+abbrev pub ending_of : Result (Unit {0}) Fault → Ending
+ending_of (Ok _) = Done
+ending_of (Err Memory) = NoMemory
+ending_of (Err Io) = Failed
+ending_of (Err Refused) = Failed

@@ -1,0 +1,84 @@
+//! How the program ends.
+
+ghost use Rattle.std.specs.Prelude.{◌≡◌};
+ghost use Rattle.irp_bench.specs.Ending.{status_of, complaint_of, ending_of};
+ghost use Rattle.std.specs.Process.{exit_status};
+
+use crate::fault::Fault;
+use std::process::ExitCode;
+
+/// How the program ends: its exit status, and the line for standard error (this project's own command line, README.md).
+#[derive(Clone, Copy, Debug, PartialEq, Eq)]
+pub enum Ending {
+    /// All was done: status 0, and no line.
+    Done,
+    /// Memory ran out: status 3.
+    NoMemory,
+    /// The words are none that the program takes: status 4.
+    OtherWords,
+    /// The clock or standard error failed, or a pair was refused: status 5.
+    Failed,
+}
+
+impl Ending {
+    /// The ending of a program whose timing came out so.
+    pub fn of(timed: Result<(), Fault>) -> Ending
+        ensures { result ≡ ending_of timed }
+    {
+        match timed {
+            Ok(()) => Ending::Done,
+            Err(Fault::Memory) => Ending::NoMemory,
+            Err(Fault::Io | Fault::Refused) => Ending::Failed,
+        }
+    }
+
+    /// The exit status.
+    pub fn status(self) -> u8
+        ensures { result ≡ status_of self }
+    {
+        match self {
+            Ending::Done => 0,
+            Ending::NoMemory => 3,
+            Ending::OtherWords => 4,
+            Ending::Failed => 5,
+        }
+    }
+
+    /// The exit status, as a process ends with it.
+    pub fn code(self) -> ExitCode
+        ensures { exit_status result ≡ status_of self }
+    {
+        ExitCode::from(self.status())
+    }
+
+    /// The line for standard error, which is empty where all was done.
+    pub fn line(self) -> &'static str
+        ensures { result.now ≡ complaint_of self }
+    {
+        match self {
+            Ending::Done => "",
+            Ending::NoMemory => "irp_bench: out of memory",
+            Ending::OtherWords => "irp_bench: usage: irp_bench [locks]",
+            Ending::Failed => "irp_bench: the clock, the output or a pair failed",
+        }
+    }
+}
+
+#[cfg(test)]
+mod tests {
+    use super::*;
+
+    #[test]
+    fn endings_have_their_status_and_line(rt: HostRuntime) {
+        assert_eq!(rt; Ending::Done.status(), 0);
+        assert_eq!(rt; Ending::NoMemory.status(), 3);
+        assert_eq!(rt; Ending::OtherWords.status(), 4);
+        assert_eq!(rt; Ending::Failed.status(), 5);
+        assert_eq!(rt; Ending::Done.line(), "");
+        assert_eq!(rt; Ending::NoMemory.line(), "irp_bench: out of memory");
+        let usage = "irp_bench: usage: irp_bench [locks]";
+        assert_eq!(rt; Ending::OtherWords.line(), usage);
+        let failed = "irp_bench: the clock, the output or a pair failed";
+        assert_eq!(rt; Ending::Failed.line(), failed);
+    }
+}

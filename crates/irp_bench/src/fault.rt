@@ -1,0 +1,41 @@
+//! Why nothing was timed.
+
+use std::alloc::AllocError;
+use std::io;
+use thiserror::Error;
+
+/// Why a load was not timed.
+#[derive(Clone, Copy, Debug, PartialEq, Eq, Error)]
+pub enum Fault {
+    /// Memory ran out.
+    #[error("memory ran out")]
+    Memory,
+    /// The clock could not be read, or standard error could not be written.
+    #[error("the clock or the output failed")]
+    Io,
+    /// A pair of calls was refused, so the time is not that of all pairs.
+    #[error("a pair was refused")]
+    Refused,
+}
+
+impl From<AllocError> for Fault {
+    ghost use Rattle.std.specs.Prelude.{◌≡◌};
+    ghost use Rattle.irp_bench.specs.declared.fault.Fault.TheVariants.{Memory};
+
+    ghost from_gives = { λ _ fault. fault ≡ Memory };
+
+    fn from(_error: AllocError) -> Fault {
+        Fault::Memory
+    }
+}
+
+impl From<io::Error> for Fault {
+    ghost use Rattle.std.specs.Prelude.{◌≡◌};
+    ghost use Rattle.irp_bench.specs.declared.fault.Fault.TheVariants.{Io};
+
+    ghost from_gives = { λ _ fault. fault ≡ Io };
+
+    fn from(_error: io::Error) -> Fault {
+        Fault::Io
+    }
+}

@@ -1,0 +1,59 @@
+//! The program: times what the calls of remove locks cost.
+#![tactic(auto)]
+
+mod ending;
+mod fault;
+mod figures;
+mod loads;
+mod orders;
+mod timing;
+mod words;
+
+use crate::ending::Ending;
+use crate::fault::Fault;
+use crate::orders::{Order, Unread};
+use std::process::ExitCode;
+use std::rt::{Clock, Env};
+use std::thread::Threads;
+use std::{env, io};
+
+/// The words that the program was given. None where they can't be had, which counts as other words.
+fn words_of<R: Env + AllocGlobal>(rt: &R) -> Result<Vec<String>, Unread> {
+    let words = match env::args(rt) {
+        Ok(words) => words,
+        Err(error) if error.kind() == io::ErrorKind::OutOfMemory => return Err(Unread::Memory),
+        Err(_) => return Err(Unread::Usage),
+    };
+    Ok(words.collect(rt.alloc())?)
+}
+
+/// Writes the figures of remove locks to standard error, for one thread and for four.
+fn time_locks<R: Threads + Sync + Clock + Eprint + AllocGlobal>(rt: &R) -> Result<(), Fault> {
+    let one = timing::figures(rt, 1)?;
+    eprintln!(rt; "irp_bench: {one}")?;
+    let four = timing::figures(rt, 4)?;
+    eprintln!(rt; "irp_bench: {four}")?;
+    Ok(())
+}
+
+/// Does what the words ask for.
+fn run<R: Threads + Sync + Clock + Env + Eprint + AllocGlobal>(rt: &R) -> Ending {
+    let order = match words_of(rt) {
+        Ok(words) => words::order(rt.alloc(), words.as_slice()),
+        Err(unread) => Err(unread),
+    };
+    match order {
+        Ok(Order::Nothing) => Ending::Done,
+        Ok(Order::Locks) => Ending::of(time_locks(rt)),
+        Err(Unread::Usage) => Ending::OtherWords,
+        Err(Unread::Memory) => Ending::NoMemory,
+    }
+}
+
+fn main(rt: HostRuntime) -> ExitCode {
+    let mut ending = run(&rt);
+    if ending != Ending::Done && eprintln!(&rt; "{}", ending.line()).is_err() {
+        ending = Ending::Failed;
+    }
+    ending.code()
+}

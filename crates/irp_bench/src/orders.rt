@@ -1,0 +1,35 @@
+//! What words ask for, and why they may not be taken.
+
+use std::alloc::AllocError;
+use thiserror::Error;
+
+/// What the program is asked to do (this project's own command line, README.md).
+#[derive(Clone, Copy, Debug, PartialEq, Eq)]
+pub enum Order {
+    /// There are no words: do nothing.
+    Nothing,
+    /// Time remove locks.
+    Locks,
+}
+
+/// Why words ask for nothing (this project's own command line, README.md).
+#[derive(Clone, Copy, Debug, PartialEq, Eq, Error)]
+pub enum Unread {
+    /// The words are none that the program takes; a request for help is one of these.
+    #[error("the words are none that the program takes")]
+    Usage,
+    /// Memory ran out.
+    #[error("memory ran out")]
+    Memory,
+}
+
+impl From<AllocError> for Unread {
+    ghost use Rattle.std.specs.Prelude.{◌≡◌};
+    ghost use Rattle.irp_bench.specs.declared.orders.Unread.TheVariants.{Memory};
+
+    ghost from_gives = { λ _ unread. unread ≡ Memory };
+
+    fn from(_error: AllocError) -> Unread {
+        Unread::Memory
+    }
+}

@@ -1,0 +1,96 @@
+//! What the command line asks for.
+
+ghost use Rattle.std.specs.Prelude.{◌≡◌, ◌↔◌, [], ◌∷◌, Some, None, codes, map, IfOk, MatchResult, OnOk};
+ghost use Rattle.clap.specs.Matches.{subcommand_name_of};
+ghost use Rattle.clap.specs.Values.{kind_of};
+ghost use Rattle.clap.specs.Words.{app_of, fault_of};
+ghost use Rattle.irp_bench.specs.CommandLine.{IsCalledWith, command_line};
+
+use crate::orders::{Order, Unread};
+use clap::error::ErrorKind;
+use clap::{ArgMatches, Command, Error};
+use std::alloc::{AllocError, Global};
+use std::convert::AsStr;
+
+/// The command line that the program takes.
+fn command<'a>(alloc: Global) -> Result<Command<'a>, AllocError>
+    ensures { IfOk result (λ command. app_of command ≡ command_line) }
+{
+    let command = Command::new(alloc, "irp_bench");
+    command.subcommand(Command::new(alloc, "locks"))
+}
+
+/// What clap's matches ask for.
+fn order_of(matches: &ArgMatches<'_>) -> Result<Order, Unread>
+    ensures nothing { (result ≡ Ok Order.Nothing) ↔ (subcommand_name_of matches.now ≡ None) }
+    ensures locks { (result ≡ Ok Order.Locks) ↔ (subcommand_name_of matches.now ≡ Some (codes "locks")) }
+{
+    let Some((name, _)) = matches.subcommand() else {
+        return Ok(Order::Nothing);
+    };
+    if name == "locks" {
+        Ok(Order::Locks)
+    } else {
+        Err(Unread::Usage)
+    }
+}
+
+/// Why clap refused the words.
+fn unread_of(error: &Error) -> Unread
+    ensures { (result ≡ Unread.Memory) ↔ (kind_of error.now ≡ ErrorKind.OutOfMemory) }
+{
+    if error.kind() == ErrorKind::OutOfMemory {
+        Unread::Memory
+    } else {
+        Unread::Usage
+    }
+}
+
+/// What the words ask for; the first is the program's name (this project's own command line, README.md).
+///
+/// # Errors
+///
+/// `Usage` for words that the program doesn't take, and for a request for help; `Memory` where memory ran out.
+pub fn order<'a, S: AsStr>(alloc: Global, words: &'a [S]) -> Result<Order, Unread>
+    // No order comes of words in which clap finds a fault.
+    ensures ok { OnOk result (fault_of command_line (map S.text words.entry.now) ≡ []) }
+    ensures nothing { IsCalledWith [] (map S.text words.entry.now) → MatchResult result (λ order. order ≡ Order.Nothing) (λ unread. unread ≡ Unread.Memory) }
+    ensures locks { IsCalledWith (codes "locks" ∷ []) (map S.text words.entry.now) → MatchResult result (λ order. order ≡ Order.Locks) (λ unread. unread ≡ Unread.Memory) }
+{
+    let command = command(alloc)?;
+    match command.try_get_matches_from(words) {
+        Ok(matches) => order_of(&matches),
+        Err(error) => Err(unread_of(&error)),
+    }
+}
+
+#[cfg(test)]
+mod tests {
+    use super::*;
+    use std::test::Fail;
+
+    #[test]
+    fn the_words_that_are_orders(rt: HostRuntime) {
+        assert_eq!(rt; order(rt.alloc(), &["irp_bench"]), Ok(Order::Nothing));
+        assert_eq!(rt;
+            order(rt.alloc(), &["irp_bench", "locks"]),
+            Ok(Order::Locks)
+        );
+    }
+
+    #[test]
+    fn other_words_are_none(rt: HostRuntime) -> Result<(), Fail> {
+        assert_eq!(rt;
+            order(rt.alloc(), &["irp_bench", "locks", "x"]),
+            Err(Unread::Usage)
+        );
+        for word in ["help", "--help", "-h", "lock", "Locks", "1", ""] {
+            assert_eq!(rt;
+                order(rt.alloc(), &["irp_bench", word]),
+                Err(Unread::Usage),
+                "{word}"
+            );
+        }
+        Ok(())
+    }
+}
