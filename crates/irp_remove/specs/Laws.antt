@@ -5,7 +5,15 @@ use lib.ListN.{get_elem?}
 use Rattle.atomic_table.specs.Table.{State}
 use Rattle.irp_remove.specs.declared.views.View.{View}
 use Rattle.irp_remove.specs.declared.views.Parties.{Parties}
-use Rattle.irp_remove.specs.Core.{total, began, staked, held, saw, knows_drained, Kept, acquired, given_back, begun, looked}
+use Rattle.irp_remove.specs.Core.{total, began, staked, held, saw, knows_drained, Kept, at_first, acquired, given_back, begun, looked}
+
+-- a table under this rule keeps `Kept`
+abbrev pub Keeps : (Parties → State (Unit {0}) View → Type 0) → Type 0
+Keeps rule = (key : Parties) (state : State (Unit {0}) View) → rule key state → Kept key state
+
+-- a table whose first party has this view begins with a party that has yet to make all the others
+abbrev pub BeginsAsFirst : (Parties → View) → Type 0
+BeginsAsFirst first = (key : Parties) → first key ≡ at_first key
 
 -- The word of a lock is the removed bit plus twice the number of stakes that hold it or try it, and 8,193 at most. The
 -- bit is set exactly where an observer began the removal, and whoever found it set found it rightly

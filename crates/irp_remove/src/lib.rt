@@ -16,7 +16,7 @@ mod table;
 mod tests;
 mod views;
 
-pub use laws::{drained_for_good, word_counts_references};
+pub use laws::{drained_for_good, table_keeps_rule, word_counts_references};
 pub use opening::open;
 pub use plays::{Counted, Tagged};
 pub use reference::Reference;

@@ -1,7 +1,8 @@
 //! Opening, and the laws.
 
 use crate::{
-    AcquireRefusal, DrainRefusal, OpenRefusal, drained_for_good, open, word_counts_references,
+    AcquireRefusal, DrainRefusal, OpenRefusal, drained_for_good, open, table_keeps_rule,
+    word_counts_references,
 };
 use irp_types::LockNo;
 use std::test::Fail;
@@ -40,6 +41,7 @@ fn seats_are_numbered_in_their_order(rt: HostRuntime) -> Result<(), Fail> {
         expected = expected.wrapping_add(1);
     }
     assert_eq!(rt; expected, 64);
+    table_keeps_rule();
     word_counts_references();
     drained_for_good();
     Ok(())
