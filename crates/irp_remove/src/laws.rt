@@ -20,8 +20,9 @@ pub fn word_counts_references()
     ensures { WordLaw }
 {}
 
-/// Where an observer knows a lock drained, its removal has begun and no stake holds it; and what an observer knows
-/// drained, it knows after each further step. (This project's own rule; WDK: "IoReleaseRemoveLockAndWait".)
+/// Where an observer knows a lock drained, its removal has begun and no stake holds it; what an observer knows drained, it
+/// knows after each further step of its own, and a step of another party leaves its view as it was. (This project's own
+/// rule; WDK: "IoReleaseRemoveLockAndWait".)
 pub fn drained_for_good()
     ensures { DrainedLaw }
 {}
