@@ -144,8 +144,8 @@ looked lock word (First observers_left stakes_left) = First observers_left stake
 looked lock word (Observer watch) = Observer (watch_looked lock word watch)
 looked lock word (Stake stage seen) = Stake stage seen
 
--- One step: in a state that keeps the rule a party has the view, and the word of the lock is as given. The word and the
--- party's view become what is given behind each, nothing else changes, and the rule is kept
+-- One step that the rule allows: there is a state that keeps it, in which some party has the view and the word of the lock
+-- is as given. The word and the party's view become what is given behind each, nothing else changes, and the rule is kept
 abbrev pub IsEvent : ℕ → ℕ → ℕ → View → View → Type 0
 IsEvent lock word word_after view view_after =
     (key : Parties) × (state : State (Unit {0}) View) × (party : ℕ)

@@ -1,7 +1,7 @@
 //! Remove locks: a reference count and a removed bit in one word, changed in single atomic steps.
 //!
-//! Any number of threads may share the [`Locks`], each with a [`RemoveSeat`] of its own. No call but `open` takes memory,
-//! none waits, and none tries again.
+//! Any number of threads may share the [`Locks`], each with a [`RemoveSeat`] of its own. No call but `open` is given an
+//! allocator, and none is given a handle to wait with.
 #![tactic(auto)]
 
 mod calls;
