@@ -1,13 +1,11 @@
 -- Where fresh seats have all parties of the table, every word is 0.
-use Rattle.std.proofs.Common.{◌≡◌, ℕ, zero, suc, ◌+◌, ◌-◌, ◌*◌, ◌<◌, ◌≤◌, ◌==◌, List, [], ◌∷◌, ◌++◌, length, All, replicate, get_or, refl, sym, ap, ◌∙◌, subst, arith}
+use Rattle.std.proofs.Common.{◌≡◌, ℕ, zero, suc, ◌+◌, ◌-◌, ◌*◌, ◌≤◌, List, [], ◌∷◌, ◌++◌, length, All, replicate, sym, ap, ◌∙◌, arith}
 use mathlib.Core.Logic.{dite}
 use Rattle.std.proofs.lemmas.List.{get_or_past}
 use Rattle.atomic_table.specs.Seated.{TableId}
-use Rattle.irp_remove.specs.declared.views.Watch.{Watch}
 use Rattle.irp_remove.specs.declared.views.View.{View}
 use Rattle.irp_remove.specs.declared.views.View.TheVariants.{First, Observer, Stake}
-use Rattle.irp_remove.specs.declared.views.Parties.{Parties}
-use Rattle.irp_remove.specs.Core.{total, one_if, flag, is_named, began, staked, saw, knows_drained, observers, stakes, Kept, new_watch, new_observer, new_stake}
+use Rattle.irp_remove.specs.Core.{total, flag, is_named, began, staked, saw, knows_drained, observers, stakes, new_observer, new_stake}
 use Rattle.irp_remove.specs.Seats.{Holder}
 use Rattle.irp_remove.specs.Opening.{IsFresh, parties_of, views_of, views_of_all, AreAmong, IsAllIdle}
 use Rattle.irp_remove.proofs.Totals.{one_if_le, staked_is_one}

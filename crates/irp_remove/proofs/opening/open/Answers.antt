@@ -1,4 +1,4 @@
-use Rattle.std.proofs.Common.{rules, ◌≡◌, ℕ, zero, length, sym, ap, ◌∙◌, replicate, subst}
+use Rattle.std.proofs.Common.{rules, ◌≡◌, zero, length, sym, ap, ◌∙◌, replicate, subst}
 use Rattle.irp_remove.specs.declared.views.Parties.{Parties}
 use Rattle.irp_remove.specs.Opening.{parties_of, IsAllIdle}
 use Rattle.irp_remove.proofs.Idle.{all_idle}
