@@ -1,9 +1,9 @@
 -- What follows from the rule in each state, and what an observer never forgets.
-use Rattle.std.proofs.Common.{◌≡◌, ℕ, zero, suc, ◌%◌, ◌≤◌, Bool, true, false, List, [], ◌∷◌, set, if◌then◌else◌, nat_eq, refl, arith}
+use Rattle.std.proofs.Common.{◌≡◌, ℕ, zero, suc, ◌%◌, ◌≤◌, Bool, true, false, List, [], ◌∷◌, set, if◌then◌else◌, nat_eq, refl, ap, arith}
 use Rattle.irp_remove.specs.declared.views.Watch.{Watch}
 use Rattle.irp_remove.specs.declared.views.View.TheVariants.{First, Observer, Stake}
 use Rattle.irp_remove.specs.Core.{one_if, flag, held, saw, knows_drained}
-use Rattle.irp_remove.specs.Laws.{WordLaw, DrainedLaw, IsHeldByNobody, IsKnownForGood}
+use Rattle.irp_remove.specs.Laws.{WordLaw, DrainedLaw, IsHeldByNobody, IsKnownForGood, IsOwnView}
 use Rattle.irp_remove.proofs.Totals.{part_of_total}
 use Rattle.irp_remove.proofs.Steps.{word_facts}
 
@@ -63,5 +63,12 @@ known_for_good lock (Observer watch) knows tag other word =
     )
 known_for_good lock (Stake stage seen) knows tag other word = absurd (omega arith)
 
+own_view : IsOwnView
+own_view [] party other w ne = refl
+own_view (v ∷ vs) zero zero w ne = absurd (ne refl)
+own_view (v ∷ vs) zero (suc other) w ne = refl
+own_view (v ∷ vs) (suc party) zero w ne = refl
+own_view (v ∷ vs) (suc party) (suc other) w ne = own_view vs party other w (λ e. ne (ap suc e))
+
 pub drained_law : DrainedLaw
-drained_law = (held_by_nobody, known_for_good)
+drained_law = (held_by_nobody, known_for_good, own_view)

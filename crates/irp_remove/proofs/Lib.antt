@@ -4,3 +4,4 @@ pub mod Observing
 pub mod Lawful
 pub mod Knowing
 pub mod Seating
+pub mod Idle

@@ -144,10 +144,10 @@ pub record Blank (k : ℕ) (v : View) : Type 0 where
   pub saw_none : saw k v ≡ 0
   pub knows_none : knows_drained k v ≡ 0
 
-blank_observer : (k : ℕ) → Blank k new_observer
+pub blank_observer : (k : ℕ) → Blank k new_observer
 blank_observer k = record { began_none = ap one_if (false_at 64 k); staked_none = refl; held_none = refl; saw_none = ap one_if (false_at 64 k); knows_none = ap one_if (false_at 64 k) }
 
-blank_stake : (k : ℕ) → Blank k new_stake
+pub blank_stake : (k : ℕ) → Blank k new_stake
 blank_stake k = record { began_none = refl; staked_none = refl; held_none = refl; saw_none = refl; knows_none = refl }
 
 blank_first : (o s k : ℕ) → Blank k (First o s)
@@ -177,8 +177,10 @@ module _ (key : Parties) (id : ℕ) (v left right : View) (was : (k : ℕ) → B
         once = λ k. let a = r.once k in let b = same_began k in omega arith;
         seen = λ k h. let b = same_began k in let c = same_saw k in let t = r.seen k (omega arith) in omega arith;
         drained = λ k h. let b = same_began k in let c = same_knows k in let d = same_held k in let t = r.drained k (omega arith) in let t0 = t.0 in let t1 = t.1 in (omega arith, omega arith);
-        few_observers = let a = split_total s at observers (sym same_o) in let b = r.few_observers in omega arith;
-        few_stakes = let a = split_total s at stakes (sym same_s) in let b = r.few_stakes in omega arith;
+        all_observers = split_total s at observers (sym same_o) ∙ r.all_observers;
+        all_stakes = split_total s at stakes (sym same_s) ∙ r.all_stakes;
+        few_observers = r.few_observers;
+        few_stakes = r.few_stakes;
       }
 
 -- the first seat makes an observer, or a stake
@@ -199,6 +201,8 @@ at_opening key words wide zeros few_o few_s = record {
   once = λ k. omega arith;
   seen = λ k h. absurd (omega arith);
   drained = λ k h. absurd (omega arith);
-  few_observers = omega arith;
-  few_stakes = omega arith;
+  all_observers = omega arith;
+  all_stakes = omega arith;
+  few_observers = few_o;
+  few_stakes = few_s;
 }

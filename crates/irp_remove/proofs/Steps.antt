@@ -74,8 +74,10 @@ module _ (key : Parties) (s : St) (r : Kept key s) (id : ℕ) (v w : View) (at :
     once = λ k. let b = total_set (began k) s.views id v w at in let o = (fits k).once in omega arith;
     seen = seen_after;
     drained = drained_after;
-    few_observers = let t = total_set observers s.views id v w at in let f = r.few_observers in omega arith;
-    few_stakes = let t = total_set stakes s.views id v w at in let f = r.few_stakes in omega arith;
+    all_observers = let t = total_set observers s.views id v w at in let f = r.all_observers in omega arith;
+    all_stakes = let t = total_set stakes s.views id v w at in let f = r.all_stakes in omega arith;
+    few_observers = r.few_observers;
+    few_stakes = r.few_stakes;
   }
 
 pub same_lock : (a : ℕ) → one_if (eqb a a) ≡ 1
@@ -90,6 +92,7 @@ pub word_facts : (key : Parties) (s : St) → Kept key s → (lock : ℕ) → lo
 word_facts key s r lock inside =
     let less : lock < length s.words = subst (λ (z : ℕ). lock < z) (sym r.wide) inside in
     let few = r.few_stakes in
+    let all = r.all_stakes in
     let le = staked_stakes lock s.views in
     (r.word_is lock less, r.once lock, omega arith, less)
 

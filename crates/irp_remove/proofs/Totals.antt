@@ -39,7 +39,7 @@ held_is_staked lock (First o s) = omega arith
 held_is_staked lock (Observer w) = omega arith
 held_is_staked lock (Stake stage seen) = held_at_stage lock stage
 
-one_if_le : (b : Bool) → one_if b ≤ 1
+pub one_if_le : (b : Bool) → one_if b ≤ 1
 one_if_le true = omega arith
 one_if_le false = omega arith
 
@@ -48,7 +48,7 @@ at_stage_le lock Idle = omega arith
 at_stage_le lock (Trying k) = one_if_le _
 at_stage_le lock (Held k tag) = one_if_le _
 
-staked_is_one : (lock : ℕ) (v : View) → staked lock v ≤ stakes v
+pub staked_is_one : (lock : ℕ) (v : View) → staked lock v ≤ stakes v
 staked_is_one lock (First o s) = omega arith
 staked_is_one lock (Observer w) = omega arith
 staked_is_one lock (Stake stage seen) = at_stage_le lock stage

@@ -84,7 +84,8 @@ stakes (First observers_left stakes_left) = stakes_left
 stakes (Observer watch) = 0
 stakes (Stake stage seen) = 1
 
--- What holds between any two steps. The removed bit of a lock is the number of observers that began its removal, 0 or 1
+-- What holds between any two steps. The removed bit of a lock is the number of observers that began its removal, 0 or 1.
+-- The observers and the stakes, made and not yet made, are as many as the key tells, so that there are no others
 pub record Kept (key : Parties) (state : State (Unit {0}) View) : Type 0 where
   pub wide : length state.words ≡ key.locks
   pub word_is : (lock : ℕ) → lock < length state.words
@@ -93,8 +94,10 @@ pub record Kept (key : Parties) (state : State (Unit {0}) View) : Type 0 where
   pub seen : (lock : ℕ) → 0 < total (saw lock) state.views → total (began lock) state.views ≡ 1
   pub drained : (lock : ℕ) → 0 < total (knows_drained lock) state.views
       → (total (began lock) state.views ≡ 1) × (total (held lock) state.views ≡ 0)
-  pub few_observers : total observers state.views ≤ 64
-  pub few_stakes : total stakes state.views ≤ 4096
+  pub all_observers : total observers state.views ≡ key.observers
+  pub all_stakes : total stakes state.views ≡ key.stakes
+  pub few_observers : key.observers ≤ 64
+  pub few_stakes : key.stakes ≤ 4096
 
 -- the view of the first party, which makes the others
 abbrev pub at_first : Parties → View
@@ -141,8 +144,8 @@ looked lock word (First observers_left stakes_left) = First observers_left stake
 looked lock word (Observer watch) = Observer (watch_looked lock word watch)
 looked lock word (Stake stage seen) = Stake stage seen
 
--- One step: in a state that keeps the rule a party has the view, and the word of the lock is as given. The word and the
--- party's view become what is given behind each, nothing else changes, and the rule is kept
+-- One step that the rule allows: there is a state that keeps it, in which some party has the view and the word of the lock
+-- is as given. The word and the party's view become what is given behind each, nothing else changes, and the rule is kept
 abbrev pub IsEvent : ℕ → ℕ → ℕ → View → View → Type 0
 IsEvent lock word word_after view view_after =
     (key : Parties) × (state : State (Unit {0}) View) × (party : ℕ)

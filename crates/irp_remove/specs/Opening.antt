@@ -1,7 +1,11 @@
 -- What opening gives.
-use Rattle.std.specs.Prelude.{◌≡◌, ◌⊎◌, ℕ, zero, suc, ◌<◌, ◌≤◌, List, [], ◌∷◌, ◌++◌, map, All, replicate}
+use Rattle.std.specs.Prelude.{◌≡◌, ◌⊎◌, ℕ, zero, suc, ◌*◌, ◌<◌, ◌≤◌, List, [], ◌∷◌, ◌++◌, map, All, replicate, slice_index}
+use Rattle.atomic_table.specs.Table.{State}
 use Rattle.atomic_table.specs.Seated.{TableId}
-use Rattle.irp_remove.specs.Core.{new_watch, new_stake}
+use Rattle.irp_remove.specs.Core.{total, began, staked, saw, knows_drained, Kept, new_watch, new_stake}
+use Rattle.irp_remove.specs.declared.views.View.{View}
+use Rattle.irp_remove.specs.declared.views.View.TheVariants.{Observer}
+use Rattle.irp_remove.specs.declared.views.Parties.{Parties}
 use Rattle.irp_remove.specs.Seats.{Holder}
 use Rattle.irp_remove.specs.declared.refusal.OpenRefusal.{OpenRefusal}
 use Rattle.irp_remove.specs.declared.refusal.OpenRefusal.TheVariants as refusal
@@ -37,3 +41,30 @@ numbers_below (suc count) = numbers_below count ++ count ∷ []
 -- so many fresh seats of one table, numbered from 0 in their order
 abbrev pub AreFresh : TableId → ℕ → List Holder → Type 0
 AreFresh table count holders = All (IsFresh table) holders × (map number_of holders ≡ numbers_below count)
+
+-- the parties of a table of so many locks and seats: one observer and 64 stakes a seat
+abbrev pub parties_of : ℕ → ℕ → Parties
+parties_of locks seats = record { locks = locks; observers = seats; stakes = seats * 64 }
+
+-- the views of a seat's parties
+abbrev pub views_of : Holder → List View
+views_of holder = Observer holder.watch ∷ holder.held_views ++ holder.idle_views
+
+-- the views of the parties of all these seats
+abbrev pub views_of_all : List Holder → List View
+views_of_all [] = []
+views_of_all (holder ∷ holders) = views_of holder ++ views_of_all holders
+
+-- these are the views of so many different ones of all parties
+abbrev pub AreAmong : List View → List View → Type 0
+AreAmong [] parties = Unit {0}
+AreAmong (view ∷ views) parties =
+    (before : List View) × (after : List View) × (parties ≡ before ++ view ∷ after) × AreAmong views (before ++ after)
+
+-- in each state that keeps the rule, and among whose parties are those of these seats, every word is 0: nobody, not one
+-- party that is in none of these seats, began a removal, holds or tries a lock, saw one removed or knows one drained
+abbrev pub IsAllIdle : Parties → List Holder → Type 0
+IsAllIdle key holders =
+    (state : State (Unit {0}) View) → Kept key state → AreAmong (views_of_all holders) state.views → (lock : ℕ)
+    → (slice_index state.words lock ≡ 0) × (total (began lock) state.views ≡ 0) × (total (staked lock) state.views ≡ 0)
+    × (total (saw lock) state.views ≡ 0) × (total (knows_drained lock) state.views ≡ 0)

@@ -30,9 +30,10 @@ watch_of (First observers_left stakes_left) = new_watch
 watch_of (Observer watch) = watch
 watch_of (Stake stage seen) = new_watch
 
--- the first of some views
+-- the first of some views. Where there is none it is no view of a stake, so that a blank reference is not taken for an
+-- idle one
 abbrev pub first_view : List View → View
-first_view [] = new_stake
+first_view [] = First 0 0
 first_view (view ∷ views) = view
 
 -- the lock and the tag of a reference

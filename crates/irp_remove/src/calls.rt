@@ -1,4 +1,4 @@
-//! The calls on remove locks. Each makes at most two atomic steps.
+//! The calls on remove locks. A refusal that leaves a seat as it was leaves each view of the seat's parties as it was.
 ghost use Rattle.std.specs.Prelude.{◌≡◌, ◌<◌, ◌≤◌, Contains, Err, length, MatchResult, IfSome, IfNone, slice_get, Some, map};
 ghost use mathlib.Core.Logic.{◌↔◌};
 ghost use Rattle.irp_remove.specs.declared.refusal.AcquireRefusal.TheVariants.{NoLock as acquire_NoLock, SeatFull as acquire_SeatFull};
@@ -23,10 +23,10 @@ impl Locks {
     /// Takes a reference to a lock under a tag (WDK: "IoAcquireRemoveLock"). A seat may hold a tag several times.
     ///
     /// It is refused with the first of these that holds: `NoLock` if there is no such lock; `SeatFull` if the seat holds
-    /// 64 references; `DeletePending` if the removal of the lock has begun. The first two change nothing. After
+    /// 64 references; `DeletePending` if the removal of the lock has begun. The first two leave the seat as it was. After
     /// `DeletePending` the references are unchanged, and the seat knows the lock removed; where its own `begin_remove` of
-    /// the lock had answered Ok or `AlreadyRemoving`, nothing changes and no word is touched. (The word, the seat, the
-    /// limit and all refusals but `DeletePending` are this project's own rule.) It takes constant time.
+    /// the lock had answered Ok or `AlreadyRemoving`, the seat is as it was. (The word, the seat, the limit and all
+    /// refusals but `DeletePending` are this project's own rule.) It takes constant time.
     pub fn acquire(
         &self,
         seat: &mut RemoveSeat,
@@ -66,8 +66,8 @@ impl Locks {
 
     /// Gives back one reference to a lock under a tag (WDK: "IoReleaseRemoveLock").
     ///
-    /// It is refused, and changes nothing, with the first of these that holds (this project's own rule): `NoLock` if
-    /// there is no such lock; `NotHeld` if the seat holds no reference to the lock under the tag.
+    /// It is refused, and leaves the seat as it was, with the first of these that holds (this project's own rule):
+    /// `NoLock` if there is no such lock; `NotHeld` if the seat holds no reference to the lock under the tag.
     pub fn release(
         &self,
         seat: &mut RemoveSeat,
@@ -97,7 +97,7 @@ impl Locks {
     ///
     /// It is refused with the first of these that holds (this project's own rule): `NoLock` if there is no such lock;
     /// `NotHeld` if the seat holds no reference to the lock under the tag; `AlreadyRemoving` if the removal had begun.
-    /// The first two change nothing. After `AlreadyRemoving` the seat keeps the reference, and knows the lock removed.
+    /// The first two leave the seat as it was. After `AlreadyRemoving` it keeps the reference, and knows the lock removed.
     pub fn begin_remove(
         &self,
         seat: &mut RemoveSeat,
@@ -133,7 +133,9 @@ impl Locks {
     /// knows it for good (WDK: "IoReleaseRemoveLockAndWait", where it waits).
     ///
     /// It is refused with the first of these that holds (this project's own rule): `NoLock` if there is no such lock,
-    /// which changes nothing; `Busy` with the word found, exactly where that isn't 1. The references are unchanged.
+    /// which leaves the seat as it was; `Busy` with the word found, which isn't 1. The references are unchanged. (The
+    /// clauses tie this word to the one that the seat's view tells from then on. That it stood in the table is not
+    /// proved.)
     pub fn drained(&self, seat: &mut RemoveSeat, lock: LockNo) -> Result<(), DrainRefusal>
         requires { IsSeatOf self.now seat.old }
         ensures seat { IsSameSeat seat.old seat.new }
@@ -153,11 +155,12 @@ impl Locks {
         Ok(())
     }
 
-    /// Makes one reference of the giver to a lock under a tag the taker's, also after removal has begun. No word and no
-    /// view changes (this project's own rule).
+    /// Makes one reference of the giver to a lock under a tag the taker's, also after removal has begun. No view changes
+    /// (this project's own rule).
     ///
-    /// It is refused, and changes nothing, with the first of these that holds: `NoLock` if there is no such lock;
-    /// `NotHeld` if the giver holds no reference to the lock under the tag; `SeatFull` if the taker holds 64 references.
+    /// It is refused, and leaves both seats as they were, with the first of these that holds: `NoLock` if there is no
+    /// such lock; `NotHeld` if the giver holds no reference to the lock under the tag; `SeatFull` if the taker holds 64
+    /// references.
     pub fn hand(
         &self,
         giver: &mut RemoveSeat,

@@ -1,7 +1,7 @@
 //! Remove locks: a reference count and a removed bit in one word, changed in single atomic steps.
 //!
-//! Any number of threads may share the [`Locks`], each with a [`RemoveSeat`] of its own. No call but `open` takes memory,
-//! none waits, and none tries again.
+//! Any number of threads may share the [`Locks`], each with a [`RemoveSeat`] of its own. No call but `open` is given an
+//! allocator, and none is given a handle to wait with.
 #![tactic(auto)]
 
 mod calls;
@@ -16,7 +16,7 @@ mod table;
 mod tests;
 mod views;
 
-pub use laws::{drained_for_good, word_counts_references};
+pub use laws::{drained_for_good, table_keeps_rule, word_counts_references};
 pub use opening::open;
 pub use plays::{Counted, Tagged};
 pub use reference::Reference;

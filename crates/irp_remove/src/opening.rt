@@ -1,7 +1,7 @@
 //! How locks and their seats are made.
 ghost use Rattle.std.specs.Prelude.{◌≡◌, ◌<◌, ◌≤◌, ◌*◌, ◌-◌, All, Err, IfOk, MatchResult, length, map, replicate, vec_len};
 ghost use Rattle.irp_remove.specs.Core.{observers, stakes, new_stake};
-ghost use Rattle.irp_remove.specs.Opening.{IsBadCount, IsGoodCount, OpenRefused, IsFresh, AreFresh};
+ghost use Rattle.irp_remove.specs.Opening.{IsBadCount, IsGoodCount, OpenRefused, IsFresh, AreFresh, parties_of, IsAllIdle};
 ghost use Rattle.irp_remove.specs.declared.refusal.OpenRefusal.TheVariants.{BadCount};
 ghost use mathlib.Core.Logic.{◌↔◌};
 ghost use Rattle.irp_remove.specs.Pairing.{lock_count};
@@ -20,7 +20,8 @@ use std::alloc::{AllocError, Global};
 
 /// Makes 1 to 64 locks, numbered from 0, and 1 to 64 seats that use them, numbered from 0 in the order of the answer
 /// (WDK: "IoInitializeRemoveLock"; counts, seats and refusals are this project's own rule). Nobody holds a lock, and no
-/// removal has begun.
+/// removal has begun: the table has no other observers and stakes than those of these seats, and where these are as they
+/// were made every word is 0.
 ///
 /// The error is `BadCount` exactly where none or more than 64 of either were asked for. It is `Memory` only where the
 /// counts are good.
@@ -28,7 +29,9 @@ pub fn open(alloc: Global, locks: u32, seats: u32) -> Result<(Locks, Vec<RemoveS
     ensures counts { MatchResult result (λ _. IsGoodCount locks seats) (OpenRefused locks seats) }
     ensures bad_count { (result ≡ Err BadCount) ↔ IsBadCount locks seats }
     ensures locks { IfOk result (λ opened. lock_count opened.0 ≡ locks) }
+    ensures parties { IfOk result (λ opened. opened.0.table.shared.key ≡ parties_of locks seats) }
     ensures seats { IfOk result (λ opened. (vec_len opened.1 ≡ seats) × AreFresh opened.0.table.shared.table_id seats opened.1.items) }
+    ensures idle { IfOk result (λ opened. IsAllIdle opened.0.table.shared.key opened.1.items) }
 {
     if locks == 0 || locks > 64 || seats == 0 || seats > 64 {
         return Err(OpenRefusal::BadCount);

@@ -45,7 +45,8 @@ pub enum BeginRefusal {
 pub enum DrainRefusal {
     /// There is no such lock.
     NoLock,
-    /// The word that was found: the removed bit, and twice the number of references and of attempts in flight.
+    /// A word other than 1: the removed bit, and twice the number of references and of attempts in flight. It is the
+    /// word that the seat's view tells as found last. That it stood in the table is not proved.
     Busy(u64),
 }
 

@@ -1,6 +1,9 @@
 //! Opening, and the laws.
 
-use crate::{OpenRefusal, drained_for_good, open, word_counts_references};
+use crate::{
+    AcquireRefusal, DrainRefusal, OpenRefusal, drained_for_good, open, table_keeps_rule,
+    word_counts_references,
+};
 use irp_types::LockNo;
 use std::test::Fail;
 
@@ -38,8 +41,39 @@ fn seats_are_numbered_in_their_order(rt: HostRuntime) -> Result<(), Fail> {
         expected = expected.wrapping_add(1);
     }
     assert_eq!(rt; expected, 64);
+    table_keeps_rule();
     word_counts_references();
     drained_for_good();
+    Ok(())
+}
+
+#[test]
+fn the_first_and_the_last_lock_are_free_at_opening(rt: HostRuntime) -> Result<(), Fail> {
+    let (locks, mut seats) = open(rt.alloc(), 64, 2)?;
+    let second = seats.pop();
+    let first = seats.pop();
+    let (Some(mut first), Some(mut second)) = (first, second) else {
+        return Err(Fail::from("two seats were asked for"));
+    };
+    assert_eq!(rt;
+        locks.drained(&mut second, LockNo(63)),
+        Err(DrainRefusal::Busy(0))
+    );
+    assert_eq!(rt;
+        locks.drained(&mut second, LockNo(0)),
+        Err(DrainRefusal::Busy(0))
+    );
+    assert_eq!(rt; locks.acquire(&mut first, LockNo(63), 1), Ok(()));
+    assert_eq!(rt; locks.acquire(&mut first, LockNo(0), 2), Ok(()));
+    assert_eq!(rt; locks.begin_remove(&mut first, LockNo(63), 1), Ok(()));
+    assert_eq!(rt; locks.drained(&mut second, LockNo(63)), Ok(()));
+    assert_eq!(rt;
+        locks.drained(&mut second, LockNo(0)),
+        Err(DrainRefusal::Busy(2))
+    );
+    assert_eq!(rt; locks.acquire(&mut second, LockNo(0), 3), Ok(()));
+    let past = locks.acquire(&mut second, LockNo(64), 3);
+    assert_eq!(rt; past, Err(AcquireRefusal::NoLock));
     Ok(())
 }
 
