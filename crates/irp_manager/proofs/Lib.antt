@@ -10,3 +10,4 @@ pub mod Questions
 pub mod Fresh
 pub mod Handed
 pub mod Recording
+pub mod SettledSteps

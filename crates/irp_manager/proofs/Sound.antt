@@ -31,7 +31,7 @@ passed true refusal others none = absurd (none-some refusal (sym none))
 passed false refusal others none = (refl, none)
 
 -- the checks of two groups passed
-both_passed : (one two : Option Refusal) → or_else one two ≡ None → (one ≡ None) × (two ≡ None)
+pub both_passed : (one two : Option Refusal) → or_else one two ≡ None → (one ≡ None) × (two ≡ None)
 both_passed None two none = (refl, none)
 both_passed (Some refusal) two none = absurd (none-some refusal (sym none))
 
@@ -182,7 +182,7 @@ sound_set_routine counts packet setting used none sound =
     (λ other set_there within. pending_here counts packet unskipped sound (owned_here counts packet sound used within)))
 
 -- where the checks of an own location passed, the packet stands in one, which was not given away
-own_passed : (packet : PacketValue) (others : List Check) → first_failing (location_check packet ∷ skip_check packet ∷ others) ≡ None
+pub own_passed : (packet : PacketValue) (others : List Check) → first_failing (location_check packet ∷ skip_check packet ∷ others) ≡ None
     → (is_skipped packet.preparation ≡ false) × (packet.current ≤ size_of packet) × (first_failing others ≡ None)
 own_passed packet others none =
     let above = passed (is_above_top packet && not (is_skipped packet.preparation)) NoLocation (skip_check packet ∷ others) none in

@@ -5,3 +5,4 @@ pub mod Calls
 pub mod Notes
 pub mod Cores
 pub mod Booked
+pub mod Laws

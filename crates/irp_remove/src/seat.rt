@@ -7,6 +7,7 @@ use crate::reference::Reference;
 use crate::views::View;
 use arrayvec::ArrayVec;
 use atomic_table::Seat;
+use irp_manager::DrainNote;
 use irp_types::LockNo;
 use std::marker::Model;
 
@@ -47,14 +48,6 @@ impl RemoveSeat {
         self.number
     }
 
-    /// Whether its own `drained` answered Yes for the lock. False for a lock that there isn't. Once true it stays so
-    /// (this project's own rule).
-    pub fn knows(&self, lock: LockNo) -> bool
-        ensures { result ≡ flag self.now.watch.drained lock.0 }
-    {
-        (lock.0 as usize) < 64 && self.drained[lock.0 as usize]
-    }
-
     /// Tells that the views of its stakes say what it holds: each of its references is a stake that holds that lock
     /// under that tag, its other stakes are idle, and there are 64 of them together. (That each is a party of the seat's
     /// own table is kept by this type.) It answers nothing (this project's own rule).
@@ -62,5 +55,15 @@ impl RemoveSeat {
         ensures { IsWhole self.now }
     {
         let _ = &self.held;
+    }
+}
+
+/// A seat is what its owner knows of the locks: those for which its own `drained` answered Yes. Once it knows a lock
+/// drained it does for good; it knows nothing of a lock that there isn't (this project's own rule).
+impl DrainNote for RemoveSeat {
+    ghost knows_drained = { λ seat lock. flag seat.watch.drained lock.0 };
+
+    fn knows(&self, lock: LockNo) -> bool {
+        (lock.0 as usize) < 64 && self.drained[lock.0 as usize]
     }
 }

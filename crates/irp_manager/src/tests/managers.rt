@@ -1,5 +1,9 @@
 //! Managers without a history.
 
+ghost use Rattle.std.specs.Prelude.{◌≡◌};
+ghost use Rattle.irp_types.specs.Status.{success};
+ghost use Rattle.irp_types.specs.declared.answer.Plan.TheVariants.{Finish};
+
 use super::*;
 
 /// A store whose one dispatch, for reads, finishes with success and information 5.

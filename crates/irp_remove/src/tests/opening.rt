@@ -4,6 +4,7 @@ use crate::{
     AcquireRefusal, DrainRefusal, OpenRefusal, drained_for_good, open, table_keeps_rule,
     word_counts_references,
 };
+use irp_manager::DrainNote;
 use irp_types::LockNo;
 use std::test::Fail;
 

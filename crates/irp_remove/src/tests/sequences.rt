@@ -6,6 +6,7 @@ use super::{LOCK, Opened, one_lock_two_seats};
 use crate::{
     AcquireRefusal, BeginRefusal, DrainRefusal, HandRefusal, Locks, ReleaseRefusal, RemoveSeat,
 };
+use irp_manager::DrainNote;
 use irp_types::LockNo;
 use std::test::Fail;
 
