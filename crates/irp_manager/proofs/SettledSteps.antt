@@ -1,10 +1,9 @@
 -- Where each closure has one answer, a state and a call settle the step.
-use Rattle.std.proofs.Common.{◌≡◌, ℕ, ◌+◌, ◌≤◌, Bool, not, is_some, List, [], ◌∷◌, map, Option, Some, None, MatchOption, refl, sym, ◌∙◌, ap, subst, arith}
+use Rattle.std.proofs.Common.{◌≡◌, ◌≤◌, Bool, not, is_some, List, [], ◌∷◌, map, Option, Some, None, MatchOption, refl, sym, ◌∙◌, ap, subst, arith}
 use Rattle.std.specs.Prelude.{unwrap_or}
 use Rattle.std.specs.List.{AllByRecursion}
-use Rattle.irp_types.specs.Limits.{most_locations}
 use Rattle.irp_types.specs.Status.{cancelled, is_completable}
-use Rattle.irp_types.specs.Checks.{Check, first_failing, or_else}
+use Rattle.irp_types.specs.Checks.{or_else}
 use Rattle.irp_types.specs.Packet.{PacketValue, size_of, new_packet, with_status}
 use Rattle.irp_types.specs.Unwinding.{Asking, as_asked}
 use Rattle.irp_types.specs.State.{StateValue, LivePacket, Fixed, Tables, live_at, packet_of, with_packet}

@@ -49,12 +49,15 @@ fn devices_are_attached_detached_and_deleted(rt: HostRuntime) -> Result<(), Fail
     assert_eq!(rt; stacks.detach(DeviceId(0)), Err(Refusal::NothingAttached));
     assert_eq!(rt; stacks.attach(DeviceId(0), DeviceId(2)), Ok(DeviceId(2)));
     assert_eq!(rt; size_of(&rt, &stacks, 0), 3);
+    assert_eq!(rt; stacks.delete_refusal(DeviceId(3)), None);
     assert_eq!(rt; stacks.delete(DeviceId(3)), Ok(()));
     assert_eq!(rt;
         stacks.attach(DeviceId(3), DeviceId(0)),
         Err(Refusal::DeviceGone)
     );
-    assert_eq!(rt; stacks.delete(DeviceId(1)), Err(Refusal::StillAttached));
+    let attached = Refusal::StillAttached;
+    assert_eq!(rt; stacks.delete_refusal(DeviceId(1)), Some(attached));
+    assert_eq!(rt; stacks.delete(DeviceId(1)), Err(attached));
     let next = stacks.create(DriverId(7), LockNo(7)).map_err(|_| "create")?;
     assert_eq!(rt; next, DeviceId(4));
     Ok(())
