@@ -2,6 +2,7 @@
 
 mod cancelling;
 mod deleting;
+mod majors;
 mod owners;
 mod refusing;
 

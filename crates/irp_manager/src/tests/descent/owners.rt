@@ -263,3 +263,47 @@ fn a_device_sends_to_the_one_below_it(rt: HostRuntime) -> Result<(), Fail> {
     ];
     follow(&rt, rt.alloc(), &[HOLD, HOLD, HOLD], &steps)
 }
+
+/// The one location of a held packet has no next one; it is completed once, and with a status that completes.
+#[test]
+fn a_held_packet_of_one_location_is_completed_once(rt: HostRuntime) -> Result<(), Fail> {
+    let asked = [planned(0, 1, HOLD)];
+    let done = complete_with(LOWEST, Status::SUCCESS, 0);
+    let pending = complete_with(LOWEST, Status(259), 0);
+    let steps: [(Call, Reply, &[Asked]); 6] = [
+        (send(DEVICE), PENDING, &asked),
+        (fill_by(LOWEST, 28), refused(Refusal::TooShort), NOTHING),
+        (pending, refused(Refusal::BadStatus), NOTHING),
+        (done, Reply::Done, NOTHING),
+        (done, refused(Refusal::Ended), NOTHING),
+        (LOOK, ended(Status::SUCCESS, 0, true), NOTHING),
+    ];
+    follow(&rt, rt.alloc(), &[HOLD], &steps)
+}
+
+/// A packet that was finished on its way down is given back too.
+#[test]
+fn a_finished_packet_is_given_back(rt: HostRuntime) -> Result<(), Fail> {
+    let done = finish(Status::SUCCESS, 5);
+    let asked = [planned(0, 1, done)];
+    let next = IrpRef { slot: 0, use_no: 2 };
+    let steps: [(Call, Reply, &[Asked]); 3] = [
+        (send(DEVICE), READ_DONE, &asked),
+        (Call::Free { irp: IRP }, Reply::Done, NOTHING),
+        (ALLOCATE, Reply::Irp(next), NOTHING),
+    ];
+    follow(&rt, rt.alloc(), &[done], &steps)
+}
+
+/// D1 marks what it holds, and is cut off from D0.
+#[test]
+fn a_device_that_holds_is_detached(rt: HostRuntime) -> Result<(), Fail> {
+    let asked = [planned(1, 2, HOLD)];
+    let detach = Call::Detach { lower: DEVICE };
+    let steps: [(Call, Reply, &[Asked]); 3] = [
+        (send(DeviceId(1)), PENDING, &asked),
+        (mark_pending(UPPER), Reply::Done, NOTHING),
+        (detach, Reply::Device(DeviceId(1)), NOTHING),
+    ];
+    follow(&rt, rt.alloc(), &[HOLD, HOLD], &steps)
+}
