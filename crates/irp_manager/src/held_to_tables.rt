@@ -13,7 +13,7 @@ use irp_types::{
 
 /// An asker, and the tables that a history is judged by. Each answer is passed on where these tables allow it; else a
 /// fixed one that they do is given in its place. Where the tables are the asker's own, as they are of a book that was
-/// made with them, its answers are always allowed, and none is replaced (this project's own rule).
+/// made with them, each answer is one that the asker may give (this project's own rule).
 #[derive(Drop)]
 pub struct HeldToTables<A> {
     ask: A,

@@ -15,7 +15,7 @@ pub struct ListKeep {
 }
 
 impl ListKeep {
-    /// No packets. It takes no memory until one is put.
+    /// No packets. It takes no memory until a slot is reserved.
     pub fn new(alloc: Global) -> ListKeep
         ensures { listed result ≡ fin.empty }
     {

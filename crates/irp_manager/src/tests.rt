@@ -4,6 +4,7 @@ ghost use Rattle.std.specs.Prelude.{◌≡◌};
 ghost use Rattle.irp_types.specs.Status.{success};
 ghost use Rattle.irp_types.specs.declared.answer.Plan.TheVariants.{Finish};
 
+mod counting;
 mod descent;
 mod managers;
 

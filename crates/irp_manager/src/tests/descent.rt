@@ -240,7 +240,7 @@ fn three_devices_share_a_location(rt: HostRuntime) -> Result<(), Fail> {
     follow(&rt, rt.alloc(), &[HOLD, SKIP, SKIP], &steps)
 }
 
-/// D2 skips, D1 sets a routine, and D0 finishes. Location 1 is never used.
+/// D2 skips, D1 sets a routine, and D0 finishes. Nobody is asked in location 1.
 #[test]
 fn a_skipped_location_is_the_next_devices(rt: HostRuntime) -> Result<(), Fail> {
     let set = forward(always(Rule::Watch));

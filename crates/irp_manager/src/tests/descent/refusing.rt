@@ -61,7 +61,7 @@ fn prepared(rt: &impl Abort, alloc: Global) -> Result<Session, Fail> {
 }
 
 #[test]
-fn refused_calls_on_devices_change_nothing(rt: HostRuntime) -> Result<(), Fail> {
+fn refused_calls_on_devices_change_no_packet(rt: HostRuntime) -> Result<(), Fail> {
     let mut session = prepared(&rt, rt.alloc())?;
     let unlocked = Call::CreateDevice {
         driver: DriverId(0),
@@ -101,7 +101,7 @@ fn refused_calls_on_devices_change_nothing(rt: HostRuntime) -> Result<(), Fail> 
 }
 
 #[test]
-fn refused_calls_on_packets_change_nothing(rt: HostRuntime) -> Result<(), Fail> {
+fn refused_calls_on_packets_change_no_packet(rt: HostRuntime) -> Result<(), Fail> {
     let mut session = prepared(&rt, rt.alloc())?;
     let absent = IrpRef { slot: 2, use_no: 1 };
     let stale = IrpRef { slot: 0, use_no: 2 };
@@ -133,7 +133,7 @@ fn refused_calls_on_packets_change_nothing(rt: HostRuntime) -> Result<(), Fail> 
 }
 
 #[test]
-fn refused_calls_of_an_owner_change_nothing(rt: HostRuntime) -> Result<(), Fail> {
+fn refused_calls_of_an_owner_change_no_packet(rt: HostRuntime) -> Result<(), Fail> {
     let mut session = prepared(&rt, rt.alloc())?;
     let leaves = Some(CancelId(0));
     let done = complete(UPPER, Status::SUCCESS);

@@ -1,0 +1,165 @@
+//! Closures of a store that count how often they are asked, through a book.
+
+ghost use Rattle.std.specs.Prelude.{◌≡◌, true};
+ghost use Rattle.irp_types.specs.Rules.{is_allowed, is_plan_allowed, is_cancel_allowed};
+ghost use Rattle.irp_types.specs.State.{no_routines};
+ghost use Rattle.irp_types.specs.declared.routine.Rule.TheVariants.{Watch};
+ghost use Rattle.irp_types.specs.declared.routine.CancelRule.TheVariants.{MustFinish};
+
+use super::*;
+use irp_routines::{CancelClosure, CancelRoutine, CompletionClosure, Routine};
+use irp_types::Setting;
+use std::process::Abort;
+
+const CANCELLED: Status = Status(3221225760);
+
+const CANCEL: Call = Call::Cancel { irp: IRP };
+
+const ONE_CANCEL: Known = Known {
+    cancel: 1,
+    ..Known::NONE
+};
+
+const HOLDS_CANCELLABLE: Plan = Plan::Hold {
+    cancel: Some(CancelId(0)),
+};
+
+/// The originator's Watch, which a cancellation alone asks.
+const ON_CANCEL: Setting = Setting {
+    routine: RoutineId {
+        rule: Rule::Watch,
+        no: 0,
+    },
+    context: 9,
+    on_success: false,
+    on_error: false,
+    on_cancel: true,
+};
+
+/// Holds with the cancel routine, where the packet isn't cancelled yet.
+fn counted_hold(count: &AtomicU32, shown: Shown) -> Plan
+    ensures { is_plan_allowed (record no_routines { cancel = 1 }) shown result ≡ true }
+{
+    count.fetch_add(1, Ordering::SeqCst);
+    if shown.cancel {
+        return HOLDS;
+    }
+    HOLDS_CANCELLABLE
+}
+
+fn counted_watch(count: &AtomicU32, shown: Shown) -> Answer
+    ensures { is_allowed Watch shown result ≡ true }
+{
+    count.fetch_add(1, Ordering::SeqCst);
+    Answer {
+        keep: false,
+        mark: Rule::right_mark(shown, false),
+        replacement: None,
+    }
+}
+
+fn counted_cancel(count: &AtomicU32) -> CancelAnswer
+    ensures { is_cancel_allowed MustFinish result ≡ true }
+{
+    count.fetch_add(1, Ordering::SeqCst);
+    CancelAnswer::Finish { information: 0 }
+}
+
+/// What a cancellation asks: the cancel routine, and then the Watch.
+fn asked_by_cancel() -> [Asked; 2] {
+    let shown = Shown {
+        cancel: true,
+        ..SHOWN
+    };
+    let finish = Asked::Cancel {
+        id: CancelId(0),
+        shown,
+        answer: CancelAnswer::Finish { information: 0 },
+    };
+    let watched = Asked::Completion {
+        id: ON_CANCEL.routine,
+        shown: Shown {
+            device: None,
+            status: CANCELLED,
+            pending_returned: true,
+            context: 9,
+            ..shown
+        },
+        answer: Answer {
+            keep: false,
+            mark: false,
+            replacement: None,
+        },
+    };
+    [finish, watched]
+}
+
+/// A packet is sent, and cancelled; both are tried again and refused.
+fn send_and_cancel<A: Ask>(rt: &impl Abort, alloc: Global, book: &mut Book<A>) -> Result<(), Fail> {
+    let set = Call::SetRoutine {
+        party: ORIGINATOR,
+        irp: IRP,
+        setting: ON_CANCEL,
+    };
+    let over = Reply::Seen(Seen {
+        owner: Owner::Ended,
+        current: 2,
+        status: CANCELLED,
+        information: 0,
+        cancel: true,
+        cancel_routine: None,
+        pending_returned: true,
+        marked: false,
+    });
+    let held = [asked_of(HOLDS_CANCELLABLE)];
+    let cancelled = asked_by_cancel();
+    let steps: [(Call, Reply, &[Asked]); 9] = [
+        (CREATE, Reply::Device(DEVICE), &[]),
+        (ALLOCATE, Reply::Irp(IRP), &[]),
+        (fill(IRP, READ), Reply::Done, &[]),
+        (set, Reply::Done, &[]),
+        (send(DEVICE), Reply::Status(Status(259)), &held),
+        (send(DEVICE), refused(Refusal::NotOwner), &[]),
+        (CANCEL, Reply::Cancelled(true), &cancelled),
+        (CANCEL, refused(Refusal::Ended), &[]),
+        (LOOK, over, &[]),
+    ];
+    let mut seat = Seat::new(0);
+    for place in 0..steps.len() {
+        let (call, reply, asked) = steps[place];
+        let receipt = book.record(alloc, &seat, call, &KnowsNothing)?;
+        seat.saw(receipt.number() + 1);
+        assert_eq!(rt; receipt.reply(), reply);
+        let entry = book.entry(place).ok_or("no entry")?;
+        assert_eq!(rt; entry.asked.as_slice(), asked);
+    }
+    Ok(())
+}
+
+#[test]
+fn closures_are_asked_once_through_a_book(rt: HostRuntime) -> Result<(), Fail> {
+    let alloc = rt.alloc();
+    let plans = Arc::new(alloc, AtomicU32::new(0))?;
+    let cancels = Arc::new(alloc, AtomicU32::new(0))?;
+    let watches = Arc::new(alloc, AtomicU32::new(0))?;
+    let mut store = Store::new(alloc);
+    let own = watches.clone()?;
+    let run: CompletionClosure = Box::new(alloc, move |shown: Shown| counted_watch(&own, shown))?;
+    let watch = store.add(Routine::new(Rule::Watch, run));
+    let own = cancels.clone()?;
+    let run: CancelClosure = Box::new(alloc, move |_shown: Shown| counted_cancel(&own))?;
+    let cancel = store.add_cancel(CancelRoutine::new(CancelRule::MustFinish, run));
+    let own = plans.clone()?;
+    let run: DispatchClosure = Box::new(alloc, move |shown: Shown| counted_hold(&own, shown))?;
+    let plan = store.add_dispatch(Dispatch::new(ONE_CANCEL, run));
+    assert!(rt; watch.is_ok() && cancel.is_ok() && plan.is_ok());
+    let driver = store.add_driver([(READ, DispatchId(0))].to_vec(alloc)?);
+    assert!(rt; driver.is_ok());
+    let tables = store.tables().copied()?;
+    let mut book = Book::new(alloc, store, tables, 1);
+    send_and_cancel(&rt, alloc, &mut book)?;
+    assert_eq!(rt; plans.load(Ordering::SeqCst), 1);
+    assert_eq!(rt; cancels.load(Ordering::SeqCst), 1);
+    assert_eq!(rt; watches.load(Ordering::SeqCst), 1);
+    Ok(())
+}
