@@ -1,12 +1,13 @@
 -- The state of a core, and what a call makes of it.
-use Rattle.std.specs.Prelude.{ℕ, ◌≡◌, Bool, List, Option}
+use Rattle.std.specs.Prelude.{ℕ, ◌≡◌, ◌*◌, Bool, List, Option}
+use Rattle.irp_types.specs.Limits.{most_locations}
 use Rattle.irp_types.specs.State.{StateValue, Fixed, Tables, packet_of}
 use Rattle.irp_types.specs.Descent.{StaysUp}
 use Rattle.irp_types.specs.Steps.{Step}
 use Rattle.irp_types.specs.Standing.{StandingFacts}
 use Rattle.irp_types.specs.declared.asked.Asked.{Asked}
 use Rattle.irp_types.specs.declared.call.Call.{Call}
-use Rattle.irp_types.specs.declared.call.Call.TheVariants.{Allocate, CallDriver}
+use Rattle.irp_types.specs.declared.call.Call.TheVariants.{Allocate, CallDriver, Complete, Cancel}
 use Rattle.irp_types.specs.declared.call.Party.{Party}
 use Rattle.irp_types.specs.declared.names.IrpRef.{IrpRef}
 use Rattle.irp_types.specs.declared.names.DeviceId.{DeviceId}
@@ -41,3 +42,10 @@ SenderStays live old call reply new = (party : Party) (irp : IrpRef) (target : D
 -- where the call allocates a packet, its slot is as the keep promises for the wish
 abbrev pub SlotGranted : {K : Type 0} → (K → Option ℕ → ℕ → Type 0) → Core K → Option ℕ → Call → Reply → Type 0
 SlotGranted grants old wish call reply = (size : ℕ) (irp : IrpRef) → call ≡ Allocate size → reply ≡ Irp irp → grants old.keep wish irp.slot
+
+-- how many questions a call may ask: one to each device and one to each location where it sends, completes or cancels
+abbrev pub most_asked : Call → ℕ
+most_asked (CallDriver party irp target) = 2 * most_locations
+most_asked (Complete party irp status information) = 2 * most_locations
+most_asked (Cancel irp) = 2 * most_locations
+most_asked _ = 0

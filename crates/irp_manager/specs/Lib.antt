@@ -6,3 +6,4 @@ pub mod Notes
 pub mod Cores
 pub mod Booked
 pub mod Laws
+pub mod Seats

@@ -2,7 +2,11 @@
 
 ghost use Rattle.std.specs.Prelude.{◌≡◌, ℕ, ◌<◌, ◌≤◌, [], length, slice_get, Err, IfOk, OnErr};
 ghost use Rattle.std.specs.Option.{option_copied};
+ghost use mathlib.Core.Logic.{◌↔◌};
 ghost use Rattle.irp_types.specs.Histories.{IsLegal};
+ghost use Rattle.irp_types.specs.State.{opening_state};
+ghost use Rattle.irp_manager.specs.Keeps.{listed};
+ghost use Rattle.irp_manager.specs.Cores.{state_of};
 ghost use Rattle.irp_routines.specs.Answers.{AreAnswered};
 ghost use Rattle.irp_manager.specs.Passing.{PassesPlan, PassesAnswer, PassesCancel};
 ghost use Rattle.irp_manager.specs.Booked.{most_entries, Records};
@@ -14,11 +18,12 @@ use crate::not_recorded::NotRecorded;
 use crate::note::DrainNote;
 use crate::receipt::Receipt;
 use crate::seat::Seat;
+use crate::manager::Manager;
 use crate::sequential::Core;
 use irp_routines::{Ask, FixedTables};
 use irp_types::{Call, Entry, Row, history_goes_on};
-use std::alloc::Global;
 use std::marker::Model;
+use std::sync::ledger::Ledger;
 
 /// How many entries a history may have.
 const MOST_ENTRIES: usize = 1_000_000;
@@ -58,14 +63,17 @@ impl<A> Model for Book<A> {
 impl<A: Ask> Book<A> {
     /// A manager that asks so, with this many remove locks, and no history, on condition that the tables are the
     /// asker's own. It takes no memory.
-    pub fn new(alloc: Global, ask: A, tables: FixedTables, locks: u32) -> Book<A>
-        requires own { A.tables ask ≡ tables }
-        ensures { result ≡ record { ask = ask; fixed = record { locks = locks; tables = tables }; history = [] } }
+    pub fn new(manager: Manager<A>, tables: FixedTables) -> Book<A>
+        requires opening { state_of listed manager.core ≡ opening_state }
+        requires own { A.tables manager.ask ≡ tables }
+        ensures { result ≡ record { ask = manager.ask; fixed = record { locks = manager.core.locks; tables = tables }; history = [] } }
     {
+        let (ask, core) = manager.into_parts();
+        let history = Vec::new(core.alloc());
         Book {
             held: HeldToTables::new(ask, tables),
-            core: Core::new(alloc, ListKeep::new(alloc), locks),
-            history: Vec::new(alloc),
+            core,
+            history,
         }
     }
 }
@@ -95,10 +103,9 @@ impl<A: Ask> Book<A> {
     ///
     /// `Behind` exactly where the history is shorter than what the seat has seen, else `HistoryFull` exactly where it
     /// has 1,000,000 entries; `Memory` where a growth was refused. None of them changes anything.
-    pub fn record<N: DrainNote>(
+    pub fn record<L: Ledger, N: DrainNote>(
         &mut self,
-        alloc: Global,
-        seat: &Seat,
+        seat: &Seat<L>,
         call: Call,
         note: &N,
     ) -> Result<Receipt, NotRecorded>
@@ -111,10 +118,8 @@ impl<A: Ask> Book<A> {
         ensures legal { IsLegal self.new.fixed self.new.history }
         ensures err { OnErr result (self.new ≡ self.old) }
 
-        ensures behind { length self.old.history < seat.now.seen → result ≡ Err (Behind (length self.old.history)) }
-        ensures only_behind { (told : ℕ) → result ≡ Err (Behind told) → (told ≡ length self.old.history) × (told < seat.now.seen) }
-        ensures full { seat.now.seen ≤ length self.old.history → length self.old.history ≡ most_entries → result ≡ Err HistoryFull }
-        ensures only_full { result ≡ Err HistoryFull → length self.old.history ≡ most_entries }
+        ensures behind { (told : ℕ) → (result ≡ Err (Behind told)) ↔ ((told ≡ length self.old.history) × (told < seat.now.seen)) }
+        ensures full { (result ≡ Err HistoryFull) ↔ ((seat.now.seen ≤ length self.old.history) × (length self.old.history ≡ most_entries)) }
     {
         let length = self.history.len();
         if (length as u64) < seat.seen() {
@@ -128,7 +133,7 @@ impl<A: Ask> Book<A> {
         if self.history.reserve(1).is_err() {
             return Err(NotRecorded::Memory);
         }
-        let Ok(applied) = self.core.apply(alloc, &self.held, call, note, None) else {
+        let Ok(applied) = self.core.apply(&self.held, call, note, None) else {
             return Err(NotRecorded::Memory);
         };
         let entry = Entry {

@@ -69,6 +69,7 @@ fn follow<A: Ask>(
     requires taken { packet.old.cancel_routine ≡ None }
     requires placed { packet.old.current ≤ size_of packet.old }
     requires room { vec_len asked.old + most_locations ≤ vec_capacity asked.old }
+    ensures capacity { vec_capacity asked.new ≡ vec_capacity asked.old }
     ensures followed { Followed (AreAnswered (A.may_plan ask.now) (A.may_answer ask.now) (A.may_cancel ask.now))
         irp packet.old packet.new answer asked.old.items asked.new.items }
     ensures sound { IsSound (A.tables ask.now).counts packet.new }
@@ -87,6 +88,7 @@ fn cancel_packet<A: Ask>(packet: &mut Packet, irp: IrpRef, ask: &A, asked: &mut 
     requires sound { IsSound (A.tables ask.now).counts packet.old }
     requires empty { asked.old.items ≡ [] }
     requires room { vec_len asked.old + 2 * most_locations ≤ vec_capacity asked.old }
+    ensures capacity { vec_capacity asked.new ≡ vec_capacity asked.old }
     ensures cancelled { Cancels (A.tables ask.now) irp packet.old packet.old.cancel_routine asked.new.items result packet.new }
     ensures may { AreAnswered (A.may_plan ask.now) (A.may_answer ask.now) (A.may_cancel ask.now) asked.new.items }
     ensures sound { IsSound (A.tables ask.now).counts packet.new }
@@ -108,6 +110,7 @@ pub fn cancel<A: Ask>(live: &mut Live, irp: IrpRef, ask: &A, asked: &mut Vec<Ask
     requires sound { IsSound (A.tables ask.now).counts live.old.packet }
     requires empty { asked.old.items ≡ [] }
     requires room { vec_len asked.old + 2 * most_locations ≤ vec_capacity asked.old }
+    ensures capacity { vec_capacity asked.new ≡ vec_capacity asked.old }
     ensures goes { Goes (first_failing (ended_check live.old.packet ∷ []))
         (IsCancelled (A.tables ask.now) irp asked.new.items result live.old.packet) live.old live.new asked.new.items result }
     ensures may { AreAnswered (A.may_plan ask.now) (A.may_answer ask.now) (A.may_cancel ask.now) asked.new.items }

@@ -27,4 +27,4 @@ pub use not_recorded::NotRecorded;
 pub use note::{DrainNote, KnowsAll, KnowsNothing};
 pub use receipt::Receipt;
 pub use seat::Seat;
-pub use sequential::{Applied, Core};
+pub use sequential::{Applied, Core, most_asked};

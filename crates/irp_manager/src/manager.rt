@@ -1,13 +1,13 @@
 //! The sequential manager with whom it asks.
 
-ghost use Rattle.std.specs.Prelude.{◌≡◌, None, IfOk, OnErr};
+ghost use Rattle.std.specs.Prelude.{◌≡◌, ◌≤◌, length, None, IfOk, OnErr};
 ghost use Rattle.irp_types.specs.Histories.{lock_of};
 ghost use Rattle.irp_types.specs.State.{opening_state};
 ghost use Rattle.irp_types.specs.Standing.{StandingFacts};
 ghost use Rattle.irp_routines.specs.Answers.{AreAnswered};
 ghost use Rattle.irp_manager.specs.Notes.{known_by};
 ghost use Rattle.irp_manager.specs.Keeps.{listed, IsLowest};
-ghost use Rattle.irp_manager.specs.Cores.{state_of, Stepped, SenderStays, SlotGranted};
+ghost use Rattle.irp_manager.specs.Cores.{state_of, most_asked, Stepped, SenderStays, SlotGranted};
 
 use crate::list_keep::ListKeep;
 use crate::note::DrainNote;
@@ -22,6 +22,15 @@ use std::alloc::{AllocError, Global};
 pub struct Manager<A> {
     ask: A,
     core: Core<ListKeep>,
+}
+
+impl<A> Manager<A> {
+    /// Whom it asks, and its state.
+    pub(super) fn into_parts(self) -> (A, Core<ListKeep>)
+        ensures { (result.0 ≡ self.ask) × (result.1 ≡ self.core) }
+    {
+        (self.ask, self.core)
+    }
 }
 
 impl<A: Ask> Manager<A> {
@@ -46,7 +55,6 @@ impl<A: Ask> Manager<A> {
     /// `AllocError` where a growth was refused. The state stays as it was.
     pub fn apply<N: DrainNote>(
         &mut self,
-        alloc: Global,
         call: Call,
         note: &N,
     ) -> Result<Applied, AllocError>
@@ -55,6 +63,7 @@ impl<A: Ask> Manager<A> {
         ensures stepped { IfOk result (λ applied. Stepped listed (A.tables self.old.ask) applied.drained self.old.core call applied.asked.items applied.reply self.new.core) }
         ensures stands { StandingFacts (A.tables self.old.ask).counts (state_of listed self.new.core) }
         ensures may { IfOk result (λ applied. AreAnswered (A.may_plan self.old.ask) (A.may_answer self.old.ask) (A.may_cancel self.old.ask) applied.asked.items) }
+        ensures few { IfOk result (λ applied. length applied.asked.items ≤ most_asked call) }
         ensures stays { IfOk result (λ applied. SenderStays listed self.old.core call applied.reply self.new.core) }
         ensures lowest { IfOk result (λ applied. SlotGranted (λ keep wish slot. IsLowest keep slot) self.old.core None call applied.reply) }
         ensures lock { IfOk result (λ applied. applied.lock ≡ lock_of (state_of listed self.old.core) call) }
@@ -62,6 +71,6 @@ impl<A: Ask> Manager<A> {
         ensures err { OnErr result (state_of listed self.new.core ≡ state_of listed self.old.core) }
         ensures locks { self.new.core.locks ≡ self.old.core.locks }
     {
-        self.core.apply(alloc, &self.ask, call, note, None)
+        self.core.apply(&self.ask, call, note, None)
     }
 }

@@ -294,6 +294,7 @@ pub fn send<A: Ask>(
     requires sound { IsSound (A.tables ask.now).counts live.old.packet }
     requires empty { asked.old.items ≡ [] }
     requires room { vec_len asked.old + 2 * most_locations ≤ vec_capacity asked.old }
+    ensures capacity { vec_capacity asked.new ≡ vec_capacity asked.old }
     ensures goes { Goes (send_refusal stacks.now party live.old.packet target.0)
         (Sends (A.tables ask.now) irp stacks.now target.0 asked.new.items result live.old.packet) live.old live.new asked.new.items result }
     ensures may { AreAnswered (A.may_plan ask.now) (A.may_answer ask.now) (A.may_cancel ask.now) asked.new.items }
@@ -338,6 +339,7 @@ pub fn complete<A: Ask>(
     requires sound { IsSound (A.tables ask.now).counts live.old.packet }
     requires empty { asked.old.items ≡ [] }
     requires room { vec_len asked.old + most_locations ≤ vec_capacity asked.old }
+    ensures capacity { vec_capacity asked.new ≡ vec_capacity asked.old }
     ensures goes { Goes (complete_refusal live.old.packet status)
         (Finishes irp status information asked.new.items result live.old.packet) live.old live.new asked.new.items result }
     ensures may { AreAnswered (A.may_plan ask.now) (A.may_answer ask.now) (A.may_cancel ask.now) asked.new.items }

@@ -1,30 +1,49 @@
 //! Who makes calls.
 
-ghost use Rattle.std.specs.Prelude.{◌≡◌, if◌then◌else◌, nat_lt};
+ghost use Rattle.std.specs.Prelude.{◌≡◌, ◌<◌, ◌+◌, ◌++◌, ◌∷◌, [], length, OnOk, if◌then◌else◌, nat_lt};
 
+use irp_types::Entry;
+use std::alloc::{AllocError, Global};
 use std::marker::Model;
+use std::sync::ledger::{Book as Total, Ledger, Share};
 
-/// Who makes calls: a number, and how much of the history was seen (this project's own rule).
+/// Who makes calls: a number, how much of the history was seen, the entries of its own calls, and a share of a ledger.
+/// By its type the share has one part of the ledger, and its amount is the number of entries. So whoever has all seats
+/// of a ledger knows that the numbers of their entries add up to the ledger's total (this project's own rule).
+///
+/// The parameter `L` names the ledger: a seat is of the ledger that its type names, and of no other.
 #[derive(Drop)]
-pub struct Seat {
+pub struct Seat<L: Ledger> {
     number: u32,
     seen: u64,
+    entries: Vec<Entry>,
+    share: Share<L>,
 }
 
-impl Model for Seat {
-    ghost use Rattle.irp_manager.specs.Booked.{Seated};
+impl<L: Ledger> Model for Seat<L> {
+    ghost use Rattle.std.specs.Prelude.{◌≡◌, ◌-◌, vec_len, vec_capacity, length};
+    ghost use Rattle.irp_manager.specs.Seats.{Seated};
 
     ghost Value = { Seated };
 
-    ghost view = { λ seat. record { number = seat.number; seen = seat.seen } };
+    ghost view = { λ seat. record { number = seat.number; seen = seat.seen; entries = seat.entries.items; room = vec_capacity seat.entries - vec_len seat.entries } };
+
+    ghost invariant = { λ seat. (seat.share.parts ≡ 1) × (seat.share.amount ≡ length seat.entries.items) };
 }
 
-impl Seat {
-    /// A seat of this number that has seen nothing.
-    pub fn new(number: u32) -> Seat
-        ensures { result ≡ record { number = number; seen = 0 } }
+impl<L: Ledger> Seat<L> {
+    /// A seat of this number that has seen nothing and has no entries, on condition that its share is one part of the
+    /// ledger and counts nothing yet. It takes no memory.
+    pub fn new(alloc: Global, number: u32, share: Share<L>) -> Seat<L>
+        requires { (share.parts ≡ 1) × (share.amount ≡ 0) }
+        ensures { (result.number ≡ number) × (result.seen ≡ 0) × (result.entries ≡ []) }
     {
-        Seat { number, seen: 0 }
+        Seat {
+            number,
+            seen: 0,
+            entries: Vec::new(alloc),
+            share,
+        }
     }
 
     /// The seat's number.
@@ -41,6 +60,43 @@ impl Seat {
         self.seen
     }
 
+    /// The entries of the seat's own calls, in order.
+    pub fn entries(&self) -> &[Entry]
+        ensures { result.now ≡ self.now.entries }
+    {
+        self.entries.as_slice()
+    }
+
+    /// How many entries the seat has.
+    pub fn count(&self) -> usize
+        ensures { result ≡ length self.now.entries }
+    {
+        self.entries.len()
+    }
+
+    /// Makes room for one more entry.
+    ///
+    /// # Errors
+    ///
+    /// `AllocError` where a growth was refused. Either way the seat says what it said.
+    pub fn room(&mut self) -> Result<(), AllocError>
+        ensures ok { OnOk result (0 < self.new.room) }
+        ensures same { (self.new.number ≡ self.old.number) × (self.new.seen ≡ self.old.seen) × (self.new.entries ≡ self.old.entries) }
+    {
+        self.entries.reserve(1)
+    }
+
+    /// Takes one more entry, on condition that there is room for it, and counts it in the ledger's total.
+    pub fn took(&mut self, entry: Entry, total: &mut Total<L>)
+        requires { 0 < self.old.room }
+        ensures entries { self.new.entries ≡ self.old.entries ++ entry ∷ [] }
+        ensures same { (self.new.number ≡ self.old.number) × (self.new.seen ≡ self.old.seen) }
+        ensures total { total.new.total ≡ total.old.total + 1 }
+    {
+        total.add(&mut self.share, 1);
+        self.entries.push_reserved(entry);
+    }
+
     /// The seat has seen this many entries, or more if it had seen more.
     pub fn saw(&mut self, length: u64)
         ensures { self.new ≡ record self.old { seen = if nat_lt self.old.seen length then length else self.old.seen } }
@@ -48,5 +104,14 @@ impl Seat {
         if self.seen < length {
             self.seen = length;
         }
+    }
+
+    /// The number, the entries and the share.
+    pub fn into_parts(self) -> (u32, Vec<Entry>, Share<L>)
+        ensures number { result.0 ≡ self.number }
+        ensures entries { result.1.items ≡ self.entries }
+        ensures share { (result.2.parts ≡ 1) × (result.2.amount ≡ length self.entries) }
+    {
+        (self.number, self.entries, self.share)
     }
 }

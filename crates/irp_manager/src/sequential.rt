@@ -17,7 +17,7 @@ ghost use Rattle.irp_types.specs.declared.names.IrpRef.{IrpRef};
 ghost use Rattle.irp_types.specs.declared.reply.Reply.TheVariants.{Irp};
 ghost use Rattle.irp_routines.specs.Answers.{AreAnswered};
 ghost use Rattle.irp_manager.specs.Notes.{known_by};
-ghost use Rattle.irp_manager.specs.Cores.{state_of, Stepped, SteppedAny, SentStays, SenderStays, SlotGranted};
+ghost use Rattle.irp_manager.specs.Cores.{state_of, most_asked, Stepped, SteppedAny, SentStays, SenderStays, SlotGranted};
 
 use crate::keep::{Keep, Live};
 use crate::note::DrainNote;
@@ -37,8 +37,19 @@ const MOST_LIVE: usize = 4096;
 /// Use numbers are below this.
 const USE_LIMIT: u64 = 0x8000_0000_0000_0000;
 
-/// How many questions a call may ask: one to each of 16 devices, and one to each of 16 locations.
+/// How many questions a call may ask that may ask any: one to each of 16 devices, and one to each of 16 locations.
 const MOST_ASKED: usize = 32;
+
+/// How many questions a call may ask: 32 where it sends, completes or cancels a packet, else none (this project's own
+/// rule).
+pub fn most_asked(call: Call) -> usize
+    ensures { result ≡ most_asked call }
+{
+    match call {
+        Call::CallDriver { .. } | Call::Complete { .. } | Call::Cancel { .. } => MOST_ASKED,
+        _ => 0,
+    }
+}
 
 /// What a call did: the lock of the device that it deletes, where that one was created; whether the note knew that lock to
 /// be drained; what was asked, in order; and the reply.
@@ -54,6 +65,7 @@ pub struct Applied {
 /// are (this project's own rule). It is lent whom it asks, for each call.
 #[derive(Drop)]
 pub struct Core<K> {
+    alloc: Global,
     keep: K,
     stacks: Stacks,
     next_use: u64,
@@ -70,11 +82,17 @@ impl<K: Keep> Core<K> {
         ensures locks { result.locks ≡ locks }
     {
         Core {
+            alloc,
             keep,
             stacks: Stacks::new(alloc),
             next_use: 1,
             locks,
         }
+    }
+
+    /// What it allocates from.
+    pub(super) fn alloc(&self) -> Global {
+        self.alloc
     }
 
     fn packet_refusal(&self, irp: IrpRef) -> Option<Refusal>
@@ -223,12 +241,7 @@ impl<K: Keep> Core<K> {
         None
     }
 
-    fn allocate(
-        &mut self,
-        alloc: Global,
-        size: u8,
-        wish: Option<usize>,
-    ) -> Result<Reply, AllocError>
+    fn allocate(&mut self, size: u8, wish: Option<usize>) -> Result<Reply, AllocError>
         ensures stepped { IfOk result (λ reply. SteppedAny K.live self.old (Allocate size) [] reply self.new) }
         ensures granted { IfOk result (λ reply. (irp : IrpRef) → reply ≡ Irp irp → K.grants self.old.keep wish irp.slot) }
         ensures err { OnErr result (state_of K.live self.new ≡ state_of K.live self.old) }
@@ -237,7 +250,7 @@ impl<K: Keep> Core<K> {
         if let Some(refusal) = self.allocate_refusal(size) {
             return Ok(Reply::Refused(refusal));
         }
-        let packet = match Packet::new(alloc, size) {
+        let packet = match Packet::new(self.alloc, size) {
             Ok(packet) => packet,
             Err(refusal) => return Ok(Reply::Refused(refusal)),
         };
@@ -295,6 +308,7 @@ impl<K: Keep> Core<K> {
         requires stands { StandingFacts (A.tables ask.now).counts (state_of K.live self.old) }
         requires empty { asked.old.items ≡ [] }
         requires room { vec_len asked.old + 2 * most_locations ≤ vec_capacity asked.old }
+        ensures capacity { vec_capacity asked.new ≡ vec_capacity asked.old }
         ensures stepped { (drained : Bool) → Stepped K.live (A.tables ask.now) drained self.old (Cancel irp) asked.new.items result self.new }
         ensures may { AreAnswered (A.may_plan ask.now) (A.may_answer ask.now) (A.may_cancel ask.now) asked.new.items }
     {
@@ -324,7 +338,6 @@ impl<K: Keep> Core<K> {
 
     fn answer<A: Ask>(
         &mut self,
-        alloc: Global,
         ask: &A,
         call: Call,
         drained: bool,
@@ -333,7 +346,8 @@ impl<K: Keep> Core<K> {
     ) -> Result<Reply, AllocError>
         requires stands { StandingFacts (A.tables ask.now).counts (state_of K.live self.old) }
         requires empty { asked.old.items ≡ [] }
-        requires room { vec_len asked.old + 2 * most_locations ≤ vec_capacity asked.old }
+        requires room { vec_len asked.old + most_asked call ≤ vec_capacity asked.old }
+        ensures capacity { vec_capacity asked.new ≡ vec_capacity asked.old }
         ensures stepped { IfOk result (λ reply. Stepped K.live (A.tables ask.now) drained self.old call asked.new.items reply self.new) }
         ensures may { IfOk result (λ reply. AreAnswered (A.may_plan ask.now) (A.may_answer ask.now) (A.may_cancel ask.now) asked.new.items) }
         ensures stays { IfOk result (λ reply. SenderStays K.live self.old call reply self.new) }
@@ -348,7 +362,7 @@ impl<K: Keep> Core<K> {
             Call::Attach { device, to } => Ok(self.attach(device, to)),
             Call::Detach { lower } => Ok(self.detach(lower)),
             Call::Delete { device } => Ok(self.delete(device, drained)),
-            Call::Allocate { size } => self.allocate(alloc, size, wish),
+            Call::Allocate { size } => self.allocate(size, wish),
             Call::Free { irp } => Ok(self.free(irp)),
             Call::Reuse { irp, status } => Ok(self.reuse(irp, status)),
             Call::Cancel { irp } => Ok(self.cancel(ask, irp, asked)),
@@ -366,7 +380,6 @@ impl<K: Keep> Core<K> {
     /// `AllocError` where a growth was refused. The state stays as it was.
     pub fn apply<A: Ask, N: DrainNote>(
         &mut self,
-        alloc: Global,
         ask: &A,
         call: Call,
         note: &N,
@@ -375,6 +388,7 @@ impl<K: Keep> Core<K> {
         requires stands { StandingFacts (A.tables ask.now).counts (state_of K.live self.old) }
         ensures stepped { IfOk result (λ applied. Stepped K.live (A.tables ask.now) applied.drained self.old call applied.asked.items applied.reply self.new) }
         ensures may { IfOk result (λ applied. AreAnswered (A.may_plan ask.now) (A.may_answer ask.now) (A.may_cancel ask.now) applied.asked.items) }
+        ensures few { IfOk result (λ applied. length applied.asked.items ≤ most_asked call) }
         ensures stays { IfOk result (λ applied. SenderStays K.live self.old call applied.reply self.new) }
         ensures granted { IfOk result (λ applied. SlotGranted K.grants self.old wish call applied.reply) }
         ensures lock { IfOk result (λ applied. applied.lock ≡ lock_of (state_of K.live self.old) call) }
@@ -382,13 +396,14 @@ impl<K: Keep> Core<K> {
         ensures err { OnErr result (state_of K.live self.new ≡ state_of K.live self.old) }
         ensures locks { OnErr result (self.new.locks ≡ self.old.locks) }
     {
-        let mut asked = Vec::with_capacity(alloc, MOST_ASKED)?;
+        let mut asked = Vec::with_capacity(self.alloc, most_asked(call))?;
         let lock = self.lock_of(call);
         let drained = match lock {
             Some(lock) => note.knows(lock),
             None => false,
         };
-        let reply = self.answer(alloc, ask, call, drained, wish, &mut asked)?;
+        let reply = self.answer(ask, call, drained, wish, &mut asked)?;
+        asked.shrink_to_fit();
         Ok(Applied {
             lock,
             drained,

@@ -13,7 +13,7 @@ ghost use Rattle.irp_types.specs.declared.routine.Known.{Known};
 ghost use Rattle.irp_routines.specs.Answers.{AreAnswered};
 ghost use Rattle.irp_manager.specs.Notes.{known_by};
 ghost use Rattle.irp_manager.specs.Calls.{names_party};
-ghost use Rattle.irp_manager.specs.Cores.{state_of, Stepped, SteppedAny, SentStays, SenderStays};
+ghost use Rattle.irp_manager.specs.Cores.{state_of, most_asked, Stepped, SteppedAny, SentStays, SenderStays};
 
 use super::Core;
 use crate::keep::Keep;
@@ -112,6 +112,7 @@ impl<K: Keep> Core<K> {
         requires stands { StandingFacts (A.tables ask.now).counts (state_of K.live self.old) }
         requires empty { asked.old.items ≡ [] }
         requires room { vec_len asked.old + 2 * most_locations ≤ vec_capacity asked.old }
+        ensures capacity { vec_capacity asked.new ≡ vec_capacity asked.old }
         ensures stepped { (drained : Bool) → Stepped K.live (A.tables ask.now) drained self.old (CallDriver party irp target) asked.new.items result self.new }
         ensures may { AreAnswered (A.may_plan ask.now) (A.may_answer ask.now) (A.may_cancel ask.now) asked.new.items }
         ensures stays { SentStays K.live self.old irp result self.new }
@@ -139,6 +140,7 @@ impl<K: Keep> Core<K> {
         requires stands { StandingFacts (A.tables ask.now).counts (state_of K.live self.old) }
         requires empty { asked.old.items ≡ [] }
         requires room { vec_len asked.old + 2 * most_locations ≤ vec_capacity asked.old }
+        ensures capacity { vec_capacity asked.new ≡ vec_capacity asked.old }
         ensures stepped { (drained : Bool) → Stepped K.live (A.tables ask.now) drained self.old (Complete party irp status information) asked.new.items result self.new }
         ensures may { AreAnswered (A.may_plan ask.now) (A.may_answer ask.now) (A.may_cancel ask.now) asked.new.items }
     {
@@ -184,7 +186,8 @@ impl<K: Keep> Core<K> {
         requires named { names_party call ≡ true }
         requires stands { StandingFacts (A.tables ask.now).counts (state_of K.live self.old) }
         requires empty { asked.old.items ≡ [] }
-        requires room { vec_len asked.old + 2 * most_locations ≤ vec_capacity asked.old }
+        requires room { vec_len asked.old + most_asked call ≤ vec_capacity asked.old }
+        ensures capacity { vec_capacity asked.new ≡ vec_capacity asked.old }
         ensures stepped { (drained : Bool) → Stepped K.live (A.tables ask.now) drained self.old call asked.new.items result self.new }
         ensures may { AreAnswered (A.may_plan ask.now) (A.may_answer ask.now) (A.may_cancel ask.now) asked.new.items }
         ensures stays { SenderStays K.live self.old call result self.new }

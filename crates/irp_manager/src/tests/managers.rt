@@ -24,19 +24,19 @@ fn a_manager_over_a_store_makes_calls(rt: HostRuntime) -> Result<(), Fail> {
         return Err("not added".into());
     };
     let mut manager = Manager::new(alloc, store, 1);
-    let created = manager.apply(alloc, CREATE, &KnowsNothing)?;
+    let created = manager.apply(CREATE, &KnowsNothing)?;
     assert_eq!(rt; created.reply, Reply::Device(DEVICE));
-    let allocated = manager.apply(alloc, ALLOCATE, &KnowsNothing)?;
+    let allocated = manager.apply(ALLOCATE, &KnowsNothing)?;
     assert_eq!(rt; allocated.reply, Reply::Irp(IRP));
-    let filled = manager.apply(alloc, fill(IRP, READ), &KnowsNothing)?;
+    let filled = manager.apply(fill(IRP, READ), &KnowsNothing)?;
     assert_eq!(rt; filled.reply, Reply::Done);
-    let sent = manager.apply(alloc, send(DEVICE), &KnowsNothing)?;
+    let sent = manager.apply(send(DEVICE), &KnowsNothing)?;
     assert_eq!(rt; sent.reply, Reply::Status(Status::SUCCESS));
     assert_eq!(rt; sent.asked.as_slice(), [asked_of(FINISHES)].as_slice());
-    let looked = manager.apply(alloc, LOOK, &KnowsNothing)?;
+    let looked = manager.apply(LOOK, &KnowsNothing)?;
     assert_eq!(rt; looked.reply, ended(Status::SUCCESS, 5, false));
     let delete = Call::Delete { device: DEVICE };
-    let deleted = manager.apply(alloc, delete, &KnowsAll)?;
+    let deleted = manager.apply(delete, &KnowsAll)?;
     assert_eq!(rt; (deleted.lock, deleted.drained), (Some(LockNo(0)), true));
     assert_eq!(rt; deleted.reply, Reply::Done);
     Ok(())

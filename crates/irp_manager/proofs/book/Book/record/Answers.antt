@@ -1,14 +1,15 @@
-use Rattle.std.proofs.Common.{◌≡◌, ◌++◌, ◌∷◌, [], ℕ, List, length, refl, sym, ap, ◌∙◌, subst, rules, arith, length-append}
+use Rattle.std.proofs.Common.{◌≡◌, ◌++◌, ◌∷◌, [], ℕ, List, length, refl, sym, ap, ◌≤◌, ◌∙◌, subst, rules, arith, length-append}
 use Rattle.irp_types.specs.State.{Fixed}
 use Rattle.irp_types.specs.Steps.{Step}
 use Rattle.irp_types.specs.Histories.{IsEntryAt, LeadsTo}
 use Rattle.irp_types.specs.declared.asked.Asked.{Asked}
+use Rattle.irp_types.specs.declared.call.Call.{Call}
 use Rattle.irp_types.specs.declared.entry.Entry.{Entry}
 use Rattle.irp_routines.specs.Answers.{AreAnswered}
 use Rattle.irp_manager.specs.Passing.{PassesPlan, PassesAnswer, PassesCancel}
 use Rattle.irp_manager.specs.Keeps.{listed}
-use Rattle.irp_manager.specs.Cores.{state_of}
-use Rattle.irp_manager.proofs.Recording.{leads_more, legal, undrained}
+use Rattle.irp_manager.specs.Cores.{state_of, most_asked}
+use Rattle.irp_manager.proofs.Recording.{leads_more, legal, undrained, done_is_drained}
 use Rattle.irp_manager.proofs.book.Book.record.Goals as goal
 use Rattle.irp_manager.proofs.book.Book.record.Given.{Over}
 
@@ -35,19 +36,24 @@ place g c = search rules
 before : (g : Over) → goal.After-history_goes_on g → Fixed
 before g c = record { locks = c.self.inside.core.locks; tables = c.self.inside.held.tables }
 
+-- the step that is recorded
+stepped : (g : Over) (c : goal.After-history_goes_on g) → Step (before g c) (state_of listed c.self.inside.core) c.in-Ok.applied.drained c.args.call c.from_vec.result c.in-Ok.applied.reply (state_of listed c.apply.new.self)
+unfolding before
+stepped g c =
+    subst (λ (asked : List Asked). Step (before g c) (state_of listed c.self.inside.core) c.in-Ok.applied.drained c.args.call asked c.in-Ok.applied.reply (state_of listed c.apply.new.self))
+    (sym c.from_vec.ensures) (c.in-Ok.ensures.stepped.step (before g c) refl refl)
+
 leads : (g : Over) (c : goal.After-history_goes_on g) → LeadsTo (before g c) c.push_reserved.new.self.items (state_of listed c.apply.new.self)
 unfolding entry before
 leads g c =
     let old = state_of listed c.self.inside.core in
     let new = state_of listed c.apply.new.self in
     let applied = c.in-Ok.applied in
-    let step : Step (before g c) old applied.drained c.args.call c.from_vec.result applied.reply new =
-    subst (λ (asked : List Asked). Step (before g c) old applied.drained c.args.call asked applied.reply new) (sym c.from_vec.ensures) (c.in-Ok.ensures.stepped.step (before g c) refl refl) in
     let holds : IsEntryAt (before g c) (length c.self.inside.history.items) old (entry g c) new = record {
       numbered = place g c;
       lock = c.in-Ok.ensures.lock;
       undrained = undrained (g.N.DrainNote.knows_drained c.args.note.now) applied.lock applied.drained c.in-Ok.ensures.drained;
-      step = step;
+      step = stepped g c;
     } in
     leads_more c.history_goes_on.ensures (before g c) c.self.inside.history.items c.push_reserved.new.self.items old new (entry g c) c.self.invariant.leads holds (grown g c)
 
@@ -81,14 +87,21 @@ returns-clause-recorded g c =
     let own = g.A.Ask.tables held.ask ≡ held.tables in
     let may = subst (λ (asked : List Asked). AreAnswered (PassesPlan held.tables own (g.A.Ask.may_plan held.ask)) (PassesAnswer held.tables own (g.A.Ask.may_answer held.ask)) (PassesCancel held.tables own (g.A.Ask.may_cancel held.ask)) asked)
     (sym c.from_vec.ensures) c.in-Ok.ensures.may in
+    let few = subst (λ (asked : List Asked). length asked ≤ most_asked c.args.call) (sym c.from_vec.ensures) c.in-Ok.ensures.few in
     rw (← c.self.view_is) (record {
       entry = entry g c;
       appended = grown g c;
       numbered = here;
-      after = search rules;
-      by = c.number.ensures;
-      asks = refl;
-      noted = c.in-Ok.ensures.drained;
+      of_call = record {
+        within = search rules;
+        after = search rules;
+        by = c.number.ensures;
+        asks = refl;
+        noted = c.in-Ok.ensures.drained;
+        deletes = λ device deletes done. done_is_drained (before g c) (state_of listed c.self.inside.core) c.in-Ok.applied.drained device c.from_vec.result c.in-Ok.applied.reply (state_of listed c.apply.new.self)
+        (subst (λ (call : Call). Step (before g c) (state_of listed c.self.inside.core) c.in-Ok.applied.drained call c.from_vec.result c.in-Ok.applied.reply (state_of listed c.apply.new.self)) deletes (stepped g c)) done;
+        few = few;
+        told = c.of-receipt.ensures;
+      };
       answered = may;
-      told = c.of-receipt.ensures;
     })
