@@ -1,5 +1,7 @@
 //! The entries of a history.
 
+ghost use Rattle.std.specs.Prelude.{◌≡◌, ◌≤◌, [], length, vec_capacity};
+
 use crate::asked::Asked;
 use crate::call::Call;
 use crate::names::LockNo;
@@ -21,4 +23,28 @@ pub struct Entry {
     /// What was asked of closures, in order.
     pub asked: Row<Asked>,
     pub reply: Reply,
+}
+
+impl Entry {
+    /// An equal entry, whose questions lie in the room given: an empty vector with room for as many as this entry has.
+    /// It takes no memory, and can't fail (this project's own rule).
+    pub fn copy_into(&self, room: Vec<Asked>) -> Entry
+        requires empty { room.items ≡ [] }
+        requires ample { length self.now.asked ≤ vec_capacity room }
+        ensures { result ≡ self.now }
+    {
+        let mut asked = room;
+        for item in self.asked.as_slice() {
+            asked.push_reserved(*item);
+        }
+        Entry {
+            number: self.number,
+            seat: self.seat,
+            call: self.call,
+            lock: self.lock,
+            drained: self.drained,
+            asked: Row::from_vec(asked),
+            reply: self.reply,
+        }
+    }
 }

@@ -103,6 +103,72 @@ fn rules_and_counts_tell_what_they_allow(rt: HostRuntime) {
     assert!(rt; !Known::NONE.has(second));
 }
 
+/// An entry of a cancellation, with a field of its own value each, and these questions.
+fn cancellation(asked: Vec<Asked>) -> Entry {
+    Entry {
+        number: 5,
+        seat: 2,
+        call: Call::Cancel { irp: SHOWN.irp },
+        lock: Some(LockNo(3)),
+        drained: true,
+        asked: Row::from_vec(asked),
+        reply: Reply::Cancelled(true),
+    }
+}
+
+#[test]
+fn a_copy_of_an_entry_has_its_questions(rt: HostRuntime) -> Result<(), Fail> {
+    let asked = [
+        Asked::Cancel {
+            id: CancelId(1),
+            shown: SHOWN,
+            answer: CancelAnswer::Finish { information: 9 },
+        },
+        Asked::Completion {
+            id: RoutineId {
+                rule: Rule::Free,
+                no: 4,
+            },
+            shown: Shown {
+                location: 2,
+                ..SHOWN
+            },
+            answer: Answer {
+                keep: false,
+                mark: true,
+                replacement: None,
+            },
+        },
+        Asked::Dispatch {
+            id: DispatchId(6),
+            shown: SHOWN,
+            plan: Plan::Skip,
+        },
+    ];
+    let entry = cancellation(asked.to_vec(rt.alloc())?);
+    let room = Vec::with_capacity(rt.alloc(), 16)?;
+    assert!(rt; entry.asked.as_slice().len() <= 16);
+    let copy = entry.copy_into(room);
+    assert_eq!(rt; copy.number, 5);
+    assert_eq!(rt; copy.seat, 2);
+    assert_eq!(rt; copy.call, Call::Cancel { irp: SHOWN.irp });
+    assert_eq!(rt; copy.lock, Some(LockNo(3)));
+    assert!(rt; copy.drained);
+    assert_eq!(rt; copy.asked.as_slice(), asked.as_slice());
+    assert_eq!(rt; copy.reply, Reply::Cancelled(true));
+    assert_eq!(rt; entry.asked.as_slice(), asked.as_slice());
+    Ok(())
+}
+
+#[test]
+fn a_copy_of_an_entry_without_questions_needs_no_room(rt: HostRuntime) {
+    let entry = cancellation(Vec::new(rt.alloc()));
+    assert!(rt; entry.asked.as_slice().is_empty());
+    let copy = entry.copy_into(Vec::new(rt.alloc()));
+    assert!(rt; copy.asked.as_slice().is_empty());
+    assert_eq!(rt; copy.number, 5);
+}
+
 #[test]
 fn what_is_shown_is_in_range_and_the_laws_hold() {
     SHOWN.in_range();
