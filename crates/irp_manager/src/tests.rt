@@ -7,8 +7,10 @@ ghost use Rattle.irp_types.specs.declared.answer.Plan.TheVariants.{Finish};
 mod counting;
 mod descent;
 mod managers;
+mod place;
 
 use super::*;
+use place::Place;
 use irp_routines::{AnswerTable, Ask, Behaviour, Dispatch, DispatchClosure, Reaction, Store};
 use irp_types::{
     Answer, Asked, Call, CancelAnswer, CancelId, CancelRule, DeviceId, DispatchId, DriverId,
@@ -38,12 +40,12 @@ const FINISHES: Plan = Plan::Finish {
 
 const HOLDS: Plan = Plan::Hold { cancel: None };
 
-/// A book, and the one seat that makes calls.
+/// A book, and the one place from which calls are made.
 #[derive(Drop)]
 struct Session {
     alloc: Global,
     book: Book<AnswerTable>,
-    seat: Seat,
+    place: Place,
 }
 
 impl Session {
@@ -61,16 +63,14 @@ impl Session {
         let tables = table.tables().copied().ok()?;
         Some(Session {
             alloc,
-            book: Book::new(alloc, table, tables, 1),
-            seat: Seat::new(0),
+            book: Book::new(Manager::new(alloc, table, 1), tables),
+            place: Place::new(0),
         })
     }
 
     /// Makes a call with what this note knows of the remove locks.
     fn record<N: DrainNote>(&mut self, call: Call, note: &N) -> Result<Receipt, NotRecorded> {
-        let receipt = self.book.record(self.alloc, &self.seat, call, note)?;
-        self.seat.saw(receipt.number() + 1);
-        Ok(receipt)
+        self.place.record(self.alloc, &mut self.book, call, note)
     }
 
     fn call(&mut self, call: Call) -> Result<Reply, NotRecorded> {
@@ -335,14 +335,12 @@ fn calls_are_refused_by_the_first_check(rt: HostRuntime) -> Result<(), Fail> {
 fn a_seat_that_has_seen_more_is_told_the_length(rt: HostRuntime) -> Result<(), Fail> {
     let mut session = Session::new(rt.alloc(), FINISHES).ok_or("no table")?;
     session.call(CREATE)?;
-    session.seat.saw(3);
+    session.place.saw(3);
     assert_eq!(rt;
         session.call(CREATE).err(),
         Some(NotRecorded::Behind { length: 1 })
     );
     assert_eq!(rt; session.book.length(), 1);
-    assert_eq!(rt; session.seat.number(), 0);
-    assert_eq!(rt; session.seat.seen(), 3);
     Ok(())
 }
 
@@ -350,11 +348,8 @@ fn a_seat_that_has_seen_more_is_told_the_length(rt: HostRuntime) -> Result<(), F
 fn a_receipt_tells_of_its_entry(rt: HostRuntime) -> Result<(), Fail> {
     let mut session = Session::new(rt.alloc(), FINISHES).ok_or("no table")?;
     session.call(CREATE)?;
-    let seat = Seat::new(6);
     let call = Call::Allocate { size: 2 };
-    let receipt = session
-        .book
-        .record(session.alloc, &seat, call, &KnowsNothing)?;
+    let receipt = Place::new(6).record(rt.alloc(), &mut session.book, call, &KnowsNothing)?;
     assert_eq!(rt; receipt.number(), 1);
     assert_eq!(rt; receipt.seat(), 6);
     assert_eq!(rt; receipt.call(), call);
@@ -458,15 +453,14 @@ fn a_dispatch_is_asked_once(rt: HostRuntime) -> Result<(), Fail> {
         return Err("not added".into());
     };
     let tables = store.tables().copied()?;
-    let mut book = Book::new(alloc, store, tables, 1);
-    let mut seat = Seat::new(0);
+    let mut book = Book::new(Manager::new(alloc, store, 1), tables);
+    let mut place = Place::new(0);
     let create = Call::CreateDevice {
         driver,
         lock: LockNo(0),
     };
     for call in [create, ALLOCATE, fill(IRP, READ), send(DEVICE)] {
-        let receipt = book.record(alloc, &seat, call, &KnowsNothing)?;
-        seat.saw(receipt.number() + 1);
+        place.record(alloc, &mut book, call, &KnowsNothing)?;
     }
     assert_eq!(rt; book.length(), 4);
     assert_eq!(rt; count.load(Ordering::SeqCst), 1);

@@ -124,11 +124,10 @@ fn send_and_cancel<A: Ask>(rt: &impl Abort, alloc: Global, book: &mut Book<A>) -
         (CANCEL, refused(Refusal::Ended), &[]),
         (LOOK, over, &[]),
     ];
-    let mut seat = Seat::new(0);
+    let mut place_of_calls = Place::new(0);
     for place in 0..steps.len() {
         let (call, reply, asked) = steps[place];
-        let receipt = book.record(alloc, &seat, call, &KnowsNothing)?;
-        seat.saw(receipt.number() + 1);
+        let receipt = place_of_calls.record(alloc, book, call, &KnowsNothing)?;
         assert_eq!(rt; receipt.reply(), reply);
         let entry = book.entry(place).ok_or("no entry")?;
         assert_eq!(rt; entry.asked.as_slice(), asked);
@@ -156,7 +155,7 @@ fn closures_are_asked_once_through_a_book(rt: HostRuntime) -> Result<(), Fail> {
     let driver = store.add_driver([(READ, DispatchId(0))].to_vec(alloc)?);
     assert!(rt; driver.is_ok());
     let tables = store.tables().copied()?;
-    let mut book = Book::new(alloc, store, tables, 1);
+    let mut book = Book::new(Manager::new(alloc, store, 1), tables);
     send_and_cancel(&rt, alloc, &mut book)?;
     assert_eq!(rt; plans.load(Ordering::SeqCst), 1);
     assert_eq!(rt; cancels.load(Ordering::SeqCst), 1);
