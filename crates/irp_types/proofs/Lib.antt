@@ -1,5 +1,9 @@
 mod LongerLists
 mod LongerHistories
+mod LiveMaps
+mod FoundUses
+mod UsesOverSteps
+mod CompletesOnce
 mod SettledUnwinding
 mod SettledFrames
 mod SettledDescent

@@ -1,5 +1,5 @@
 -- Histories: which the sequential manager could have made, and what is read off one.
-use Rattle.std.specs.Prelude.{ℕ, ◌≡◌, ◌+◌, ◌-◌, ◌==◌, Bool, false, not, ◌&&◌, List, [], ◌∷◌, ◌++◌, length, filter, find, slice_get, slice_index_or, Option, Some, None}
+use Rattle.std.specs.Prelude.{ℕ, ◌≡◌, ◌≤◌, ◌+◌, ◌-◌, ◌==◌, Bool, false, not, ◌&&◌, List, [], ◌∷◌, ◌++◌, length, filter, find, slice_get, slice_index_or, Option, Some, None}
 use Rattle.std.specs.Option.{option_map, option_map_or}
 use Rattle.std.specs.List.{range_with_len}
 use Rattle.std.specs.FinMap as fin
@@ -79,3 +79,18 @@ completions states use_no =
     filter
     (λ number. is_open (slice_index_or states number opening_state) use_no && is_ended (slice_index_or states (number + 1) opening_state) use_no)
     (range_with_len 0 (length states - 1))
+
+-- in a legal history each use of a packet is completed at most once
+abbrev pub HistoryCompletesOnce : Type 0
+HistoryCompletesOnce =
+    (fixed : Fixed) (history : List Entry) (states : List StateValue) (use_no : ℕ)
+    → LeadsThrough fixed history states → length (completions states use_no) ≤ 1
+
+-- a legal history that completes each use at most once
+abbrev pub CompletesOnce : Fixed → List Entry → Type 0
+CompletesOnce fixed history =
+    (states : List StateValue) × LeadsThrough fixed history states × ((use_no : ℕ) → length (completions states use_no) ≤ 1)
+
+-- each legal history completes each use at most once
+abbrev pub LegalCompletesOnce : Type 0
+LegalCompletesOnce = (fixed : Fixed) (history : List Entry) → IsLegal fixed history → CompletesOnce fixed history

@@ -174,4 +174,5 @@ fn what_is_shown_is_in_range_and_the_laws_hold() {
     SHOWN.in_range();
     history_goes_on();
     entry_settles_next_state();
+    history_completes_once();
 }
