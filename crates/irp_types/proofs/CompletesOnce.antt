@@ -4,13 +4,14 @@ use Rattle.std.specs.Prelude.{slice_get}
 use Rattle.std.specs.List.{range_with_len}
 use Rattle.std.specs.Ordering.{nat_cmp}
 use Rattle.std.proofs.lemmas.Bool.{and_parts, false≢true}
-use Rattle.std.proofs.lemmas.Option.{none-some, same_Some, slice_get_cases, slice_get-get_or, get_or_from_slice_get}
+use Rattle.std.proofs.lemmas.Option.{none-some, same_Some}
 use Rattle.std.specs.FinMap as fin
 use Rattle.irp_types.specs.State.{StateValue, LivePacket, Fixed, live_at, opening_state}
 use Rattle.irp_types.specs.Refusals.{has_ended}
 use Rattle.irp_types.specs.Histories.{LeadsThrough, is_open, is_ended, completions, HistoryCompletesOnce, LegalCompletesOnce}
 use Rattle.irp_types.specs.declared.entry.Entry.{Entry}
 use Rattle.irp_types.proofs.FoundUses.{open_use, ended_use}
+use Rattle.irp_types.proofs.StatesByNumber.{state_at, opens_at, entry_before, follows_at}
 use Rattle.irp_types.proofs.UsesOverSteps.{AreUses, IsOver, UsesGoOn, over_step, uses_over, over_goes_on}
 
 -- a test that no number of a range passes
@@ -63,48 +64,38 @@ over_not_open state use_no over unended =
     false≢true (sym found.2 ∙ over.ended found.1.0 found.0 found.1.1 found.1.2)
 
 module _ (fixed : Fixed) (history : List Entry) (states : List StateValue) (leads : LeadsThrough fixed history states) where
-  abbrev at : ℕ → StateValue
-  at number = get_or states number opening_state
-
-  longer : length states ≡ length history + 1
-  longer = leads.longer
-
-  goes_on : (number : ℕ) → number + 1 < length states → UsesGoOn (at number) (at (number + 1))
+  goes_on : (number : ℕ) → number + 1 < length states → UsesGoOn (state_at states number) (state_at states (number + 1))
   goes_on number within =
-      elim (slice_get_cases history number).1 as (λ _. UsesGoOn (at number) (at (number + 1))) [
-        | inl found ↦
-            let entry : Entry = found.0 in
-            over_step fixed (at number) entry.drained entry.call entry.asked entry.reply (at (number + 1))
-            (leads.follows number entry (at number) (at (number + 1)) found.2
-              (slice_get-get_or states number opening_state (omega arith))
-              (slice_get-get_or states (number + 1) opening_state within)).step
-        | inr past ↦ let beyond = past.0 in absurd (omega (arith, beyond, within, longer))
-      ]
+      let found = entry_before fixed history states leads number within in
+      let entry : Entry = found.0 in
+      over_step fixed (state_at states number) entry.drained entry.call entry.asked entry.reply (state_at states (number + 1))
+      (follows_at fixed history states leads number entry within found.1).step
 
-  uses_at : (number : ℕ) → number < length states → AreUses (at number)
-  uses_at zero within = subst AreUses (sym (get_or_from_slice_get states 0 opening_state opening_state leads.opens)) opening_uses
+  uses_at : (number : ℕ) → number < length states → AreUses (state_at states number)
+  uses_at zero within = subst AreUses (sym (opens_at fixed history states leads)) opening_uses
   uses_at (suc number) within =
       let next : number + 1 ≡ suc number = omega arith in
-      subst (λ given. AreUses (at given)) next (uses_over (at number) (at (number + 1)) (goes_on number (omega arith)) (uses_at number (omega arith)))
+      subst (λ given. AreUses (state_at states given)) next
+      (uses_over (state_at states number) (state_at states (number + 1)) (goes_on number (omega arith)) (uses_at number (omega arith)))
 
-  over_after : (use_no number more : ℕ) → number + more < length states → IsOver use_no (at number) → IsOver use_no (at (number + more))
-  over_after use_no number zero within over = let next : number ≡ number + 0 = omega arith in subst (λ given. IsOver use_no (at given)) next over
+  over_after : (use_no number more : ℕ) → number + more < length states → IsOver use_no (state_at states number) → IsOver use_no (state_at states (number + more))
+  over_after use_no number zero within over = let next : number ≡ number + 0 = omega arith in subst (λ given. IsOver use_no (state_at states given)) next over
   over_after use_no number (suc more) within over =
       let next : number + more + 1 ≡ number + suc more = omega arith in
-      subst (λ given. IsOver use_no (at given)) next
-      (over_goes_on (at (number + more)) (at (number + more + 1)) (goes_on (number + more) (omega arith)) use_no (over_after use_no number more (omega arith) over))
+      subst (λ given. IsOver use_no (state_at states given)) next
+      (over_goes_on (state_at states (number + more)) (state_at states (number + more + 1)) (goes_on (number + more) (omega arith)) use_no (over_after use_no number more (omega arith) over))
 
   abbrev completes : ℕ → ℕ → Bool
-  completes use_no number = is_open (at number) use_no && is_ended (at (number + 1)) use_no
+  completes use_no number = is_open (state_at states number) use_no && is_ended (state_at states (number + 1)) use_no
 
   not_twice : (use_no one two : ℕ) → one < two → two < length states - 1 → completes use_no one ≡ true → completes use_no two ≡ true → ⊥
   not_twice use_no one two rises within first second =
-      let ended : is_ended (at (one + 1)) use_no ≡ true = (and_parts (is_open (at one) use_no) (is_ended (at (one + 1)) use_no) first).1 in
-      let unended : is_open (at two) use_no ≡ true = (and_parts (is_open (at two) use_no) (is_ended (at (two + 1)) use_no) second).0 in
-      let over = over_from_ended (at (one + 1)) use_no (uses_at (one + 1) (omega arith)) ended in
+      let ended : is_ended (state_at states (one + 1)) use_no ≡ true = (and_parts (is_open (state_at states one) use_no) (is_ended (state_at states (one + 1)) use_no) first).1 in
+      let unended : is_open (state_at states two) use_no ≡ true = (and_parts (is_open (state_at states two) use_no) (is_ended (state_at states (two + 1)) use_no) second).0 in
+      let over = over_from_ended (state_at states (one + 1)) use_no (uses_at (one + 1) (omega arith)) ended in
       let reached : (one + 1) + (two - (one + 1)) ≡ two = omega arith in
       let still = over_after use_no (one + 1) (two - (one + 1)) (omega arith) over in
-      over_not_open (at two) use_no (subst (λ given. IsOver use_no (at given)) reached still) unended
+      over_not_open (state_at states two) use_no (subst (λ given. IsOver use_no (state_at states given)) reached still) unended
 
 pub completes_once : HistoryCompletesOnce
 completes_once fixed history states use_no leads =

@@ -3,9 +3,11 @@ mod LongerHistories
 mod LiveMaps
 mod FoundUses
 mod UsesOverSteps
+mod StatesByNumber
 mod CompletesOnce
 mod SettledUnwinding
 mod SettledFrames
 mod SettledDescent
 mod SettledSteps
+mod SettledStates
 mod Examples

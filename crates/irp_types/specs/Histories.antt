@@ -57,6 +57,12 @@ EntrySettlesNextState =
     (fixed : Fixed) (number : ℕ) (old : StateValue) (entry : Entry) (new other : StateValue)
     → IsEntryAt fixed number old entry new → IsEntryAt fixed number old entry other → new ≡ other
 
+-- a history leads through one list of states only
+abbrev pub HistorySettlesStates : Type 0
+HistorySettlesStates =
+    (fixed : Fixed) (history : List Entry) (states others : List StateValue)
+    → LeadsThrough fixed history states → LeadsThrough fixed history others → states ≡ others
+
 -- the entries of one seat, in order
 abbrev pub own_entries : List Entry → ℕ → List Entry
 own_entries history seat = filter (λ (entry : Entry). entry.seat == seat) history

@@ -22,7 +22,9 @@ pub use answer::{Answer, CancelAnswer, Plan, Replacement};
 pub use asked::Asked;
 pub use call::{Call, Party};
 pub use entry::Entry;
-pub use laws::{entry_settles_next_state, history_completes_once, history_goes_on};
+pub use laws::{
+    entry_settles_next_state, history_completes_once, history_goes_on, history_settles_states,
+};
 pub use location::{Location, Owner, Preparation};
 pub use names::{CancelId, DeviceId, DispatchId, DriverId, IrpRef, LockNo};
 pub use refusal::Refusal;

@@ -174,5 +174,6 @@ fn what_is_shown_is_in_range_and_the_laws_hold() {
     SHOWN.in_range();
     history_goes_on();
     entry_settles_next_state();
+    history_settles_states();
     history_completes_once();
 }
