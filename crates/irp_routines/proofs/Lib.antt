@@ -2,4 +2,6 @@ mod Agreeing
 mod ByMajor
 mod FirstReasons
 mod Refusing
+mod RisingPairs
+mod Taking
 mod ToldAlike

@@ -25,7 +25,7 @@ found_dispatch P major (first ∷ others) dispatch all found =
     by_test false head later is = later is
 
 -- a driver by its number has what each driver has
-each_driver : (P : List Entrance → Type 0) (drivers : List (List Entrance)) (number : ℕ) → P [] → All P drivers → P (slice_index_or drivers number [])
+pub each_driver : (P : List Entrance → Type 0) (drivers : List (List Entrance)) (number : ℕ) → P [] → All P drivers → P (slice_index_or drivers number [])
 each_driver P [] number none all = none
 each_driver P (first ∷ others) zero none all = All-head P first others all
 each_driver P (first ∷ others) (suc number) none all = each_driver P others number none (All-tail P first others all)

@@ -10,7 +10,7 @@ use irp_types::{DispatchId, Row};
 use std::alloc::{AllocError, Global};
 
 /// The greatest major function code, IRP_MJ_PNP.
-const LAST_MAJOR: u8 = 0x1b;
+pub const LAST_MAJOR: u8 = 0x1b;
 
 /// Whether one of these pairs names this major function code.
 fn is_named(pairs: &[(u8, DispatchId)], major: u8) -> bool

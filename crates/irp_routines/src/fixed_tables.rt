@@ -8,8 +8,10 @@ ghost use Rattle.irp_routines.specs.Tables.{no_tables, one_more, with_routine, w
 ghost use Rattle.irp_routines.specs.declared.not_added.Reason.{Reason};
 ghost use Rattle.irp_routines.specs.declared.not_added.Reason.TheVariants.{Memory};
 
+use crate::ask::Ask;
 use crate::drivers::{by_major, copied_drivers, dispatch_in, pairs_refusal};
 use crate::not_added::{NotAdded, Reason};
+use crate::told::{told_dispatches, told_drivers, told_rules};
 use irp_types::{CancelId, CancelRule, DispatchId, DriverId, Known, RoutineId, Row, Rule};
 use std::alloc::{AllocError, Global};
 use std::marker::Model;
@@ -111,6 +113,27 @@ impl FixedTables {
         Ok(FixedTables {
             alloc: self.alloc,
             counts: self.counts,
+            drivers,
+            dispatches,
+            cancel_rules,
+        })
+    }
+
+    /// The tables of whoever is asked, as they are told by its answers. The asker stays as it was, and none of its
+    /// closures is called (this project's own rule).
+    ///
+    /// # Errors
+    ///
+    /// `AllocError` where a growth was refused.
+    pub fn told_by<A: Ask>(alloc: Global, ask: &A) -> Result<FixedTables, AllocError>
+        ensures { IfOk result (λ tables. tables ≡ A.tables ask.now) }
+    {
+        let drivers = told_drivers(alloc, ask)?;
+        let dispatches = told_dispatches(alloc, ask)?;
+        let cancel_rules = told_rules(alloc, ask)?;
+        Ok(FixedTables {
+            alloc,
+            counts: ask.counts(),
             drivers,
             dispatches,
             cancel_rules,

@@ -13,6 +13,7 @@ mod guard;
 mod not_added;
 mod routine;
 mod store;
+mod told;
 #[cfg(test)]
 mod tests;
 
