@@ -7,6 +7,7 @@ ghost use Rattle.irp_types.specs.State.{no_routines};
 ghost use Rattle.irp_types.specs.declared.routine.Known.{Known};
 ghost use Rattle.irp_types.specs.declared.routine.Rule.TheVariants.{Watch, Change, Keeper, Free};
 
+mod copies;
 mod tables;
 
 use super::*;
