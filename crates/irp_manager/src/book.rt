@@ -1,10 +1,11 @@
 //! The manager with its history.
 
-ghost use Rattle.std.specs.Prelude.{◌≡◌, ℕ, ◌<◌, ◌≤◌, [], length, slice_get, Err, IfOk, OnErr};
+ghost use Rattle.std.specs.Prelude.{◌≡◌, ℕ, ◌<◌, ◌≤◌, [], length, slice_get, vec_capacity, Some, Err, IfOk, OnErr};
 ghost use Rattle.std.specs.Option.{option_copied};
 ghost use mathlib.Core.Logic.{◌↔◌};
 ghost use Rattle.irp_types.specs.Histories.{IsLegal};
 ghost use Rattle.irp_types.specs.State.{opening_state};
+ghost use Rattle.irp_types.specs.declared.entry.Entry.{Entry};
 ghost use Rattle.irp_manager.specs.Keeps.{listed};
 ghost use Rattle.irp_manager.specs.Cores.{state_of};
 ghost use Rattle.irp_routines.specs.Answers.{AreAnswered};
@@ -14,14 +15,15 @@ ghost use Rattle.irp_manager.specs.declared.not_recorded.NotRecorded.TheVariants
 
 use crate::held_to_tables::HeldToTables;
 use crate::list_keep::ListKeep;
+use crate::manager::Manager;
 use crate::not_recorded::NotRecorded;
 use crate::note::DrainNote;
 use crate::receipt::Receipt;
 use crate::seat::Seat;
-use crate::manager::Manager;
 use crate::sequential::Core;
 use irp_routines::{Ask, FixedTables};
-use irp_types::{Call, Entry, Row, history_goes_on};
+use irp_types::{Asked, Call, Entry, Row, history_goes_on};
+use std::alloc::AllocError;
 use std::marker::Model;
 use std::sync::ledger::Ledger;
 
@@ -35,6 +37,17 @@ pub struct Book<A> {
     held: HeldToTables<A>,
     core: Core<ListKeep>,
     history: Vec<Entry>,
+}
+
+/// What a book was made with, and its history.
+#[derive(Drop)]
+pub struct Recorded {
+    /// How many remove locks there are.
+    pub locks: u32,
+    /// The tables of whom it asked.
+    pub tables: FixedTables,
+    /// The entries, in order. There are at most 1,000,000.
+    pub history: Vec<Entry>,
 }
 
 impl<A> Model for Book<A> {
@@ -60,21 +73,26 @@ impl<A> Model for Book<A> {
     } };
 }
 
-impl<A: Ask> Book<A> {
-    /// A manager that asks so, with this many remove locks, and no history, on condition that the tables are the
-    /// asker's own. It takes no memory.
-    pub fn new(manager: Manager<A>, tables: FixedTables) -> Book<A>
+impl<A: Ask + Drop> Book<A> {
+    /// A book without entries over a manager in its opening state. It keeps a copy of the tables of whom the manager
+    /// asks.
+    ///
+    /// # Errors
+    ///
+    /// `AllocError` where a growth was refused. The manager is gone then.
+    pub fn new(manager: Manager<A>) -> Result<Book<A>, AllocError>
         requires opening { state_of listed manager.core ≡ opening_state }
-        requires own { A.tables manager.ask ≡ tables }
-        ensures { result ≡ record { ask = manager.ask; fixed = record { locks = manager.core.locks; tables = tables }; history = [] } }
+        ensures { IfOk result (λ book. book ≡ record { ask = manager.ask; fixed = record { locks = manager.core.locks; tables = A.tables manager.ask }; history = [] }) }
     {
         let (ask, core) = manager.into_parts();
-        let history = Vec::new(core.alloc());
-        Book {
+        let alloc = core.alloc();
+        let tables = FixedTables::told_by(alloc, &ask)?;
+        let history = Vec::new(alloc);
+        Ok(Book {
             held: HeldToTables::new(ask, tables),
             core,
             history,
-        }
+        })
     }
 }
 
@@ -85,6 +103,17 @@ impl<A> Book<A> {
         ensures few { result ≤ most_entries }
     {
         self.history.len()
+    }
+
+    /// A copy of the entry of a number below the length, whose questions lie in the room given: an empty vector with room
+    /// for as many as the entry has. It takes no memory.
+    pub fn copy_of(&self, number: usize, room: Vec<Asked>) -> Entry
+        requires within { number < length self.now.history }
+        requires empty { room.items ≡ [] }
+        requires ample { (entry : Entry) → slice_get self.now.history number ≡ Some entry → length entry.asked ≤ vec_capacity room }
+        ensures { slice_get self.now.history number ≡ Some result }
+    {
+        self.history[number].copy_into(room)
     }
 
     /// The entry of a number, if there is one.
@@ -153,17 +182,22 @@ impl<A: Ask> Book<A> {
 }
 
 impl<A: Drop> Book<A> {
-    /// Ends it, and gives the tables and the history.
-    pub fn end(self) -> (FixedTables, Row<Entry>)
-        ensures tables { result.0 ≡ self.fixed.tables }
-        ensures history { result.1 ≡ self.history }
+    /// Ends it, and gives what it was made with and the history. It takes no memory.
+    pub fn end(self) -> Recorded
+        ensures fixed { record { locks = result.locks; tables = result.tables } ≡ self.fixed }
+        ensures history { result.history.items ≡ self.history }
         ensures legal { IsLegal self.fixed self.history }
     {
+        let locks = self.core.locks();
         let Book {
             held,
             core: _,
             history,
         } = self;
-        (held.into_tables(), Row::from_vec(history))
+        Recorded {
+            locks,
+            tables: held.into_tables(),
+            history,
+        }
     }
 }

@@ -17,7 +17,7 @@ mod sequential;
 #[cfg(test)]
 mod tests;
 
-pub use book::Book;
+pub use book::{Book, Recorded};
 pub use held_to_tables::HeldToTables;
 pub use keep::{Keep, Live};
 pub use laws::step_is_settled;

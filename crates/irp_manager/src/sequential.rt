@@ -95,6 +95,13 @@ impl<K: Keep> Core<K> {
         self.alloc
     }
 
+    /// How many remove locks there are.
+    pub(super) fn locks(&self) -> u32
+        ensures { result ≡ self.now.locks }
+    {
+        self.locks
+    }
+
     fn packet_refusal(&self, irp: IrpRef) -> Option<Refusal>
         ensures { result ≡ packet_refusal (state_of K.live self.now) irp }
     {

@@ -60,10 +60,9 @@ impl Session {
 
     /// These answers, and one remove lock.
     fn over(alloc: Global, table: AnswerTable) -> Option<Session> {
-        let tables = table.tables().copied().ok()?;
         Some(Session {
             alloc,
-            book: Book::new(Manager::new(alloc, table, 1), tables),
+            book: Book::new(Manager::new(alloc, table, 1)).ok()?,
             place: Place::new(0),
         })
     }
@@ -452,8 +451,7 @@ fn a_dispatch_is_asked_once(rt: HostRuntime) -> Result<(), Fail> {
     let Ok(driver) = store.add_driver([(READ, dispatch)].to_vec(alloc)?) else {
         return Err("not added".into());
     };
-    let tables = store.tables().copied()?;
-    let mut book = Book::new(Manager::new(alloc, store, 1), tables);
+    let mut book = Book::new(Manager::new(alloc, store, 1))?;
     let mut place = Place::new(0);
     let create = Call::CreateDevice {
         driver,

@@ -154,8 +154,7 @@ fn closures_are_asked_once_through_a_book(rt: HostRuntime) -> Result<(), Fail> {
     assert!(rt; watch.is_ok() && cancel.is_ok() && plan.is_ok());
     let driver = store.add_driver([(READ, DispatchId(0))].to_vec(alloc)?);
     assert!(rt; driver.is_ok());
-    let tables = store.tables().copied()?;
-    let mut book = Book::new(Manager::new(alloc, store, 1), tables);
+    let mut book = Book::new(Manager::new(alloc, store, 1))?;
     send_and_cancel(&rt, alloc, &mut book)?;
     assert_eq!(rt; plans.load(Ordering::SeqCst), 1);
     assert_eq!(rt; cancels.load(Ordering::SeqCst), 1);
