@@ -1,2 +1,5 @@
+pub mod Closing
 pub mod Headers
+pub mod Opening
+pub mod Sharing
 pub mod Transcripts

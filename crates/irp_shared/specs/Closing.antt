@@ -1,0 +1,58 @@
+-- What closing a session compares, and what it gives.
+use Rattle.std.specs.Prelude.{ℕ, ◌≡◌, ◌<◌, ◌==◌, true, List, [], length, All, Option, Some, None, IfSome, slice_get, sum_by}
+use Rattle.std.specs.List.{list_any}
+use Rattle.std.specs.Option.{option_and_then}
+use Rattle.irp_types.specs.State.{Fixed}
+use Rattle.irp_types.specs.Histories.{IsLegal, CompletesOnce, own_entries}
+use Rattle.irp_types.specs.declared.entry.Entry.{Entry}
+use Rattle.irp_manager.specs.Seats.{Seated}
+use Rattle.irp_shared.specs.Headers.{fixed_of}
+use Rattle.irp_shared.specs.Transcripts.{TranscriptValue}
+use Rattle.irp_shared.specs.declared.header.Header.{Header}
+
+-- as many seats as were opened, and each number among them: so each of them once
+abbrev pub AllHere : List Seated → ℕ → Type 0
+AllHere seats expected =
+    (length seats ≡ expected) × ((number : ℕ) → number < expected → list_any (λ (seat : Seated). seat.number == number) seats ≡ true)
+
+-- how many entries a seat has
+abbrev pub count_of : Seated → ℕ
+count_of seat = length seat.entries
+
+-- the seat's entries are the history's entries with its number, in order
+abbrev pub IsKept : List Entry → Seated → Type 0
+IsKept history seat = own_entries history seat.number ≡ seat.entries
+
+-- the entry at this place of a history, if there is a place
+abbrev pub entry_at : List Entry → Option ℕ → Option Entry
+entry_at history place = option_and_then (slice_get history) place
+
+-- what the history has there is another than what was kept, if anything is kept there
+abbrev pub IsOther : List Entry → Option Entry → Option ℕ → Type 0
+IsOther history kept place = kept ≡ entry_at history place → ⊥
+
+-- one of the seats has this number, and kept this at this index
+pub record Kept (seats : List Seated) (number index : ℕ) (kept : Option Entry) : Type 0 where
+  pub place : ℕ
+  pub seat : Seated
+  pub given : slice_get seats place ≡ Some seat
+  pub numbered : seat.number ≡ number
+  pub kept_there : kept ≡ slice_get seat.entries index
+
+-- one of the seats kept this at this index, and what the history has there is another
+abbrev pub Differs : List Seated → List Entry → ℕ → ℕ → Option Entry → Option ℕ → Type 0
+Differs seats history number index kept place = Kept seats number index kept × IsOther history kept place
+
+-- closing gives a transcript: its header tells what the session had fixed and how many seats it had, its history is legal
+-- and completes each use at most once, each seat kept the history's entries of its own, and the counts add up
+pub record Closes (fixed : Fixed) (expected : ℕ) (seats : List Seated) (transcript : TranscriptValue) : Type 0 where
+  pub header : Header
+  pub told : transcript.header ≡ Some header
+  pub tables : fixed_of header ≡ fixed
+  pub seats_told : header.seats ≡ expected
+  pub no_words : transcript.words ≡ []
+  pub legal : IsLegal fixed transcript.entries
+  pub once : CompletesOnce fixed transcript.entries
+  pub all_here : AllHere seats expected
+  pub own : All (IsKept transcript.entries) seats
+  pub counts : sum_by count_of seats ≡ length transcript.entries

@@ -1,0 +1,33 @@
+-- What a call makes of a seat.
+use Rattle.std.specs.Prelude.{ℕ, ◌≡◌, ◌+◌, Bool, List, [], ◌∷◌, ◌++◌, length}
+use Rattle.irp_types.specs.declared.names.LockNo.{LockNo}
+use Rattle.irp_types.specs.declared.call.Call.{Call}
+use Rattle.irp_types.specs.declared.entry.Entry.{Entry}
+use Rattle.irp_manager.specs.Seats.{Seated}
+use Rattle.irp_manager.specs.Booked.{Receipted, IsCallOf}
+
+-- the seat has one entry more, this one, and has seen up to it
+pub record Keeps (entry : Entry) (old new : Seated) : Type 0 where
+  pub number : new.number ≡ old.number
+  pub entries : new.entries ≡ old.entries ++ entry ∷ []
+  pub seen : new.seen ≡ entry.number + 1
+
+-- the seat made a recorded call, and keeps its entry
+pub record Called (seat : Seated) (call : Call) (knows : LockNo → Bool) (receipt : Receipted) (after : Seated) : Type 0 where
+  pub entry : Entry
+  pub of_call : IsCallOf seat call knows receipt entry
+  pub kept : Keeps entry seat after
+
+-- the same, with the history that it was recorded in, which grew by that entry
+pub record CalledIn (history longer : List Entry) (seat : Seated) (call : Call) (knows : LockNo → Bool) (receipt : Receipted) (after : Seated) : Type 0 where
+  pub entry : Entry
+  pub appended : longer ≡ history ++ entry ∷ []
+  pub numbered : entry.number ≡ length history
+  pub of_call : IsCallOf seat call knows receipt entry
+  pub kept : Keeps entry seat after
+
+-- the seat says what it said
+pub record IsAsBefore (old new : Seated) : Type 0 where
+  pub number : new.number ≡ old.number
+  pub entries : new.entries ≡ old.entries
+  pub seen : new.seen ≡ old.seen

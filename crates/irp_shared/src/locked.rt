@@ -1,0 +1,76 @@
+//! What lies under the lock.
+
+ghost use Rattle.std.specs.Prelude.{◌≡◌, ◌≤◌, ◌<◌, ◌+◌, ◌++◌, ◌∷◌, [], ℕ, length, vec_capacity, IfOk, OnErr, Err};
+ghost use mathlib.Core.Logic.{◌↔◌};
+ghost use Rattle.irp_manager.specs.Cores.{most_asked};
+ghost use Rattle.irp_manager.specs.Booked.{most_entries};
+ghost use Rattle.irp_manager.specs.declared.not_recorded.NotRecorded.TheVariants.{Behind, HistoryFull};
+ghost use Rattle.irp_shared.specs.Sharing.{Called, CalledIn, IsAsBefore};
+
+use crate::session::Session;
+use irp_manager::{Book, DrainNote, NotRecorded, Receipt, Seat};
+use irp_routines::Ask;
+use irp_types::{Asked, Call};
+use std::sync::ledger::{Book as Total, Ledger, Share};
+
+/// What lies under the lock: the book; the total of what all seats count, which by this type is the length of the history;
+/// and what is left of the ledger's shares, which counts nothing. The book was made with what its session fixes.
+#[derive(Drop)]
+pub struct Locked<A, L: Session> {
+    pub book: Book<A>,
+    pub total: Total<L>,
+    pub spare: Share<L>,
+    pub ghost no_parts: { spare.parts ≡ 0 },
+    pub ghost no_amount: { spare.amount ≡ 0 },
+    pub ghost counted: { total.total ≡ length book.history },
+    pub ghost fixed: { book.fixed ≡ L.fixed },
+}
+
+impl<A: Ask, L: Session> Locked<A, L> {
+    /// Makes a call of a seat, records it, and gives the seat a copy of its entry, in the room given. On condition that the
+    /// room is enough for as many questions as the call may ask, and that the seat has room for one more entry.
+    ///
+    /// # Errors
+    ///
+    /// Those of `Book::record`. None of them changes anything.
+    pub fn call<N: DrainNote>(
+        &mut self,
+        seat: &mut Seat<L>,
+        room: Vec<Asked>,
+        call: Call,
+        note: &N,
+    ) -> Result<Receipt, NotRecorded>
+        requires room { (room.items ≡ []) × (most_asked call ≤ vec_capacity room) × (0 < seat.old.room) }
+        ensures called { IfOk result (λ receipt. CalledIn self.old.book.history self.new.book.history seat.old call (N.knows_drained note.now) receipt seat.new) }
+        ensures err { OnErr result ((self.new.book ≡ self.old.book) × IsAsBefore seat.old seat.new) }
+        ensures behind { (told : ℕ) → (result ≡ Err (Behind told)) ↔ ((told ≡ length self.old.book.history) × (told < seat.old.seen)) }
+        ensures full { (result ≡ Err HistoryFull) ↔ ((seat.old.seen ≤ length self.old.book.history) × (length self.old.book.history ≡ most_entries)) }
+    {
+        keep(&mut self.book, &mut self.total, seat, room, call, note)
+    }
+}
+
+/// Makes a call, records it, and has the seat keep and count a copy of its entry.
+fn keep<A: Ask, L: Ledger, N: DrainNote>(
+    book: &mut Book<A>,
+    total: &mut Total<L>,
+    seat: &mut Seat<L>,
+    room: Vec<Asked>,
+    call: Call,
+    note: &N,
+) -> Result<Receipt, NotRecorded>
+    requires room { (room.items ≡ []) × (most_asked call ≤ vec_capacity room) × (0 < seat.old.room) }
+    ensures called { IfOk result (λ receipt. CalledIn book.old.history book.new.history seat.old call (N.knows_drained note.now) receipt seat.new) }
+    ensures total { IfOk result (λ receipt. total.new.total ≡ total.old.total + 1) }
+    ensures fixed { book.new.fixed ≡ book.old.fixed }
+    ensures err { OnErr result ((book.new ≡ book.old) × (total.new.total ≡ total.old.total) × IsAsBefore seat.old seat.new) }
+    ensures behind { (told : ℕ) → (result ≡ Err (Behind told)) ↔ ((told ≡ length book.old.history) × (told < seat.old.seen)) }
+    ensures full { (result ≡ Err HistoryFull) ↔ ((seat.old.seen ≤ length book.old.history) × (length book.old.history ≡ most_entries)) }
+{
+    let receipt = book.record(&*seat, call, note)?;
+    let number = receipt.number();
+    let entry = book.copy_of(number as usize, room);
+    seat.took(entry, total);
+    seat.saw(number + 1);
+    Ok(receipt)
+}

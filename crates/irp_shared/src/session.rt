@@ -1,0 +1,29 @@
+//! What a type parameter says of a session.
+
+ghost use Rattle.std.specs.Prelude.{ℕ};
+ghost use Rattle.irp_types.specs.State.{Fixed};
+ghost use Rattle.irp_routines.specs.Tables.{no_tables};
+
+use std::marker::Brand;
+use std::sync::ledger::Ledger;
+
+/// What a type says of one session of a shared book, for contracts alone: the ledger in which its seats count (its name and
+/// its parts, as [`Ledger`] has them), how many seats it has, and what is fixed while it lasts. A `Shared` and the seats
+/// that were opened with it have the same such type, so a seat of another session can't be handed in (this project's
+/// own rule).
+///
+/// A caller writes a function that is generic in `L: Session` for all that it does with a session, and calls it once at
+/// [`Brand`], where its proof says what `L` stands for.
+pub trait Session: Ledger {
+    /// How many seats there are.
+    ghost seats: { ℕ };
+
+    /// How many remove locks there are, and the tables of whom is asked.
+    ghost fixed: { Fixed };
+}
+
+impl Session for Brand {
+    ghost seats = { 0 };
+
+    ghost fixed = { record { locks = 0; tables = no_tables } };
+}

@@ -1,0 +1,229 @@
+//! A book that threads share.
+
+ghost use Rattle.std.specs.Prelude.{◌≡◌, ◌<◌, ◌+◌, [], ℕ, if◌then◌else◌, nat_lt, vec_len, slice_get, Some, IfSome, IfOk, OnErr, Err, Option};
+ghost use mathlib.Core.Logic.{◌↔◌};
+ghost use Rattle.irp_types.specs.State.{Fixed};
+ghost use Rattle.irp_types.specs.declared.entry.Entry.{Entry};
+ghost use Rattle.irp_manager.specs.Seats.{Seated};
+ghost use Rattle.irp_manager.specs.declared.not_recorded.NotRecorded.TheVariants.{Behind};
+ghost use Rattle.irp_shared.specs.Opening.{IsBadCount, IsGoodCount, AreNew};
+ghost use Rattle.irp_shared.specs.Sharing.{Called, IsAsBefore};
+ghost use Rattle.irp_shared.specs.Headers.{fixed_of};
+ghost use Rattle.irp_shared.specs.Closing.{AllHere, Kept, Closes, entry_at};
+ghost use Rattle.irp_shared.specs.declared.open_refused.OpenRefused.TheVariants.{BadCount};
+ghost use Rattle.irp_shared.specs.declared.mismatch.Mismatch.TheVariants.{Seats as OtherSeats, Entry as OtherEntry};
+
+use crate::closing::{Difference, are_all, gather, taken_out};
+use crate::header::{Form, Header};
+use crate::locked::Locked;
+use crate::mismatch::Mismatch;
+use crate::open_refused::OpenRefused;
+use crate::session::Session;
+use crate::transcript::Transcript;
+use irp_manager::{
+    Book, DrainNote, Manager, NotRecorded, Receipt, Recorded, Seat, most_asked,
+};
+use irp_routines::{Ask, FixedTables, Parts};
+use irp_types::{Call, Entry, Row, history_completes_once};
+use std::alloc::Global;
+use std::sync::ledger::{Blank, Ledger, Share};
+use std::sync::{Mutex, Wait};
+
+/// How many locks and how many seats there may be.
+const MOST: u32 = 64;
+
+/// A book that threads share, through the seats that were opened with it (this project's own rule).
+///
+/// However many threads call, the history kept under the lock is one that the sequential manager could have made.
+#[derive(Drop)]
+pub struct Shared<A, L: Session> {
+    seats: u32,
+    alloc: Global,
+    lock: Mutex<Locked<A, L>>,
+    pub ghost all: { seats ≡ L.seats },
+    pub ghost good: { IsGoodCount L.fixed.locks L.seats },
+}
+
+/// Makes so many seats, numbered from 0, each with a part of the share.
+fn seats_of<L: Ledger>(alloc: Global, share: &mut Share<L>, count: u32) -> Option<Vec<Seat<L>>>
+    requires { (share.old.parts ≡ count) × (share.old.amount ≡ 0) }
+    ensures seats { IfSome result (λ seats. AreNew count seats.items) }
+    ensures left { IfSome result (λ seats. (share.new.parts ≡ 0) × (share.new.amount ≡ 0)) }
+{
+    let mut seats = Vec::with_capacity(alloc, count as usize).ok()?;
+    for number in 0..count {
+        seats.push_reserved(Seat::new(alloc, number, share.split_off(1, 0)));
+    }
+    Some(seats)
+}
+
+/// Opens a session: a book over a manager in its opening state, with 1 to 64 remove locks and 1 to 64 seats, numbered from
+/// 0 in the order of the answer, that have seen nothing and have no entries. The blank names the ledger in which the seats
+/// count, and has a part for each seat; what `L` says of the session is so (this project's own rule).
+///
+/// # Errors
+///
+/// `BadCount` exactly where none or more than 64 of either were asked for; else `Memory` where a growth was refused. Who
+/// would have been asked is gone then.
+pub fn open<A: Ask + Drop, L: Session>(
+    alloc: Global,
+    blank: Blank,
+    ask: A,
+    locks: u32,
+    seats: u32,
+) -> Result<(Shared<A, L>, Vec<Seat<L>>), OpenRefused>
+    requires blank { (blank.name ≡ L.name) × (blank.parts ≡ L.parts) }
+    requires seats { (L.parts ≡ seats) × (L.seats ≡ seats) }
+    requires fixed { L.fixed ≡ record { locks = locks; tables = A.tables ask } }
+    ensures bad_count { (result ≡ Err BadCount) ↔ IsBadCount locks seats }
+    ensures seats { IfOk result (λ opened. AreNew seats opened.1.items) }
+{
+    if locks == 0 || locks > MOST || seats == 0 || seats > MOST {
+        return Err(OpenRefused::BadCount);
+    }
+    let (total, mut spare) = blank.open::<L>();
+    let Some(places) = seats_of(alloc, &mut spare, seats) else {
+        return Err(OpenRefused::Memory);
+    };
+    let Ok(book) = Book::new(Manager::new(alloc, ask, locks)) else {
+        return Err(OpenRefused::Memory);
+    };
+    let locked = Locked { book, total, spare };
+    let lock = Mutex::new(locked);
+    let shared = Shared { seats, alloc, lock };
+    Ok((shared, places))
+}
+
+impl<A: Ask, L: Session> Shared<A, L> {
+    /// Makes a call in a seat that was opened with this book, and records it. The seat keeps a copy of the entry, which
+    /// the receipt tells of, and has seen up to it. The entry's number is at least what the seat had seen. Its `drained` is
+    /// what the note knows of the entry's lock, and true where a deletion is answered Done.
+    ///
+    /// It waits for its turn. All growths come before anything is asked, and those of the seat before its turn.
+    ///
+    /// # Errors
+    ///
+    /// `Behind` where the history is shorter than what the seat has seen, else `HistoryFull` where it has 1,000,000
+    /// entries; `Memory` where a growth was refused. The seat stays as it was, and nothing is recorded.
+    pub fn call<N: DrainNote>(
+        &self,
+        rt: &impl Wait,
+        seat: &mut Seat<L>,
+        call: Call,
+        note: &N,
+    ) -> Result<Receipt, NotRecorded>
+        ensures called { IfOk result (λ receipt. Called seat.old call (N.knows_drained note.now) receipt seat.new) }
+        ensures err { OnErr result (IsAsBefore seat.old seat.new) }
+        ensures behind { (told : ℕ) → result ≡ Err (Behind told) → told < seat.old.seen }
+    {
+        let Ok(room) = Vec::with_capacity(self.alloc, most_asked(call)) else {
+            return Err(NotRecorded::Memory);
+        };
+        if seat.room().is_err() {
+            return Err(NotRecorded::Memory);
+        }
+        self.lock.lock(rt).call(seat, room, call, note)
+    }
+}
+
+/// A seat that is told of a receipt has seen its entry, and all before it. A receipt of another session may be learned
+/// too: then `Behind` may answer the seat's next call (this project's own rule). It takes no memory.
+pub fn learn<L: Ledger>(seat: &mut Seat<L>, receipt: &Receipt)
+    ensures { seat.new ≡ record seat.old { seen = if nat_lt seat.old.seen (receipt.now.number + 1) then receipt.now.number + 1 else seat.old.seen } }
+{
+    seat.saw(receipt.number() + 1)
+}
+
+/// The header of a transcript that was made with these.
+fn header_of(locks: u32, tables: FixedTables, seats: u32) -> Header
+    ensures fixed { fixed_of result ≡ record { locks = locks; tables = tables } }
+    ensures seats { result.seats ≡ seats }
+{
+    let Parts {
+        counts,
+        drivers,
+        dispatches,
+        cancel_rules,
+    } = tables.into_parts();
+    Header {
+        cancels: cancel_rules,
+        completions: counts,
+        dispatches,
+        drivers,
+        form: Form::One,
+        locks,
+        seats,
+    }
+}
+
+/// The mismatch of a difference, with the entry that the history has at its place.
+fn mismatch_of<L: Ledger>(difference: Difference, history: Vec<Entry>) -> Mismatch<L>
+    ensures { result ≡ OtherEntry difference.seat difference.index difference.kept (entry_at history.items difference.place) }
+{
+    let Difference {
+        seat,
+        index,
+        kept,
+        place,
+    } = difference;
+    let found = match place {
+        Some(place) => taken_out(history, place),
+        None => None,
+    };
+    Mismatch::Entry {
+        seat,
+        index,
+        kept,
+        found,
+    }
+}
+
+impl<A: Drop, L: Session> Shared<A, L> {
+    /// Ends a session, with the seats that were opened with it: compares what they kept with the history, and gives the
+    /// transcript, without word lines. Its header has the tables of whom `open` was given. Each seat's entries are the
+    /// history's entries with its number, in order, and their counts add up to the history's length. It takes no memory
+    /// (this project's own rule).
+    ///
+    /// # Errors
+    ///
+    /// `Mismatch::Seats` exactly where the seats handed in are not all seats, each once; else `Mismatch::Entry` with the
+    /// seat's entry and another, where a seat's entries are not the history's own. Nothing is left of the session then.
+    pub fn close(self, seats: Vec<Seat<L>>) -> Result<Transcript, Mismatch<L>>
+        requires { L.seats ≡ L.parts }
+        ensures closes { IfOk result (Closes L.fixed L.seats seats.items) }
+        ensures seats { (AllHere seats.items L.seats → ⊥) → result ≡ Err (OtherSeats L.seats seats) }
+        ensures only_seats { (expected : ℕ) (given : _) → result ≡ Err (OtherSeats expected given) → AllHere seats.items L.seats → ⊥ }
+        ensures entry { (seat index : ℕ) (kept found : Option Entry) → result ≡ Err (OtherEntry seat index kept found)
+            → Kept seats.items seat index kept × (kept ≡ found → ⊥) }
+    {
+        let Shared {
+            seats: expected,
+            alloc,
+            lock,
+        } = self;
+        if !are_all(seats.as_slice(), expected) {
+            let given = seats;
+            return Err(Mismatch::Seats { expected, given });
+        }
+        let Locked {
+            book,
+            mut total,
+            spare,
+        } = lock.into_inner();
+        let Recorded {
+            locks,
+            tables,
+            history,
+        } = book.end();
+        let (mut all, difference) = gather(spare, seats, history.as_slice());
+        total.audit(&mut all);
+        if let Some(difference) = difference {
+            return Err(mismatch_of(difference, history));
+        }
+        tables.agree();
+        history_completes_once();
+        let header = header_of(locks, tables, expected);
+        let words = Row::from_vec(Vec::new(alloc));
+        Ok(Transcript::new(header, Row::from_vec(history), words))
+    }
+}
