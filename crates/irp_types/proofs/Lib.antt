@@ -1,4 +1,4 @@
-mod LongerLists
+pub mod LongerLists
 mod LongerHistories
 mod LiveMaps
 mod FoundUses
@@ -11,3 +11,4 @@ mod SettledDescent
 mod SettledSteps
 mod SettledStates
 mod Examples
+mod Deciding

@@ -1,6 +1,7 @@
 //! The entries of a history.
 
-ghost use Rattle.std.specs.Prelude.{◌≡◌, ◌≤◌, [], length, vec_capacity};
+ghost use Rattle.std.specs.Prelude.{◌≡◌, ◌≤◌, [], length, vec_capacity, IsTrue};
+ghost use mathlib.Core.Logic.{◌↔◌};
 
 use crate::asked::Asked;
 use crate::call::Call;
@@ -25,6 +26,13 @@ pub struct Entry {
     pub reply: Reply,
 }
 
+/// Whether two lists of questions are equal.
+fn are_same(one: &[Asked], other: &[Asked]) -> bool
+    ensures { IsTrue result ↔ (one.now ≡ other.now) }
+{
+    one == other
+}
+
 impl Entry {
     /// An equal entry, whose questions lie in the room given: an empty vector with room for as many as this entry has.
     /// It takes no memory, and can't fail (this project's own rule).
@@ -46,5 +54,17 @@ impl Entry {
             asked: Row::from_vec(asked),
             reply: self.reply,
         }
+    }
+    /// Whether the two say the same, each field and each question.
+    pub fn is_same(&self, other: &Entry) -> bool
+        ensures { IsTrue result ↔ (self.now ≡ other.now) }
+    {
+        self.number == other.number
+            && self.seat == other.seat
+            && self.call == other.call
+            && self.lock == other.lock
+            && self.drained == other.drained
+            && self.reply == other.reply
+            && are_same(self.asked.as_slice(), other.asked.as_slice())
     }
 }

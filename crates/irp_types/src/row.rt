@@ -27,6 +27,13 @@ impl<T> Row<T> {
         Row { items }
     }
 
+    /// The items in a vector, in order. It takes no memory.
+    pub fn into_vec(self) -> Vec<T>
+        ensures { result.items ≡ self }
+    {
+        self.items
+    }
+
     /// The items, in order.
     pub fn as_slice(&self) -> &[T]
         ensures { result.now ≡ self.now }

@@ -169,6 +169,75 @@ fn a_copy_of_an_entry_without_questions_needs_no_room(rt: HostRuntime) {
     assert_eq!(rt; copy.number, 5);
 }
 
+/// A question about that packet's cancellation, to this cancel routine.
+fn question(id: u32) -> Asked {
+    Asked::Cancel {
+        id: CancelId(id),
+        shown: SHOWN,
+        answer: CancelAnswer::Finish { information: 9 },
+    }
+}
+
+#[test]
+fn an_entry_equals_its_copy(rt: HostRuntime) -> Result<(), Fail> {
+    let entry = cancellation([question(1)].to_vec(rt.alloc())?);
+    let room = Vec::with_capacity(rt.alloc(), 16)?;
+    assert!(rt; entry.asked.as_slice().len() <= 16);
+    let copy = entry.copy_into(room);
+    assert!(rt; entry.is_same(&copy));
+    assert!(rt; copy.is_same(&entry));
+    Ok(())
+}
+
+#[test]
+fn an_entry_differs_in_each_field(rt: HostRuntime) -> Result<(), Fail> {
+    let entry = cancellation([question(1)].to_vec(rt.alloc())?);
+    let mut other = cancellation([question(1)].to_vec(rt.alloc())?);
+    assert!(rt; entry.is_same(&other));
+    other.number = 6;
+    assert!(rt; !entry.is_same(&other));
+    other.number = 5;
+    other.seat = 3;
+    assert!(rt; !entry.is_same(&other));
+    other.seat = 2;
+    other.call = Call::Look { irp: SHOWN.irp };
+    assert!(rt; !entry.is_same(&other));
+    other.call = Call::Cancel { irp: SHOWN.irp };
+    other.lock = None;
+    assert!(rt; !entry.is_same(&other));
+    other.lock = Some(LockNo(3));
+    other.drained = false;
+    assert!(rt; !entry.is_same(&other));
+    other.drained = true;
+    other.reply = Reply::Cancelled(false);
+    assert!(rt; !entry.is_same(&other));
+    other.reply = Reply::Cancelled(true);
+    assert!(rt; entry.is_same(&other));
+    Ok(())
+}
+
+#[test]
+fn an_entry_differs_in_its_questions(rt: HostRuntime) -> Result<(), Fail> {
+    let entry = cancellation([question(1)].to_vec(rt.alloc())?);
+    let another_question = cancellation([question(2)].to_vec(rt.alloc())?);
+    assert!(rt; !entry.is_same(&another_question));
+    let one_more = cancellation([question(1), question(1)].to_vec(rt.alloc())?);
+    assert!(rt; !entry.is_same(&one_more));
+    assert!(rt; !one_more.is_same(&entry));
+    Ok(())
+}
+
+#[test]
+fn a_row_gives_its_items_back(rt: HostRuntime) -> Result<(), Fail> {
+    let row = Row::from_vec([Status::PENDING, Status::SUCCESS].to_vec(rt.alloc())?);
+    let items = row.into_vec();
+    assert_eq!(rt;
+        items.as_slice(),
+        [Status::PENDING, Status::SUCCESS].as_slice()
+    );
+    Ok(())
+}
+
 #[test]
 fn what_is_shown_is_in_range_and_the_laws_hold() {
     SHOWN.in_range();
