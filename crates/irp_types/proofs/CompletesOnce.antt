@@ -1,6 +1,5 @@
 -- Each use of a packet is completed at most once: once it was, it is never open again.
-use Rattle.std.proofs.Common.{◌≡◌, ℕ, ◌+◌, ◌-◌, ◌<◌, ◌≤◌, zero, suc, Bool, true, false, cond, ◌&&◌, List, [], ◌∷◌, length, filter, get_or, Option, Some, None, refl, sym, ◌∙◌, ap, subst, arith, inl, inr}
-use Rattle.std.specs.Prelude.{slice_get}
+use Rattle.std.proofs.Common.{◌≡◌, ℕ, ◌+◌, ◌-◌, ◌<◌, ◌≤◌, zero, suc, Bool, true, false, cond, ◌&&◌, List, ◌∷◌, length, filter, Some, refl, sym, ◌∙◌, ap, subst, arith}
 use Rattle.std.specs.List.{range_with_len}
 use Rattle.std.specs.Ordering.{nat_cmp}
 use Rattle.std.proofs.lemmas.Bool.{and_parts, false≢true}
@@ -8,7 +7,7 @@ use Rattle.std.proofs.lemmas.Option.{none-some, same_Some}
 use Rattle.std.specs.FinMap as fin
 use Rattle.irp_types.specs.State.{StateValue, LivePacket, Fixed, live_at, opening_state}
 use Rattle.irp_types.specs.Refusals.{has_ended}
-use Rattle.irp_types.specs.Histories.{LeadsThrough, is_open, is_ended, completions, HistoryCompletesOnce, LegalCompletesOnce}
+use Rattle.irp_types.specs.Histories.{LeadsThrough, is_open, is_ended, HistoryCompletesOnce, LegalCompletesOnce}
 use Rattle.irp_types.specs.declared.entry.Entry.{Entry}
 use Rattle.irp_types.proofs.FoundUses.{open_use, ended_use}
 use Rattle.irp_types.proofs.StatesByNumber.{state_at, opens_at, entry_before, follows_at}

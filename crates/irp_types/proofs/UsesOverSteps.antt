@@ -1,5 +1,5 @@
 -- The uses of packets, over one step: the numbers of new ones are drawn, and a packet that has ended has ended after it.
-use Rattle.std.proofs.Common.{◌≡◌, ℕ, ◌+◌, ◌<◌, ◌≤◌, Bool, true, false, not, List, [], ◌∷◌, Option, Some, None, is_some, MatchOption, unwrap_or, ◌==◌, refl, sym, ◌∙◌, ap, subst, arith, ◌⊎◌, inl, inr}
+use Rattle.std.proofs.Common.{◌≡◌, ℕ, ◌<◌, ◌≤◌, Bool, true, false, not, List, [], ◌∷◌, Option, Some, None, is_some, MatchOption, unwrap_or, ◌==◌, refl, sym, ◌∙◌, ap, subst, arith, ◌⊎◌, inl, inr}
 use Rattle.std.proofs.lemmas.Bool.{cases_eq, false≢true}
 use Rattle.std.proofs.lemmas.Option.{none-some, same_Some}
 use Rattle.std.specs.FinMap as fin
@@ -201,15 +201,15 @@ module _ (old new : StateValue) (step : UsesGoOn old new) where
       let counter : old.next_use ≤ new.next_use = step.counter in
       record {
         drawn = λ slot live there. split slot live there
-        (λ stayed. let before = uses.drawn slot stayed.0 stayed.1 in let same = stayed.2 in omega (arith, before, same, counter))
-        (λ now. let number = now.1.0 in let higher = now.1.1 in omega (arith, number, higher));
+            (λ stayed. let before = uses.drawn slot stayed.0 stayed.1 in let same = stayed.2 in omega (arith, before, same, counter))
+            (λ now. let number = now.1.0 in let higher = now.1.1 in omega (arith, number, higher));
         apart = λ slot other live another there elsewhere same. split slot live there
-        (λ stayed. split other another elsewhere
-          (λ remained. uses.apart slot other stayed.0 remained.0 stayed.1 remained.1 (stayed.2 ∙ same ∙ sym remained.2))
-          (λ now. let before = uses.drawn slot stayed.0 stayed.1 in let number = now.1.0 in let kept = stayed.2 in absurd (omega (arith, before, number, kept, same))))
-        (λ now. split other another elsewhere
-          (λ remained. let before = uses.drawn other remained.0 remained.1 in let number = now.1.0 in let kept = remained.2 in absurd (omega (arith, before, number, kept, same)))
-          (λ likewise. now.0 ∙ sym likewise.0));
+            (λ stayed. split other another elsewhere
+            (λ remained. uses.apart slot other stayed.0 remained.0 stayed.1 remained.1 (stayed.2 ∙ same ∙ sym remained.2))
+            (λ now. let before = uses.drawn slot stayed.0 stayed.1 in let number = now.1.0 in let kept = stayed.2 in absurd (omega (arith, before, number, kept, same))))
+            (λ now. split other another elsewhere
+            (λ remained. let before = uses.drawn other remained.0 remained.1 in let number = now.1.0 in let kept = remained.2 in absurd (omega (arith, before, number, kept, same)))
+            (λ likewise. now.0 ∙ sym likewise.0));
       }
 
   pub over_goes_on : (use_no : ℕ) → IsOver use_no old → IsOver use_no new
@@ -219,6 +219,6 @@ module _ (old new : StateValue) (step : UsesGoOn old new) where
       record {
         drawn = omega (arith, counter, below);
         ended = λ slot live there same. split slot live there
-        (λ stayed. stayed.3 (over.ended slot stayed.0 stayed.1 (stayed.2 ∙ same)))
-        (λ now. let number = now.1.0 in absurd (omega (arith, number, below, same)));
+            (λ stayed. stayed.3 (over.ended slot stayed.0 stayed.1 (stayed.2 ∙ same)))
+            (λ now. let number = now.1.0 in absurd (omega (arith, number, below, same)));
       }
