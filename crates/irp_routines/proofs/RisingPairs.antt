@@ -1,5 +1,5 @@
 -- Pairs whose majors rise stand by major as they are.
-use Rattle.std.proofs.Common.{◌≡◌, ℕ, ◌+◌, ◌<◌, ◌≤◌, ◌==◌, Bool, true, false, List, [], ◌∷◌, map, length, slice_index_or, Option, Some, None, refl, sym, ◌∙◌, ap, subst, arith, cond, find, zero, suc}
+use Rattle.std.proofs.Common.{◌≡◌, ℕ, ◌+◌, ◌<◌, ◌≤◌, ◌==◌, Bool, true, false, List, [], ◌∷◌, map, slice_index_or, Option, Some, None, refl, sym, ◌∙◌, ap, arith, cond, find, zero, suc}
 use Rattle.std.specs.List.{All, AllPairs, range_with_len, filter_map, cons_option}
 use Rattle.std.specs.List.Sorted.{IsStrictlyIncreasing}
 use Rattle.std.specs.Option.{option_map}
@@ -10,7 +10,7 @@ use Rattle.std.proofs.lemmas.List.Kept.{AllPairs-from_increasing}
 use Rattle.irp_types.specs.Limits.{last_major}
 use Rattle.irp_types.specs.State.{Tables, Entrance, IsDriver, AreTables, dispatch_in}
 use Rattle.irp_types.specs.declared.names.DispatchId.{DispatchId}
-use Rattle.irp_routines.specs.Tables.{majors, entrance_of, by_major}
+use Rattle.irp_routines.specs.Tables.{entrance_of, by_major}
 use Rattle.irp_routines.specs.TableFacts.{each_driver}
 
 -- a pair's major is at least this, above this, below this
