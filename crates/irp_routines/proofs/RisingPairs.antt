@@ -68,7 +68,7 @@ skipped : (first : Entrance) (others : List Entrance) (start count : ℕ) → fi
 skipped first others start zero below = refl
 skipped first others start (suc count) below =
     ap (λ (found : Option DispatchId). cons_option (option_map (λ (dispatch : DispatchId). (start, dispatch)) found) (filter_map (entrance_of (first ∷ others)) (range_with_len (start + 1) count)))
-        (passed first others start (λ same. omega (arith, below, same)))
+    (passed first others start (λ same. omega (arith, below, same)))
     ∙ ap (cons_option (entrance_of others start)) (skipped first others (start + 1) count (omega (arith, below)))
 
 no_pairs : (start count : ℕ) → filter_map (entrance_of []) (range_with_len start count) ≡ []
@@ -93,15 +93,15 @@ all_stand (first ∷ others) start (suc count) rise low high =
     by_test : (test : Bool) → (first.0 == start) ≡ test
         → (Rise others → All (Low (start + 1)) others → All (High ((start + 1) + count)) others → filter_map (entrance_of others) (range_with_len (start + 1) count) ≡ others)
         → (Rise (first ∷ others) → All (Low (start + 1)) (first ∷ others) → All (High ((start + 1) + count)) (first ∷ others)
-            → filter_map (entrance_of (first ∷ others)) (range_with_len (start + 1) count) ≡ first ∷ others)
+        → filter_map (entrance_of (first ∷ others)) (range_with_len (start + 1) count) ≡ first ∷ others)
         → filter_map (entrance_of (first ∷ others)) (range_with_len start (suc count)) ≡ first ∷ others
     by_test true is of_others of_all =
         let same : first.0 ≡ start = eqb-true first.0 start is in
         let above : All (Low (start + 1)) others = All-weaker (Above first.0) (Low (start + 1)) (λ entrance later. omega (arith, later, same)) others (rise_head first others rise) in
         let rest : filter_map (entrance_of (first ∷ others)) (range_with_len (start + 1) count) ≡ others =
-            skipped first others (start + 1) count (omega (arith, same)) ∙ of_others (rise_tail first others rise) above (All-tail (High ((start + 1) + count)) first others below) in
+        skipped first others (start + 1) count (omega (arith, same)) ∙ of_others (rise_tail first others rise) above (All-tail (High ((start + 1) + count)) first others below) in
         ap (λ test. cons_option (option_map (λ (dispatch : DispatchId). (start, dispatch)) (option_map (λ (entrance : Entrance). entrance.1)
-                (cond test (Some first) (find (λ (entrance : Entrance). entrance.0 == start) others)))) (filter_map (entrance_of (first ∷ others)) (range_with_len (start + 1) count))) is
+        (cond test (Some first) (find (λ (entrance : Entrance). entrance.0 == start) others)))) (filter_map (entrance_of (first ∷ others)) (range_with_len (start + 1) count))) is
         ∙ ap (λ (found : List Entrance). (start, first.1) ∷ found) rest
         ∙ ap (λ (major : ℕ). (major, first.1) ∷ others) (sym same)
     by_test false is of_others of_all =
@@ -109,9 +109,9 @@ all_stand (first ∷ others) start (suc count) rise low high =
         let differ : first.0 ≡ start → ⊥ = eqb-false first.0 start is in
         let least : start + 1 ≤ first.0 = omega (arith, head, differ) in
         let above : All (Low (start + 1)) (first ∷ others) =
-            All-cons (Low (start + 1)) first others least (All-weaker (Above first.0) (Low (start + 1)) (λ entrance later. omega (arith, later, least)) others (rise_head first others rise)) in
+        All-cons (Low (start + 1)) first others least (All-weaker (Above first.0) (Low (start + 1)) (λ entrance later. omega (arith, later, least)) others (rise_head first others rise)) in
         ap (λ (found : Option DispatchId). cons_option (option_map (λ (dispatch : DispatchId). (start, dispatch)) found) (filter_map (entrance_of (first ∷ others)) (range_with_len (start + 1) count)))
-            (below_none (first ∷ others) start (All-weaker (Low (start + 1)) (Above start) (λ entrance later. omega (arith, later)) (first ∷ others) above))
+        (below_none (first ∷ others) start (All-weaker (Low (start + 1)) (Above start) (λ entrance later. omega (arith, later)) (first ∷ others) above))
         ∙ of_all rise above below
 
 -- a driver's pairs stand by rising major

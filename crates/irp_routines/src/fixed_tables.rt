@@ -119,8 +119,8 @@ impl FixedTables {
         })
     }
 
-    /// The tables of whoever is asked, as they are told by its answers. The asker stays as it was, and none of its
-    /// closures is called (this project's own rule).
+    /// A copy of the tables of whoever is asked, as its answers tell them. The asker stays as it was (this project's own
+    /// rule).
     ///
     /// # Errors
     ///

@@ -13,9 +13,9 @@ mod guard;
 mod not_added;
 mod routine;
 mod store;
-mod told;
 #[cfg(test)]
 mod tests;
+mod told;
 
 pub use answer_table::AnswerTable;
 pub use ask::Ask;

@@ -46,7 +46,7 @@ fn told_driver<A: Ask>(
     Ok(pairs)
 }
 
-/// The drivers by number, each as above.
+/// The drivers by number: each one's major function codes, rising, with their dispatches.
 pub fn told_drivers<A: Ask>(
     alloc: Global,
     ask: &A,
