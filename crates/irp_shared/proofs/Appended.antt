@@ -2,7 +2,7 @@
 use Rattle.std.proofs.Common.{◌≡◌, ℕ, List, [], ◌∷◌, ◌++◌, length, sym, ap, ◌∙◌, subst}
 use Rattle.std.specs.Prelude.{slice_get, Some}
 use Rattle.irp_types.specs.declared.entry.Entry.{Entry}
-use Rattle.irp_shared.proofs.Opened.{get_last}
+use Rattle.irp_types.proofs.LongerLists.{get_last}
 
 -- it is what stands at the old length
 pub stands_last : (history longer : List Entry) (entry found : Entry) (number : ℕ)

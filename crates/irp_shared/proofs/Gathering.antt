@@ -6,7 +6,7 @@ use Rattle.std.proofs.lemmas.List.Sums.{sum_by-append}
 use Rattle.irp_types.specs.declared.entry.Entry.{Entry}
 use Rattle.irp_manager.specs.Seats.{Seated}
 use Rattle.irp_shared.specs.Closing.{count_of, IsKept, IsOther, Kept, Differs}
-use Rattle.irp_shared.proofs.Opened.{get_last, get_front}
+use Rattle.irp_types.proofs.LongerLists.{get_last, get_front}
 
 -- where no difference was found and the one taken off is kept, all are kept if those left are
 pub if_none_on : {X : Type 0} (option : Option X) {P Q : Type 0} → (P → Q) → IfNone option P → IfNone option Q

@@ -1,7 +1,6 @@
 //! How the entries that the seats kept are compared with the history, and their counts added up.
 
-ghost use Rattle.std.specs.Prelude.{◌≡◌, ◌≤◌, ◌<◌, ◌+◌, [], ℕ, List, length, true, false, All, IfNone, IfSome, sum_by, vec_len, slice_get, ◌==◌, IsTrue};
-ghost use mathlib.Core.Logic.{◌↔◌};
+ghost use Rattle.std.specs.Prelude.{◌≡◌, ◌≤◌, ◌<◌, ◌+◌, [], ℕ, List, length, true, false, All, IfNone, IfSome, sum_by, vec_len, slice_get, ◌==◌};
 ghost use Rattle.std.specs.List.{list_any};
 ghost use Rattle.irp_types.specs.Histories.{own_entries};
 ghost use Rattle.irp_shared.specs.Closing.{AllHere, count_of, IsKept, IsOther, Differs};
@@ -26,12 +25,6 @@ pub struct Difference {
     pub index: usize,
     pub kept: Option<Entry>,
     pub place: Option<usize>,
-}
-
-fn is_same(one: &Entry, other: &Entry) -> bool
-    ensures { IsTrue result ↔ (one.now ≡ other.now) }
-{
-    one.number == other.number
 }
 
 /// Whether a seat of this number is among these.
@@ -66,7 +59,7 @@ pub fn first_parting(entries: &[Entry], history: &[Entry], seat: u32) -> Option<
     for place in 0..history.len() {
         let entry = &history[place];
         if entry.seat == seat {
-            if index >= entries.len() || !is_same(&entries[index], entry) {
+            if index >= entries.len() || !entries[index].is_same(entry) {
                 let place = Some(place);
                 return Some(Parting { index, place });
             }

@@ -23,7 +23,7 @@ returns-clause-closes g c =
     let own : All (IsKept history) c.args.seats.items =
     subst (λ (entries : List Entry). All (IsKept entries) c.args.seats.items) c.as_slice-2.ensures.value
     (subst (λ option. IfNone option (All (IsKept c.as_slice-2.result.now) c.args.seats.items)) c.in_default.is c.gather-all.ensures.same) in
-    let many : vec_len c.args.seats ≡ g.L.Session.seats = all_here.0 in
+    let many : vec_len c.args.seats ≡ g.L.Session.seats = search rules in
     let whole = c.audit.ensures.whole (c.gather-all.ensures.parts ∙ many ∙ c.requires) in
     let counts : sum_by count_of c.args.seats.items ≡ length history = sym c.gather-all.ensures.amount ∙ whole ∙ locked.counted ∙ ap length (sym same) in
     rw (c.new-2.ensures) (subst (λ (entries : List Entry). Closes fixed g.L.Session.seats c.args.seats.items (record { header = Some c.header_of-header.result; entries = entries; words = c.from_vec-words.result })) (sym c.from_vec.ensures) (record {
