@@ -1,3 +1,6 @@
-pub mod Appended
-pub mod Gathering
-pub mod Opened
+mod Each
+mod Accepted
+mod Rising
+mod Appended
+mod Gathering
+mod Opened

@@ -1,6 +1,27 @@
 //! What a transcript was made with.
 
+ghost use Rattle.std.specs.Prelude.{◌≡◌, ◌↔◌, ◌≤◌, ◌<◌, true, map};
+ghost use Rattle.std.specs.List.{All};
+ghost use Rattle.std.specs.List.Sorted.{IsStrictlyIncreasing};
+ghost use Rattle.irp_types.specs.Limits.{last_major};
+ghost use Rattle.irp_types.specs.Rules.{IsWithin};
+ghost use Rattle.irp_types.specs.State.{Entrance, IsDriver};
+ghost use Rattle.irp_shared.specs.Headers.{IsHeader, HasCounts, fixed_of};
+
 use irp_types::{CancelRule, DispatchId, Known, Row};
+
+/// The greatest major function code, IRP_MJ_PNP.
+const LAST_MAJOR: u8 = 0x1b;
+
+/// As many routines of each kind as there may be.
+const MOST_KNOWN: Known = Known {
+    watch: 256,
+    change: 256,
+    keeper: 256,
+    keep_on_error: 256,
+    free: 256,
+    cancel: 256,
+};
 
 /// Which forms a transcript's lines have, as its header tells (this project's own format, docs/FORMATS.md).
 #[derive(Clone, Copy, PartialEq, Eq, Debug)]
@@ -30,4 +51,103 @@ pub struct Header {
     pub locks: u32,
     /// How many seats there are.
     pub seats: u32,
+}
+
+/// Whether each of these is within the counts.
+fn are_within(known: &[Known], counts: Known) -> bool
+    ensures { result ≡ true ↔ All (λ one. IsWithin one counts) known.now }
+{
+    for one in known {
+        if !one.is_within(counts) {
+            return false;
+        }
+    }
+    true
+}
+
+/// Whether the major function codes of these pairs rise.
+fn is_rising(pairs: &[(u8, DispatchId)]) -> bool
+    ensures { result ≡ true ↔ IsStrictlyIncreasing (map (λ (entrance : Entrance). entrance.0) pairs.now) }
+{
+    for place in 1..pairs.len() {
+        if pairs[place - 1].0 >= pairs[place].0 {
+            return false;
+        }
+    }
+    true
+}
+
+/// Whether each of these pairs has a major function code.
+fn have_majors(pairs: &[(u8, DispatchId)]) -> bool
+    ensures { result ≡ true ↔ All (λ (entrance : Entrance). entrance.0 ≤ last_major) pairs.now }
+{
+    for pair in pairs {
+        if pair.0 > LAST_MAJOR {
+            return false;
+        }
+    }
+    true
+}
+
+/// Whether each of these pairs names one of so many dispatches.
+fn are_named(pairs: &[(u8, DispatchId)], dispatches: usize) -> bool
+    ensures { result ≡ true ↔ All (λ (entrance : Entrance). entrance.1.0 < dispatches) pairs.now }
+{
+    for pair in pairs {
+        if pair.1.0 as usize >= dispatches {
+            return false;
+        }
+    }
+    true
+}
+
+impl Header {
+    /// Whether these pairs can be a driver's.
+    fn is_driver(&self, pairs: &[(u8, DispatchId)]) -> bool
+        ensures { result ≡ true ↔ IsDriver (fixed_of self.now).tables pairs.now }
+    {
+        is_rising(pairs)
+            && have_majors(pairs)
+            && are_named(pairs, self.dispatches.as_slice().len())
+    }
+
+    /// Whether the pairs of each of these can be a driver's.
+    fn are_drivers(&self, drivers: &[Row<(u8, DispatchId)>]) -> bool
+        ensures { result ≡ true ↔ All (IsDriver (fixed_of self.now).tables) drivers.now }
+    {
+        for driver in drivers {
+            if !self.is_driver(driver.as_slice()) {
+                return false;
+            }
+        }
+        true
+    }
+
+    /// Whether there are as many of each thing as there may be.
+    fn has_counts(&self) -> bool
+        ensures { result ≡ true ↔ HasCounts self.now }
+    {
+        self.completions.cancel as usize == self.cancels.as_slice().len()
+            && self.completions.is_within(MOST_KNOWN)
+            && self.dispatches.as_slice().len() <= 256
+            && self.drivers.as_slice().len() <= 64
+            && 1 <= self.locks
+            && self.locks <= 64
+            && 1 <= self.seats
+            && self.seats <= 64
+    }
+
+    /// Whether the formats accept it: its tables agree with each other and are within the limits, with 1 to 64 remove
+    /// locks and 1 to 64 seats (this project's own format, docs/FORMATS.md).
+    pub fn is_accepted(&self) -> bool
+        ensures { result ≡ true ↔ IsHeader self.now }
+    {
+        if !self.has_counts() {
+            return false;
+        }
+        if !are_within(self.dispatches.as_slice(), self.completions) {
+            return false;
+        }
+        self.are_drivers(self.drivers.as_slice())
+    }
 }
