@@ -22,7 +22,7 @@ pub rises_more : (pairs : List Entrance) (place : ℕ) → 1 ≤ place → (get_
     → (k : ℕ) → k + 1 < place + 1 → slice_index (majors pairs) k < slice_index (majors pairs) (k + 1)
 rises_more pairs place some rises before k within =
     elim (cases_eq (k + 1) place) as (λ _. slice_index (majors pairs) k < slice_index (majors pairs) (k + 1)) [
-        inl is ↦
+      | inl is ↦
           let here : k ≡ place - 1 = omega (arith, is) in
           let low : slice_index (majors pairs) k ≡ (get_or pairs (place - 1) none).0 = major_at pairs k ∙ ap (λ j. (get_or pairs j none).0) here in
           let high : slice_index (majors pairs) (k + 1) ≡ (get_or pairs place none).0 = major_at pairs (k + 1) ∙ ap (λ j. (get_or pairs j none).0) is in
@@ -36,6 +36,6 @@ pub rises_not : (pairs : List Entrance) (place : ℕ) → 1 ≤ place → place 
 rises_not pairs place some within falls rising =
     let low = major_at pairs (place - 1) in
     let high : slice_index (majors pairs) (place - 1 + 1) ≡ (get_or pairs place none).0 =
-      major_at pairs (place - 1 + 1) ∙ ap (λ j. (get_or pairs j none).0) (let same : place - 1 + 1 ≡ place = omega (arith, some) in same) in
+    major_at pairs (place - 1 + 1) ∙ ap (λ j. (get_or pairs j none).0) (let same : place - 1 + 1 ≡ place = omega (arith, some) in same) in
     let rises = rising (place - 1) (omega (arith, some, within, length-map pairs (λ (entrance : Entrance). entrance.0))) in
     absurd (omega (arith, low, high, rises, falls))

@@ -106,9 +106,7 @@ impl Header {
     fn is_driver(&self, pairs: &[(u8, DispatchId)]) -> bool
         ensures { result ≡ true ↔ IsDriver (fixed_of self.now).tables pairs.now }
     {
-        is_rising(pairs)
-            && have_majors(pairs)
-            && are_named(pairs, self.dispatches.as_slice().len())
+        is_rising(pairs) && have_majors(pairs) && are_named(pairs, self.dispatches.as_slice().len())
     }
 
     /// Whether the pairs of each of these can be a driver's.

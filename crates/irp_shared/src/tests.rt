@@ -3,7 +3,7 @@
 ghost use Rattle.irp_shared.specs.Headers.{IsHeader};
 
 use super::*;
-use irp_types::{Call, DriverId, DeviceId, Entry, Known, LockNo, Reply, Row};
+use irp_types::{Call, DeviceId, DriverId, Entry, Known, LockNo, Reply, Row};
 use std::alloc::Global;
 use std::test::Fail;
 
@@ -66,7 +66,10 @@ fn a_transcript_gives_back_what_it_is_made_of(rt: HostRuntime) -> Result<(), Fai
     let entries = Row::from_vec(Vec::from_array(rt.alloc(), [entry])?);
     let words = Row::from_vec([LINE].to_vec(rt.alloc())?);
     let transcript = Transcript::new(header(rt.alloc()), entries, words);
-    assert_eq!(rt; transcript.header().map(|header| header.form), Some(Form::One));
+    assert_eq!(rt;
+        transcript.header().map(|header| header.form),
+        Some(Form::One)
+    );
     assert_eq!(rt; transcript.entries().len(), 1);
     assert_eq!(rt; transcript.words(), [LINE].as_slice());
     let TranscriptParts {
@@ -74,8 +77,17 @@ fn a_transcript_gives_back_what_it_is_made_of(rt: HostRuntime) -> Result<(), Fai
         entries,
         words,
     } = transcript.into_parts();
-    assert_eq!(rt; header.map(|header| (header.locks, header.seats)), Some((2, 3)));
-    assert_eq!(rt; entries.as_slice().first().map(|entry| (entry.seat, entry.call)), Some((2, call)));
+    assert_eq!(rt;
+        header.map(|header| (header.locks, header.seats)),
+        Some((2, 3))
+    );
+    assert_eq!(rt;
+        entries
+            .as_slice()
+            .first()
+            .map(|entry| (entry.seat, entry.call)),
+        Some((2, call))
+    );
     assert_eq!(rt; words.as_slice(), [LINE].as_slice());
     Ok(())
 }

@@ -1,8 +1,6 @@
 -- What the demonstration writes.
-use Rattle.std.specs.Prelude.{ℕ, ◌≡◌, ◌<◌, ◌≤◌, List, [], ◌∷◌, ◌++◌, map, length, Option}
+use Rattle.std.specs.Prelude.{ℕ, ◌≡◌, ◌<◌, List, [], ◌∷◌, ◌++◌, map, length, Option, Some}
 use Rattle.std.specs.Io.KnownBytes.{Appends}
-use Rattle.irp_types.specs.Limits.{most_locks, most_seats}
-use Rattle.irp_types.specs.State.{Fixed, AreTables}
 use Rattle.irp_types.specs.Histories.{IsLegal}
 use Rattle.irp_types.specs.declared.entry.Entry.{Entry}
 use Rattle.irp_types.specs.declared.call.Call.{Call}
@@ -10,15 +8,9 @@ use Rattle.irp_types.specs.declared.call.Call.TheVariants.{CreateDevice, Allocat
 use Rattle.irp_types.specs.declared.call.Party.TheVariants.{Originator}
 use Rattle.irp_types.specs.declared.names.IrpRef.{IrpRef}
 use Rattle.irp_types.specs.declared.names.DeviceId.{DeviceId}
-use Rattle.irpx.specs.Lines.{lines, text_of}
-use Rattle.irpx.specs.declared.irp_text.header.Header.{Header}
-
--- what is fixed, as a header tells it
-abbrev pub fixed_of : Header → Fixed
-fixed_of header = record {
-  locks = header.locks;
-  tables = record { counts = record header.completions { cancel = length header.cancels }; drivers = header.drivers; dispatches = header.dispatches; cancel_rules = header.cancels };
-}
+use Rattle.irp_shared.specs.Headers.{fixed_of, IsHeader}
+use Rattle.irp_shared.specs.declared.header.Header.{Header}
+use Rattle.irp_text.specs.Lines.{lines, text_of}
 
 -- the calls of a history, in order, each with the seat that made it
 abbrev pub calls_of : List Entry → List (ℕ × Call)
@@ -31,13 +23,9 @@ AreDemoCalls calls =
     (target : DeviceId) × (irp : IrpRef)
     × (calls ≡ (0, CreateDevice (record { 0 = 0 }) (record { 0 = 0 })) ∷ (0, Allocate 1) ∷ (0, SetNext Originator irp 0x03 7) ∷ (0, CallDriver Originator irp target) ∷ [])
 
--- a header whose tables agree with each other, with as many seats and locks as there may be
-pub record IsHeader (header : Header) : Type 0 where
-  pub tables : AreTables (fixed_of header).tables
-  pub some_locks : 1 ≤ header.locks
-  pub few_locks : header.locks ≤ most_locks
-  pub some_seats : 1 ≤ header.seats
-  pub few_seats : header.seats ≤ most_seats
+-- the text of a header and a history, with no word lines
+abbrev pub text_with : Header → List Entry → List ℕ
+text_with header history = text_of (lines (record { header = Some header; entries = history; words = [] }))
 
 -- the text of a header and of a legal history with the calls of the demonstration went out
 pub record WritesLegal (old new : Option (List ℕ)) : Type 0 where
@@ -46,7 +34,7 @@ pub record WritesLegal (old new : Option (List ℕ)) : Type 0 where
   pub fits : IsHeader header
   pub legal : IsLegal (fixed_of header) history
   pub calls : AreDemoCalls (calls_of history)
-  pub written : Appends old new (text_of (lines header history))
+  pub written : Appends old new (text_with header history)
 
 -- a beginning of the text of a header and a legal history went out, which isn't the whole text
 pub record BeginsLegal (old new : Option (List ℕ)) : Type 0 where
@@ -56,6 +44,6 @@ pub record BeginsLegal (old new : Option (List ℕ)) : Type 0 where
   pub legal : IsLegal (fixed_of header) history
   pub front : List ℕ
   pub rest : List ℕ
-  pub whole : text_of (lines header history) ≡ front ++ rest
+  pub whole : text_with header history ≡ front ++ rest
   pub short : 0 < length rest
   pub gone : Appends old new front

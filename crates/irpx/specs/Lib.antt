@@ -1,8 +1,3 @@
-pub mod Out
-pub mod Json
-pub mod Lines
-pub mod Whole
-pub mod Puts
 pub mod CommandLine
 pub mod Demo
 pub mod Ending

@@ -1,15 +1,19 @@
 //! The demonstration: one device and one packet, from the first call to the printed history.
 
-ghost use Rattle.std.specs.Prelude.{◌≡◌, [], ◌∷◌, ◌++◌, IfSome};
+ghost use Rattle.std.specs.Prelude.{◌≡◌, [], ◌∷◌, ◌++◌, IfErr, IfSome, OnOk};
+ghost use Rattle.std.specs.Io.KnownBytes.{Appends};
 ghost use Rattle.irp_types.specs.Histories.{IsLegal};
-ghost use Rattle.irpx.specs.Demo.{fixed_of, calls_of, AreDemoCalls, IsHeader, WritesLegal, BeginsLegal};
+ghost use Rattle.irp_shared.specs.Headers.{fixed_of, IsHeader};
+ghost use Rattle.irp_text.specs.Out.{risen};
+ghost use Rattle.irp_text.specs.Puts.{Begins, CountsFault};
+ghost use Rattle.irpx.specs.Demo.{calls_of, AreDemoCalls, text_with, WritesLegal, BeginsLegal};
 ghost use Rattle.irpx.specs.declared.ending.Ending.TheVariants.{Done, OtherWords, Failed};
-ghost use Rattle.irpx.specs.Out.{risen};
 
 use crate::ending::Ending;
-use crate::irp_text::{Cause, Header, Out, write_transcript};
 use irp_manager::{Book, KnowsNothing, Seat};
 use irp_routines::{Ask, Dispatch, FixedTables, Parts, Store};
+use irp_shared::{Form, Header, Transcript};
+use irp_text::{Cause, Out, WriteFault, write_transcript};
 use irp_types::{
     Call, DispatchId, DriverId, Entry, Known, LockNo, Party, Plan, Reply, Row, Shown, Status,
 };
@@ -81,6 +85,7 @@ fn header_of(tables: FixedTables, locks: u32, seats: u32) -> Header
         completions: counts,
         dispatches,
         drivers,
+        form: Form::One,
         locks,
         seats,
     }
@@ -125,6 +130,24 @@ fn history(alloc: Global, dispatch: Dispatch) -> Option<(Header, Row<Entry>)>
     session(alloc, store, tables)
 }
 
+/// Writes the transcript of a header and a history, with no word lines, on condition that the formats accept the
+/// header.
+fn write_history<O: Out>(
+    alloc: Global,
+    output: &mut O,
+    header: Header,
+    history: Row<Entry>,
+) -> Result<(), WriteFault>
+    requires { IsHeader header }
+    ensures ok { OnOk result (Appends (O.gone output.old) (O.gone output.new) (text_with header history)) }
+    ensures fault { IfErr result (λ fault. Begins (text_with header history) (O.gone output.old) (O.gone output.new) fault.written) }
+    ensures cause { CountsFault (O.failures output.old) (O.failures output.new) result }
+{
+    let words = Row::from_vec(Vec::new(alloc));
+    let transcript = Transcript::new(header, history, words);
+    write_transcript(alloc, output, &transcript)
+}
+
 /// Makes the calls of the demonstration, and writes the transcript: one device whose driver finishes reads with success
 /// and information 5, and one packet that is sent to it.
 ///
@@ -149,7 +172,7 @@ pub fn demo<O: Out>(alloc: Global, output: &mut O) -> Ending
     let Some((header, history)) = history(alloc, dispatch) else {
         return Ending::NoMemory;
     };
-    match write_transcript(alloc, output, &header, history.as_slice()) {
+    match write_history(alloc, output, header, history) {
         Ok(()) => Ending::Done,
         Err(fault) => match fault.cause {
             Cause::Io => Ending::Failed,

@@ -3,15 +3,14 @@
 
 mod demo;
 mod ending;
-mod irp_text;
 mod orders;
 #[cfg(test)]
 mod tests;
 mod words;
 
 use crate::ending::Ending;
-use crate::irp_text::WriterOut;
 use crate::orders::{Order, Unread};
+use irp_text::WriterOut;
 use std::env;
 use std::io::{self, Write};
 use std::process::ExitCode;

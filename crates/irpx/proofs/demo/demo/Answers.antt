@@ -1,17 +1,19 @@
 -- Before anything went out, what went out is the beginning of any text, as of one with no entries.
-use Rattle.std.proofs.Common.{ℕ, ◌<◌, ◌≤◌, List, [], ◌∷◌, Option, length, subst, sym, refl, arith, length-append}
+use Rattle.std.proofs.Common.{ℕ, ◌<◌, ◌≤◌, List, [], ◌∷◌, Option, length, subst, refl, arith}
 use Rattle.std.proofs.lemmas.List.Elements.{All-nil}
 use Rattle.irp_types.specs.Histories.{IsLegal}
-use Rattle.irpx.specs.declared.irp_text.header.Header.{Header}
-use Rattle.irpx.specs.Demo.{fixed_of, IsHeader, BeginsLegal}
-use Rattle.irpx.specs.Json.{line_text}
-use Rattle.irpx.specs.Lines.{lines, text_of, header_json}
+use Rattle.irp_shared.specs.Headers.{fixed_of, IsHeader}
+use Rattle.irp_shared.specs.declared.header.Header.{Header}
+use Rattle.irp_shared.specs.declared.header.Form.TheVariants.{One}
+use Rattle.irp_text.specs.Json.{line_text}
+use Rattle.irp_text.specs.Lines.{header_json}
+use Rattle.irpx.specs.Demo.{text_with, BeginsLegal}
 use Rattle.irp_types.specs.State.{no_routines, opening_state}
-use Rattle.irpx.proofs.Puts.{appends_none, text_cons, line_some}
+use Rattle.irp_text.proofs.Puts.{appends_none, text_one, line_some}
 use Rattle.irpx.proofs.demo.demo.Goals as goal
 
 abbrev some_header : Header
-some_header = record { cancels = []; completions = no_routines; dispatches = []; drivers = []; locks = 1; seats = 1 }
+some_header = record { cancels = []; completions = no_routines; dispatches = []; drivers = []; form = One; locks = 1; seats = 1 }
 
 none_few : 0 ≤ 256
 none_few = omega arith
@@ -44,11 +46,11 @@ fits = record {
 none_legal : IsLegal (fixed_of some_header) []
 none_legal = (opening_state ∷ [], record { longer = refl; opens = refl; follows = λ number entry old new at. cc })
 
-text_some : 0 < length (text_of (lines some_header []))
+text_some : 0 < length (text_with some_header [])
 text_some =
     let line = header_json some_header in
     let some : 0 < length (line_text line) = line_some line in
-    subst (λ text. 0 < length text) (sym (text_cons line [])) (omega (arith, some, length-append (line_text line) (text_of [])))
+    subst (λ text. 0 < length text) (text_one line) some
 
 nothing_begins : (gone : Option (List ℕ)) → BeginsLegal gone gone
 nothing_begins gone = record {
@@ -57,7 +59,7 @@ nothing_begins gone = record {
   fits = fits;
   legal = none_legal;
   front = [];
-  rest = text_of (lines some_header []);
+  rest = text_with some_header [];
   whole = refl;
   short = text_some;
   gone = appends_none gone;

@@ -14,14 +14,16 @@ returns-then-not-has_counts c =
 
 pub returns-then-not-are_within : goal.returns-then-not-are_within
 returns-then-not-are_within c =
-    let P = All (λ known. IsWithin known c.args.self.now.completions) in
-    (λ yes. absurd (no_truth yes),
-     λ is. absurd (no_truth (sym c.if-not-are_within.true ∙ c.are_within.ensures.1 (subst P (sym c.as_slice.ensures) is.tables.known))))
+    let P = All (λ known. IsWithin known c.args.self.now.completions) in (
+      λ yes. absurd (no_truth yes),
+      λ is. absurd (no_truth (sym c.if-not-are_within.true ∙ c.are_within.ensures.1 (subst P (sym c.as_slice.ensures) is.tables.known))),
+    )
 
 pub returns : goal.returns
 returns c =
     let P = All (λ known. IsWithin known c.args.self.now.completions) in
-    let Q = All (IsDriver (fixed_of c.args.self.now).tables) in
-    (λ yes. header_of c.args.self.now (c.has_counts.ensures.0 c.if-not-has_counts.false)
-       (subst P c.as_slice.ensures (c.are_within.ensures.0 c.if-not-are_within.false)) (subst Q c.as_slice-2.ensures (c.are_drivers.ensures.0 yes)),
-     λ is. c.are_drivers.ensures.1 (subst Q (sym c.as_slice-2.ensures) is.tables.drivers))
+    let Q = All (IsDriver (fixed_of c.args.self.now).tables) in (
+      λ yes. header_of c.args.self.now (c.has_counts.ensures.0 c.if-not-has_counts.false)
+          (subst P c.as_slice.ensures (c.are_within.ensures.0 c.if-not-are_within.false)) (subst Q c.as_slice-2.ensures (c.are_drivers.ensures.0 yes)),
+      λ is. c.are_drivers.ensures.1 (subst Q (sym c.as_slice-2.ensures) is.tables.drivers),
+    )

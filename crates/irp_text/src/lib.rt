@@ -1,0 +1,19 @@
+//! Transcripts as lines of JSON, and where they go.
+#![tactic(auto)]
+
+mod calls;
+mod form;
+mod lines;
+mod names;
+mod out;
+mod parts;
+#[cfg(test)]
+mod tests;
+mod word_lines;
+mod write;
+mod writer_out;
+
+pub use form::{ToJson, array_of, line_of};
+pub use out::{Failed, Out, put_all};
+pub use write::{Cause, WriteFault, write_transcript};
+pub use writer_out::WriterOut;
