@@ -10,8 +10,8 @@ pub are_new_more : (seats more : List Seated) (seat : Seated) → AreNew (length
 are_new_more seats more seat all is new = record {
   counted = ap length is ∙ length-append seats (seat ∷ []);
   each = λ number other at.
-  elim (front_or_last seats seat number other (ap (λ (list : List Seated). slice_get list number) (sym is) ∙ at)) [
-    | inl before ↦ all.each number other before.1
-    | inr last ↦ subst (λ (given : ℕ × Seated). IsNew given.0 given.1) (λ i. (sym last.0 i, last.1 i)) new
-  ];
+      elim (front_or_last seats seat number other (ap (λ (list : List Seated). slice_get list number) (sym is) ∙ at)) [
+        | inl before ↦ all.each number other before.1
+        | inr last ↦ subst (λ (given : ℕ × Seated). IsNew given.0 given.1) (λ i. (sym last.0 i, last.1 i)) new
+      ];
 }

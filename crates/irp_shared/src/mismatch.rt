@@ -8,7 +8,10 @@ use std::sync::ledger::Ledger;
 #[derive(Drop)]
 pub enum Mismatch<L: Ledger> {
     /// The seats handed in are not all seats that were opened, each once: how many were opened, and what was handed in.
-    Seats { expected: u32, given: Vec<Seat<L>> },
+    Seats {
+        expected: u32,
+        given: Vec<Seat<L>>,
+    },
     /// A seat's entry and the history's own differ: the seat's number, the place among its entries from 0, the entry that
     /// the seat kept there, and the one that the history has of it there. One of the two may be none.
     Entry {

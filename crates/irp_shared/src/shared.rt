@@ -20,9 +20,7 @@ use crate::mismatch::Mismatch;
 use crate::open_refused::OpenRefused;
 use crate::session::Session;
 use crate::transcript::Transcript;
-use irp_manager::{
-    Book, DrainNote, Manager, NotRecorded, Receipt, Recorded, Seat, most_asked,
-};
+use irp_manager::{Book, DrainNote, Manager, NotRecorded, Receipt, Recorded, Seat, most_asked};
 use irp_routines::{Ask, FixedTables, Parts};
 use irp_types::{Call, Entry, Row, history_completes_once};
 use std::alloc::Global;

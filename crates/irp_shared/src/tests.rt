@@ -2,6 +2,10 @@
 
 ghost use Rattle.irp_shared.specs.Headers.{IsHeader};
 
+mod answers;
+mod learning;
+mod threads;
+
 use super::*;
 use irp_types::{Call, DeviceId, DriverId, Entry, Known, LockNo, Reply, Row};
 use std::alloc::Global;

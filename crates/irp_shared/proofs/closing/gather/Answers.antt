@@ -16,8 +16,7 @@ loop-seat-preserved-in-Some-compare g c =
     let amount = c.compare.ensures.amount in
     let parts = old.0 in
     let merged = c.compare.ensures.parts in
-    let lengths = c.pop.ensures.len in
-    (
+    let lengths = c.pop.ensures.len in (
       search rules,
       omega (arith, counts, sums, amount),
       tt,
@@ -33,8 +32,7 @@ loop-seat-preserved g c =
     let old = c.loop-seat.invariant in
     let counts = counts_left left fewer c.in-Some.seat taken in
     let sums = old.1 in
-    let amount = c.compare.ensures.amount in
-    (
+    let amount = c.compare.ensures.amount in (
       search rules,
       omega (arith, counts, sums, amount),
       if_none_on c.loop-seat.difference (all_on c.args.history.now c.args.seats.items left fewer c.in-Some.seat taken c.in_default-compare.ensures.same) old.2,

@@ -13,11 +13,10 @@ place : (g : Over) (c : goal.After-number-number g) → c.number-number.result �
 place g c = c.number-number.ensures.number ∙ ap (λ (receipt : Receipted). receipt.number) c.in_ok-receipt.ensures.recorded.of_call.told
 
 pub returns-in_err-receipt-clause-behind : goal.returns-in_err-receipt-clause-behind
-returns-in_err-receipt-clause-behind g c = λ told.
-    (
-      λ is. (c.in_err-receipt.ensures.behind told).0 (search rules),
-      λ behind. let was = (c.in_err-receipt.ensures.behind told).1 behind in search rules,
-    )
+returns-in_err-receipt-clause-behind g c = λ told. (
+  λ is. (c.in_err-receipt.ensures.behind told).0 (search rules),
+  λ behind. let was = (c.in_err-receipt.ensures.behind told).1 behind in search rules,
+)
 
 pub copy_of-entry-requires-clause-ample : goal.copy_of-entry-requires-clause-ample
 copy_of-entry-requires-clause-ample g c = λ entry at.

@@ -8,8 +8,7 @@ pub loop-number-preserved : goal.loop-number-preserved
 loop-number-preserved g c =
     let old = c.loop-number.invariant.3 in
     let new : IsNew (length c.loop-number.seats.items) c.new.result = record { numbered = c.new.ensures.0 ∙ sym old.counted; unseen = c.new.ensures.1; empty = c.new.ensures.2 } in
-    let more = are_new_more c.loop-number.seats.items c.push_reserved.new.self.items c.new.result (subst (λ (count : ℕ). AreNew count c.loop-number.seats.items) (sym old.counted) old) c.push_reserved.ensures.items new in
-    (
+    let more = are_new_more c.loop-number.seats.items c.push_reserved.new.self.items c.new.result (subst (λ (count : ℕ). AreNew count c.loop-number.seats.items) (sym old.counted) old) c.push_reserved.ensures.items new in (
       search rules,
       search rules,
       search rules,
