@@ -106,14 +106,17 @@ impl<A> Book<A> {
     }
 
     /// A copy of the entry of a number below the length, whose questions lie in the room given: an empty vector with room
-    /// for as many as the entry has. It takes no memory.
+    /// for as many as the entry has. What they don't need of it is given back. It can't fail.
     pub fn copy_of(&self, number: usize, room: Vec<Asked>) -> Entry
         requires within { number < length self.now.history }
         requires empty { room.items ≡ [] }
         requires ample { (entry : Entry) → slice_get self.now.history number ≡ Some entry → length entry.asked ≤ vec_capacity room }
         ensures { slice_get self.now.history number ≡ Some result }
     {
-        self.history[number].copy_into(room)
+        let entry = &self.history[number];
+        let mut room = room;
+        room.shrink_to(entry.asked.as_slice().len());
+        entry.copy_into(room)
     }
 
     /// The entry of a number, if there is one.

@@ -1,9 +1,10 @@
 //! A session over a store of closures: what is asked is answered by the closures, and the header tells of them.
 
-ghost use Rattle.std.specs.Prelude.{◌≡◌, Some, if◌then◌else◌, false};
-ghost use Rattle.irp_types.specs.Status.{success};
-ghost use Rattle.irp_types.specs.declared.answer.CancelAnswer.TheVariants.{Finish};
-ghost use Rattle.irp_types.specs.declared.answer.Plan.TheVariants.{Finish as Finished, Hold};
+ghost use Rattle.std.specs.Prelude.{◌≡◌, true};
+ghost use Rattle.irp_types.specs.Rules.{is_allowed, is_plan_allowed, is_cancel_allowed};
+ghost use Rattle.irp_types.specs.State.{no_routines};
+ghost use Rattle.irp_types.specs.declared.routine.Rule.TheVariants.{Change};
+ghost use Rattle.irp_types.specs.declared.routine.CancelRule.TheVariants.{MustFinish};
 
 use super::*;
 use irp_manager::KnowsNothing;
@@ -45,6 +46,33 @@ const REPLACES: Answer = Answer {
         information: 3,
     }),
 };
+
+/// What the completion routine answers.
+fn replaces(shown: Shown) -> Answer
+    ensures { is_allowed Change shown result ≡ true }
+{
+    Answer {
+        mark: Rule::right_mark(shown, false),
+        ..REPLACES
+    }
+}
+
+/// What the cancel routine answers.
+fn finishes() -> CancelAnswer
+    ensures { is_cancel_allowed MustFinish result ≡ true }
+{
+    FINISHES
+}
+
+/// What the dispatch plans.
+fn holds(shown: Shown) -> Plan
+    ensures { is_plan_allowed (record no_routines { cancel = 1 }) shown result ≡ true }
+{
+    if shown.cancel {
+        return Plan::Hold { cancel: None };
+    }
+    HOLDS
+}
 
 /// A read is held with a cancel routine, and cancelled.
 const CALLS: [Call; 6] = [
@@ -181,34 +209,11 @@ fn session<L: Session, R: Wait + Abort>(
 fn a_stores_closures_answer(rt: HostRuntime) -> Result<(), Fail> {
     let alloc = rt.alloc();
     let mut store = Store::new(alloc);
-    let run: CompletionClosure = Box::new(
-        alloc,
-        |_shown: Shown| -> Answer
-            ensures { result ≡ record { keep = false; mark = false; replacement = Some (record { status = success; information = 3 }) } }
-        { REPLACES },
-    )?;
+    let run: CompletionClosure = Box::new(alloc, |shown: Shown| replaces(shown))?;
     let change = store.add(Routine::new(Rule::Change, run));
-    let run: CancelClosure = Box::new(
-        alloc,
-        |_shown: Shown| -> CancelAnswer
-            ensures { result ≡ Finish 6 }
-        { FINISHES },
-    )?;
+    let run: CancelClosure = Box::new(alloc, |_shown: Shown| finishes())?;
     let cancel = store.add_cancel(CancelRoutine::new(CancelRule::MustFinish, run));
-    let run: DispatchClosure = Box::new(
-        alloc,
-        |shown: Shown| -> Plan
-            ensures { result ≡ (if shown.cancel then Finished success 0 else Hold (Some (record { 0 = 0 }))) }
-        {
-            if shown.cancel {
-                return Plan::Finish {
-                    status: Status::SUCCESS,
-                    information: 0,
-                };
-            }
-            HOLDS
-        },
-    )?;
+    let run: DispatchClosure = Box::new(alloc, |shown: Shown| holds(shown))?;
     let plan = store.add_dispatch(Dispatch::new(KNOWN, run));
     assert!(rt; change.is_ok() && cancel.is_ok() && plan.is_ok());
     let driver = store.add_driver([(3, DispatchId(0))].to_vec(alloc)?);

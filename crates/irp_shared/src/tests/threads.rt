@@ -30,9 +30,7 @@ fn round<A: Ask, L: Session, R: Wait>(
     rt: &R,
     shared: &Shared<A, L>,
     seat: &mut Seat<L>,
-) -> Result<(), NotRecorded>
-    ensures { seat.new.number ≡ seat.old.number }
-{
+) -> Result<(), NotRecorded> {
     let made = shared.call(rt, seat, Call::Allocate { size: 1 }, &KnowsNothing)?;
     let irp = allocated(made.reply());
     let complete = Call::Complete {
@@ -48,9 +46,7 @@ fn round<A: Ask, L: Session, R: Wait>(
 }
 
 /// All rounds of one seat, which comes back.
-fn rounds<A: Ask, L: Session, R: Wait>(rt: &R, shared: &Shared<A, L>, seat: Seat<L>) -> Seat<L>
-    ensures { result.number ≡ seat.number }
-{
+fn rounds<A: Ask, L: Session, R: Wait>(rt: &R, shared: &Shared<A, L>, seat: Seat<L>) -> Seat<L> {
     let mut seat = seat;
     for _round in 0..ROUNDS {
         let _recorded = round(rt, shared, &mut seat);
@@ -73,10 +69,10 @@ fn is_replied(entry: &Entry, place: usize) -> bool {
 
 /// How many of a seat's entries are replied as they should be.
 fn replied(entries: &[Entry]) -> usize {
-    let mut count = 0;
+    let mut count: usize = 0;
     for place in 0..entries.len() {
         if is_replied(&entries[place], place) {
-            count += 1;
+            count = count.saturating_add(1);
         }
     }
     count
@@ -84,19 +80,19 @@ fn replied(entries: &[Entry]) -> usize {
 
 /// Each seat makes its rounds in a thread of its own. How many entries the transcript has, and how many of the seats'
 /// are replied as they should be. None where memory ran out, or a seat's entries are not the history's own.
-fn session<L: Session + Send + Sync, R: Threads + Wait + Sync>(
+fn session<A: Ask + Send + Drop, L: Session + Send + Sync, R: Threads + Wait + Sync>(
     rt: &R,
     alloc: Global,
     blank: Blank,
-    store: Store,
+    ask: A,
     locks: u32,
     seats: u32,
 ) -> Option<(usize, usize)>
     requires blank { (blank.name ≡ L.name) × (blank.parts ≡ L.parts) }
     requires seats { (L.parts ≡ seats) × (L.seats ≡ seats) }
-    requires fixed { L.fixed ≡ record { locks = locks; tables = store.tables } }
+    requires fixed { L.fixed ≡ record { locks = locks; tables = A.tables ask } }
 {
-    let Ok((shared, places)) = open::<Store, L>(alloc, blank, store, locks, seats) else {
+    let Ok((shared, places)) = open::<A, L>(alloc, blank, ask, locks, seats) else {
         return None;
     };
     let lent = &shared;
@@ -127,7 +123,7 @@ fn four_seats_make_four_thousand_calls(rt: HostRuntime) -> Result<(), Fail> {
     let Ok(_dispatch) = store.add_dispatch(Dispatch::new(Known::NONE, run)) else {
         return Err("not added".into());
     };
-    let made = session::<Brand, HostRuntime>(&rt, alloc, Blank::new(4), store, 1, 4);
+    let made = session::<Store, Brand, HostRuntime>(&rt, alloc, Blank::new(4), store, 1, 4);
     assert_eq!(rt; made, Some((4000, 4000)));
     Ok(())
 }

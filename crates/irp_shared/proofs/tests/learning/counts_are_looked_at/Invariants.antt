@@ -5,21 +5,3 @@ ghosts-opened-L-Ledger g a = record { name = a.blank.name; parts = a.blank.parts
 
 abbrev pub ghosts-opened-L-Session : goal.ghosts-opened-L-Session
 ghosts-opened-L-Session g a = record { seats = a.seats; fixed = record { locks = a.locks; tables = a.table.tables } }
-
-abbrev pub ghosts-opened-2-L-Ledger : goal.ghosts-opened-2-L-Ledger
-ghosts-opened-2-L-Ledger g a = record { name = a.blank.name; parts = a.blank.parts }
-
-abbrev pub ghosts-opened-2-L-Session : goal.ghosts-opened-2-L-Session
-ghosts-opened-2-L-Session g a = record { seats = a.seats; fixed = record { locks = a.locks; tables = a.table.tables } }
-
-abbrev pub ghosts-opened-3-L-Ledger : goal.ghosts-opened-3-L-Ledger
-ghosts-opened-3-L-Ledger g a = record { name = a.blank.name; parts = a.blank.parts }
-
-abbrev pub ghosts-opened-3-L-Session : goal.ghosts-opened-3-L-Session
-ghosts-opened-3-L-Session g a = record { seats = a.seats; fixed = record { locks = a.locks; tables = a.table.tables } }
-
-abbrev pub ghosts-opened-4-L-Ledger : goal.ghosts-opened-4-L-Ledger
-ghosts-opened-4-L-Ledger g a = record { name = a.blank.name; parts = a.blank.parts }
-
-abbrev pub ghosts-opened-4-L-Session : goal.ghosts-opened-4-L-Session
-ghosts-opened-4-L-Session g a = record { seats = a.seats; fixed = record { locks = a.locks; tables = a.table.tables } }
