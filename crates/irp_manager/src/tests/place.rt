@@ -34,6 +34,7 @@ fn record_in_new_seat<L: Ledger, A: Ask, N: DrainNote>(
 }
 
 impl Place {
+    /// A place of this seat's number that has seen nothing.
     pub fn new(number: u32) -> Place {
         Place { number, seen: 0 }
     }
