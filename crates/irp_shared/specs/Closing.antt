@@ -27,7 +27,7 @@ IsKept history seat = own_entries history seat.number ≡ seat.entries
 abbrev pub entry_at : List Entry → Option ℕ → Option Entry
 entry_at history place = option_and_then (slice_get history) place
 
--- what the history has there is another than what was kept, if anything is kept there
+-- what the history has at that place (none where there is no place) is another than what was kept (none where nothing was)
 abbrev pub IsOther : List Entry → Option Entry → Option ℕ → Type 0
 IsOther history kept place = kept ≡ entry_at history place → ⊥
 

@@ -6,7 +6,7 @@ use Rattle.irp_types.specs.declared.entry.Entry.{Entry}
 use Rattle.irp_manager.specs.Seats.{Seated}
 use Rattle.irp_manager.specs.Booked.{Receipted, IsCallOf}
 
--- the seat has one entry more, this one, and has seen up to it
+-- the seat has one entry more, this one, and has seen it and all before it
 pub record Keeps (entry : Entry) (old new : Seated) : Type 0 where
   pub number : new.number ≡ old.number
   pub entries : new.entries ≡ old.entries ++ entry ∷ []

@@ -13,7 +13,8 @@ use std::sync::ledger::Ledger;
 /// own rule).
 ///
 /// A caller writes a function that is generic in `L: Session` for all that it does with a session, and calls it once at
-/// [`Brand`], where its proof says what `L` stands for.
+/// [`Brand`]. The proof of that call says what `L` stands for, in the `Invariants.antt` of the function that makes it (as
+/// in `proofs/tests/learning`).
 pub trait Session: Ledger {
     /// How many seats there are.
     ghost seats: { ℕ };

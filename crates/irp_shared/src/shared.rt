@@ -101,8 +101,9 @@ impl<A: Ask, L: Session> Shared<A, L> {
     ///
     /// # Errors
     ///
-    /// `Behind` where the history is shorter than what the seat has seen, else `HistoryFull` where it has 1,000,000
-    /// entries; `Memory` where a growth was refused. The seat stays as it was, and nothing is recorded.
+    /// `Memory` where a growth was refused, which may come first; else `Behind` and `HistoryFull` as `Book::record` answers
+    /// them. The clause says of `Behind` only that the length told is below what the seat had seen, since it can't name
+    /// the history. The seat stays as it was, and nothing is recorded.
     pub fn call<N: DrainNote>(
         &self,
         rt: &impl Wait,
@@ -184,8 +185,9 @@ impl<A: Drop, L: Session> Shared<A, L> {
     ///
     /// # Errors
     ///
-    /// `Mismatch::Seats` exactly where the seats handed in are not all seats, each once; else `Mismatch::Entry` with the
-    /// seat's entry and another, where a seat's entries are not the history's own. Nothing is left of the session then.
+    /// `Mismatch::Seats` exactly where the seats handed in are not all seats, each once; else `Mismatch::Entry` with a
+    /// seat's entry and another value, where a seat's entries are not the history's own (that it comes only there, and that
+    /// the other value is the history's, no clause says). The book is gone then.
     pub fn close(self, seats: Vec<Seat<L>>) -> Result<Transcript, Mismatch<L>>
         requires { L.seats ≡ L.parts }
         ensures closes { IfOk result (Closes L.fixed L.seats seats.items) }

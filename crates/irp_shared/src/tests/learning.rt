@@ -121,7 +121,8 @@ fn a_missing_seat_is_told(rt: HostRuntime) -> Result<(), Fail> {
     closed_with_one::<Brand, HostRuntime>(&rt, rt.alloc(), Blank::new(2), table, 1, 2)
 }
 
-/// The second seat learns in another thread of the first seat's call, and calls. Both entries' numbers.
+/// The first seat calls in a thread, which ends; the second learns of it in another thread, and calls. Both entries'
+/// numbers.
 fn learned_elsewhere<L: Session + Send + Sync, R: Threads + Wait + Sync>(
     rt: &R,
     alloc: Global,
@@ -138,17 +139,21 @@ fn learned_elsewhere<L: Session + Send + Sync, R: Threads + Wait + Sync>(
         return None;
     };
     let lent = &shared;
-    let mut second = places.pop()?;
+    let second = places.pop()?;
     let called = |seat: Seat<L>| {
         let mut seat = seat;
         lent.call(rt, &mut seat, ALLOCATE, &KnowsNothing).ok()
     };
     let mut first = thread::map_vec(rt, places, &called).ok()?;
     let receipt = first.pop()??;
-    learn(&mut second, &receipt);
+    let learned = |seat: Seat<L>| {
+        let mut seat = seat;
+        learn(&mut seat, &receipt);
+        lent.call(rt, &mut seat, ALLOCATE, &KnowsNothing).ok()
+    };
     let mut others = Vec::new(alloc);
     others.push(second).ok()?;
-    let mut later = thread::map_vec(rt, others, &called).ok()?;
+    let mut later = thread::map_vec(rt, others, &learned).ok()?;
     let other = later.pop()??;
     Some((receipt.number(), other.number()))
 }
