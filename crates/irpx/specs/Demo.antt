@@ -9,6 +9,7 @@ use Rattle.irp_types.specs.declared.call.Party.TheVariants.{Originator}
 use Rattle.irp_types.specs.declared.names.IrpRef.{IrpRef}
 use Rattle.irp_types.specs.declared.names.DeviceId.{DeviceId}
 use Rattle.irp_shared.specs.Headers.{fixed_of, IsHeader}
+use Rattle.irp_shared.specs.Transcripts.{TranscriptValue}
 use Rattle.irp_shared.specs.declared.header.Header.{Header}
 use Rattle.irp_text.specs.Lines.{lines, text_of}
 
@@ -22,6 +23,15 @@ abbrev pub AreDemoCalls : List (ℕ × Call) → Type 0
 AreDemoCalls calls =
     (target : DeviceId) × (irp : IrpRef)
     × (calls ≡ (0, CreateDevice (record { 0 = 0 }) (record { 0 = 0 })) ∷ (0, Allocate 1) ∷ (0, SetNext Originator irp 0x03 7) ∷ (0, CallDriver Originator irp target) ∷ [])
+
+-- the transcript of a legal history with the calls of the demonstration, under a header that the formats accept
+pub record IsDemoTranscript (transcript : TranscriptValue) : Type 0 where
+  pub header : Header
+  pub told : transcript.header ≡ Some header
+  pub no_words : transcript.words ≡ []
+  pub fits : IsHeader header
+  pub legal : IsLegal (fixed_of header) transcript.entries
+  pub calls : AreDemoCalls (calls_of transcript.entries)
 
 -- the text of a header and a history, with no word lines
 abbrev pub text_with : Header → List Entry → List ℕ

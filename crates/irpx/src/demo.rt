@@ -1,23 +1,20 @@
 //! The demonstration: one device and one packet, from the first call to the printed history.
 
-ghost use Rattle.std.specs.Prelude.{◌≡◌, [], ◌∷◌, ◌++◌, IfErr, IfSome, OnOk};
-ghost use Rattle.std.specs.Io.KnownBytes.{Appends};
-ghost use Rattle.irp_types.specs.Histories.{IsLegal};
-ghost use Rattle.irp_shared.specs.Headers.{fixed_of, IsHeader};
+ghost use Rattle.std.specs.Prelude.{◌≡◌, [], ◌∷◌, ◌++◌, IfSome};
 ghost use Rattle.irp_text.specs.Out.{risen};
-ghost use Rattle.irp_text.specs.Puts.{Begins, CountsFault};
-ghost use Rattle.irpx.specs.Demo.{calls_of, AreDemoCalls, text_with, WritesLegal, BeginsLegal};
+ghost use Rattle.irpx.specs.Demo.{calls_of, AreDemoCalls, IsDemoTranscript, WritesLegal, BeginsLegal};
 ghost use Rattle.irpx.specs.declared.ending.Ending.TheVariants.{Done, OtherWords, Failed};
 
 use crate::ending::Ending;
-use irp_manager::{Book, KnowsNothing, Seat};
-use irp_routines::{Ask, Dispatch, FixedTables, Parts, Store};
-use irp_shared::{Form, Header, Transcript};
-use irp_text::{Cause, Out, WriteFault, write_transcript};
-use irp_types::{
-    Call, DispatchId, DriverId, Entry, Known, LockNo, Party, Plan, Reply, Row, Shown, Status,
-};
+use irp_manager::KnowsNothing;
+use irp_routines::{Ask, Dispatch, Store};
+use irp_shared::{Seat, Session, Shared, Transcript, open};
+use irp_text::{Cause, Out, write_transcript};
+use irp_types::{Call, DispatchId, DriverId, Known, LockNo, Party, Plan, Reply, Shown, Status};
 use std::alloc::{AllocError, Global};
+use std::marker::Brand;
+use std::sync::Wait;
+use std::sync::ledger::Blank;
 
 /// The major function code of a read, IRP_MJ_READ (WDK: "IRP_MJ_READ").
 const READ: u8 = 0x03;
@@ -28,33 +25,37 @@ fn read_pair(alloc: Global, dispatch: DispatchId) -> Result<Vec<(u8, DispatchId)
 }
 
 /// Makes a call in a seat, and answers the reply. None where the call was not recorded.
-fn call<A: Ask>(book: &mut Book<A>, alloc: Global, seat: &mut Seat, call: Call) -> Option<Reply>
-    ensures kept { book.new.fixed ≡ book.old.fixed }
-    ensures calls { IfSome result (λ reply. calls_of book.new.history ≡ calls_of book.old.history ++ (seat.old.number, call) ∷ []) }
+fn call<A: Ask, L: Session>(
+    rt: &impl Wait,
+    shared: &Shared<A, L>,
+    seat: &mut Seat<L>,
+    call: Call,
+) -> Option<Reply>
     ensures seat { seat.new.number ≡ seat.old.number }
+    ensures calls { IfSome result (λ reply. calls_of seat.new.entries ≡ calls_of seat.old.entries ++ (seat.old.number, call) ∷ []) }
 {
-    let Ok(receipt) = book.record(alloc, seat, call, &KnowsNothing) else {
-        return None;
-    };
-    seat.saw(receipt.number() + 1);
+    let receipt = shared.call(rt, seat, call, &KnowsNothing).ok()?;
     Some(receipt.reply())
 }
 
 /// The calls of the demonstration. None where one was not recorded, or was answered otherwise than it should be.
-fn make_calls<A: Ask>(book: &mut Book<A>, alloc: Global, seat: &mut Seat) -> Option<()>
-    requires new { book.old.history ≡ [] }
-    requires seat { seat.old.number ≡ 0 }
-    ensures kept { book.new.fixed ≡ book.old.fixed }
-    ensures calls { IfSome result (λ made. AreDemoCalls (calls_of book.new.history)) }
+fn make_calls<A: Ask, L: Session>(
+    rt: &impl Wait,
+    shared: &Shared<A, L>,
+    seat: &mut Seat<L>,
+) -> Option<()>
+    requires { (seat.old.number ≡ 0) × (seat.old.entries ≡ []) }
+    ensures seat { seat.new.number ≡ seat.old.number }
+    ensures calls { IfSome result (λ made. AreDemoCalls (calls_of seat.new.entries)) }
 {
     let create = Call::CreateDevice {
         driver: DriverId(0),
         lock: LockNo(0),
     };
-    let Reply::Device(target) = call(book, alloc, seat, create)? else {
+    let Reply::Device(target) = call(rt, shared, seat, create)? else {
         return None;
     };
-    let Reply::Irp(irp) = call(book, alloc, seat, Call::Allocate { size: 1 })? else {
+    let Reply::Irp(irp) = call(rt, shared, seat, Call::Allocate { size: 1 })? else {
         return None;
     };
     let party = Party::Originator;
@@ -64,60 +65,41 @@ fn make_calls<A: Ask>(book: &mut Book<A>, alloc: Global, seat: &mut Seat) -> Opt
         major: READ,
         word: 7,
     };
-    call(book, alloc, seat, fill)?;
-    call(book, alloc, seat, Call::CallDriver { party, irp, target })?;
+    call(rt, shared, seat, fill)?;
+    call(rt, shared, seat, Call::CallDriver { party, irp, target })?;
     Some(())
 }
 
-/// The header of a transcript that was made with these tables.
-fn header_of(tables: FixedTables, locks: u32, seats: u32) -> Header
-    ensures tables { fixed_of result ≡ record { locks = locks; tables = tables } }
-    ensures seats { result.seats ≡ seats }
-{
-    let Parts {
-        counts,
-        drivers,
-        dispatches,
-        cancel_rules,
-    } = tables.into_parts();
-    Header {
-        cancels: cancel_rules,
-        completions: counts,
-        dispatches,
-        drivers,
-        form: Form::One,
-        locks,
-        seats,
-    }
-}
-
-/// The header and the history of the demonstration's calls, answered so, on condition that the tables are the asker's
-/// own. None where a call was not recorded, or was answered otherwise than it should be.
-fn session<A: Ask + Drop>(
+/// The transcript of a session with one lock and one seat that makes the calls of the demonstration. None where memory
+/// ran out, where a call was not recorded, or was answered otherwise than it should be.
+fn session<L: Session>(
+    rt: &impl Wait,
     alloc: Global,
-    ask: A,
-    tables: FixedTables,
-) -> Option<(Header, Row<Entry>)>
-    requires own { A.tables ask ≡ tables }
-    ensures header { IfSome result (λ made. IsHeader made.0) }
-    ensures legal { IfSome result (λ made. IsLegal (fixed_of made.0) made.1) }
-    ensures calls { IfSome result (λ made. AreDemoCalls (calls_of made.1)) }
+    blank: Blank,
+    store: Store,
+) -> Option<Transcript>
+    requires blank { (blank.name ≡ L.name) × (blank.parts ≡ L.parts) }
+    requires seats { (L.parts ≡ 1) × (L.seats ≡ 1) }
+    requires fixed { L.fixed ≡ record { locks = 1; tables = store.tables } }
+    ensures { IfSome result IsDemoTranscript }
 {
-    tables.agree();
-    let locks = 1;
-    let mut book = Book::new(alloc, ask, tables, locks);
-    let mut seat = Seat::new(0);
-    make_calls(&mut book, alloc, &mut seat)?;
-    let (tables, history) = book.end();
-    Some((header_of(tables, locks, 1), history))
+    let Ok((shared, mut seats)) = open::<Store, L>(alloc, blank, store, 1, 1) else {
+        return None;
+    };
+    let mut seat = seats.pop()?;
+    make_calls(rt, &shared, &mut seat)?;
+    seats.push_reserved(seat);
+    let Ok(transcript) = shared.close(seats) else {
+        return None;
+    };
+    transcript.is_one();
+    Some(transcript)
 }
 
-/// The header and history of the demonstration's calls, with one driver, whose reads go to this dispatch. None where
-/// memory ran out, or where the store or the book answered otherwise than they should.
-fn history(alloc: Global, dispatch: Dispatch) -> Option<(Header, Row<Entry>)>
-    ensures header { IfSome result (λ made. IsHeader made.0) }
-    ensures legal { IfSome result (λ made. IsLegal (fixed_of made.0) made.1) }
-    ensures calls { IfSome result (λ made. AreDemoCalls (calls_of made.1)) }
+/// The transcript of the demonstration's calls, with one driver, whose reads go to this dispatch. None where memory ran
+/// out, or where the store or the session answered otherwise than they should.
+fn transcript(rt: &impl Wait, alloc: Global, dispatch: Dispatch) -> Option<Transcript>
+    ensures { IfSome result IsDemoTranscript }
 {
     let mut store = Store::new(alloc);
     let Ok(id) = store.add_dispatch(dispatch) else {
@@ -126,35 +108,17 @@ fn history(alloc: Global, dispatch: Dispatch) -> Option<(Header, Row<Entry>)>
     let Ok(_driver) = store.add_driver(read_pair(alloc, id).ok()?) else {
         return None;
     };
-    let tables = store.tables().copied().ok()?;
-    session(alloc, store, tables)
-}
-
-/// Writes the transcript of a header and a history, with no word lines, on condition that the formats accept the
-/// header.
-fn write_history<O: Out>(
-    alloc: Global,
-    output: &mut O,
-    header: Header,
-    history: Row<Entry>,
-) -> Result<(), WriteFault>
-    requires { IsHeader header }
-    ensures ok { OnOk result (Appends (O.gone output.old) (O.gone output.new) (text_with header history)) }
-    ensures fault { IfErr result (λ fault. Begins (text_with header history) (O.gone output.old) (O.gone output.new) fault.written) }
-    ensures cause { CountsFault (O.failures output.old) (O.failures output.new) result }
-{
-    let words = Row::from_vec(Vec::new(alloc));
-    let transcript = Transcript::new(header, history, words);
-    write_transcript(alloc, output, &transcript)
+    session::<Brand>(rt, alloc, Blank::new(1), store)
 }
 
 /// Makes the calls of the demonstration, and writes the transcript: one device whose driver finishes reads with success
-/// and information 5, and one packet that is sent to it.
+/// and information 5, and one packet that is sent to it. The calls are made in the one seat of a session with one lock,
+/// and each waits for its turn.
 ///
 /// What goes out where all is done is the text of a header and of a history that the sequential manager could have
 /// made with the tables that the header tells. Where memory runs out or the output fails, at most a beginning of such
 /// a text goes out; the output's count of failures rises exactly where the answer is `Failed`.
-pub fn demo<O: Out>(alloc: Global, output: &mut O) -> Ending
+pub fn demo<O: Out>(rt: &impl Wait, alloc: Global, output: &mut O) -> Ending
     ensures done { result ≡ Done → WritesLegal (O.gone output.old) (O.gone output.new) }
     ensures begins { (result ≡ Done → ⊥) → BeginsLegal (O.gone output.old) (O.gone output.new) }
     ensures words { result ≡ OtherWords → ⊥ }
@@ -169,10 +133,10 @@ pub fn demo<O: Out>(alloc: Global, output: &mut O) -> Ending
         return Ending::NoMemory;
     };
     let dispatch = Dispatch::new(Known::NONE, finish);
-    let Some((header, history)) = history(alloc, dispatch) else {
+    let Some(transcript) = transcript(rt, alloc, dispatch) else {
         return Ending::NoMemory;
     };
-    match write_history(alloc, output, header, history) {
+    match write_transcript(alloc, output, &transcript) {
         Ok(()) => Ending::Done,
         Err(fault) => match fault.cause {
             Cause::Io => Ending::Failed,

@@ -10,10 +10,12 @@ mod words;
 
 use crate::ending::Ending;
 use crate::orders::{Order, Unread};
-use irp_text::WriterOut;
+use irp_text::{Out, WriterOut};
+use std::alloc::Global;
 use std::env;
 use std::io::{self, Write};
 use std::process::ExitCode;
+use std::sync::Wait;
 
 /// The words that the program was given. None where they can't be had, which counts as other words.
 fn words_of(rt: &HostRuntime) -> Result<Vec<String>, Unread> {
@@ -25,21 +27,29 @@ fn words_of(rt: &HostRuntime) -> Result<Vec<String>, Unread> {
     Ok(words.collect(rt.alloc())?)
 }
 
-/// Does what the words ask for.
-fn run(rt: &HostRuntime) -> Ending {
-    let order = match words_of(rt) {
-        Ok(words) => words::order(rt.alloc(), words.as_slice()),
-        Err(unread) => Err(unread),
-    };
+/// What the words ask for.
+fn order(rt: &HostRuntime) -> Result<Order, Unread> {
+    let words = words_of(rt)?;
+    words::order(rt.alloc(), words.as_slice())
+}
+
+/// Does what is asked for, and writes to the output.
+fn run<O: Out>(
+    rt: &impl Wait,
+    alloc: Global,
+    output: &mut O,
+    order: Result<Order, Unread>,
+) -> Ending {
     match order {
-        Ok(Order::Demo) => demo::demo(rt.alloc(), &mut WriterOut::new(io::writer(rt))),
+        Ok(Order::Demo) => demo::demo(rt, alloc, output),
         Err(Unread::Usage) => Ending::OtherWords,
         Err(Unread::Memory) => Ending::NoMemory,
     }
 }
 
 fn main(rt: HostRuntime) -> ExitCode {
-    let mut ending = run(&rt);
+    let mut output = WriterOut::new(io::writer(&rt));
+    let mut ending = run(&rt, rt.alloc(), &mut output, order(&rt));
     if ending != Ending::Done && writeln!(rt.stderr(), "{}", ending.line()).is_err() {
         ending = Ending::Failed;
     }

@@ -17,7 +17,7 @@ const TRANSCRIPT: &str =
 #[test]
 fn the_demonstration_prints_its_history(rt: HostRuntime) -> Result<(), Fail> {
     let mut bytes: Vec<u8> = Vec::new(rt.alloc());
-    let ending = demo(rt.alloc(), &mut WriterOut::new(&mut bytes));
+    let ending = demo(&rt, rt.alloc(), &mut WriterOut::new(&mut bytes));
     assert_eq!(rt; ending, Ending::Done);
     assert_eq!(rt; bytes.as_slice(), TRANSCRIPT.as_bytes());
     Ok(())
@@ -27,7 +27,7 @@ fn the_demonstration_prints_its_history(rt: HostRuntime) -> Result<(), Fail> {
 fn a_full_output_ends_the_demonstration(rt: HostRuntime) {
     let mut room = [0u8; 40];
     let mut short: &mut [u8] = &mut room;
-    let ending = demo(rt.alloc(), &mut WriterOut::new(&mut short));
+    let ending = demo(&rt, rt.alloc(), &mut WriterOut::new(&mut short));
     assert_eq!(rt; ending, Ending::Failed);
 }
 

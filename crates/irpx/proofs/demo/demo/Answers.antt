@@ -68,5 +68,5 @@ nothing_begins gone = record {
 pub returns-in_default-clause-begins : goal.returns-in_default-clause-begins
 returns-in_default-clause-begins g c other = nothing_begins _
 
-pub returns-in_default-history-clause-begins : goal.returns-in_default-history-clause-begins
-returns-in_default-history-clause-begins g c other = nothing_begins _
+pub returns-in_default-transcript-clause-begins : goal.returns-in_default-transcript-clause-begins
+returns-in_default-transcript-clause-begins g c other = nothing_begins _
