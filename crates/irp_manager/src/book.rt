@@ -46,7 +46,7 @@ pub struct Recorded {
     pub locks: u32,
     /// The tables of whom it asked.
     pub tables: FixedTables,
-    /// The entries, in order. There are at most 1,000,000.
+    /// The entries, in order.
     pub history: Vec<Entry>,
 }
 
