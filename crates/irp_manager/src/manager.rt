@@ -53,11 +53,7 @@ impl<A: Ask> Manager<A> {
     /// # Errors
     ///
     /// `AllocError` where a growth was refused. The state stays as it was.
-    pub fn apply<N: DrainNote>(
-        &mut self,
-        call: Call,
-        note: &N,
-    ) -> Result<Applied, AllocError>
+    pub fn apply<N: DrainNote>(&mut self, call: Call, note: &N) -> Result<Applied, AllocError>
         requires stands { StandingFacts (A.tables self.old.ask).counts (state_of listed self.old.core) }
         ensures ask { self.new.ask ≡ self.old.ask }
         ensures stepped { IfOk result (λ applied. Stepped listed (A.tables self.old.ask) applied.drained self.old.core call applied.asked.items applied.reply self.new.core) }

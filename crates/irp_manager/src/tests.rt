@@ -10,13 +10,13 @@ mod managers;
 mod place;
 
 use super::*;
-use place::Place;
 use irp_routines::{AnswerTable, Ask, Behaviour, Dispatch, DispatchClosure, Reaction, Store};
 use irp_types::{
     Answer, Asked, Call, CancelAnswer, CancelId, CancelRule, DeviceId, DispatchId, DriverId,
     IrpRef, Known, LockNo, Owner, Party, Plan, Refusal, Replacement, Reply, RoutineId, Rule, Seen,
     Shown, Status,
 };
+use place::Place;
 use std::alloc::Global;
 use std::sync::Arc;
 use std::sync::atomic::{AtomicU32, Ordering};

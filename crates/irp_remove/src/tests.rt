@@ -1,5 +1,4 @@
 //! Worked sequences of calls, whose answers were written down before the code, and each public function once.
-mod deletions;
 mod opening;
 mod sequences;
 mod threads;

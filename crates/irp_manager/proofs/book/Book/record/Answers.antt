@@ -99,7 +99,7 @@ returns-clause-recorded g c =
         asks = refl;
         noted = c.in-Ok.ensures.drained;
         deletes = λ device deletes done. done_is_drained (before g c) (state_of listed c.self.inside.core) c.in-Ok.applied.drained device c.from_vec.result c.in-Ok.applied.reply (state_of listed c.apply.new.self)
-        (subst (λ (call : Call). Step (before g c) (state_of listed c.self.inside.core) c.in-Ok.applied.drained call c.from_vec.result c.in-Ok.applied.reply (state_of listed c.apply.new.self)) deletes (stepped g c)) done;
+            (subst (λ (call : Call). Step (before g c) (state_of listed c.self.inside.core) c.in-Ok.applied.drained call c.from_vec.result c.in-Ok.applied.reply (state_of listed c.apply.new.self)) deletes (stepped g c)) done;
         few = few;
         told = c.of-receipt.ensures;
       };
