@@ -1,5 +1,7 @@
 //! Worked examples of the demonstration. `docs/EXAMPLES.md` has them by name.
 
+mod sharing;
+
 use crate::demo::demo;
 use crate::ending::Ending;
 use irp_text::WriterOut;

@@ -1,0 +1,179 @@
+//! A dispatch runs in a call, under the session's lock, while another thread acquires the remove lock. It ends by itself:
+//! who waits for the other thread does so for a number of turns.
+
+ghost use Rattle.std.specs.Prelude.{◌≡◌, true};
+ghost use Rattle.irp_types.specs.Rules.{is_plan_allowed};
+ghost use Rattle.irp_types.specs.State.{no_routines};
+ghost use Rattle.irp_remove.specs.Pairing.{IsSeatOf};
+
+use super::{
+    ALLOCATE, CREATE, DEVICE, FILL, IRP, LOCK, READ, RemoveLock, SEND, entry, has_entries, make,
+    remove_lock, sending,
+};
+use irp_manager::KnowsNothing;
+use irp_remove::{AcquireRefusal, Locks, ReleaseRefusal, RemoveSeat};
+use irp_routines::{Dispatch, DispatchClosure, Store};
+use irp_shared::{Seat, Session, Shared, Transcript, open};
+use irp_types::{Known, Plan, Reply, Shown, Status};
+use std::alloc::Global;
+use std::marker::Brand;
+use std::sync::atomic::{AtomicBool, Ordering};
+use std::sync::ledger::Blank;
+use std::sync::{Arc, Wait};
+use std::test::Fail;
+use std::thread;
+use std::thread::Threads;
+
+/// How many turns of a loop one thread waits for the other.
+const TURNS: u32 = 100_000_000;
+
+/// What the two threads tell each other: that the dispatch runs, and that the other thread was answered.
+#[derive(Drop)]
+struct Meeting {
+    asked: AtomicBool,
+    answered: AtomicBool,
+}
+
+/// Waits until this is told. Whether it was, within the turns.
+fn waits(told: &AtomicBool) -> bool {
+    for _ in 0..TURNS {
+        if told.load(Ordering::SeqCst) {
+            return true;
+        }
+    }
+    false
+}
+
+/// What the dispatch plans: to finish, with information 1 where the other thread was answered while the dispatch ran.
+fn plan_after(meeting: &Meeting, shown: Shown) -> Plan
+    ensures { is_plan_allowed no_routines shown result ≡ true }
+{
+    meeting.asked.store(true, Ordering::SeqCst);
+    let _ = shown;
+    Plan::Finish {
+        status: Status::SUCCESS,
+        information: u64::from(waits(&meeting.answered)),
+    }
+}
+
+/// What the other thread found: whether the dispatch ran, and what its own calls were answered.
+#[derive(Clone, Copy, PartialEq, Eq, Debug)]
+struct Taken {
+    asked: bool,
+    acquired: Result<(), AcquireRefusal>,
+    released: Result<(), ReleaseRefusal>,
+}
+
+/// Acquires and releases the lock once the dispatch runs, and tells so.
+fn takes(locks: &Locks, mut seat: RemoveSeat, meeting: &Meeting) -> Taken
+    requires { IsSeatOf locks.now seat }
+{
+    let asked = waits(&meeting.asked);
+    let acquired = locks.acquire(&mut seat, LOCK, 1);
+    let released = locks.release(&mut seat, LOCK, 1);
+    meeting.answered.store(true, Ordering::SeqCst);
+    Taken {
+        asked,
+        acquired,
+        released,
+    }
+}
+
+/// The seat sends a packet to the device.
+fn sends<L: Session>(rt: &impl Wait, shared: &Shared<Store, L>, mut seat: Seat<L>) -> Seat<L> {
+    let calls = [CREATE, ALLOCATE, FILL, SEND];
+    make(rt, shared, &mut seat, &KnowsNothing, &calls);
+    seat
+}
+
+/// The seat sends a packet in one thread, and the remove seat takes the lock in another.
+fn meets<L: Session + Send + Sync, R: Threads + Wait + Sync>(
+    rt: &R,
+    shared: &Shared<Store, L>,
+    seat: Seat<L>,
+    locks: &Locks,
+    taker: RemoveSeat,
+    meeting: &Meeting,
+) -> (Seat<L>, Taken)
+    requires { IsSeatOf locks.now taker }
+{
+    let taking = move || -> Taken
+        requires { IsSeatOf locks.now taker }
+    { takes(locks, taker, meeting) };
+    thread::join(rt, move || sends(rt, shared, seat), taking)
+}
+
+/// The transcript of the seat's calls, and what the other thread found.
+fn session<L: Session + Send + Sync, R: Threads + Wait + Sync>(
+    rt: &R,
+    alloc: Global,
+    blank: Blank,
+    store: Store,
+    meeting: &Meeting,
+) -> Result<(Transcript, Taken), Fail>
+    requires blank { (blank.name ≡ L.name) × (blank.parts ≡ L.parts) }
+    requires seats { (L.parts ≡ 1) × (L.seats ≡ 1) }
+    requires fixed { L.fixed ≡ record { locks = 1; tables = store.tables } }
+{
+    let (shared, mut seats) = open::<Store, L>(alloc, blank, store, 1, 1)?;
+    let Some(seat) = seats.pop() else {
+        return Err(Fail::from("a seat was asked for"));
+    };
+    let RemoveLock {
+        locks,
+        first: taker,
+        second: _,
+    } = remove_lock(alloc)?;
+    let (seat, taken) = meets(rt, &shared, seat, &locks, taker, meeting);
+    seats.push(seat)?;
+    let Ok(transcript) = shared.close(seats) else {
+        return Err(Fail::from("the seat kept what was recorded"));
+    };
+    Ok((transcript, taken))
+}
+
+#[test]
+fn acquire_during_call(rt: HostRuntime) -> Result<(), Fail> {
+    let alloc = rt.alloc();
+    let meeting = Arc::new(
+        alloc,
+        Meeting {
+            asked: AtomicBool::new(false),
+            answered: AtomicBool::new(false),
+        },
+    )?;
+    let own = meeting.clone()?;
+    let run: DispatchClosure = Box::new(alloc, move |shown: Shown| plan_after(&own, shown))?;
+    let mut store = Store::new(alloc);
+    let Ok(dispatch) = store.add_dispatch(Dispatch::new(Known::NONE, run)) else {
+        return Err(Fail::from("a dispatch"));
+    };
+    let Ok(_driver) = store.add_driver([(READ, dispatch)].to_vec(alloc)?) else {
+        return Err(Fail::from("a driver"));
+    };
+    let (transcript, taken) = session::<Brand, HostRuntime>(
+        &rt,
+        alloc,
+        Blank::new(1),
+        store,
+        &meeting,
+    )?;
+    let expected = Taken {
+        asked: true,
+        acquired: Ok(()),
+        released: Ok(()),
+    };
+    assert_eq!(rt; taken, expected);
+    let plan = Plan::Finish {
+        status: Status::SUCCESS,
+        information: 1,
+    };
+    let entries = [
+        entry(alloc, 0, 0, CREATE, Reply::Device(DEVICE)),
+        entry(alloc, 1, 0, ALLOCATE, Reply::Irp(IRP)),
+        entry(alloc, 2, 0, FILL, Reply::Done),
+        sending(alloc, 3, plan, Reply::Status(Status::SUCCESS))?,
+    ];
+    has_entries(&rt, &transcript, &entries);
+    Ok(())
+}
