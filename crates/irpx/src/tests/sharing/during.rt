@@ -12,7 +12,7 @@ use super::{
 };
 use irp_manager::KnowsNothing;
 use irp_remove::{AcquireRefusal, Locks, ReleaseRefusal, RemoveSeat};
-use irp_routines::{Dispatch, DispatchClosure, Store};
+use irp_routines::{Ask, Dispatch, DispatchClosure, Store};
 use irp_shared::{Seat, Session, Shared, Transcript, open};
 use irp_types::{Known, Plan, Reply, Shown, Status};
 use std::alloc::Global;
@@ -80,16 +80,16 @@ fn takes(locks: &Locks, mut seat: RemoveSeat, meeting: &Meeting) -> Taken
 }
 
 /// The seat sends a packet to the device.
-fn sends<L: Session>(rt: &impl Wait, shared: &Shared<Store, L>, mut seat: Seat<L>) -> Seat<L> {
+fn sends<A: Ask, L: Session>(rt: &impl Wait, shared: &Shared<A, L>, mut seat: Seat<L>) -> Seat<L> {
     let calls = [CREATE, ALLOCATE, FILL, SEND];
     make(rt, shared, &mut seat, &KnowsNothing, &calls);
     seat
 }
 
 /// The seat sends a packet in one thread, and the remove seat takes the lock in another.
-fn meets<L: Session + Send + Sync, R: Threads + Wait + Sync>(
+fn meets<A: Ask + Send, L: Session + Send + Sync, R: Threads + Wait + Sync>(
     rt: &R,
-    shared: &Shared<Store, L>,
+    shared: &Shared<A, L>,
     seat: Seat<L>,
     locks: &Locks,
     taker: RemoveSeat,
@@ -100,7 +100,8 @@ fn meets<L: Session + Send + Sync, R: Threads + Wait + Sync>(
     let taking = move || -> Taken
         requires { IsSeatOf locks.now taker }
     { takes(locks, taker, meeting) };
-    thread::join(rt, move || sends(rt, shared, seat), taking)
+    let sending = move || -> Seat<L> { sends(rt, shared, seat) };
+    thread::join(rt, sending, taking)
 }
 
 /// The transcript of the seat's calls, and what the other thread found.
