@@ -1,4 +1,4 @@
--- No words, and the word `locks`, are taken: the first meet no subcommand, the second that of this name.
+-- No words, and the words `locks` and `calls`, are taken: the first meet no subcommand, the others that of their name.
 use Rattle.std.proofs.Common.{◌≡◌, ℕ, List, [], ◌∷◌, Some, None, Result, Ok, Err, OnOk, MatchResult, true, codes, option_map, refl, sym, subst, ap, ap₂, ◌∙◌}
 use Rattle.std.specs.Box.{box_value}
 use Rattle.clap.specs.Matches.{subcommand_name_of}
@@ -17,6 +17,10 @@ locks_is_taken : (name : List ℕ) → takes command_line (name ∷ codes "locks
 unfolding clap_on_literals
 locks_is_taken name = refl
 
+calls_is_taken : (name : List ℕ) → takes command_line (name ∷ codes "calls" ∷ []) ≡ true
+unfolding clap_on_literals
+calls_is_taken name = refl
+
 no_words_meet_none : (name : List ℕ) → option_map (λ found. found.0) (subcommand_of command_line (name ∷ [])) ≡ None
 unfolding clap_on_literals
 no_words_meet_none name = refl
@@ -24,6 +28,10 @@ no_words_meet_none name = refl
 locks_is_met : (name : List ℕ) → option_map (λ found. found.0) (subcommand_of command_line (name ∷ codes "locks" ∷ [])) ≡ Some (codes "locks")
 unfolding clap_on_literals
 locks_is_met name = refl
+
+calls_is_met : (name : List ℕ) → option_map (λ found. found.0) (subcommand_of command_line (name ∷ codes "calls" ∷ [])) ≡ Some (codes "calls")
+unfolding clap_on_literals
+calls_is_met name = refl
 
 command_line_is_simple : is_simple command_line ≡ true
 unfolding clap_on_literals
@@ -55,6 +63,11 @@ pub locks_is_named : (app : App) (matches : ArgMatches) (name : List ℕ) (words
 locks_is_named app matches name words app_is words_are has =
     named app matches words (name ∷ codes "locks" ∷ []) app_is words_are has ∙ locks_is_met name
 
+-- clap's matches of `NAME calls` have the subcommand `calls`
+pub calls_is_named : (app : App) (matches : ArgMatches) (name : List ℕ) (words : List (List ℕ)) → app ≡ command_line → words ≡ name ∷ codes "calls" ∷ [] → HasMatchesOf app words matches → subcommand_name_of matches ≡ Some (codes "calls")
+calls_is_named app matches name words app_is words_are has =
+    named app matches words (name ∷ codes "calls" ∷ []) app_is words_are has ∙ calls_is_met name
+
 -- clap finds no fault in words that it takes
 pub no_fault : (app : App) (words : List (List ℕ)) → app ≡ command_line → (is_simple_and_free app ≡ true → fault_of app words ≡ []) → fault_of command_line words ≡ []
 no_fault app words app_is free = ap (λ this. fault_of this words) (sym app_is) ∙ free (ap is_simple_and_free app_is ∙ command_line_is_free)
@@ -66,6 +79,10 @@ takes_no_words app name words app_is words_are = ap₂ takes app_is words_are �
 -- clap takes `NAME locks`
 pub takes_locks : (app : App) (name : List ℕ) (words : List (List ℕ)) → app ≡ command_line → words ≡ name ∷ codes "locks" ∷ [] → takes app words ≡ true
 takes_locks app name words app_is words_are = ap₂ takes app_is words_are ∙ locks_is_taken name
+
+-- clap takes `NAME calls`
+pub takes_calls : (app : App) (name : List ℕ) (words : List (List ℕ)) → app ≡ command_line → words ≡ name ∷ codes "calls" ∷ [] → takes app words ≡ true
+takes_calls app name words app_is words_are = ap₂ takes app_is words_are ∙ calls_is_taken name
 
 pub on_ok : {T E P : Type 0} (result : Result T E) → P → OnOk result P
 on_ok (Ok value) holds = holds

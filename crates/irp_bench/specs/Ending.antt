@@ -16,8 +16,8 @@ status_of Failed = 5
 abbrev pub complaint_of : Ending → List ℕ
 complaint_of Done = codes ""
 complaint_of NoMemory = codes "irp_bench: out of memory"
-complaint_of OtherWords = codes "irp_bench: usage: irp_bench [locks]"
-complaint_of Failed = codes "irp_bench: the clock, the output or a pair failed"
+complaint_of OtherWords = codes "irp_bench: usage: irp_bench [locks|calls]"
+complaint_of Failed = codes "irp_bench: the clock, the output or a call failed"
 
 -- the ending of a program whose timing came out so
 abbrev pub ending_of : Result (Unit {0}) Fault → Ending

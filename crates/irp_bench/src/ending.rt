@@ -16,7 +16,7 @@ pub enum Ending {
     NoMemory,
     /// The words are none that the program takes: status 4.
     OtherWords,
-    /// The clock or standard error failed, or a pair was refused: status 5.
+    /// The clock or standard error failed, or a call was answered otherwise than it should be: status 5.
     Failed,
 }
 
@@ -58,8 +58,8 @@ impl Ending {
         match self {
             Ending::Done => "",
             Ending::NoMemory => "irp_bench: out of memory",
-            Ending::OtherWords => "irp_bench: usage: irp_bench [locks]",
-            Ending::Failed => "irp_bench: the clock, the output or a pair failed",
+            Ending::OtherWords => "irp_bench: usage: irp_bench [locks|calls]",
+            Ending::Failed => "irp_bench: the clock, the output or a call failed",
         }
     }
 }
@@ -76,9 +76,9 @@ mod tests {
         assert_eq!(rt; Ending::Failed.status(), 5);
         assert_eq!(rt; Ending::Done.line(), "");
         assert_eq!(rt; Ending::NoMemory.line(), "irp_bench: out of memory");
-        let usage = "irp_bench: usage: irp_bench [locks]";
+        let usage = "irp_bench: usage: irp_bench [locks|calls]";
         assert_eq!(rt; Ending::OtherWords.line(), usage);
-        let failed = "irp_bench: the clock, the output or a pair failed";
+        let failed = "irp_bench: the clock, the output or a call failed";
         assert_eq!(rt; Ending::Failed.line(), failed);
     }
 }

@@ -13,8 +13,8 @@ pub enum Fault {
     /// The clock could not be read, or standard error could not be written.
     #[error("the clock or the output failed")]
     Io,
-    /// A pair of calls was refused, so the time is not that of all pairs.
-    #[error("a pair was refused")]
+    /// A call was answered otherwise than it should be, so the time is not that of all calls.
+    #[error("a call was answered otherwise")]
     Refused,
 }
 

@@ -41,6 +41,84 @@ impl fmt::Display for Figures {
     }
 }
 
+/// What rounds of four recorded calls took: each of so many threads made so many of them at once.
+#[derive(Clone, Copy, Debug, PartialEq, Eq)]
+pub struct CallFigures {
+    /// How many threads ran at once.
+    pub threads: u32,
+    /// How many rounds each thread made.
+    pub rounds: u32,
+    /// What the rounds took.
+    pub taken: Duration,
+}
+
+impl CallFigures {
+    /// The nanoseconds that a thread needed for each of its rounds.
+    fn nanoseconds(self) -> f64 {
+        self.taken.as_secs_f64() * 1e9 / f64::from(self.rounds)
+    }
+
+    /// The rounds that all threads made in a second.
+    fn per_second(self) -> f64 {
+        f64::from(self.rounds) * f64::from(self.threads) / self.taken.as_secs_f64()
+    }
+}
+
+impl fmt::Display for CallFigures {
+    fn fmt<W: fmt::Write>(&self, f: &mut fmt::Formatter<W>) -> fmt::Result {
+        let threads = self.threads;
+        let round = self.nanoseconds();
+        let second = self.per_second();
+        write!(
+            f,
+            "threads {threads}: a round of four recorded calls {round:.1} ns, rounds a second {second:.0}"
+        )
+    }
+}
+
+/// What packets took that were allocated, filled and given back.
+#[derive(Clone, Copy, Debug, PartialEq, Eq)]
+pub struct SendTimes {
+    /// What those took that were not sent.
+    pub unsent: Duration,
+    /// What as many took that were sent before they were given back.
+    pub sent: Duration,
+}
+
+/// What packets took that were sent through so many devices.
+#[derive(Clone, Copy, Debug, PartialEq, Eq)]
+pub struct SendFigures {
+    /// How many devices the stack has.
+    pub devices: u32,
+    /// How many packets were sent, and how many were not.
+    pub packets: u32,
+    /// What they took by the manager alone.
+    pub alone: SendTimes,
+    /// What they took where each call was recorded.
+    pub recorded: SendTimes,
+}
+
+impl SendFigures {
+    /// The nanoseconds for each packet, where all took so long.
+    fn nanoseconds(self, taken: Duration) -> f64 {
+        taken.as_secs_f64() * 1e9 / f64::from(self.packets)
+    }
+}
+
+impl fmt::Display for SendFigures {
+    fn fmt<W: fmt::Write>(&self, f: &mut fmt::Formatter<W>) -> fmt::Result {
+        let devices = self.devices;
+        let alone = self.nanoseconds(self.alone.sent);
+        let less = self.nanoseconds(self.alone.unsent);
+        let recorded = self.nanoseconds(self.recorded.sent);
+        let fewer = self.nanoseconds(self.recorded.unsent);
+        write!(
+            f,
+            "devices {devices}: a packet sent {alone:.1} ns, not sent {less:.1} ns; recorded, sent {recorded:.1} ns, not sent {fewer:.1} ns"
+        )
+    }
+}
+
 #[cfg(test)]
 mod tests {
     use super::*;
@@ -57,6 +135,41 @@ mod tests {
         assert_eq!(rt;
             format!(in rt.alloc(); "{figures}")?.as_str(),
             "threads 4: acquire and release 21.5 ns, fetch-add and fetch-sub 10.0 ns, ratio 2.15"
+        );
+        Ok(())
+    }
+
+    #[test]
+    fn figures_of_calls_are_written_in_one_line(rt: HostRuntime) -> Result<(), Fail> {
+        let figures = CallFigures {
+            threads: 4,
+            rounds: 10_000,
+            taken: Duration::from_millis(20),
+        };
+        assert_eq!(rt;
+            format!(in rt.alloc(); "{figures}")?.as_str(),
+            "threads 4: a round of four recorded calls 2000.0 ns, rounds a second 2000000"
+        );
+        Ok(())
+    }
+
+    #[test]
+    fn figures_of_packets_are_written_in_one_line(rt: HostRuntime) -> Result<(), Fail> {
+        let figures = SendFigures {
+            devices: 16,
+            packets: 1_000,
+            alone: SendTimes {
+                unsent: Duration::from_micros(100),
+                sent: Duration::from_micros(2_000),
+            },
+            recorded: SendTimes {
+                unsent: Duration::from_micros(500),
+                sent: Duration::from_micros(4_500),
+            },
+        };
+        assert_eq!(rt;
+            format!(in rt.alloc(); "{figures}")?.as_str(),
+            "devices 16: a packet sent 2000.0 ns, not sent 100.0 ns; recorded, sent 4500.0 ns, not sent 500.0 ns"
         );
         Ok(())
     }

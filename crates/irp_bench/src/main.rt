@@ -1,11 +1,16 @@
-//! The program: times what the calls of remove locks cost.
+//! The program: times what the calls of remove locks and of the manager cost.
 #![tactic(auto)]
 
+mod caller;
+mod descents;
 mod ending;
 mod fault;
 mod figures;
+mod forwarding;
 mod loads;
 mod orders;
+mod packets;
+mod sessions;
 mod timing;
 mod words;
 
@@ -14,6 +19,7 @@ use crate::fault::Fault;
 use crate::orders::{Order, Unread};
 use std::process::ExitCode;
 use std::rt::{Clock, Env};
+use std::sync::Wait;
 use std::thread::Threads;
 use std::{env, io};
 
@@ -36,8 +42,24 @@ fn time_locks<R: Threads + Sync + Clock + Eprint + AllocGlobal>(rt: &R) -> Resul
     Ok(())
 }
 
+/// Writes the figures of the manager's calls to standard error: recorded calls in one thread and in four, and packets that
+/// are sent through 1, 4 and 16 devices.
+fn time_calls<R: Threads + Wait + Sync + Clock + Eprint + AllocGlobal>(
+    rt: &R,
+) -> Result<(), Fault> {
+    let one = sessions::call_figures(rt, 1)?;
+    eprintln!(rt; "irp_bench: {one}")?;
+    let four = sessions::call_figures(rt, 4)?;
+    eprintln!(rt; "irp_bench: {four}")?;
+    for devices in [1, 4, 16] {
+        let figures = descents::send_figures(rt, devices)?;
+        eprintln!(rt; "irp_bench: {figures}")?;
+    }
+    Ok(())
+}
+
 /// Does what the words ask for.
-fn run<R: Threads + Sync + Clock + Env + Eprint + AllocGlobal>(rt: &R) -> Ending {
+fn run<R: Threads + Wait + Sync + Clock + Env + Eprint + AllocGlobal>(rt: &R) -> Ending {
     let order = match words_of(rt) {
         Ok(words) => words::order(rt.alloc(), words.as_slice()),
         Err(unread) => Err(unread),
@@ -45,6 +67,7 @@ fn run<R: Threads + Sync + Clock + Env + Eprint + AllocGlobal>(rt: &R) -> Ending
     match order {
         Ok(Order::Nothing) => Ending::Done,
         Ok(Order::Locks) => Ending::of(time_locks(rt)),
+        Ok(Order::Calls) => Ending::of(time_calls(rt)),
         Err(Unread::Usage) => Ending::OtherWords,
         Err(Unread::Memory) => Ending::NoMemory,
     }

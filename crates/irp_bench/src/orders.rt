@@ -10,6 +10,8 @@ pub enum Order {
     Nothing,
     /// Time remove locks.
     Locks,
+    /// Time the manager's calls.
+    Calls,
 }
 
 /// Why words ask for nothing (this project's own command line, README.md).

@@ -17,19 +17,23 @@ fn command<'a>(alloc: Global) -> Result<Command<'a>, AllocError>
     ensures { IfOk result (λ command. app_of command ≡ command_line) }
 {
     let command = Command::new(alloc, "irp_bench");
-    command.subcommand(Command::new(alloc, "locks"))
+    let command = command.subcommand(Command::new(alloc, "locks"))?;
+    command.subcommand(Command::new(alloc, "calls"))
 }
 
 /// What clap's matches ask for.
 fn order_of(matches: &ArgMatches<'_>) -> Result<Order, Unread>
     ensures nothing { (result ≡ Ok Order.Nothing) ↔ (subcommand_name_of matches.now ≡ None) }
     ensures locks { (result ≡ Ok Order.Locks) ↔ (subcommand_name_of matches.now ≡ Some (codes "locks")) }
+    ensures calls { (result ≡ Ok Order.Calls) ↔ (subcommand_name_of matches.now ≡ Some (codes "calls")) }
 {
     let Some((name, _)) = matches.subcommand() else {
         return Ok(Order::Nothing);
     };
     if name == "locks" {
         Ok(Order::Locks)
+    } else if name == "calls" {
+        Ok(Order::Calls)
     } else {
         Err(Unread::Usage)
     }
@@ -56,6 +60,7 @@ pub fn order<'a, S: AsStr>(alloc: Global, words: &'a [S]) -> Result<Order, Unrea
     ensures ok { OnOk result (fault_of command_line (map S.text words.entry.now) ≡ []) }
     ensures nothing { IsCalledWith [] (map S.text words.entry.now) → MatchResult result (λ order. order ≡ Order.Nothing) (λ unread. unread ≡ Unread.Memory) }
     ensures locks { IsCalledWith (codes "locks" ∷ []) (map S.text words.entry.now) → MatchResult result (λ order. order ≡ Order.Locks) (λ unread. unread ≡ Unread.Memory) }
+    ensures calls { IsCalledWith (codes "calls" ∷ []) (map S.text words.entry.now) → MatchResult result (λ order. order ≡ Order.Calls) (λ unread. unread ≡ Unread.Memory) }
 {
     let command = command(alloc)?;
     match command.try_get_matches_from(words) {
@@ -76,6 +81,10 @@ mod tests {
             order(rt.alloc(), &["irp_bench", "locks"]),
             Ok(Order::Locks)
         );
+        assert_eq!(rt;
+            order(rt.alloc(), &["irp_bench", "calls"]),
+            Ok(Order::Calls)
+        );
     }
 
     #[test]
@@ -84,7 +93,11 @@ mod tests {
             order(rt.alloc(), &["irp_bench", "locks", "x"]),
             Err(Unread::Usage)
         );
-        for word in ["help", "--help", "-h", "lock", "Locks", "1", ""] {
+        assert_eq!(rt;
+            order(rt.alloc(), &["irp_bench", "locks", "calls"]),
+            Err(Unread::Usage)
+        );
+        for word in ["help", "--help", "-h", "lock", "Locks", "call", "1", ""] {
             assert_eq!(rt;
                 order(rt.alloc(), &["irp_bench", word]),
                 Err(Unread::Usage),

@@ -1,5 +1,5 @@
--- An order comes of words in which clap finds no fault; of `NAME` and `NAME locks` one does, unless memory runs out.
-use Rattle.irp_bench.proofs.CommandLine.{just, locks_is_named, no_fault, none_is_named, on_ok, takes_locks, takes_no_words}
+-- An order comes of words in which clap finds no fault; of `NAME`, `NAME locks` and `NAME calls` one does, unless memory runs out.
+use Rattle.irp_bench.proofs.CommandLine.{calls_is_named, just, locks_is_named, no_fault, none_is_named, on_ok, takes_calls, takes_locks, takes_no_words}
 use Rattle.irp_bench.proofs.words.order.Goals as goal
 
 pub returns-in-Ok-clause-ok : goal.returns-in-Ok-clause-ok
@@ -15,6 +15,11 @@ returns-in-Ok-clause-locks g c called =
     just _ c.order_of.result _
     (c.order_of.ensures.locks.1 (locks_is_named _ c.in-Ok.matches called.0 _ c.in_ok-command.ensures called.1 c.in-Ok.ensures.matches))
 
+pub returns-in-Ok-clause-calls : goal.returns-in-Ok-clause-calls
+returns-in-Ok-clause-calls g c called =
+    just _ c.order_of.result _
+    (c.order_of.ensures.calls.1 (calls_is_named _ c.in-Ok.matches called.0 _ c.in_ok-command.ensures called.1 c.in-Ok.ensures.matches))
+
 pub returns-in-Err-clause-nothing : goal.returns-in-Err-clause-nothing
 returns-in-Err-clause-nothing g c called =
     c.unread_of.ensures.1 (c.in-Err.ensures.passes (takes_no_words _ called.0 _ c.in_ok-command.ensures called.1))
@@ -22,3 +27,7 @@ returns-in-Err-clause-nothing g c called =
 pub returns-in-Err-clause-locks : goal.returns-in-Err-clause-locks
 returns-in-Err-clause-locks g c called =
     c.unread_of.ensures.1 (c.in-Err.ensures.passes (takes_locks _ called.0 _ c.in_ok-command.ensures called.1))
+
+pub returns-in-Err-clause-calls : goal.returns-in-Err-clause-calls
+returns-in-Err-clause-calls g c called =
+    c.unread_of.ensures.1 (c.in-Err.ensures.passes (takes_calls _ called.0 _ c.in_ok-command.ensures called.1))
