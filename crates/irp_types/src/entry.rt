@@ -55,6 +55,7 @@ impl Entry {
             reply: self.reply,
         }
     }
+
     /// Whether the two say the same, each field and each question.
     pub fn is_same(&self, other: &Entry) -> bool
         ensures { IsTrue result ↔ (self.now ≡ other.now) }
