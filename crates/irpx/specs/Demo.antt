@@ -11,7 +11,7 @@ use Rattle.irp_types.specs.declared.names.DeviceId.{DeviceId}
 use Rattle.irp_shared.specs.Headers.{fixed_of, IsHeader}
 use Rattle.irp_shared.specs.Transcripts.{TranscriptValue}
 use Rattle.irp_shared.specs.declared.header.Header.{Header}
-use Rattle.irp_text.specs.Lines.{lines, text_of}
+use Rattle.irp_transcript_writer.specs.Lines.{lines, text_of}
 
 -- the calls of a history, in order, each with the seat that made it
 abbrev pub calls_of : List Entry → List (ℕ × Call)

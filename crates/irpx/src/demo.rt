@@ -1,7 +1,7 @@
 //! The demonstration: one device and one packet, from the first call to the printed history.
 
 ghost use Rattle.std.specs.Prelude.{◌≡◌, [], ◌∷◌, ◌++◌, IfSome};
-ghost use Rattle.irp_text.specs.Out.{risen};
+ghost use Rattle.irp_transcript_writer.specs.Out.{risen};
 ghost use Rattle.irpx.specs.Demo.{calls_of, AreDemoCalls, IsDemoTranscript, WritesLegal, BeginsLegal};
 ghost use Rattle.irpx.specs.declared.ending.Ending.TheVariants.{Done, OtherWords, Failed};
 
@@ -9,7 +9,7 @@ use crate::ending::Ending;
 use irp_manager::KnowsNothing;
 use irp_routines::{Ask, Dispatch, Store};
 use irp_shared::{Seat, Session, Shared, Transcript, open};
-use irp_text::{Cause, Out, write_transcript};
+use irp_transcript_writer::{Cause, Out, write_transcript};
 use irp_types::{Call, DispatchId, DriverId, Known, LockNo, Party, Plan, Reply, Shown, Status};
 use std::alloc::{AllocError, Global};
 use std::marker::Brand;

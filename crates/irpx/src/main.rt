@@ -10,7 +10,7 @@ mod words;
 
 use crate::ending::Ending;
 use crate::orders::{Order, Unread};
-use irp_text::{Out, WriterOut};
+use irp_transcript_writer::{Out, WriterOut};
 use std::alloc::Global;
 use std::env;
 use std::io::{self, Write};

@@ -4,7 +4,7 @@ mod sharing;
 
 use crate::demo::demo;
 use crate::ending::Ending;
-use irp_text::WriterOut;
+use irp_transcript_writer::WriterOut;
 use std::test::Fail;
 
 /// The header and the four entries of the demonstration.

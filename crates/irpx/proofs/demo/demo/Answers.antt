@@ -5,11 +5,11 @@ use Rattle.irp_types.specs.Histories.{IsLegal}
 use Rattle.irp_shared.specs.Headers.{fixed_of, IsHeader}
 use Rattle.irp_shared.specs.declared.header.Header.{Header}
 use Rattle.irp_shared.specs.declared.header.Form.TheVariants.{One}
-use Rattle.irp_text.specs.Json.{line_text}
-use Rattle.irp_text.specs.Lines.{header_json}
+use Rattle.irp_transcript_writer.specs.Json.{line_text}
+use Rattle.irp_transcript_writer.specs.Lines.{header_json}
 use Rattle.irpx.specs.Demo.{text_with, BeginsLegal}
 use Rattle.irp_types.specs.State.{no_routines, opening_state}
-use Rattle.irp_text.proofs.Puts.{appends_none, text_one, line_some}
+use Rattle.irp_transcript_writer.proofs.Puts.{appends_none, text_one, line_some}
 use Rattle.irpx.proofs.demo.demo.Goals as goal
 
 abbrev some_header : Header

@@ -1,0 +1,131 @@
+//! The lines' own forms: questions, replies, entries and the header.
+
+ghost use Rattle.std.specs.Prelude.{◌≡◌, IfOk};
+ghost use Rattle.serde_json.specs.View.{view};
+ghost use Rattle.irp_transcript_writer.specs.Lines.{asked_json, completions_json, entry_json, form_number, header_json, reply_json};
+ghost use Rattle.irp_transcript_writer.specs.Whole.{asked_whole, entry_whole, header_whole, reply_whole};
+
+use crate::calls::form_of_call;
+use crate::form::ToJson;
+use crate::names::name_of_refusal;
+use irp_shared::{Form, Header};
+use irp_types::{Asked, Entry, Known, Reply};
+use serde_json::{Value, json};
+use std::alloc::{AllocError, Global};
+
+impl ToJson for Asked {
+    ghost json = { asked_json };
+
+    fn to_json(&self, alloc: Global) -> Result<Value, AllocError> {
+        match *self {
+            Asked::Dispatch { id, shown, plan } => {
+                let shown = shown.to_json(alloc)?;
+                let plan = plan.to_json(alloc)?;
+                json!(in alloc; {"dispatch": (id.0), "plan": plan, "shown": shown})
+            }
+            Asked::Completion { id, shown, answer } => {
+                let id = id.to_json(alloc)?;
+                let shown = shown.to_json(alloc)?;
+                let answer = answer.to_json(alloc)?;
+                json!(in alloc; {"answer": answer, "completion": id, "shown": shown})
+            }
+            Asked::Cancel { id, shown, answer } => {
+                let shown = shown.to_json(alloc)?;
+                let answer = answer.to_json(alloc)?;
+                json!(in alloc; {"answer": answer, "cancel": (id.0), "shown": shown})
+            }
+        }
+    }
+
+    ghost whole = { asked_whole };
+}
+
+impl ToJson for Reply {
+    ghost json = { reply_json };
+
+    fn to_json(&self, alloc: Global) -> Result<Value, AllocError> {
+        match *self {
+            Reply::Done => Value::try_from_str(alloc, "done"),
+            Reply::Device(device) => json!(in alloc; {"device": (device.0)}),
+            Reply::Irp(irp) => {
+                let irp = irp.to_json(alloc)?;
+                json!(in alloc; {"irp": irp})
+            }
+            Reply::Status(status) => json!(in alloc; {"status": (status.0)}),
+            Reply::Previous(cancel) => {
+                let cancel = cancel.to_json(alloc)?;
+                json!(in alloc; {"previous": cancel})
+            }
+            Reply::Cancelled(cancelled) => json!(in alloc; {"cancelled": cancelled}),
+            Reply::Seen(seen) => {
+                let seen = seen.to_json(alloc)?;
+                json!(in alloc; {"seen": seen})
+            }
+            Reply::Refused(refusal) => {
+                let name = name_of_refusal(refusal);
+                json!(in alloc; {"refused": name})
+            }
+        }
+    }
+
+    ghost whole = { reply_whole };
+}
+
+impl ToJson for Entry {
+    ghost json = { entry_json };
+
+    fn to_json(&self, alloc: Global) -> Result<Value, AllocError> {
+        let number = self.number;
+        let seat = self.seat;
+        let asked = self.asked.to_json(alloc)?;
+        let call = form_of_call(alloc, self.call, self.lock, self.drained)?;
+        let reply = self.reply.to_json(alloc)?;
+        json!(in alloc; {"asked": asked, "call": call, "n": number, "reply": reply, "seat": seat})
+    }
+
+    ghost whole = { entry_whole };
+}
+
+/// How many completion routines of each rule.
+fn completions_of(alloc: Global, known: Known) -> Result<Value, AllocError>
+    ensures { IfOk result (λ value. view value ≡ completions_json known) }
+{
+    let Known {
+        watch,
+        change,
+        keeper,
+        keep_on_error,
+        free,
+        ..
+    } = known;
+    json!(in alloc; [watch, change, keeper, keep_on_error, free])
+}
+
+/// The number of a header's form.
+fn number_of_form(form: Form) -> u8
+    ensures { result ≡ form_number form }
+{
+    match form {
+        Form::One => 1,
+    }
+}
+
+impl ToJson for Header {
+    ghost json = { header_json };
+
+    fn to_json(&self, alloc: Global) -> Result<Value, AllocError> {
+        let cancels = self.cancels.to_json(alloc)?;
+        let completions = completions_of(alloc, self.completions)?;
+        let dispatches = self.dispatches.to_json(alloc)?;
+        let drivers = self.drivers.to_json(alloc)?;
+        let form = number_of_form(self.form);
+        let locks = self.locks;
+        let seats = self.seats;
+        json!(in alloc; {
+            "cancels": cancels, "completions": completions, "dispatches": dispatches, "drivers": drivers,
+            "form": form, "locks": locks, "seats": seats
+        })
+    }
+
+    ghost whole = { header_whole };
+}

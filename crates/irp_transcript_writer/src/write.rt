@@ -1,0 +1,116 @@
+//! Writing transcripts.
+
+ghost use Rattle.std.specs.Prelude.{map, OnOk, IfErr};
+ghost use Rattle.std.specs.Io.KnownBytes.{Appends};
+ghost use Rattle.std.specs.Option.{option_copied};
+ghost use Rattle.irp_transcript_writer.specs.Json.{line_text};
+ghost use Rattle.irp_transcript_writer.specs.Lines.{header_lines, lines, text_of};
+ghost use Rattle.irp_transcript_writer.specs.Puts.{Begins, CountsFault, PutsText};
+
+use crate::form::{ToJson, line_of};
+use crate::out::{Out, put_all};
+use irp_shared::{Header, Transcript};
+use std::alloc::Global;
+use thiserror::Error;
+
+/// What stopped a write (this project's own rule).
+#[derive(Clone, Copy, Debug, PartialEq, Eq, Error)]
+pub enum Cause {
+    /// The output failed.
+    #[error("the output failed")]
+    Io,
+    /// Memory ran out.
+    #[error("memory ran out")]
+    Memory,
+}
+
+/// A write that stopped (this project's own rule).
+#[derive(Clone, Copy, Debug, PartialEq, Eq, Error)]
+#[error("{cause} after {written} bytes")]
+pub struct WriteFault {
+    /// How many bytes of the text had gone out, told up to the greatest `u64`.
+    pub written: u64,
+    /// Why it stopped.
+    pub cause: Cause,
+}
+
+/// Puts a value's line after so many bytes, and tells how many there are then.
+fn put_line<O: Out, T: ToJson>(
+    alloc: Global,
+    out: &mut O,
+    value: &T,
+    before: u64,
+) -> Result<u64, WriteFault>
+    ensures { PutsText (line_text (T.json value.now)) before
+        (O.gone out.old) (O.gone out.new) (O.failures out.old) (O.failures out.new) result }
+{
+    let Ok(line) = line_of(alloc, value) else {
+        return Err(WriteFault {
+            written: before,
+            cause: Cause::Memory,
+        });
+    };
+    match put_all(out, line.as_slice()) {
+        Ok(()) => Ok(before.saturating_add(line.len() as u64)),
+        Err(done) => Err(WriteFault {
+            written: before.saturating_add(done as u64),
+            cause: Cause::Io,
+        }),
+    }
+}
+
+/// Puts the lines of these values after so many bytes, and tells how many there are then.
+fn put_lines<O: Out, T: ToJson>(
+    alloc: Global,
+    out: &mut O,
+    values: &[T],
+    before: u64,
+) -> Result<u64, WriteFault>
+    ensures { PutsText (text_of (map T.json values.now)) before
+        (O.gone out.old) (O.gone out.new) (O.failures out.old) (O.failures out.new) result }
+{
+    let mut written = before;
+    for value in values {
+        written = put_line(alloc, out, value, written)?;
+    }
+    Ok(written)
+}
+
+/// Puts the header's line, where there is a header, and tells how many bytes there are then.
+fn put_header<O: Out>(
+    alloc: Global,
+    out: &mut O,
+    header: Option<&Header>,
+) -> Result<u64, WriteFault>
+    ensures { PutsText (text_of (header_lines (option_copied header.entry))) 0
+        (O.gone out.old) (O.gone out.new) (O.failures out.old) (O.failures out.new) result }
+{
+    match header {
+        Some(header) => put_line(alloc, out, header, 0),
+        None => Ok(0),
+    }
+}
+
+/// Writes a transcript: the header's line, where there is a header, then a line for each entry, then the word lines,
+/// each in order (this project's own format, docs/FORMATS.md). It makes one put a line, and more where the output takes
+/// less.
+///
+/// # Errors
+///
+/// `Cause::Io` where a put failed, and exactly then the output's count of failures rose; `Cause::Memory` where memory
+/// ran out. After either, what went out is a beginning of the text, and `written` tells how long it is.
+pub fn write_transcript<O: Out>(
+    alloc: Global,
+    out: &mut O,
+    transcript: &Transcript,
+) -> Result<(), WriteFault>
+    ensures ok { OnOk result (Appends (O.gone out.old) (O.gone out.new) (text_of (lines transcript.now))) }
+    ensures fault { IfErr result (λ fault.
+        Begins (text_of (lines transcript.now)) (O.gone out.old) (O.gone out.new) fault.written) }
+    ensures cause { CountsFault (O.failures out.old) (O.failures out.new) result }
+{
+    let written = put_header(alloc, out, transcript.header())?;
+    let written = put_lines(alloc, out, transcript.entries(), written)?;
+    put_lines(alloc, out, transcript.words(), written)?;
+    Ok(())
+}
