@@ -1,0 +1,182 @@
+-- What a JSON value reads as: references, settings, plans, answers and tables. None where the value has another form.
+use Rattle.std.specs.Prelude.{ℕ, List, codes, Option, Some, None, if◌then◌else◌}
+use Rattle.std.proofs.Common.{bytes_eq}
+use Rattle.serde_json.specs.Data.{Data, string}
+use Rattle.serde_json.specs.Find.{at, as_str}
+use Rattle.irp_forms.specs.Parts.{◌>>=◌, has_items, u8_at, u32_at, u64_at, or_null_at}
+use Rattle.irp_forms.specs.Names.{rule_at, flags_at}
+use Rattle.irp_types.specs.declared.answer.CancelAnswer.{CancelAnswer}
+use Rattle.irp_types.specs.declared.answer.CancelAnswer.TheVariants as cancel_answers
+use Rattle.irp_types.specs.declared.answer.Plan.{Plan}
+use Rattle.irp_types.specs.declared.answer.Plan.TheVariants as plans
+use Rattle.irp_types.specs.declared.answer.Replacement.{Replacement}
+use Rattle.irp_types.specs.declared.call.Party.{Party}
+use Rattle.irp_types.specs.declared.call.Party.TheVariants as parties
+use Rattle.irp_types.specs.declared.names.CancelId.{CancelId}
+use Rattle.irp_types.specs.declared.names.DeviceId.{DeviceId}
+use Rattle.irp_types.specs.declared.names.DispatchId.{DispatchId}
+use Rattle.irp_types.specs.declared.names.IrpRef.{IrpRef}
+use Rattle.irp_types.specs.declared.names.LockNo.{LockNo}
+use Rattle.irp_types.specs.declared.routine.Known.{Known}
+use Rattle.irp_types.specs.declared.routine.RoutineId.{RoutineId}
+use Rattle.irp_types.specs.declared.routine.Setting.{Setting}
+use Rattle.irp_types.specs.declared.status.Status.{Status}
+
+-- a device by its number
+unfoldable pub device_at : Data → Option DeviceId
+device_at form = u32_at form >>= λ given. Some (record { 0 = given })
+
+-- a device by its number, or null
+unfoldable pub device_or_null_at : Data → Option (Option DeviceId)
+device_or_null_at form = or_null_at device_at form
+
+-- a cancel routine by its number
+unfoldable pub cancel_at : Data → Option CancelId
+cancel_at form = u32_at form >>= λ given. Some (record { 0 = given })
+
+-- a cancel routine by its number, or null
+unfoldable pub cancel_or_null_at : Data → Option (Option CancelId)
+cancel_or_null_at form = or_null_at cancel_at form
+
+-- a remove lock by its number
+unfoldable pub lock_at : Data → Option LockNo
+lock_at form = u32_at form >>= λ given. Some (record { 0 = given })
+
+-- a remove lock by its number, or null
+unfoldable pub lock_or_null_at : Data → Option (Option LockNo)
+lock_or_null_at form = or_null_at lock_at form
+
+-- a status by its number
+unfoldable pub status_at : Data → Option Status
+status_at form = u32_at form >>= λ given. Some (record { 0 = given })
+
+-- a packet by its slot and its use
+unfoldable pub irp_at : Data → Option IrpRef
+irp_at form = if has_items 2 form then (do
+  slot ← at 0 form >>= u32_at
+  use_no ← at 1 form >>= u64_at
+  Some (record { slot = slot; use_no = use_no })) else None
+
+-- a party: "o" for the originator, or the device's number
+unfoldable pub party_at : Data → Option Party
+party_at (string name) = if bytes_eq name (codes "o") then Some parties.Originator else None
+party_at form = device_at form >>= λ device. Some (parties.Device device)
+
+-- a completion routine by its rule and its number there
+unfoldable pub routine_at : Data → Option RoutineId
+routine_at form = if has_items 2 form then (do
+  rule ← at 0 form >>= rule_at
+  place ← at 1 form >>= u32_at
+  Some (record { rule = rule; no = place })) else None
+
+-- a setting: rule, number, context and flags
+unfoldable pub setting_at : Data → Option Setting
+setting_at form = if has_items 4 form then (do
+  rule ← at 0 form >>= rule_at
+  place ← at 1 form >>= u32_at
+  context ← at 2 form >>= u64_at
+  flags ← at 3 form >>= flags_at
+  Some (record {
+    routine = record { rule = rule; no = place };
+    context = context;
+    on_success = flags.on_success;
+    on_error = flags.on_error;
+    on_cancel = flags.on_cancel;
+  })) else None
+
+-- a setting or null
+unfoldable pub setting_or_null_at : Data → Option (Option Setting)
+setting_or_null_at form = or_null_at setting_at form
+
+-- a replacement: status and information
+unfoldable pub replacement_at : Data → Option Replacement
+replacement_at form = if has_items 2 form then (do
+  status ← at 0 form >>= status_at
+  information ← at 1 form >>= u64_at
+  Some (record { status = status; information = information })) else None
+
+-- a replacement or null
+unfoldable pub replacement_or_null_at : Data → Option (Option Replacement)
+replacement_or_null_at form = or_null_at replacement_at form
+
+-- a plan that finishes, with its status and information
+unfoldable pub finish_at : Data → Option Plan
+finish_at form = if has_items 3 form then (do
+  status ← at 1 form >>= status_at
+  information ← at 2 form >>= u64_at
+  Some (plans.Finish status information)) else None
+
+-- a plan that holds, with its cancel routine or null
+unfoldable pub hold_at : Data → Option Plan
+hold_at form = if has_items 2 form then (do
+  cancel ← at 1 form >>= cancel_or_null_at
+  Some (plans.Hold cancel)) else None
+
+-- a plan that forwards, with its setting or null
+unfoldable pub forward_at : Data → Option Plan
+forward_at form = if has_items 2 form then (do
+  setting ← at 1 form >>= setting_or_null_at
+  Some (plans.Forward setting)) else None
+
+-- a plan that forwards and pends, with its setting or null
+unfoldable pub forward_pend_at : Data → Option Plan
+forward_pend_at form = if has_items 2 form then (do
+  setting ← at 1 form >>= setting_or_null_at
+  Some (plans.ForwardPend setting)) else None
+
+-- a plan by its name
+unfoldable pub plan_named : List ℕ → Data → Option Plan
+plan_named name form =
+    if bytes_eq name (codes "finish") then finish_at form else
+    (if bytes_eq name (codes "hold") then hold_at form else
+    (if bytes_eq name (codes "skip") then (if has_items 1 form then Some plans.Skip else None) else
+    (if bytes_eq name (codes "forward") then forward_at form else
+    (if bytes_eq name (codes "forward_pend") then forward_pend_at form else None))))
+
+-- a plan: its name, which stands first, and what it names
+unfoldable pub plan_at : Data → Option Plan
+plan_at form = at 0 form >>= λ first. as_str first >>= λ name. plan_named name form
+
+-- an answer that finishes the packet, with its information
+unfoldable pub cancel_finish_at : Data → Option CancelAnswer
+cancel_finish_at form = if has_items 2 form then (do
+  information ← at 1 form >>= u64_at
+  Some (cancel_answers.Finish information)) else None
+
+-- a cancel routine's answer by its name
+unfoldable pub cancel_answer_named : List ℕ → Data → Option CancelAnswer
+cancel_answer_named name form =
+    if bytes_eq name (codes "finish") then cancel_finish_at form else
+    (if bytes_eq name (codes "leave") then (if has_items 1 form then Some cancel_answers.Leave else None) else None)
+
+-- a cancel routine's answer: its name, which stands first, and what it names
+unfoldable pub cancel_answer_at : Data → Option CancelAnswer
+cancel_answer_at form = at 0 form >>= λ first. as_str first >>= λ name. cancel_answer_named name form
+
+-- how many completion routines of each rule, from the first five items
+unfoldable pub first_counts_at : Data → Option Known
+first_counts_at form = do
+  watch ← at 0 form >>= u32_at
+  change ← at 1 form >>= u32_at
+  keeper ← at 2 form >>= u32_at
+  keep_on_error ← at 3 form >>= u32_at
+  free ← at 4 form >>= u32_at
+  Some (record { watch = watch; change = change; keeper = keeper; keep_on_error = keep_on_error; free = free; cancel = 0 })
+
+-- how many completion routines of each rule
+unfoldable pub completions_at : Data → Option Known
+completions_at form = if has_items 5 form then first_counts_at form else None
+
+-- the same, and how many cancel routines
+unfoldable pub known_at : Data → Option Known
+known_at form = if has_items 6 form then (do
+  counts ← first_counts_at form
+  cancel ← at 5 form >>= u32_at
+  Some (record counts { cancel = cancel })) else None
+
+-- a major function code and its dispatch
+unfoldable pub handler_at : Data → Option (ℕ × DispatchId)
+handler_at form = if has_items 2 form then (do
+  major ← at 0 form >>= u8_at
+  dispatch ← at 1 form >>= u32_at
+  Some (major, record { 0 = dispatch })) else None

@@ -1,0 +1,51 @@
+//! Lists by the form of their items.
+
+ghost use Rattle.std.specs.Prelude.{Option};
+ghost use Rattle.serde_json.specs.Data.{Data};
+ghost use Rattle.serde_json.specs.View.{view};
+ghost use Rattle.irp_forms.specs.Parts.{Gives, list_at};
+
+use crate::unread::Unread;
+use irp_types::Row;
+use serde_json::Value;
+use std::alloc::Global;
+
+/// What a JSON value may be the form of (this project's own format, docs/FORMATS.md).
+pub trait FromJson {
+    /// What the value is the form of, or none.
+    ghost at: { Data → Option Self };
+
+    /// Reads it. `Unread::Form` exactly where the value has another form, unless memory runs out.
+    fn from_json(alloc: Global, value: &Value) -> Result<Self, Unread>
+        ensures { Gives result (at (view value.now)) };
+}
+
+/// Reads the array of these forms, in order (this project's own format, docs/FORMATS.md).
+///
+/// # Errors
+///
+/// `Unread::Form` where it is no array, or an item has another form; `Unread::NoMemory` where memory runs out.
+#[tactic(auto, unfolding(crate::specs::Parts::list_at))]
+pub fn list_at<T: FromJson + Drop>(alloc: Global, value: &Value) -> Result<Row<T>, Unread>
+    ensures { Gives result (list_at T.at (view value.now)) }
+{
+    let Some(items) = value.as_array() else {
+        return Err(Unread::Form);
+    };
+    let mut list = Vec::new(alloc);
+    for item in items {
+        let read = T::from_json(alloc, item)?;
+        if list.push(read).is_err() {
+            return Err(Unread::NoMemory);
+        }
+    }
+    Ok(Row::from_vec(list))
+}
+
+impl<T: FromJson + Drop> FromJson for Row<T> {
+    ghost at = { list_at T.at };
+
+    fn from_json(alloc: Global, value: &Value) -> Result<Self, Unread> {
+        list_at(alloc, value)
+    }
+}
