@@ -15,6 +15,7 @@ use Rattle.irp_types.specs.declared.call.Party.TheVariants as parties
 use Rattle.irp_types.specs.declared.names.CancelId.{CancelId}
 use Rattle.irp_types.specs.declared.names.DeviceId.{DeviceId}
 use Rattle.irp_types.specs.declared.names.DispatchId.{DispatchId}
+use Rattle.irp_types.specs.declared.names.DriverId.{DriverId}
 use Rattle.irp_types.specs.declared.names.IrpRef.{IrpRef}
 use Rattle.irp_types.specs.declared.names.LockNo.{LockNo}
 use Rattle.irp_types.specs.declared.routine.Known.{Known}
@@ -37,6 +38,14 @@ cancel_at form = u32_at form >>= λ given. Some (record { 0 = given })
 -- a cancel routine by its number, or null
 unfoldable pub cancel_or_null_at : Data → Option (Option CancelId)
 cancel_or_null_at form = or_null_at cancel_at form
+
+-- a dispatch routine by its number
+unfoldable pub dispatch_at : Data → Option DispatchId
+dispatch_at form = u32_at form >>= λ given. Some (record { 0 = given })
+
+-- a driver by its number
+unfoldable pub driver_at : Data → Option DriverId
+driver_at form = u32_at form >>= λ given. Some (record { 0 = given })
 
 -- a remove lock by its number
 unfoldable pub lock_at : Data → Option LockNo
@@ -178,5 +187,5 @@ known_at form = if has_items 6 form then (do
 unfoldable pub handler_at : Data → Option (ℕ × DispatchId)
 handler_at form = if has_items 2 form then (do
   major ← at 0 form >>= u8_at
-  dispatch ← at 1 form >>= u32_at
-  Some (major, record { 0 = dispatch })) else None
+  dispatch ← at 1 form >>= dispatch_at
+  Some (major, dispatch)) else None

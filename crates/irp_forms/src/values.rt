@@ -12,6 +12,8 @@ ghost use Rattle.irp_forms.specs.Values.{
   completions_at,
   device_at,
   device_or_null_at,
+  dispatch_at,
+  driver_at,
   finish_at,
   first_counts_at,
   forward_at,
@@ -38,8 +40,8 @@ use crate::names::{Flags, cancel_rule_at, flags_at, rule_at};
 use crate::parts::{has_items, u8_at, u32_at, u64_at};
 use crate::unread::{Unread, form_of};
 use irp_types::{
-    CancelAnswer, CancelId, CancelRule, DeviceId, DispatchId, IrpRef, Known, LockNo, Party, Plan,
-    Replacement, RoutineId, Setting, Status,
+    CancelAnswer, CancelId, CancelRule, DeviceId, DispatchId, DriverId, IrpRef, Known, LockNo,
+    Party, Plan, Replacement, RoutineId, Setting, Status,
 };
 use serde_json::Value;
 use std::alloc::Global;
@@ -89,6 +91,24 @@ pub fn cancel_or_null_at(value: &Value) -> Option<Option<CancelId>>
             Some(Some(cancel))
         }
     }
+}
+
+/// A dispatch routine by its number (this project's own format, docs/FORMATS.md).
+#[tactic(auto, unfolding(crate::specs::Values::dispatch_at))]
+pub fn dispatch_at(value: &Value) -> Option<DispatchId>
+    ensures { result ≡ dispatch_at (view value.now) }
+{
+    let number = u32_at(value)?;
+    Some(DispatchId(number))
+}
+
+/// A driver by its number (this project's own format, docs/FORMATS.md).
+#[tactic(auto, unfolding(crate::specs::Values::driver_at))]
+pub fn driver_at(value: &Value) -> Option<DriverId>
+    ensures { result ≡ driver_at (view value.now) }
+{
+    let number = u32_at(value)?;
+    Some(DriverId(number))
 }
 
 /// A remove lock by its number (this project's own format, docs/FORMATS.md).
@@ -418,8 +438,8 @@ pub fn handler_at(value: &Value) -> Option<(u8, DispatchId)>
         return None;
     }
     let major = u8_at(value.get(0)?)?;
-    let dispatch = u32_at(value.get(1)?)?;
-    Some((major, DispatchId(dispatch)))
+    let dispatch = dispatch_at(value.get(1)?)?;
+    Some((major, dispatch))
 }
 
 impl FromJson for CancelRule {
