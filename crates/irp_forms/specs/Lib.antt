@@ -1,3 +1,4 @@
 pub mod Parts
 pub mod Names
 pub mod Values
+pub mod Questions

@@ -4,12 +4,14 @@
 mod list;
 mod names;
 mod parts;
+mod questions;
 mod unread;
 mod values;
 
 pub use list::{FromJson, list_at};
 pub use names::{Flags, cancel_rule_at, flags_at, rule_at};
 pub use parts::{has_items, has_keys, u8_at, u32_at, u32_or_null_at, u64_at};
+pub use questions::asked_at;
 pub use unread::{Unread, form_of};
 pub use values::{
     cancel_answer_at, cancel_at, cancel_or_null_at, completions_at, device_at, device_or_null_at,
