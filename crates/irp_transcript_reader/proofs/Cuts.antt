@@ -1,0 +1,57 @@
+-- The lines of a text, and what becomes of it where one more line is taken or refused.
+use Rattle.std.proofs.Common.{◌≡◌, ◌≢◌, ℕ, zero, suc, ◌+◌, ◌-◌, ◌<◌, ◌≤◌, List, [], ◌∷◌, length, length-drop, take, drop, get_or, Result, Ok, Err, refl, ap, arith}
+use Rattle.std.proofs.Math.Seq.{take-length}
+use Rattle.std.proofs.lemmas.Bool.{ne_eqb, eq-eqb}
+use Rattle.irp_shared.specs.Transcripts.{TranscriptValue}
+use Rattle.irp_transcript_reader.specs.Reading.{cut, onto, ReadsFrom, Takes, Refuses}
+use Rattle.irp_transcript_reader.specs.declared.read_fault.ReadFault.{ReadFault}
+use Rattle.irp_transcript_reader.specs.declared.read_fault.ReadFault.TheVariants.{Line, NoMemory}
+
+-- the rest of a list, as a range to its end gives it
+pub piece : {X : Type 0} (count : ℕ) (list : List X) → take (length list - count) (drop count list) ≡ drop count list
+piece count list = rw (← length-drop count list) (take-length (drop count list))
+
+-- no newline stands before this place
+abbrev pub NoneBelow : ℕ → List ℕ → Type 0
+NoneBelow place bytes = (before : ℕ) → before < place → get_or bytes before 0 ≢ 10
+
+later : (place byte : ℕ) (bytes : List ℕ) → NoneBelow (suc place) (byte ∷ bytes) → NoneBelow place bytes
+later place byte bytes none before below = none (suc before) (omega arith)
+
+-- the first newline ends the first line
+pub cut_at : (bytes : List ℕ) (place : ℕ) → NoneBelow place bytes → place < length bytes → get_or bytes place 0 ≡ 10
+    → cut bytes ≡ (take place bytes ∷ (cut (drop (place + 1) bytes)).0, (cut (drop (place + 1) bytes)).1)
+cut_at [] place none within newline = absurd (omega arith)
+cut_at (byte ∷ bytes) zero none within newline = rw (eq-eqb byte 10 newline) refl
+cut_at (byte ∷ bytes) (suc place) none within newline =
+    let other = ne_eqb byte 10 (none 0 (omega arith)) in
+    let one : suc place + 1 ≡ suc (place + 1) = omega arith in
+    rw (other, one) (ap (onto byte) (cut_at bytes place (later place byte bytes none) (omega arith) newline))
+
+-- where there is no newline there is no line
+pub cut_none : (bytes : List ℕ) → NoneBelow (length bytes) bytes → cut bytes ≡ ([], bytes)
+cut_none [] none = refl
+cut_none (byte ∷ bytes) none =
+    let other = ne_eqb byte 10 (none 0 (omega arith)) in
+    rw other (ap (onto byte) (cut_none bytes (later (length bytes) byte bytes none)))
+
+-- one line more
+pub reads_on : (before between : TranscriptValue) (count : ℕ) (answer : Result TranscriptValue ReadFault) (line : List ℕ) (others : List (List ℕ)) (rest : List ℕ)
+    → Takes before line between → ReadsFrom between (count + 1) answer (others, rest) → ReadsFrom before count answer (line ∷ others, rest)
+reads_on before between count (Ok transcript) line others rest taken reads = (reads.0, (between, taken, reads.1))
+reads_on before between count (Err (Line number)) line others rest taken reads = (suc reads.0, omega (arith, reads.1), (between, taken, reads.2))
+reads_on before between count (Err NoMemory) line others rest taken reads = tt
+
+-- the next line is refused
+pub reads_no_more : (before : TranscriptValue) (count : ℕ) (line : List ℕ) (others : List (List ℕ)) (rest : List ℕ)
+    → Refuses before line → ReadsFrom before count (Err (Line (count + 1))) (line ∷ others, rest)
+reads_no_more before count line others rest refused = (0, omega arith, refused)
+
+-- the last line has no newline
+pub reads_cut : (before : TranscriptValue) (count : ℕ) (rest : List ℕ) → 0 < length rest → ReadsFrom before count (Err (Line (count + 1))) ([], rest)
+reads_cut before count rest some = (0, omega arith, (refl, some))
+
+-- there are no more lines
+pub reads_end : (before : TranscriptValue) (count : ℕ) (rest : List ℕ) → length rest ≡ 0 → ReadsFrom before count (Ok before) (cut rest)
+reads_end before count [] none = (refl, refl)
+reads_end before count (byte ∷ rest) none = absurd (omega (arith, none))

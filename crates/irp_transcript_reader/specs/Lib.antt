@@ -1,0 +1,5 @@
+pub mod Replies
+pub mod Calls
+pub mod WordLines
+pub mod Lines
+pub mod Reading

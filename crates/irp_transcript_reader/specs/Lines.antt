@@ -1,0 +1,81 @@
+-- What a line's JSON value reads as: an entry or a header. None where the value has another form.
+use Rattle.std.specs.Prelude.{ℕ, ◌==◌, List, [], ◌∷◌, length, codes, Option, Some, None, if◌then◌else◌}
+use Rattle.serde_json.specs.Data.{Data}
+use Rattle.serde_json.specs.Find.{get}
+use Rattle.irp_forms.specs.Parts.{◌>>=◌, has_keys, list_at, u32_at, u64_at, up_to}
+use Rattle.irp_forms.specs.Names.{cancel_rule_at}
+use Rattle.irp_forms.specs.Values.{completions_at, handler_at, known_at}
+use Rattle.irp_types.specs.Limits.{most_routines}
+use Rattle.irp_types.specs.declared.entry.Entry.{Entry}
+use Rattle.irp_shared.specs.declared.header.Header.{Header}
+use Rattle.irp_shared.specs.declared.header.Form.{Form}
+use Rattle.irp_shared.specs.declared.header.Form.TheVariants as forms
+use Rattle.irp_transcript_reader.specs.Calls.{entry_call_at}
+use Rattle.irp_forms.specs.Questions.{asked_at}
+use Rattle.irp_transcript_reader.specs.Replies.{reply_at}
+use Rattle.irp_transcript_reader.specs.declared.entries.Recorded.{Recorded}
+use Rattle.irp_transcript_reader.specs.declared.headers.Counts.{Counts}
+
+-- an entry but for what was asked
+unfoldable pub recorded_at : Data → Option Recorded
+recorded_at form = do
+  called ← get (codes "call") form >>= entry_call_at
+  place ← get (codes "n") form >>= u64_at
+  reply ← get (codes "reply") form >>= reply_at
+  seat ← get (codes "seat") form >>= u32_at
+  Some (record { called = called; number = place; reply = reply; seat = seat })
+
+-- an entry: what was asked, the call, the entry's number, the reply and the seat
+unfoldable pub entry_at : Data → Option Entry
+entry_at form = if has_keys (codes "asked" ∷ codes "call" ∷ codes "n" ∷ codes "reply" ∷ codes "seat" ∷ []) form then (do
+  recorded ← recorded_at form
+  asked ← get (codes "asked") form >>= list_at asked_at
+  Some (record {
+    number = recorded.number;
+    seat = recorded.seat;
+    call = recorded.called.call;
+    lock = recorded.called.lock;
+    drained = recorded.called.drained;
+    asked = asked;
+    reply = recorded.reply;
+  })) else None
+
+-- the form that has this number
+unfoldable pub form_numbered : ℕ → Option Form
+form_numbered count = if count == 1 then Some forms.One else None
+
+-- a header's numbers: the counts of completion routines, the form, the locks and the seats
+unfoldable pub counts_at : Data → Option Counts
+counts_at form = do
+  completions ← get (codes "completions") form >>= completions_at
+  kind ← get (codes "form") form >>= u32_at >>= form_numbered
+  locks ← get (codes "locks") form >>= u32_at
+  seats ← get (codes "seats") form >>= u32_at
+  Some (record { completions = completions; form = kind; locks = locks; seats = seats })
+
+-- the list under a key
+abbrev pub list_under : {T : Type 0} → (Data → Option T) → List ℕ → Data → Option (List T)
+list_under reads key form = get key form >>= list_at reads
+
+-- the keys of a header
+unfoldable pub header_keys : List (List ℕ)
+header_keys = codes "cancels" ∷ codes "completions" ∷ codes "dispatches" ∷ codes "drivers" ∷ codes "form" ∷ codes "locks" ∷ codes "seats" ∷ []
+
+-- a header: the rules of at most 256 cancel routines, which it counts by their list, the other counts, what each dispatch
+-- may name, and each driver's dispatches
+unfoldable pub header_at : Data → Option Header
+header_at form = if has_keys header_keys form then (do
+  counts ← counts_at form
+  cancels ← list_under cancel_rule_at (codes "cancels") form
+  dispatches ← list_under known_at (codes "dispatches") form
+  drivers ← list_under (list_at handler_at) (codes "drivers") form
+  cancel ← up_to most_routines (length cancels)
+  Some (record {
+    cancels = cancels;
+    completions = record counts.completions { cancel = cancel };
+    dispatches = dispatches;
+    drivers = drivers;
+    form = counts.form;
+    locks = counts.locks;
+    seats = counts.seats;
+  })) else None

@@ -1,0 +1,105 @@
+//! Headers.
+
+ghost use Rattle.std.specs.Prelude.{◌≡◌};
+ghost use Rattle.serde_json.specs.View.{view};
+ghost use Rattle.irp_forms.specs.Parts.{Gives, has_keys};
+ghost use Rattle.irp_transcript_reader.specs.Lines.{counts_at, form_numbered, header_at, header_keys, list_under};
+
+use irp_forms::{FromJson, Unread, completions_at, form_of, has_keys, list_at, u32_at};
+use irp_shared::{Form, Header};
+use irp_types::{Known, Row};
+use serde_json::Value;
+use std::alloc::Global;
+
+/// A header's numbers.
+#[derive(Clone, Copy)]
+pub struct Counts {
+    pub completions: Known,
+    pub form: Form,
+    pub locks: u32,
+    pub seats: u32,
+}
+
+/// The form that has this number.
+#[tactic(auto, unfolding(crate::specs::Lines::form_numbered))]
+fn form_numbered(number: u32) -> Option<Form>
+    ensures { result ≡ form_numbered number }
+{
+    if number == 1 { Some(Form::One) } else { None }
+}
+
+/// A header's numbers: the counts of completion routines, the form, the locks and the seats.
+#[tactic(auto, unfolding(crate::specs::Lines::counts_at))]
+fn counts_at(value: &Value) -> Option<Counts>
+    ensures { result ≡ counts_at (view value.now) }
+{
+    let completions = completions_at(value.get("completions")?)?;
+    let form = form_numbered(u32_at(value.get("form")?)?)?;
+    let locks = u32_at(value.get("locks")?)?;
+    let seats = u32_at(value.get("seats")?)?;
+    Some(Counts {
+        completions,
+        form,
+        locks,
+        seats,
+    })
+}
+
+/// The list under a key.
+fn list_under<T: FromJson + Drop>(alloc: Global, key: &str, value: &Value) -> Result<Row<T>, Unread>
+    ensures { Gives result (list_under T.at key.now (view value.now)) }
+{
+    match value.get(key) {
+        Some(list) => list_at(alloc, list),
+        None => Err(Unread::Form),
+    }
+}
+
+/// Whether it has the keys of a header.
+#[tactic(auto, unfolding(crate::specs::Lines::header_keys))]
+fn has_header_keys(value: &Value) -> bool
+    ensures { result ≡ has_keys header_keys (view value.now) }
+{
+    has_keys(
+        value,
+        &[
+            "cancels",
+            "completions",
+            "dispatches",
+            "drivers",
+            "form",
+            "locks",
+            "seats",
+        ],
+    )
+}
+
+/// A header, which counts its cancel routines by their list.
+#[tactic(auto, unfolding(crate::specs::Lines::header_at))]
+pub fn header_at(alloc: Global, value: &Value) -> Result<Header, Unread>
+    ensures { Gives result (header_at (view value.now)) }
+{
+    if !has_header_keys(value) {
+        return Err(Unread::Form);
+    }
+    let counts = form_of(counts_at(value))?;
+    let cancels = list_under(alloc, "cancels", value)?;
+    let dispatches = list_under(alloc, "dispatches", value)?;
+    let drivers = list_under(alloc, "drivers", value)?;
+    let cancel = cancels.as_slice().len();
+    if cancel > 256 {
+        return Err(Unread::Form);
+    }
+    Ok(Header {
+        cancels,
+        completions: Known {
+            cancel: cancel as u32,
+            ..counts.completions
+        },
+        dispatches,
+        drivers,
+        form: counts.form,
+        locks: counts.locks,
+        seats: counts.seats,
+    })
+}

@@ -1,0 +1,18 @@
+//! Transcripts read from lines of JSON.
+#![tactic(auto)]
+
+mod calls;
+mod entries;
+mod headers;
+mod party_calls;
+mod read;
+mod read_fault;
+mod reading;
+mod refusals;
+mod replies;
+#[cfg(test)]
+mod tests;
+mod word_lines;
+
+pub use read::read_transcript;
+pub use read_fault::ReadFault;

@@ -1,0 +1,148 @@
+//! What calls were answered.
+
+ghost use Rattle.std.specs.Prelude.{◌≡◌};
+ghost use Rattle.serde_json.specs.View.{view};
+ghost use Rattle.irp_transcript_reader.specs.Replies.{
+  holder_at,
+  naming_reply_at,
+  owner_at,
+  reply_at,
+  seen_at,
+  telling_reply_at,
+};
+
+use crate::refusals::refusal_named;
+use irp_forms::{
+    cancel_or_null_at, device_at, has_items, has_keys, irp_at, status_at, u32_at, u64_at,
+};
+use irp_types::{Owner, Reply, Seen, Status};
+use serde_json::Value;
+
+/// The first of what Look shows of a packet: who has it, and its status block.
+#[derive(Clone, Copy)]
+pub struct Holder {
+    pub owner: Owner,
+    pub current: u32,
+    pub status: Status,
+    pub information: u64,
+}
+
+/// An owner: `"o"` for the originator, `"ended"`, or the device's number.
+#[tactic(auto, unfolding(crate::specs::Replies::owner_at))]
+fn owner_at(value: &Value) -> Option<Owner>
+    ensures { result ≡ owner_at (view value.now) }
+{
+    match value {
+        Value::String(name) => {
+            if name.as_str() == "o" {
+                Some(Owner::Originator)
+            } else if name.as_str() == "ended" {
+                Some(Owner::Ended)
+            } else {
+                None
+            }
+        }
+        _ => Some(Owner::Device(device_at(value)?)),
+    }
+}
+
+/// The first four things that Look shows of a packet.
+#[tactic(auto, unfolding(crate::specs::Replies::holder_at))]
+fn holder_at(value: &Value) -> Option<Holder>
+    ensures { result ≡ holder_at (view value.now) }
+{
+    let owner = owner_at(value.get(0)?)?;
+    let current = u32_at(value.get(1)?)?;
+    let status = status_at(value.get(2)?)?;
+    let information = u64_at(value.get(3)?)?;
+    Some(Holder {
+        owner,
+        current,
+        status,
+        information,
+    })
+}
+
+/// What Look shows of a packet, of eight items.
+#[tactic(auto, unfolding(crate::specs::Replies::seen_at))]
+fn seen_at(value: &Value) -> Option<Seen>
+    ensures { result ≡ seen_at (view value.now) }
+{
+    if !has_items(value, 8) {
+        return None;
+    }
+    let holder = holder_at(value)?;
+    let cancel = value.get(4)?.as_bool()?;
+    let cancel_routine = cancel_or_null_at(value.get(5)?)?;
+    let pending_returned = value.get(6)?.as_bool()?;
+    let marked = value.get(7)?.as_bool()?;
+    Some(Seen {
+        owner: holder.owner,
+        current: holder.current,
+        status: holder.status,
+        information: holder.information,
+        cancel,
+        cancel_routine,
+        pending_returned,
+        marked,
+    })
+}
+
+/// A reply that names a thing, by its one key.
+#[tactic(auto, unfolding(crate::specs::Replies::naming_reply_at))]
+fn naming_reply_at(value: &Value) -> Option<Reply>
+    ensures { result ≡ naming_reply_at (view value.now) }
+{
+    if has_keys(value, &["device"]) {
+        let device = device_at(value.get("device")?)?;
+        Some(Reply::Device(device))
+    } else if has_keys(value, &["irp"]) {
+        let irp = irp_at(value.get("irp")?)?;
+        Some(Reply::Irp(irp))
+    } else if has_keys(value, &["previous"]) {
+        let cancel = cancel_or_null_at(value.get("previous")?)?;
+        Some(Reply::Previous(cancel))
+    } else {
+        None
+    }
+}
+
+/// A reply that tells a state, by its one key.
+#[tactic(auto, unfolding(crate::specs::Replies::telling_reply_at))]
+fn telling_reply_at(value: &Value) -> Option<Reply>
+    ensures { result ≡ telling_reply_at (view value.now) }
+{
+    if has_keys(value, &["status"]) {
+        let status = status_at(value.get("status")?)?;
+        Some(Reply::Status(status))
+    } else if has_keys(value, &["cancelled"]) {
+        let cancelled = value.get("cancelled")?.as_bool()?;
+        Some(Reply::Cancelled(cancelled))
+    } else if has_keys(value, &["seen"]) {
+        let seen = seen_at(value.get("seen")?)?;
+        Some(Reply::Seen(seen))
+    } else if has_keys(value, &["refused"]) {
+        let refusal = refusal_named(value.get("refused")?.as_str()?)?;
+        Some(Reply::Refused(refusal))
+    } else {
+        None
+    }
+}
+
+/// A reply: its name, or its one value under its name.
+#[tactic(auto, unfolding(crate::specs::Replies::reply_at))]
+pub fn reply_at(value: &Value) -> Option<Reply>
+    ensures { result ≡ reply_at (view value.now) }
+{
+    if let Value::String(name) = value {
+        return if name.as_str() == "done" {
+            Some(Reply::Done)
+        } else {
+            None
+        };
+    }
+    match naming_reply_at(value) {
+        Some(reply) => Some(reply),
+        None => telling_reply_at(value),
+    }
+}

@@ -1,0 +1,144 @@
+//! Word lines.
+
+ghost use Rattle.std.specs.Prelude.{◌≡◌};
+ghost use Rattle.serde_json.specs.View.{view};
+ghost use Rattle.irp_transcript_reader.specs.WordLines.{
+  act_at,
+  drained_at,
+  tagged_act,
+  tagged_act_at,
+  word_line_at,
+  word_reply_at,
+  word_reply_named,
+  word_status,
+};
+
+use irp_forms::{has_keys, lock_at, u32_at, u64_at};
+use irp_shared::{Act, WordLine, WordReply};
+use irp_types::LockNo;
+use serde_json::Value;
+
+/// A step's answer by its name.
+#[tactic(auto, unfolding(crate::specs::WordLines::word_reply_named))]
+fn word_reply_named(name: &str) -> Option<WordReply>
+    ensures { result ≡ word_reply_named name.now }
+{
+    if name == "ok" {
+        Some(WordReply::Done)
+    } else if name == "seat_full" {
+        Some(WordReply::SeatFull)
+    } else if name == "not_held" {
+        Some(WordReply::NotHeld)
+    } else if name == "already_removing" {
+        Some(WordReply::AlreadyRemoving)
+    } else if name == "no_lock" {
+        Some(WordReply::NoLock)
+    } else if name == "yes" {
+        Some(WordReply::Yes)
+    } else {
+        None
+    }
+}
+
+/// The status of an acquire: success, or that removal has begun.
+#[tactic(auto, unfolding(crate::specs::WordLines::word_status))]
+fn word_status(status: u32) -> Option<WordReply>
+    ensures { result ≡ word_status status }
+{
+    if status == 0 {
+        Some(WordReply::Acquired)
+    } else if status == 0xc0000056 {
+        Some(WordReply::DeletePending)
+    } else {
+        None
+    }
+}
+
+/// What a step was answered: its name, or its one value under its name.
+#[tactic(auto, unfolding(crate::specs::WordLines::word_reply_at))]
+fn word_reply_at(value: &Value) -> Option<WordReply>
+    ensures { result ≡ word_reply_at (view value.now) }
+{
+    if let Value::String(name) = value {
+        return word_reply_named(name.as_str());
+    }
+    if has_keys(value, &["status"]) {
+        word_status(u32_at(value.get("status")?)?)
+    } else if has_keys(value, &["busy"]) {
+        let word = u64_at(value.get("busy")?)?;
+        Some(WordReply::Busy { word })
+    } else {
+        None
+    }
+}
+
+/// A step that has a tag, by its name.
+#[tactic(auto, unfolding(crate::specs::WordLines::tagged_act))]
+fn tagged_act(name: &str, lock: LockNo, tag: u32) -> Option<Act>
+    ensures { result ≡ tagged_act name.now lock tag }
+{
+    if name == "acquire" {
+        Some(Act::Acquire { lock, tag })
+    } else if name == "release" {
+        Some(Act::Release { lock, tag })
+    } else if name == "begin_remove" {
+        Some(Act::BeginRemove { lock, tag })
+    } else {
+        None
+    }
+}
+
+/// What a step that has a tag did.
+#[tactic(auto, unfolding(crate::specs::WordLines::tagged_act_at))]
+fn tagged_act_at(name: &str, value: &Value) -> Option<Act>
+    ensures { result ≡ tagged_act_at name.now (view value.now) }
+{
+    if !has_keys(value, &["do", "lock", "reply", "seat", "step", "tag"]) {
+        return None;
+    }
+    let lock = lock_at(value.get("lock")?)?;
+    let tag = u32_at(value.get("tag")?)?;
+    tagged_act(name, lock, tag)
+}
+
+/// What a step that has no tag did, which asked whether a lock is drained.
+#[tactic(auto, unfolding(crate::specs::WordLines::drained_at))]
+fn drained_at(value: &Value) -> Option<Act>
+    ensures { result ≡ drained_at (view value.now) }
+{
+    if !has_keys(value, &["do", "lock", "reply", "seat", "step"]) {
+        return None;
+    }
+    let lock = lock_at(value.get("lock")?)?;
+    Some(Act::Drained { lock })
+}
+
+/// What a step did, by the name under `do`.
+#[tactic(auto, unfolding(crate::specs::WordLines::act_at))]
+fn act_at(value: &Value) -> Option<Act>
+    ensures { result ≡ act_at (view value.now) }
+{
+    let name = value.get("do")?.as_str()?;
+    if name == "drained" {
+        drained_at(value)
+    } else {
+        tagged_act_at(name, value)
+    }
+}
+
+/// A word line: what the step did, what it was answered, its seat and its place.
+#[tactic(auto, unfolding(crate::specs::WordLines::word_line_at))]
+pub fn word_line_at(value: &Value) -> Option<WordLine>
+    ensures { result ≡ word_line_at (view value.now) }
+{
+    let act = act_at(value)?;
+    let reply = word_reply_at(value.get("reply")?)?;
+    let seat = u32_at(value.get("seat")?)?;
+    let step = u32_at(value.get("step")?)?;
+    Some(WordLine {
+        seat,
+        step,
+        act,
+        reply,
+    })
+}
