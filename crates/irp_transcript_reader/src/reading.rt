@@ -91,7 +91,7 @@ impl Reading {
     fn take_entry(&mut self, alloc: Global, seats: u32, value: &Value) -> Result<(), Unread>
         ensures { GivesLine result (with_entry seats (so_far self.old) (view value.now)) (so_far self.new) }
     {
-        if self.words.len() != 0 || self.entries.len() >= MOST_ENTRIES {
+        if !self.words.is_empty() || self.entries.len() >= MOST_ENTRIES {
             return Err(Unread::Form);
         }
         let entry = seated_entry_at(alloc, seats, value)?;

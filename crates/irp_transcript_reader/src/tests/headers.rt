@@ -4,6 +4,7 @@ use super::*;
 use std::alloc::AllocError;
 
 /// How many of each thing a header has.
+#[derive(Clone, Copy)]
 struct Counts {
     cancels: usize,
     dispatches: usize,
@@ -57,15 +58,28 @@ fn header_with(alloc: Global, counts: Counts) -> Result<String, AllocError> {
 fn headers_are_read_up_to_their_limits(rt: HostRuntime) -> Result<(), Fail> {
     for counts in [
         Counts { cancels: 0, ..ONE },
-        Counts { cancels: 256, ..ONE },
-        Counts { dispatches: 256, ..ONE },
+        Counts {
+            cancels: 256,
+            ..ONE
+        },
+        Counts {
+            dispatches: 256,
+            ..ONE
+        },
         Counts { drivers: 64, ..ONE },
         Counts { locks: 64, ..ONE },
-        Counts { routines: 256, ..ONE },
+        Counts {
+            routines: 256,
+            ..ONE
+        },
         Counts { seats: 64, ..ONE },
     ] {
         let header = header_with(rt.alloc(), counts)?;
-        assert_eq!(rt; count_of(rt.alloc(), header.as_bytes()), Ok((0, 0)), "{header}");
+        assert_eq!(rt;
+            count_of(rt.alloc(), header.as_bytes()),
+            Ok((0, 0)),
+            "{header}"
+        );
     }
     Ok(())
 }
@@ -73,17 +87,30 @@ fn headers_are_read_up_to_their_limits(rt: HostRuntime) -> Result<(), Fail> {
 #[test]
 fn headers_beyond_a_limit_are_refused(rt: HostRuntime) -> Result<(), Fail> {
     for counts in [
-        Counts { cancels: 257, ..ONE },
-        Counts { dispatches: 257, ..ONE },
+        Counts {
+            cancels: 257,
+            ..ONE
+        },
+        Counts {
+            dispatches: 257,
+            ..ONE
+        },
         Counts { drivers: 65, ..ONE },
         Counts { locks: 0, ..ONE },
         Counts { locks: 65, ..ONE },
-        Counts { routines: 257, ..ONE },
+        Counts {
+            routines: 257,
+            ..ONE
+        },
         Counts { seats: 0, ..ONE },
         Counts { seats: 65, ..ONE },
     ] {
         let header = header_with(rt.alloc(), counts)?;
-        assert_eq!(rt; count_of(rt.alloc(), header.as_bytes()), Err(ReadFault::Line(1)), "{header}");
+        assert_eq!(rt;
+            count_of(rt.alloc(), header.as_bytes()),
+            Err(ReadFault::Line(1)),
+            "{header}"
+        );
     }
     Ok(())
 }
@@ -101,7 +128,11 @@ fn headers_whose_tables_disagree_are_refused(rt: HostRuntime) -> Result<(), Fail
         "{\"cancels\":[],\"completions\":[0,0,0,0],\"dispatches\":[],\"drivers\":[],\"form\":1,\"locks\":1,\"seats\":1}\n",
         "{\"cancels\":[],\"completions\":[0,0,0,0,0],\"dispatches\":[],\"drivers\":[],\"locks\":1,\"seats\":1}\n",
     ] {
-        assert_eq!(rt; count_of(rt.alloc(), header.as_bytes()), Err(ReadFault::Line(1)), "{header}");
+        assert_eq!(rt;
+            count_of(rt.alloc(), header.as_bytes()),
+            Err(ReadFault::Line(1)),
+            "{header}"
+        );
     }
     Ok(())
 }

@@ -3,7 +3,11 @@
 use super::*;
 
 /// What is read of a header's line and these lines, which have their newlines.
-fn read_behind_header(alloc: Global, header: &str, lines: &str) -> Result<(usize, usize), ReadFault> {
+fn read_behind_header(
+    alloc: Global,
+    header: &str,
+    lines: &str,
+) -> Result<(usize, usize), ReadFault> {
     let mut text = Vec::new(alloc);
     if text.extend_from_slice(header.as_bytes()).is_err()
         || text.push(b'\n').is_err()
@@ -21,7 +25,11 @@ fn keys_come_in_any_order_and_with_white_space(rt: HostRuntime) -> Result<(), Fa
         "{\"seat\":9,\"asked\":[],\"call\":{\"do\":\"allocate\",\"size\":1},\"n\":0,\"reply\":\"done\",\"seat\":0}\n",
         "{\"asked\":[],\"call\":{\"\\u0064o\":\"allocate\",\"size\":255},\"n\":18446744073709551615,\"reply\":\"done\",\"seat\":0}\n",
     ] {
-        assert_eq!(rt; read_behind_header(rt.alloc(), HEADER, lines), Ok((1, 0)), "{lines}");
+        assert_eq!(rt;
+            read_behind_header(rt.alloc(), HEADER, lines),
+            Ok((1, 0)),
+            "{lines}"
+        );
     }
     Ok(())
 }
@@ -50,7 +58,11 @@ fn lines_of_other_forms_are_refused(rt: HostRuntime) -> Result<(), Fail> {
         "{\"do\":\"acquire\",\"lock\":0,\"reply\":{\"status\":1},\"seat\":0,\"step\":5,\"tag\":1}\n",
         "{\"do\":\"drained\",\"lock\":0,\"reply\":\"yes\",\"seat\":1,\"step\":5}\n",
     ] {
-        assert_eq!(rt; read_behind_header(rt.alloc(), HEADER, lines), Err(ReadFault::Line(2)), "{lines}");
+        assert_eq!(rt;
+            read_behind_header(rt.alloc(), HEADER, lines),
+            Err(ReadFault::Line(2)),
+            "{lines}"
+        );
     }
     Ok(())
 }
@@ -59,14 +71,20 @@ fn lines_of_other_forms_are_refused(rt: HostRuntime) -> Result<(), Fail> {
 fn no_entry_follows_a_word_line(rt: HostRuntime) -> Result<(), Fail> {
     let lines =
         "{\"do\":\"drained\",\"lock\":0,\"reply\":\"yes\",\"seat\":0,\"step\":5}\n{\"asked\":[],\"call\":{\"do\":\"allocate\",\"size\":1},\"n\":0,\"reply\":\"done\",\"seat\":0}\n";
-    assert_eq!(rt; read_behind_header(rt.alloc(), HEADER, lines), Err(ReadFault::Line(3)));
+    assert_eq!(rt;
+        read_behind_header(rt.alloc(), HEADER, lines),
+        Err(ReadFault::Line(3))
+    );
     Ok(())
 }
 
 /// A header with white space behind it up to so many bytes, and a newline.
 fn padded(alloc: Global, bytes: usize) -> Result<(usize, usize), ReadFault> {
     let mut text = Vec::new(alloc);
-    if text.extend_from_slice(HEADER.as_bytes()).is_err() || text.resize(bytes, b' ').is_err() || text.push(b'\n').is_err() {
+    if text.extend_from_slice(HEADER.as_bytes()).is_err()
+        || text.resize(bytes, b' ').is_err()
+        || text.push(b'\n').is_err()
+    {
         return Err(ReadFault::NoMemory);
     }
     count_of(alloc, text.as_slice())

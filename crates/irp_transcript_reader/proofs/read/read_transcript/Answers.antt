@@ -41,4 +41,4 @@ returns c =
     let none : length c.loop-rest.rest.now ≡ 0 = grind arith in
     rw c.transcript_of.ensures
     (c.loop-rest.invariant.leads (Ok (so_far c.loop-rest.reading))
-        (reads_end (so_far c.loop-rest.reading) c.loop-rest.lines c.loop-rest.rest.now none))
+    (reads_end (so_far c.loop-rest.reading) c.loop-rest.lines c.loop-rest.rest.now none))
