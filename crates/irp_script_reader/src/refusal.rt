@@ -1,0 +1,79 @@
+//! Why a script isn't read.
+
+use thiserror::Error;
+
+/// What is wrong with a part of a script, with its number in the formats (this project's own format, docs/FORMATS.md).
+#[derive(Clone, Copy, PartialEq, Eq, Debug, Error)]
+pub enum Fault {
+    /// A key is missing, unknown or of a wrong shape or range; or a seat is not below `seats`.
+    #[error("S4")]
+    BadField,
+    /// A behaviour, the status of a finish or the setting of a forward is against its rule.
+    #[error("S5")]
+    RuleBroken,
+    /// A plan names a completion or cancel routine that the script lacks.
+    #[error("S6")]
+    NoRoutine,
+    /// A driver names a dispatch that the script lacks, a major function code that there isn't, or one twice.
+    #[error("S7")]
+    BadDispatch,
+    /// A list is longer than its limit, or there are too many labels.
+    #[error("S8")]
+    TooMany,
+}
+
+/// A part of a script (this project's own format, docs/FORMATS.md).
+#[derive(Clone, Copy, PartialEq, Eq, Debug, Error)]
+pub enum Section {
+    /// The keys of the object.
+    #[error("top")]
+    Top,
+    #[error("seats")]
+    Seats,
+    #[error("locks")]
+    Locks,
+    #[error("completions")]
+    Completions,
+    #[error("cancels")]
+    Cancels,
+    #[error("dispatches")]
+    Dispatches,
+    #[error("drivers")]
+    Drivers,
+    #[error("setup")]
+    Setup,
+    #[error("steps")]
+    Steps,
+}
+
+/// Why a script is refused: its first fault (this project's own format, docs/FORMATS.md). It is displayed as `S4 steps 3`.
+#[derive(Clone, Copy, PartialEq, Eq, Debug, Error)]
+pub enum ScriptRefusal {
+    /// The text has more than 1,048,576 bytes.
+    #[error("S1")]
+    TooLong,
+    /// The text is no JSON value, or one that nests too deep.
+    #[error("S2")]
+    NotJson,
+    /// The value is no object, or its `form` is missing or not known.
+    #[error("S3")]
+    BadForm,
+    /// A part has a fault: which member of which list, or 0 of what is no list.
+    #[error("{fault} {section} {index}")]
+    At {
+        fault: Fault,
+        section: Section,
+        index: usize,
+    },
+}
+
+/// Why a script wasn't read (this project's own rule).
+#[derive(Clone, Copy, PartialEq, Eq, Debug, Error)]
+pub enum ScriptFault {
+    /// It is refused.
+    #[error("{0}")]
+    Refused(ScriptRefusal),
+    /// Memory ran out.
+    #[error("memory ran out")]
+    NoMemory,
+}

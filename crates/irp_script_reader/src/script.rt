@@ -1,0 +1,57 @@
+//! Scripts.
+
+use crate::act::Step;
+use irp_types::{CancelAnswer, DispatchId, Plan, Replacement, Row, Rule};
+
+/// What a completion routine of a script does (this project's own format, docs/FORMATS.md).
+#[derive(Clone, Copy, PartialEq, Eq, Debug)]
+pub enum Behaviour {
+    /// Continues, and replaces nothing.
+    Continue,
+    /// Keeps the packet, and replaces nothing.
+    Keep,
+    /// Continues with this status and information in place of the packet's own.
+    Replace(Replacement),
+}
+
+/// A completion routine of a script (this project's own format, docs/FORMATS.md).
+#[derive(Clone, Copy, PartialEq, Eq, Debug)]
+pub struct CompletionRoutine {
+    pub rule: Rule,
+    /// What it does where the status that it is shown is a success.
+    pub on_ok: Behaviour,
+    /// What it does where that status isn't a success.
+    pub on_err: Behaviour,
+}
+
+/// Which steps a script may have, as its key `form` tells (this project's own format, docs/FORMATS.md).
+#[derive(Clone, Copy, PartialEq, Eq, Debug)]
+pub enum ScriptForm {
+    /// Calls of the manager, and acts on remove locks.
+    One,
+}
+
+/// What a script says, key by key (this project's own format, docs/FORMATS.md).
+#[derive(Drop)]
+pub struct Script {
+    pub form: ScriptForm,
+    /// How many seats there are, 1 to 64 in a script that was read.
+    pub seats: u32,
+    /// How many remove locks there are, 1 to 64 in a script that was read.
+    pub locks: u32,
+    /// The completion routines. A routine's number is its place among those of its rule.
+    pub completions: Row<CompletionRoutine>,
+    /// What the cancel routines answer, by number. One that finishes has the rule that it must, and so has one that
+    /// leaves.
+    pub cancels: Row<CancelAnswer>,
+    /// What the dispatches plan, by number.
+    pub dispatches: Row<Plan>,
+    /// The drivers by number: major function codes and their dispatches, in the order of the text.
+    pub drivers: Row<Row<(u8, DispatchId)>>,
+    /// The steps before the workers, none of them on a remove lock.
+    pub setup: Row<Step>,
+    /// The steps of the workers.
+    pub steps: Row<Step>,
+    /// How many labels there are.
+    pub labels: usize,
+}
