@@ -2,9 +2,17 @@
 #![tactic(auto)]
 
 mod act;
+mod acts;
+mod labels;
+mod lists;
+mod plans;
+mod read;
 mod refusal;
+mod routines;
 mod script;
+mod taking;
 
 pub use act::{Named, Step, StepAct};
+pub use read::read_script;
 pub use refusal::{Fault, ScriptFault, ScriptRefusal, Section};
 pub use script::{Behaviour, CompletionRoutine, Script, ScriptForm};

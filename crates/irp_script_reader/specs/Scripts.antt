@@ -1,0 +1,127 @@
+-- Whole scripts. The first fault is told: the text's length, whether it is JSON, its form, its keys, and then the parts in
+-- order.
+use Rattle.std.specs.Prelude.{◌≡◌, ◌⊎◌, ℕ, ◌<◌, ◌≤◌, ◌==◌, ◌&&◌, List, [], ◌∷◌, length, codes, IsUtf8, Bool, true, false, nat_le, Option, Some, None, Result, Ok, Err, if◌then◌else◌}
+use Rattle.std.specs.Option.{option_and_then}
+use Rattle.serde_json.specs.Data.{Data}
+use Rattle.serde_json.specs.Find.{get}
+use Rattle.serde_json.specs.Read.{read}
+use Rattle.irp_forms.specs.Parts.{has_keys, u32_at}
+use Rattle.irp_types.specs.declared.routine.Known.{Known}
+use Rattle.irp_script_reader.specs.Members.{takes_cancel, takes_completion, takes_dispatch, takes_driver, takes_step}
+use Rattle.irp_script_reader.specs.Taking.{◌>>=◌, list_of}
+use Rattle.irp_script_reader.specs.declared.act.Step.{Step}
+use Rattle.irp_script_reader.specs.declared.lists.Cancels.{Cancels}
+use Rattle.irp_script_reader.specs.declared.lists.Completions.{Completions}
+use Rattle.irp_script_reader.specs.declared.lists.Dispatches.{Dispatches}
+use Rattle.irp_script_reader.specs.declared.lists.Drivers.{Drivers}
+use Rattle.irp_script_reader.specs.declared.lists.Steps.{Steps}
+use Rattle.irp_script_reader.specs.declared.refusal.Fault.{Fault}
+use Rattle.irp_script_reader.specs.declared.refusal.Fault.TheVariants.{BadField}
+use Rattle.irp_script_reader.specs.declared.refusal.ScriptFault.{ScriptFault}
+use Rattle.irp_script_reader.specs.declared.refusal.ScriptFault.TheVariants.{Refused, NoMemory}
+use Rattle.irp_script_reader.specs.declared.refusal.ScriptRefusal.{ScriptRefusal}
+use Rattle.irp_script_reader.specs.declared.refusal.ScriptRefusal.TheVariants.{TooLong, NotJson, BadForm, At}
+use Rattle.irp_script_reader.specs.declared.refusal.Section.{Section}
+use Rattle.irp_script_reader.specs.declared.refusal.Section.TheVariants as section
+use Rattle.irp_script_reader.specs.declared.script.Script.{Script}
+use Rattle.irp_script_reader.specs.declared.script.ScriptForm.{ScriptForm}
+use Rattle.irp_script_reader.specs.declared.script.ScriptForm.TheVariants.{One}
+
+-- the form that has this number
+abbrev pub form_of : Option ℕ → Result ScriptForm ScriptRefusal
+form_of None = Err BadForm
+form_of (Some given) = if given == 1 then Ok One else Err BadForm
+
+-- the form of a script; only an object has one
+unfoldable pub form_at : Data → Result ScriptForm ScriptRefusal
+form_at whole = form_of (option_and_then u32_at (get (codes "form") whole))
+
+-- the keys of a script of form 1, and no others
+unfoldable pub keys_at : Data → Result (Unit {0}) ScriptRefusal
+keys_at whole =
+    if has_keys (codes "cancels" ∷ codes "completions" ∷ codes "dispatches" ∷ codes "drivers" ∷ codes "form" ∷ codes "locks"
+      ∷ codes "seats" ∷ codes "setup" ∷ codes "steps" ∷ []) whole
+    then Ok tt else Err (At BadField section.Top 0)
+
+-- from 1 to 64
+abbrev pub count_of : Section → Option ℕ → Result ℕ ScriptRefusal
+count_of part None = Err (At BadField part 0)
+count_of part (Some given) = if nat_le 1 given && nat_le given 64 then Ok given else Err (At BadField part 0)
+
+-- the number under a key
+unfoldable pub count_at : Section → List ℕ → Data → Result ℕ ScriptRefusal
+count_at part key whole = count_of part (option_and_then u32_at (get key whole))
+
+-- the list under a key that is there
+abbrev pub under : {L : Type 0} → (L → Data → Result L Fault) → Section → L → Option Data → Result L ScriptRefusal
+under takes part empty None = Err (At BadField section.Top 0)
+under takes part empty (Some form) = list_of takes part empty form
+
+unfoldable pub list_at : {L : Type 0} → (L → Data → Result L Fault) → Section → List ℕ → L → Data → Result L ScriptRefusal
+list_at takes part key empty whole = under takes part empty (get key whole)
+
+-- no routines
+abbrev pub none : Known
+none = record { watch = 0; change = 0; keeper = 0; keep_on_error = 0; free = 0; cancel = 0 }
+
+-- the completion routines, the cancel routines, and the dispatches, who may name all of these
+unfoldable pub dispatches_at : Data → Result (Completions × Cancels × Dispatches) ScriptRefusal
+dispatches_at whole = do
+  completions ← list_at takes_completion section.Completions (codes "completions") (record { routines = []; counts = none }) whole
+  cancels ← list_at takes_cancel section.Cancels (codes "cancels") (record { answers = []; counts = completions.counts }) whole
+  dispatches ← list_at takes_dispatch section.Dispatches (codes "dispatches") (record { known = cancels.counts; plans = [] }) whole
+  Ok (completions, cancels, dispatches)
+
+-- the drivers, who may name so many dispatches
+unfoldable pub drivers_at : ℕ → Data → Result Drivers ScriptRefusal
+drivers_at dispatches whole = list_at takes_driver section.Drivers (codes "drivers") (record { dispatches = dispatches; tables = [] }) whole
+
+-- the steps of `setup` and those of `steps`, of so many seats. They share their labels.
+unfoldable pub steps_at : ℕ → Data → Result (List Step × Steps) ScriptRefusal
+steps_at seats whole = do
+  setup ← list_at takes_step section.Setup (codes "setup") (record { seats = seats; in_setup = true; labels = []; steps = [] }) whole
+  steps ← list_at takes_step section.Steps (codes "steps") (record { seats = seats; in_setup = false; labels = setup.labels; steps = [] }) whole
+  Ok (setup.steps, steps)
+
+-- the script that a JSON value is, or its first fault
+unfoldable pub script_at : Data → Result Script ScriptRefusal
+script_at whole = do
+  form ← form_at whole
+  keys ← keys_at whole
+  seats ← count_at section.Seats (codes "seats") whole
+  locks ← count_at section.Locks (codes "locks") whole
+  routines ← dispatches_at whole
+  drivers ← drivers_at (length routines.2.plans) whole
+  steps ← steps_at seats whole
+  Ok (record {
+    form = form;
+    seats = seats;
+    locks = locks;
+    completions = routines.0.routines;
+    cancels = routines.1.answers;
+    dispatches = routines.2.plans;
+    drivers = drivers.tables;
+    setup = steps.0;
+    steps = steps.1.steps;
+    labels = length steps.1.labels;
+  })
+
+-- ---- texts
+
+-- `serde_json` reads no value from the text
+abbrev pub IsNotJson : List ℕ → Type 0
+IsNotJson text = (whole : Data) → IsUtf8 text → read text ≡ Some whole → ⊥
+
+-- the text isn't too long, and `serde_json` reads this value from it
+abbrev pub IsText : List ℕ → Data → Type 0
+IsText text whole = (length text ≤ 1048576) × IsUtf8 text × (read text ≡ Some whole)
+
+-- A script only where its value is read. S1 only where the text is too long; S2 only where it isn't, and no value is read;
+-- another refusal only where it is the first fault of the value that is read.
+abbrev pub ReadsScript : Result Script ScriptFault → List ℕ → Type 0
+ReadsScript (Ok script) text = (whole : Data) × IsText text whole × (script_at whole ≡ Ok script)
+ReadsScript (Err (Refused refusal)) text =
+    ((1048576 < length text) × (refusal ≡ TooLong))
+    ⊎ (((length text ≤ 1048576) × IsNotJson text × (refusal ≡ NotJson))
+    ⊎ ((whole : Data) × IsText text whole × (script_at whole ≡ Err refusal)))
+ReadsScript (Err NoMemory) text = Unit {0}

@@ -1,0 +1,174 @@
+//! The labels of a script.
+
+ghost use Rattle.std.specs.Prelude.{◌≡◌, ◌++◌, ◌∷◌, [], List, length, option_map, OnOk};
+ghost use Rattle.serde_json.specs.View.{view};
+ghost use Rattle.irp_script_reader.specs.Labels.{
+  are_label_bytes,
+  is_label,
+  is_label_byte,
+  label_at,
+  named_at,
+  place_among,
+  place_of,
+  with_label,
+  with_labels,
+};
+ghost use Rattle.irp_script_reader.specs.Taking.{Gives};
+
+use crate::act::Named;
+use crate::refusal::Fault;
+use crate::taking::Stop;
+use irp_forms::irp_at;
+use serde_json::Value;
+use std::alloc::Global;
+use std::marker::Model;
+
+/// The most labels of a script.
+const MOST_LABELS: usize = 4096;
+
+/// The labels that a script has named so far, in the order in which it first named them. Contracts see their bytes.
+#[derive(Drop)]
+pub struct Labels {
+    texts: Vec<String>,
+}
+
+impl Model for Labels {
+    ghost use Rattle.std.specs.Prelude.{ℕ, List, map, string_bytes};
+
+    ghost Value = { List (List ℕ) };
+
+    ghost view = { λ labels. map string_bytes labels.texts.items };
+}
+
+impl Labels {
+    /// No labels.
+    pub fn new(alloc: Global) -> Labels
+        ensures { result ≡ [] }
+    {
+        Labels {
+            texts: Vec::new(alloc),
+        }
+    }
+
+    /// How many there are.
+    pub fn len(&self) -> usize
+        ensures { result ≡ length self.now }
+    {
+        self.texts.len()
+    }
+
+    /// The label's place, or how many there are where it is none of them.
+    pub fn place_of(&self, label: &str) -> usize
+        ensures { result ≡ place_of label.now self.now }
+    {
+        for (place, text) in self.texts.iter().enumerate() {
+            if text.as_str() == label {
+                return place;
+            }
+        }
+        self.texts.len()
+    }
+
+    /// The place of the label that a step names, or 0 where it names none.
+    pub fn place_in(&self, value: &Value) -> usize
+        ensures { result ≡ place_among self.now (label_at (view value.now)) }
+    {
+        match label_at(value) {
+            Some(label) => self.place_of(label),
+            None => 0,
+        }
+    }
+
+    /// These and the label, where it is none of them. The 4,097th is `TooMany`.
+    #[tactic(auto, unfolding(crate::specs::Labels::with_label))]
+    fn with_label(self, alloc: Global, label: &str) -> Result<Labels, Stop>
+        ensures { Gives result (with_label self label.now) }
+    {
+        if self.place_of(label) < self.len() {
+            return Ok(self);
+        }
+        if self.len() >= MOST_LABELS {
+            return Err(Stop::Fault(Fault::TooMany));
+        }
+        let Ok(text) = String::from_str(alloc, label) else {
+            return Err(Stop::NoMemory);
+        };
+        let mut texts = self.texts;
+        if texts.push(text).is_err() {
+            return Err(Stop::NoMemory);
+        }
+        Ok(Labels { texts })
+    }
+
+    /// These and the label that a step names, where it names one that is none of them. The 4,097th is `TooMany`.
+    pub fn with_label_in(self, alloc: Global, value: &Value) -> Result<Labels, Stop>
+        ensures { Gives result (with_labels self (label_at (view value.now))) }
+    {
+        match label_at(value) {
+            Some(label) => self.with_label(alloc, label),
+            None => Ok(self),
+        }
+    }
+}
+
+/// The text under `as`, or else under `irp`.
+#[tactic(auto, unfolding(crate::specs::Labels::label_at))]
+fn label_at(value: &Value) -> Option<&str>
+    ensures { option_map (λ text. text.now) result ≡ label_at (view value.now) }
+{
+    match value.get("as") {
+        Some(given) => given.as_str(),
+        None => value.get("irp")?.as_str(),
+    }
+}
+
+/// Whether a byte is an ASCII letter, a digit or an underscore.
+fn is_label_byte(byte: u8) -> bool
+    ensures { result ≡ is_label_byte byte }
+{
+    (byte >= b'0' && byte <= b'9')
+        || (byte >= b'A' && byte <= b'Z')
+        || (byte >= b'a' && byte <= b'z')
+        || byte == b'_'
+}
+
+/// Whether there are no other bytes.
+fn are_label_bytes(bytes: &[u8]) -> bool
+    ensures { result ≡ are_label_bytes bytes.now }
+{
+    for byte in bytes {
+        if !is_label_byte(*byte) {
+            return false;
+        }
+    }
+    true
+}
+
+/// Whether a text is a label: 1 to 32 ASCII letters, digits or underscores.
+#[tactic(auto, unfolding(crate::specs::Labels::is_label))]
+pub fn is_label(text: &str) -> bool
+    ensures { result ≡ is_label text.now }
+{
+    let bytes = text.as_bytes();
+    bytes.len() >= 1 && bytes.len() <= 32 && are_label_bytes(bytes)
+}
+
+/// A packet by a label, which has this place, or by a reference.
+#[tactic(auto, unfolding(crate::specs::Labels::named_at))]
+pub fn named_at(place: usize, value: &Value) -> Option<Named>
+    ensures { result ≡ named_at place (view value.now) }
+{
+    match value {
+        Value::String(text) => {
+            if is_label(text.as_str()) {
+                Some(Named::Label(place))
+            } else {
+                None
+            }
+        }
+        _ => {
+            let irp = irp_at(value)?;
+            Some(Named::Irp(irp))
+        }
+    }
+}

@@ -1,0 +1,210 @@
+//! The lists of a script, as far as they were read.
+
+ghost use Rattle.std.specs.Prelude.{◌≡◌};
+ghost use Rattle.serde_json.specs.View.{view};
+ghost use Rattle.irp_forms.specs.Parts.{list_at};
+ghost use Rattle.irp_forms.specs.Values.{handler_at};
+ghost use Rattle.irp_script_reader.specs.Members.{
+  in_room,
+  is_on_lock,
+  may_have,
+  takes_cancel,
+  takes_completion,
+  takes_dispatch,
+  takes_driver,
+  takes_step,
+};
+ghost use Rattle.irp_script_reader.specs.Taking.{Gives, formed};
+
+use crate::act::{Step, StepAct};
+use crate::acts::step_at;
+use crate::labels::Labels;
+use crate::plans::{is_driver, is_plan_sound, names_known};
+use crate::refusal::Fault;
+use crate::routines::{completion_at, counted, one_more};
+use crate::script::CompletionRoutine;
+use crate::taking::{Stop, Taking, formed, unless, with_item};
+use irp_forms::{Unread, cancel_answer_at, list_at, plan_at};
+use irp_types::{CancelAnswer, DispatchId, Known, Plan, Row};
+use serde_json::Value;
+use std::alloc::Global;
+
+/// The most dispatches.
+const MOST_DISPATCHES: usize = 256;
+
+/// The most drivers.
+const MOST_DRIVERS: usize = 64;
+
+/// The completion routines, and how many there are of each rule.
+#[derive(Drop)]
+pub struct Completions {
+    pub routines: Row<CompletionRoutine>,
+    pub counts: Known,
+}
+
+/// What the cancel routines answer, and how many routines there are of each kind.
+#[derive(Drop)]
+pub struct Cancels {
+    pub answers: Row<CancelAnswer>,
+    pub counts: Known,
+}
+
+/// What the dispatches plan, who may name so many routines.
+#[derive(Drop)]
+pub struct Dispatches {
+    pub known: Known,
+    pub plans: Row<Plan>,
+}
+
+/// The drivers, who may name so many dispatches.
+#[derive(Drop)]
+pub struct Drivers {
+    pub dispatches: usize,
+    pub tables: Row<Row<(u8, DispatchId)>>,
+}
+
+/// The steps of `setup`, or else those of `steps`, of so many seats, and the labels that were named so far.
+#[derive(Drop)]
+pub struct Steps {
+    pub seats: u32,
+    pub in_setup: bool,
+    pub labels: Labels,
+    pub steps: Row<Step>,
+}
+
+/// What there is, or `TooMany`.
+fn in_room<T>(room: Option<T>) -> Result<T, Stop>
+    ensures { Gives result (in_room room) }
+{
+    match room {
+        Some(value) => Ok(value),
+        None => Err(Stop::Fault(Fault::TooMany)),
+    }
+}
+
+impl Taking for Completions {
+    ghost takes = { takes_completion };
+
+    /// `BadField` where it is no completion routine, `RuleBroken` where its behaviours aren't those of its rule,
+    /// `TooMany` where there are as many of the rule as there may be.
+    #[tactic(auto, unfolding(crate::specs::Members::takes_completion))]
+    fn take(self, _alloc: Global, value: &Value) -> Result<Self, Stop> {
+        let routine = formed(completion_at(value))?;
+        unless(routine.obeys_its_rule(), Fault::RuleBroken)?;
+        let counts = in_room(counted(self.counts, routine.rule))?;
+        let routines = with_item(self.routines, routine)?;
+        Ok(Completions { routines, counts })
+    }
+}
+
+impl Taking for Cancels {
+    ghost takes = { takes_cancel };
+
+    /// `BadField` where it is no cancel routine's answer, `TooMany` where there are as many as there may be.
+    #[tactic(auto, unfolding(crate::specs::Members::takes_cancel))]
+    fn take(self, _alloc: Global, value: &Value) -> Result<Self, Stop> {
+        let answer = formed(cancel_answer_at(value))?;
+        let counts = self.counts;
+        let cancel = in_room(one_more(counts.cancel))?;
+        let answers = with_item(self.answers, answer)?;
+        Ok(Cancels {
+            answers,
+            counts: Known { cancel, ..counts },
+        })
+    }
+}
+
+impl Taking for Dispatches {
+    ghost takes = { takes_dispatch };
+
+    /// `BadField` where it is no plan, `RuleBroken` where the plan isn't sound, `NoRoutine` where it names a routine that
+    /// isn't there, `TooMany` where there are as many as there may be.
+    #[tactic(auto, unfolding(crate::specs::Members::takes_dispatch))]
+    fn take(self, _alloc: Global, value: &Value) -> Result<Self, Stop> {
+        let plan = formed(plan_at(value))?;
+        let known = self.known;
+        unless(is_plan_sound(plan), Fault::RuleBroken)?;
+        unless(names_known(known, plan), Fault::NoRoutine)?;
+        let room = self.plans.as_slice().len() < MOST_DISPATCHES;
+        unless(room, Fault::TooMany)?;
+        let plans = with_item(self.plans, plan)?;
+        Ok(Dispatches { known, plans })
+    }
+}
+
+/// A driver's table.
+fn table_at(alloc: Global, value: &Value) -> Result<Row<(u8, DispatchId)>, Stop>
+    ensures { Gives result (formed (list_at handler_at (view value.now))) }
+{
+    match list_at(alloc, value) {
+        Ok(table) => Ok(table),
+        Err(Unread::Form) => Err(Stop::Fault(Fault::BadField)),
+        Err(Unread::NoMemory) => Err(Stop::NoMemory),
+    }
+}
+
+impl Taking for Drivers {
+    ghost takes = { takes_driver };
+
+    /// `BadField` where it is no driver's table, `BadDispatch` where it names a dispatch that isn't there, a major
+    /// function code that there isn't or one twice, `TooMany` where there are as many as there may be.
+    #[tactic(auto, unfolding(crate::specs::Members::takes_driver))]
+    fn take(self, alloc: Global, value: &Value) -> Result<Self, Stop> {
+        let table = table_at(alloc, value)?;
+        let dispatches = self.dispatches;
+        unless(is_driver(dispatches, table.as_slice()), Fault::BadDispatch)?;
+        let room = self.tables.as_slice().len() < MOST_DRIVERS;
+        unless(room, Fault::TooMany)?;
+        let tables = with_item(self.tables, table)?;
+        Ok(Drivers { dispatches, tables })
+    }
+}
+
+impl StepAct {
+    /// Whether it is an act on a remove lock, and no call of the manager.
+    fn is_on_lock(self) -> bool
+        ensures { result ≡ is_on_lock self }
+    {
+        matches!(
+            self,
+            StepAct::Acquire { .. }
+                | StepAct::Release { .. }
+                | StepAct::BeginRemove { .. }
+                | StepAct::Drained { .. }
+        )
+    }
+}
+
+impl Steps {
+    /// Whether it may have the step: its seat is there, and `setup` has none on a remove lock.
+    fn may_have(&self, step: Step) -> bool
+        ensures { result ≡ may_have self.now step }
+    {
+        step.seat < self.seats && !(self.in_setup && step.act.is_on_lock())
+    }
+}
+
+impl Taking for Steps {
+    ghost takes = { takes_step };
+
+    /// `BadField` where it is no step or one that the list may not have, `TooMany` where it names the first label too many.
+    #[tactic(auto, unfolding(crate::specs::Members::takes_step))]
+    fn take(self, alloc: Global, value: &Value) -> Result<Self, Stop> {
+        let step = formed(step_at(self.labels.place_in(value), value))?;
+        unless(self.may_have(step), Fault::BadField)?;
+        let Steps {
+            seats,
+            in_setup,
+            labels,
+            steps,
+        } = self;
+        let labels = labels.with_label_in(alloc, value)?;
+        let steps = with_item(steps, step)?;
+        Ok(Steps {
+            seats,
+            in_setup,
+            labels,
+            steps,
+        })
+    }
+}

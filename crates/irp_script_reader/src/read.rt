@@ -1,0 +1,223 @@
+//! Scripts from their texts.
+
+ghost use Rattle.std.specs.Prelude.{◌≡◌};
+ghost use Rattle.std.specs.Option.{option_and_then};
+ghost use Rattle.serde_json.specs.Find.{get};
+ghost use Rattle.serde_json.specs.View.{view};
+ghost use Rattle.irp_script_reader.specs.Scripts.{
+  ReadsScript,
+  count_at,
+  dispatches_at,
+  drivers_at,
+  form_at,
+  keys_at,
+  list_at,
+  script_at,
+  steps_at,
+};
+ghost use Rattle.irp_forms.specs.Parts.{u32_at};
+ghost use Rattle.irp_script_reader.specs.Taking.{Tells};
+
+use crate::act::Step;
+use crate::labels::Labels;
+use crate::lists::{Cancels, Completions, Dispatches, Drivers, Steps};
+use crate::refusal::{Fault, ScriptFault, ScriptRefusal, Section};
+use crate::script::{Script, ScriptForm};
+use crate::taking::{Taking, list_of, refused};
+use irp_forms::{has_keys, u32_at};
+use irp_types::{Known, Row};
+use serde_json::Value;
+use std::alloc::Global;
+
+/// The most bytes of a script's text.
+const MOST_BYTES: usize = 1_048_576;
+
+/// The number under a key.
+fn number_under(key: &str, value: &Value) -> Option<u32>
+    ensures { result ≡ option_and_then u32_at (get key.now (view value.now)) }
+{
+    u32_at(value.get(key)?)
+}
+
+/// The form of a script.
+#[tactic(auto, unfolding(crate::specs::Scripts::form_at))]
+fn form_at(value: &Value) -> Result<ScriptForm, ScriptFault>
+    ensures { Tells result (form_at (view value.now)) }
+{
+    match number_under("form", value) {
+        Some(1) => Ok(ScriptForm::One),
+        _ => Err(ScriptFault::Refused(ScriptRefusal::BadForm)),
+    }
+}
+
+/// The keys of a script.
+#[tactic(auto, unfolding(crate::specs::Scripts::keys_at))]
+fn keys_at(value: &Value) -> Result<(), ScriptFault>
+    ensures { Tells result (keys_at (view value.now)) }
+{
+    if has_keys(
+        value,
+        &[
+            "cancels",
+            "completions",
+            "dispatches",
+            "drivers",
+            "form",
+            "locks",
+            "seats",
+            "setup",
+            "steps",
+        ],
+    ) {
+        Ok(())
+    } else {
+        Err(refused(Fault::BadField, Section::Top, 0))
+    }
+}
+
+/// The number under a key, from 1 to 64.
+#[tactic(auto, unfolding(crate::specs::Scripts::count_at))]
+fn count_at(section: Section, key: &str, value: &Value) -> Result<u32, ScriptFault>
+    ensures { Tells result (count_at section key.now (view value.now)) }
+{
+    match number_under(key, value) {
+        Some(count) => {
+            if count >= 1 && count <= 64 {
+                Ok(count)
+            } else {
+                Err(refused(Fault::BadField, section, 0))
+            }
+        }
+        None => Err(refused(Fault::BadField, section, 0)),
+    }
+}
+
+/// The list under a key, from nothing read of it.
+#[tactic(auto, unfolding(crate::specs::Scripts::list_at))]
+fn list_at<L: Taking + Drop>(
+    alloc: Global,
+    section: Section,
+    key: &str,
+    empty: L,
+    value: &Value,
+) -> Result<L, ScriptFault>
+    ensures { Tells result (list_at L.takes section key.now empty (view value.now)) }
+{
+    match value.get(key) {
+        Some(list) => list_of(alloc, section, empty, list),
+        None => Err(refused(Fault::BadField, Section::Top, 0)),
+    }
+}
+
+/// The completion routines, the cancel routines and the dispatches.
+#[tactic(auto, unfolding(crate::specs::Scripts::dispatches_at))]
+fn dispatches_at(
+    alloc: Global,
+    value: &Value,
+) -> Result<(Completions, Cancels, Dispatches), ScriptFault>
+    ensures { Tells result (dispatches_at (view value.now)) }
+{
+    let empty = Completions {
+        routines: Row::from_vec(Vec::new(alloc)),
+        counts: Known::NONE,
+    };
+    let completions = list_at(alloc, Section::Completions, "completions", empty, value)?;
+    let empty = Cancels {
+        answers: Row::from_vec(Vec::new(alloc)),
+        counts: completions.counts,
+    };
+    let cancels = list_at(alloc, Section::Cancels, "cancels", empty, value)?;
+    let empty = Dispatches {
+        known: cancels.counts,
+        plans: Row::from_vec(Vec::new(alloc)),
+    };
+    let dispatches = list_at(alloc, Section::Dispatches, "dispatches", empty, value)?;
+    Ok((completions, cancels, dispatches))
+}
+
+/// The drivers, who may name so many dispatches.
+#[tactic(auto, unfolding(crate::specs::Scripts::drivers_at))]
+fn drivers_at(alloc: Global, dispatches: usize, value: &Value) -> Result<Drivers, ScriptFault>
+    ensures { Tells result (drivers_at dispatches (view value.now)) }
+{
+    let empty = Drivers {
+        dispatches,
+        tables: Row::from_vec(Vec::new(alloc)),
+    };
+    list_at(alloc, Section::Drivers, "drivers", empty, value)
+}
+
+/// The steps of `setup` and those of `steps`, of so many seats.
+#[tactic(auto, unfolding(crate::specs::Scripts::steps_at))]
+fn steps_at(alloc: Global, seats: u32, value: &Value) -> Result<(Row<Step>, Steps), ScriptFault>
+    ensures { Tells result (steps_at seats (view value.now)) }
+{
+    let empty = Steps {
+        seats,
+        in_setup: true,
+        labels: Labels::new(alloc),
+        steps: Row::from_vec(Vec::new(alloc)),
+    };
+    let setup = list_at(alloc, Section::Setup, "setup", empty, value)?;
+    let Steps { labels, steps, .. } = setup;
+    let empty = Steps {
+        seats,
+        in_setup: false,
+        labels,
+        steps: Row::from_vec(Vec::new(alloc)),
+    };
+    let others = list_at(alloc, Section::Steps, "steps", empty, value)?;
+    Ok((steps, others))
+}
+
+/// The script that a JSON value is.
+#[tactic(auto, unfolding(crate::specs::Scripts::script_at))]
+fn script_at(alloc: Global, value: &Value) -> Result<Script, ScriptFault>
+    ensures { Tells result (script_at (view value.now)) }
+{
+    let form = form_at(value)?;
+    keys_at(value)?;
+    let seats = count_at(Section::Seats, "seats", value)?;
+    let locks = count_at(Section::Locks, "locks", value)?;
+    let (completions, cancels, dispatches) = dispatches_at(alloc, value)?;
+    let drivers = drivers_at(alloc, dispatches.plans.as_slice().len(), value)?;
+    let (setup, steps) = steps_at(alloc, seats, value)?;
+    Ok(Script {
+        form,
+        seats,
+        locks,
+        completions: completions.routines,
+        cancels: cancels.answers,
+        dispatches: dispatches.plans,
+        drivers: drivers.tables,
+        setup,
+        labels: steps.labels.len(),
+        steps: steps.steps,
+    })
+}
+
+/// Reads the script that a text is (this project's own format, docs/FORMATS.md).
+///
+/// # Errors
+///
+/// `Refused` with the first fault, in this order: the text is longer than 1,048,576 bytes; `serde_json` reads no value
+/// from it; the value is no object, or its `form` isn't known; a key is missing or unknown; then the faults of `seats`,
+/// `locks`, `completions`, `cancels`, `dispatches`, `drivers`, `setup` and `steps`, in a list by place. `NoMemory` where
+/// memory runs out.
+pub fn read_script(alloc: Global, bytes: &[u8]) -> Result<Script, ScriptFault>
+    ensures { ReadsScript result bytes.now }
+{
+    if bytes.len() > MOST_BYTES {
+        return Err(ScriptFault::Refused(ScriptRefusal::TooLong));
+    }
+    match Value::from_slice(alloc, bytes) {
+        Ok(value) => script_at(alloc, &value),
+        Err(error) => {
+            if error.is_memory() {
+                Err(ScriptFault::NoMemory)
+            } else {
+                Err(ScriptFault::Refused(ScriptRefusal::NotJson))
+            }
+        }
+    }
+}

@@ -1,0 +1,185 @@
+//! The completion routines and the cancel routines of a script.
+
+ghost use Rattle.std.specs.Prelude.{◌≡◌};
+ghost use Rattle.serde_json.specs.View.{view};
+ghost use Rattle.irp_script_reader.specs.Routines.{
+  behaviour_at,
+  behaviour_named,
+  can_complete,
+  completion_at,
+  continues,
+  counted,
+  keeps,
+  obeys_its_rule,
+  one_more,
+  replace_at,
+  replace_named,
+  takes_behaviours,
+};
+
+use crate::script::{Behaviour, CompletionRoutine};
+use irp_forms::{has_items, rule_at, status_at, u64_at};
+use irp_types::{Known, Replacement, Rule};
+use serde_json::Value;
+
+/// The most completion routines of one rule, and the most cancel routines.
+const MOST_ROUTINES: u32 = 256;
+
+/// A behaviour that has a name.
+#[tactic(auto, unfolding(crate::specs::Routines::behaviour_named))]
+fn behaviour_named(name: &str) -> Option<Behaviour>
+    ensures { result ≡ behaviour_named name.now }
+{
+    if name == "continue" {
+        Some(Behaviour::Continue)
+    } else if name == "keep" {
+        Some(Behaviour::Keep)
+    } else {
+        None
+    }
+}
+
+/// A replacement, where this is its name.
+#[tactic(auto, unfolding(crate::specs::Routines::replace_named))]
+fn replace_named(name: &str, value: &Value) -> Option<Behaviour>
+    ensures { result ≡ replace_named name.now (view value.now) }
+{
+    if name != "replace" {
+        return None;
+    }
+    let status = status_at(value.get(1)?)?;
+    let information = u64_at(value.get(2)?)?;
+    Some(Behaviour::Replace(Replacement {
+        status,
+        information,
+    }))
+}
+
+/// A replacement.
+#[tactic(auto, unfolding(crate::specs::Routines::replace_at))]
+fn replace_at(value: &Value) -> Option<Behaviour>
+    ensures { result ≡ replace_at (view value.now) }
+{
+    if !has_items(value, 3) {
+        return None;
+    }
+    replace_named(value.get(0)?.as_str()?, value)
+}
+
+/// A behaviour.
+#[tactic(auto, unfolding(crate::specs::Routines::behaviour_at))]
+fn behaviour_at(value: &Value) -> Option<Behaviour>
+    ensures { result ≡ behaviour_at (view value.now) }
+{
+    match value {
+        Value::String(name) => behaviour_named(name.as_str()),
+        _ => replace_at(value),
+    }
+}
+
+/// A completion routine.
+#[tactic(auto, unfolding(crate::specs::Routines::completion_at))]
+pub fn completion_at(value: &Value) -> Option<CompletionRoutine>
+    ensures { result ≡ completion_at (view value.now) }
+{
+    if !has_items(value, 3) {
+        return None;
+    }
+    let rule = rule_at(value.get(0)?)?;
+    let on_ok = behaviour_at(value.get(1)?)?;
+    let on_err = behaviour_at(value.get(2)?)?;
+    Some(CompletionRoutine {
+        rule,
+        on_ok,
+        on_err,
+    })
+}
+
+impl Behaviour {
+    /// Whether it continues, and replaces nothing.
+    fn continues(self) -> bool
+        ensures { result ≡ continues self }
+    {
+        matches!(self, Behaviour::Continue)
+    }
+
+    /// Whether it keeps the packet.
+    fn keeps(self) -> bool
+        ensures { result ≡ keeps self }
+    {
+        matches!(self, Behaviour::Keep)
+    }
+
+    /// Whether what it replaces by can complete a packet.
+    fn can_complete(self) -> bool
+        ensures { result ≡ can_complete self }
+    {
+        match self {
+            Behaviour::Continue => true,
+            Behaviour::Keep => true,
+            Behaviour::Replace(replacement) => replacement.status.is_completable(),
+        }
+    }
+}
+
+/// Whether a rule takes these behaviours.
+fn takes_behaviours(rule: Rule, on_ok: Behaviour, on_err: Behaviour) -> bool
+    ensures { result ≡ takes_behaviours rule on_ok on_err }
+{
+    match rule {
+        Rule::Watch => on_ok.continues() && on_err.continues(),
+        Rule::Change => !on_ok.keeps() && !on_err.keeps(),
+        Rule::Keeper => on_ok.keeps() && on_err.keeps(),
+        Rule::KeepOnError => on_ok.continues() && on_err.keeps(),
+        Rule::Free => true,
+    }
+}
+
+impl CompletionRoutine {
+    /// Whether its behaviours are those of its rule: watch continues twice; change continues or replaces; keeper keeps
+    /// twice; keep_on_error continues on a success and else keeps; free does any of these. What replaces can complete a
+    /// packet, whatever the rule (this project's own format, docs/FORMATS.md).
+    pub fn obeys_its_rule(self) -> bool
+        ensures { result ≡ obeys_its_rule self }
+    {
+        self.on_ok.can_complete()
+            && self.on_err.can_complete()
+            && takes_behaviours(self.rule, self.on_ok, self.on_err)
+    }
+}
+
+/// One more than so many of one kind, where there may be one more.
+pub fn one_more(count: u32) -> Option<u32>
+    ensures { result ≡ one_more count }
+{
+    if count < MOST_ROUTINES { Some(count + 1) } else { None }
+}
+
+/// The counts with one more routine of a rule, where there may be one more.
+#[tactic(auto, unfolding(crate::specs::Routines::counted))]
+pub fn counted(counts: Known, rule: Rule) -> Option<Known>
+    ensures { result ≡ counted counts rule }
+{
+    match rule {
+        Rule::Watch => {
+            let watch = one_more(counts.watch)?;
+            Some(Known { watch, ..counts })
+        }
+        Rule::Change => {
+            let change = one_more(counts.change)?;
+            Some(Known { change, ..counts })
+        }
+        Rule::Keeper => {
+            let keeper = one_more(counts.keeper)?;
+            Some(Known { keeper, ..counts })
+        }
+        Rule::KeepOnError => {
+            let keep_on_error = one_more(counts.keep_on_error)?;
+            Some(Known { keep_on_error, ..counts })
+        }
+        Rule::Free => {
+            let free = one_more(counts.free)?;
+            Some(Known { free, ..counts })
+        }
+    }
+}

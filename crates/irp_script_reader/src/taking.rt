@@ -1,0 +1,99 @@
+//! Lists of a script, read member by member.
+
+ghost use Rattle.std.specs.Prelude.{◌≡◌, Result, Ok};
+ghost use Rattle.serde_json.specs.Data.{Data};
+ghost use Rattle.serde_json.specs.View.{view};
+ghost use Rattle.irp_script_reader.specs.declared.refusal.Fault.{Fault};
+ghost use Rattle.irp_script_reader.specs.declared.refusal.ScriptFault.TheVariants.{Refused};
+ghost use Rattle.irp_script_reader.specs.declared.refusal.ScriptRefusal.TheVariants.{At};
+ghost use Rattle.irp_script_reader.specs.Taking.{Gives, Tells, formed, list_of, unless, with_item};
+
+use crate::refusal::{Fault, ScriptFault, ScriptRefusal, Section};
+use irp_types::Row;
+use serde_json::Value;
+use std::alloc::Global;
+
+/// Why a member of a list wasn't taken.
+#[derive(Clone, Copy, PartialEq, Eq, Debug)]
+pub enum Stop {
+    /// It has this fault.
+    Fault(Fault),
+    /// Memory ran out.
+    NoMemory,
+}
+
+/// What was read of one of a script's lists.
+pub trait Taking {
+    /// The same with the next member, or that member's fault.
+    ghost takes: { Self → Data → Result Self Fault };
+
+    fn take(self, alloc: Global, value: &Value) -> Result<Self, Stop>
+        ensures { Gives result (takes self (view value.now)) };
+}
+
+/// What was read, or `BadField` where nothing was.
+pub fn formed<T>(read: Option<T>) -> Result<T, Stop>
+    ensures { Gives result (formed read) }
+{
+    match read {
+        Some(value) => Ok(value),
+        None => Err(Stop::Fault(Fault::BadField)),
+    }
+}
+
+/// The fault, unless this holds.
+pub fn unless(holds: bool, fault: Fault) -> Result<(), Stop>
+    ensures { Gives result (unless holds fault) }
+{
+    if holds {
+        Ok(())
+    } else {
+        Err(Stop::Fault(fault))
+    }
+}
+
+/// The row with one more item. It fails only for want of memory.
+pub fn with_item<T: Drop>(row: Row<T>, added: T) -> Result<Row<T>, Stop>
+    ensures { Gives result (Ok (with_item row added)) }
+{
+    let mut items = row.into_vec();
+    if items.push(added).is_err() {
+        return Err(Stop::NoMemory);
+    }
+    Ok(Row::from_vec(items))
+}
+
+/// A script's fault in a member of a list.
+pub fn refused(fault: Fault, section: Section, index: usize) -> ScriptFault
+    ensures { result ≡ Refused (At fault section index) }
+{
+    ScriptFault::Refused(ScriptRefusal::At {
+        fault,
+        section,
+        index,
+    })
+}
+
+/// A list that a JSON value is, from nothing read of it, or the first fault.
+#[tactic(auto, unfolding(crate::specs::Taking::list_of))]
+pub fn list_of<L: Taking + Drop>(
+    alloc: Global,
+    section: Section,
+    empty: L,
+    value: &Value,
+) -> Result<L, ScriptFault>
+    ensures { Tells result (list_of L.takes section empty (view value.now)) }
+{
+    let Some(items) = value.as_array() else {
+        return Err(refused(Fault::BadField, section, 0));
+    };
+    let mut list = empty;
+    for (index, item) in items.iter().enumerate() {
+        list = match list.take(alloc, item) {
+            Ok(longer) => longer,
+            Err(Stop::Fault(fault)) => return Err(refused(fault, section, index)),
+            Err(Stop::NoMemory) => return Err(ScriptFault::NoMemory),
+        };
+    }
+    Ok(list)
+}
