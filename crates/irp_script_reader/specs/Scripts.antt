@@ -64,13 +64,20 @@ list_at takes part key empty whole = under takes part empty (get key whole)
 abbrev pub none : Known
 none = record { watch = 0; change = 0; keeper = 0; keep_on_error = 0; free = 0; cancel = 0 }
 
--- the completion routines, the cancel routines, and the dispatches, who may name all of these
-unfoldable pub dispatches_at : Data → Result (Completions × Cancels × Dispatches) ScriptRefusal
-dispatches_at whole = do
-  completions ← list_at takes_completion section.Completions (codes "completions") (record { routines = []; counts = none }) whole
-  cancels ← list_at takes_cancel section.Cancels (codes "cancels") (record { answers = []; counts = completions.counts }) whole
-  dispatches ← list_at takes_dispatch section.Dispatches (codes "dispatches") (record { known = cancels.counts; plans = [] }) whole
-  Ok (completions, cancels, dispatches)
+-- the completion routines
+unfoldable pub completions_at : Data → Result Completions ScriptRefusal
+completions_at whole =
+    list_at takes_completion section.Completions (codes "completions") (record { routines = []; counts = none }) whole
+
+-- the cancel routines, beside so many completion routines
+unfoldable pub cancels_at : Known → Data → Result Cancels ScriptRefusal
+cancels_at counts whole =
+    list_at takes_cancel section.Cancels (codes "cancels") (record { answers = []; counts = counts }) whole
+
+-- the dispatches, who may name so many routines
+unfoldable pub dispatches_at : Known → Data → Result Dispatches ScriptRefusal
+dispatches_at known whole =
+    list_at takes_dispatch section.Dispatches (codes "dispatches") (record { known = known; plans = [] }) whole
 
 -- the drivers, who may name so many dispatches
 unfoldable pub drivers_at : ℕ → Data → Result Drivers ScriptRefusal
@@ -90,16 +97,18 @@ script_at whole = do
   keys ← keys_at whole
   seats ← count_at section.Seats (codes "seats") whole
   locks ← count_at section.Locks (codes "locks") whole
-  routines ← dispatches_at whole
-  drivers ← drivers_at (length routines.2.plans) whole
+  completions ← completions_at whole
+  cancels ← cancels_at completions.counts whole
+  dispatches ← dispatches_at cancels.counts whole
+  drivers ← drivers_at (length dispatches.plans) whole
   steps ← steps_at seats whole
   Ok (record {
     form = form;
     seats = seats;
     locks = locks;
-    completions = routines.0.routines;
-    cancels = routines.1.answers;
-    dispatches = routines.2.plans;
+    completions = completions.routines;
+    cancels = cancels.answers;
+    dispatches = dispatches.plans;
     drivers = drivers.tables;
     setup = steps.0;
     steps = steps.1.steps;

@@ -11,6 +11,8 @@ mod refusal;
 mod routines;
 mod script;
 mod taking;
+#[cfg(test)]
+mod tests;
 
 pub use act::{Named, Step, StepAct};
 pub use read::read_script;

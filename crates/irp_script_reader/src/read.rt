@@ -6,6 +6,8 @@ ghost use Rattle.serde_json.specs.Find.{get};
 ghost use Rattle.serde_json.specs.View.{view};
 ghost use Rattle.irp_script_reader.specs.Scripts.{
   ReadsScript,
+  cancels_at,
+  completions_at,
   count_at,
   dispatches_at,
   drivers_at,
@@ -109,30 +111,40 @@ fn list_at<L: Taking + Drop>(
     }
 }
 
-/// The completion routines, the cancel routines and the dispatches.
-#[tactic(auto, unfolding(crate::specs::Scripts::dispatches_at))]
-fn dispatches_at(
-    alloc: Global,
-    value: &Value,
-) -> Result<(Completions, Cancels, Dispatches), ScriptFault>
-    ensures { Tells result (dispatches_at (view value.now)) }
+/// The completion routines.
+#[tactic(auto, unfolding(crate::specs::Scripts::completions_at))]
+fn completions_at(alloc: Global, value: &Value) -> Result<Completions, ScriptFault>
+    ensures { Tells result (completions_at (view value.now)) }
 {
     let empty = Completions {
         routines: Row::from_vec(Vec::new(alloc)),
         counts: Known::NONE,
     };
-    let completions = list_at(alloc, Section::Completions, "completions", empty, value)?;
+    list_at(alloc, Section::Completions, "completions", empty, value)
+}
+
+/// The cancel routines, beside so many completion routines.
+#[tactic(auto, unfolding(crate::specs::Scripts::cancels_at))]
+fn cancels_at(alloc: Global, counts: Known, value: &Value) -> Result<Cancels, ScriptFault>
+    ensures { Tells result (cancels_at counts (view value.now)) }
+{
     let empty = Cancels {
         answers: Row::from_vec(Vec::new(alloc)),
-        counts: completions.counts,
+        counts,
     };
-    let cancels = list_at(alloc, Section::Cancels, "cancels", empty, value)?;
+    list_at(alloc, Section::Cancels, "cancels", empty, value)
+}
+
+/// The dispatches, who may name so many routines.
+#[tactic(auto, unfolding(crate::specs::Scripts::dispatches_at))]
+fn dispatches_at(alloc: Global, known: Known, value: &Value) -> Result<Dispatches, ScriptFault>
+    ensures { Tells result (dispatches_at known (view value.now)) }
+{
     let empty = Dispatches {
-        known: cancels.counts,
+        known,
         plans: Row::from_vec(Vec::new(alloc)),
     };
-    let dispatches = list_at(alloc, Section::Dispatches, "dispatches", empty, value)?;
-    Ok((completions, cancels, dispatches))
+    list_at(alloc, Section::Dispatches, "dispatches", empty, value)
 }
 
 /// The drivers, who may name so many dispatches.
@@ -179,7 +191,9 @@ fn script_at(alloc: Global, value: &Value) -> Result<Script, ScriptFault>
     keys_at(value)?;
     let seats = count_at(Section::Seats, "seats", value)?;
     let locks = count_at(Section::Locks, "locks", value)?;
-    let (completions, cancels, dispatches) = dispatches_at(alloc, value)?;
+    let completions = completions_at(alloc, value)?;
+    let cancels = cancels_at(alloc, completions.counts, value)?;
+    let dispatches = dispatches_at(alloc, cancels.counts, value)?;
     let drivers = drivers_at(alloc, dispatches.plans.as_slice().len(), value)?;
     let (setup, steps) = steps_at(alloc, seats, value)?;
     Ok(Script {
