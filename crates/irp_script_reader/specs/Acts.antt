@@ -7,7 +7,7 @@ use Rattle.irp_forms.specs.Parts.{◌>>=◌, has_keys, u8_at, u32_at, u64_at}
 use Rattle.irp_forms.specs.Values.{cancel_or_null_at, device_at, lock_at, party_at, setting_at, status_at}
 use Rattle.irp_types.specs.declared.call.Party.{Party}
 use Rattle.irp_types.specs.declared.names.LockNo.{LockNo}
-use Rattle.irp_script_reader.specs.Labels.{label_at, is_label, named_at}
+use Rattle.irp_script_reader.specs.Labels.{is_label, named_at}
 use Rattle.irp_script_reader.specs.declared.act.Named.{Named}
 use Rattle.irp_script_reader.specs.declared.act.Step.{Step}
 use Rattle.irp_script_reader.specs.declared.act.StepAct.{StepAct}

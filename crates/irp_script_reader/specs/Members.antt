@@ -1,11 +1,10 @@
 -- The lists of a script, and what each takes as its next member. A member's form (S4) is looked at before its rule (S5),
 -- then what it names (S6, S7), then the limits (S8).
-use Rattle.std.specs.Prelude.{ℕ, ◌&&◌, List, [], ◌∷◌, ◌++◌, length, Bool, true, false, not, nat_lt, Option, Some, None, Result, Ok, Err}
+use Rattle.std.specs.Prelude.{◌&&◌, length, Bool, true, false, not, nat_lt, Option, Some, None, Result, Ok, Err}
 use Rattle.serde_json.specs.Data.{Data}
 use Rattle.irp_forms.specs.Parts.{list_at}
 use Rattle.irp_forms.specs.Values.{cancel_answer_at, handler_at, plan_at}
 use Rattle.irp_types.specs.Limits.{most_dispatches, most_drivers}
-use Rattle.irp_types.specs.declared.routine.Known.{Known}
 use Rattle.irp_script_reader.specs.Acts.{step_at}
 use Rattle.irp_script_reader.specs.Labels.{label_at, place_among, with_labels}
 use Rattle.irp_script_reader.specs.Plans.{is_driver, is_plan_sound, names_known}

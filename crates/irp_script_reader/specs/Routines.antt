@@ -1,5 +1,5 @@
 -- The completion routines and the cancel routines of a script.
-use Rattle.std.specs.Prelude.{ℕ, ◌+◌, ◌&&◌, List, [], length, codes, Bool, true, false, not, nat_lt, Option, Some, None, Result, Ok, Err, if◌then◌else◌}
+use Rattle.std.specs.Prelude.{ℕ, ◌+◌, ◌&&◌, List, codes, Bool, true, false, not, nat_lt, Option, Some, None, if◌then◌else◌}
 use Rattle.std.proofs.Common.{bytes_eq}
 use Rattle.serde_json.specs.Data.{Data, string}
 use Rattle.serde_json.specs.Find.{at, as_str}
@@ -8,7 +8,6 @@ use Rattle.irp_forms.specs.Names.{rule_at}
 use Rattle.irp_forms.specs.Values.{status_at}
 use Rattle.irp_types.specs.Limits.{most_routines}
 use Rattle.irp_types.specs.Status.{is_completable}
-use Rattle.irp_types.specs.declared.answer.Replacement.{Replacement}
 use Rattle.irp_types.specs.declared.routine.Known.{Known}
 use Rattle.irp_types.specs.declared.routine.Rule.{Rule}
 use Rattle.irp_types.specs.declared.routine.Rule.TheVariants.{Watch, Change, Keeper, KeepOnError, Free}

@@ -1,6 +1,6 @@
 -- Whole scripts. The first fault is told: the text's length, whether it is JSON, its form, its keys, and then the parts in
 -- order.
-use Rattle.std.specs.Prelude.{◌≡◌, ◌⊎◌, ℕ, ◌<◌, ◌≤◌, ◌==◌, ◌&&◌, List, [], ◌∷◌, length, codes, IsUtf8, Bool, true, false, nat_le, Option, Some, None, Result, Ok, Err, if◌then◌else◌}
+use Rattle.std.specs.Prelude.{◌≡◌, ◌⊎◌, ℕ, ◌<◌, ◌≤◌, ◌==◌, ◌&&◌, List, [], ◌∷◌, length, codes, IsUtf8, true, false, nat_le, Option, Some, None, Result, Ok, Err, if◌then◌else◌}
 use Rattle.std.specs.Option.{option_and_then}
 use Rattle.serde_json.specs.Data.{Data}
 use Rattle.serde_json.specs.Find.{get}
@@ -40,7 +40,7 @@ form_at whole = form_of (option_and_then u32_at (get (codes "form") whole))
 unfoldable pub keys_at : Data → Result (Unit {0}) ScriptRefusal
 keys_at whole =
     if has_keys (codes "cancels" ∷ codes "completions" ∷ codes "dispatches" ∷ codes "drivers" ∷ codes "form" ∷ codes "locks"
-      ∷ codes "seats" ∷ codes "setup" ∷ codes "steps" ∷ []) whole
+    ∷ codes "seats" ∷ codes "setup" ∷ codes "steps" ∷ []) whole
     then Ok tt else Err (At BadField section.Top 0)
 
 -- from 1 to 64

@@ -49,7 +49,10 @@ fn create_device_at(value: &Value) -> Option<StepAct>
     }
     let driver = u32_at(value.get("driver")?)?;
     let lock = lock_at(value.get("lock")?)?;
-    Some(StepAct::CreateDevice { driver: DriverId(driver), lock })
+    Some(StepAct::CreateDevice {
+        driver: DriverId(driver),
+        lock,
+    })
 }
 
 /// A device on top of another.
@@ -117,7 +120,11 @@ fn allocate_at(place: usize, value: &Value) -> Option<StepAct>
     }
     let size = u8_at(value.get("size")?)?;
     let label = value.get("as")?.as_str()?;
-    if is_label(label) { Some(StepAct::Allocate { size, label: place }) } else { None }
+    if is_label(label) {
+        Some(StepAct::Allocate { size, label: place })
+    } else {
+        None
+    }
 }
 
 /// Another use of a packet.
@@ -199,7 +206,12 @@ fn set_next_at(place: usize, value: &Value) -> Option<StepAct>
     let (party, irp) = sender_at(place, value)?;
     let major = u8_at(value.get("major")?)?;
     let word = u64_at(value.get("word")?)?;
-    Some(StepAct::SetNext { party, irp, major, word })
+    Some(StepAct::SetNext {
+        party,
+        irp,
+        major,
+        word,
+    })
 }
 
 /// A completion routine set.
@@ -212,7 +224,11 @@ fn set_routine_at(place: usize, value: &Value) -> Option<StepAct>
     }
     let (party, irp) = sender_at(place, value)?;
     let setting = setting_at(value.get("set")?)?;
-    Some(StepAct::SetRoutine { party, irp, setting })
+    Some(StepAct::SetRoutine {
+        party,
+        irp,
+        setting,
+    })
 }
 
 /// A packet sent.
@@ -249,10 +265,7 @@ fn completed_at(place: usize, value: &Value) -> Option<StepAct>
 fn complete_at(place: usize, value: &Value) -> Option<StepAct>
     ensures { result ≡ complete_at place (view value.now) }
 {
-    if !has_keys(
-        value,
-        &["by", "do", "information", "irp", "seat", "status"],
-    ) {
+    if !has_keys(value, &["by", "do", "information", "irp", "seat", "status"]) {
         return None;
     }
     completed_at(place, value)

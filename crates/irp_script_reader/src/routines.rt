@@ -152,7 +152,11 @@ impl CompletionRoutine {
 pub fn one_more(count: u32) -> Option<u32>
     ensures { result ≡ one_more count }
 {
-    if count < MOST_ROUTINES { Some(count + 1) } else { None }
+    if count < MOST_ROUTINES {
+        Some(count + 1)
+    } else {
+        None
+    }
 }
 
 /// The counts with one more routine of a rule, where there may be one more.
@@ -175,7 +179,10 @@ pub fn counted(counts: Known, rule: Rule) -> Option<Known>
         }
         Rule::KeepOnError => {
             let keep_on_error = one_more(counts.keep_on_error)?;
-            Some(Known { keep_on_error, ..counts })
+            Some(Known {
+                keep_on_error,
+                ..counts
+            })
         }
         Rule::Free => {
             let free = one_more(counts.free)?;

@@ -10,7 +10,8 @@ use std::process::Abort;
 use std::test::Fail;
 
 /// The demonstration's script.
-const DEMO: &str = r#"{"form":1,"seats":1,"locks":1,"completions":[],"cancels":[],"dispatches":[["finish",0,5]],"drivers":[[[3,0]]],"setup":[],"steps":[{"seat":0,"do":"create_device","driver":0,"lock":0},{"seat":0,"do":"allocate","size":1,"as":"a"},{"seat":0,"do":"set_next","by":"o","irp":"a","major":3,"word":7},{"seat":0,"do":"call_driver","by":"o","irp":"a","target":0}]}"#;
+const DEMO: &str =
+    r#"{"form":1,"seats":1,"locks":1,"completions":[],"cancels":[],"dispatches":[["finish",0,5]],"drivers":[[[3,0]]],"setup":[],"steps":[{"seat":0,"do":"create_device","driver":0,"lock":0},{"seat":0,"do":"allocate","size":1,"as":"a"},{"seat":0,"do":"set_next","by":"o","irp":"a","major":3,"word":7},{"seat":0,"do":"call_driver","by":"o","irp":"a","target":0}]}"#;
 
 /// The line of a text's first fault, or `read`.
 fn line_of(alloc: Global, text: &str) -> Result<String, AllocError> {

@@ -5,30 +5,96 @@ use super::*;
 const COMPLETIONS: &[(&str, &str)] = &[
     (r#""completions":{}"#, "S4 completions 0"),
     (r#""completions":null"#, "S4 completions 0"),
-    (r#""completions":[["watch","continue"]]"#, "S4 completions 0"),
-    (r#""completions":[["watch","continue","continue",0]]"#, "S4 completions 0"),
-    (r#""completions":[["look","continue","continue"]]"#, "S4 completions 0"),
-    (r#""completions":[["watch","keep","stay"]]"#, "S4 completions 0"),
-    (r#""completions":[["free","keep",["replace",0]]]"#, "S4 completions 0"),
-    (r#""completions":[["free","keep",["replace",0,0,0]]]"#, "S4 completions 0"),
-    (r#""completions":[["free","keep",["replaced",0,0]]]"#, "S4 completions 0"),
-    (r#""completions":[["free","keep",["replace",4294967296,0]]]"#, "S4 completions 0"),
-    (r#""completions":[["free","keep",["replace",0,18446744073709551616]]]"#, "S4 completions 0"),
-    (r#""completions":[["free","keep",["replace",0,18446744073709551615]]]"#, "read"),
-    (r#""completions":[["free",["replace",259,0],"keep"]]"#, "S5 completions 0"),
-    (r#""completions":[["free","keep",["replace",3221225494,0]]]"#, "S5 completions 0"),
+    (
+        r#""completions":[["watch","continue"]]"#,
+        "S4 completions 0",
+    ),
+    (
+        r#""completions":[["watch","continue","continue",0]]"#,
+        "S4 completions 0",
+    ),
+    (
+        r#""completions":[["look","continue","continue"]]"#,
+        "S4 completions 0",
+    ),
+    (
+        r#""completions":[["watch","keep","stay"]]"#,
+        "S4 completions 0",
+    ),
+    (
+        r#""completions":[["free","keep",["replace",0]]]"#,
+        "S4 completions 0",
+    ),
+    (
+        r#""completions":[["free","keep",["replace",0,0,0]]]"#,
+        "S4 completions 0",
+    ),
+    (
+        r#""completions":[["free","keep",["replaced",0,0]]]"#,
+        "S4 completions 0",
+    ),
+    (
+        r#""completions":[["free","keep",["replace",4294967296,0]]]"#,
+        "S4 completions 0",
+    ),
+    (
+        r#""completions":[["free","keep",["replace",0,18446744073709551616]]]"#,
+        "S4 completions 0",
+    ),
+    (
+        r#""completions":[["free","keep",["replace",0,18446744073709551615]]]"#,
+        "read",
+    ),
+    (
+        r#""completions":[["free",["replace",259,0],"keep"]]"#,
+        "S5 completions 0",
+    ),
+    (
+        r#""completions":[["free","keep",["replace",3221225494,0]]]"#,
+        "S5 completions 0",
+    ),
     (r#""completions":[["watch","continue","continue"]]"#, "read"),
-    (r#""completions":[["watch","keep","continue"]]"#, "S5 completions 0"),
-    (r#""completions":[["watch","continue","keep"]]"#, "S5 completions 0"),
-    (r#""completions":[["watch",["replace",0,0],"continue"]]"#, "S5 completions 0"),
-    (r#""completions":[["change",["replace",0,0],"continue"]]"#, "read"),
-    (r#""completions":[["change","continue",["replace",259,0]]]"#, "S5 completions 0"),
-    (r#""completions":[["change","continue","keep"]]"#, "S5 completions 0"),
+    (
+        r#""completions":[["watch","keep","continue"]]"#,
+        "S5 completions 0",
+    ),
+    (
+        r#""completions":[["watch","continue","keep"]]"#,
+        "S5 completions 0",
+    ),
+    (
+        r#""completions":[["watch",["replace",0,0],"continue"]]"#,
+        "S5 completions 0",
+    ),
+    (
+        r#""completions":[["change",["replace",0,0],"continue"]]"#,
+        "read",
+    ),
+    (
+        r#""completions":[["change","continue",["replace",259,0]]]"#,
+        "S5 completions 0",
+    ),
+    (
+        r#""completions":[["change","continue","keep"]]"#,
+        "S5 completions 0",
+    ),
     (r#""completions":[["keeper","keep","keep"]]"#, "read"),
-    (r#""completions":[["keeper","keep","continue"]]"#, "S5 completions 0"),
-    (r#""completions":[["keep_on_error","continue","keep"]]"#, "read"),
-    (r#""completions":[["keep_on_error","keep","keep"]]"#, "S5 completions 0"),
-    (r#""completions":[["keep_on_error","continue",["replace",0,0]]]"#, "S5 completions 0"),
+    (
+        r#""completions":[["keeper","keep","continue"]]"#,
+        "S5 completions 0",
+    ),
+    (
+        r#""completions":[["keep_on_error","continue","keep"]]"#,
+        "read",
+    ),
+    (
+        r#""completions":[["keep_on_error","keep","keep"]]"#,
+        "S5 completions 0",
+    ),
+    (
+        r#""completions":[["keep_on_error","continue",["replace",0,0]]]"#,
+        "S5 completions 0",
+    ),
 ];
 
 const CANCELS: &[(&str, &str)] = &[
@@ -45,14 +111,32 @@ const DISPATCHES: &[(&str, &str)] = &[
     (r#""dispatches":[["hold_slot"]]"#, "S4 dispatches 0"),
     (r#""dispatches":[["skip",0]]"#, "S4 dispatches 0"),
     (r#""dispatches":[["finish",0]]"#, "S4 dispatches 0"),
-    (r#""dispatches":[["forward",["watch",0,0,"es"]]]"#, "S4 dispatches 0"),
+    (
+        r#""dispatches":[["forward",["watch",0,0,"es"]]]"#,
+        "S4 dispatches 0",
+    ),
     (r#""dispatches":[["finish",259,0]]"#, "S5 dispatches 0"),
-    (r#""dispatches":[["finish",3221225494,0]]"#, "S5 dispatches 0"),
-    (r#""dispatches":[["forward",["keeper",0,0,"s"]]]"#, "S5 dispatches 0"),
+    (
+        r#""dispatches":[["finish",3221225494,0]]"#,
+        "S5 dispatches 0",
+    ),
+    (
+        r#""dispatches":[["forward",["keeper",0,0,"s"]]]"#,
+        "S5 dispatches 0",
+    ),
     (r#""dispatches":[["hold",0]]"#, "S6 dispatches 0"),
-    (r#""dispatches":[["forward",["watch",0,0,"s"]]]"#, "S6 dispatches 0"),
-    (r#""dispatches":[["forward_pend",["keeper",0,0,"s"]]]"#, "S6 dispatches 0"),
-    (r#""dispatches":[["hold",null],["skip"],["forward",null],["forward_pend",null]]"#, "read"),
+    (
+        r#""dispatches":[["forward",["watch",0,0,"s"]]]"#,
+        "S6 dispatches 0",
+    ),
+    (
+        r#""dispatches":[["forward_pend",["keeper",0,0,"s"]]]"#,
+        "S6 dispatches 0",
+    ),
+    (
+        r#""dispatches":[["hold",null],["skip"],["forward",null],["forward_pend",null]]"#,
+        "read",
+    ),
 ];
 
 const DRIVERS: &[(&str, &str)] = &[
@@ -85,7 +169,10 @@ const NAMES: &[(&str, &str)] = &[
     (r#"["forward_pend",["keeper",0,0,"e"]]"#, "read"),
     (r#"["forward_pend",["keeper",1,0,"e"]]"#, "S6 dispatches 0"),
     (r#"["forward_pend",["change",0,0,"e"]]"#, "S6 dispatches 0"),
-    (r#"["forward_pend",["watch",1,18446744073709551615,"c"]]"#, "read"),
+    (
+        r#"["forward_pend",["watch",1,18446744073709551615,"c"]]"#,
+        "read",
+    ),
     (r#"["hold",1]"#, "read"),
     (r#"["hold",2]"#, "S6 dispatches 0"),
 ];
@@ -95,7 +182,8 @@ fn plans_name_the_routines_of_the_whole_script(rt: HostRuntime) -> Result<(), Fa
     let alloc = rt.alloc();
     for (plan, line) in NAMES {
         let list = format!(in alloc;
-            "\"completions\":[[\"watch\",\"continue\",\"continue\"],[\"keeper\",\"keep\",\"keep\"],[\"watch\",\"continue\",\"continue\"]],\"cancels\":[[\"leave\"],[\"finish\",0]],\"dispatches\":[{plan}]")?;
+            "\"completions\":[[\"watch\",\"continue\",\"continue\"],[\"keeper\",\"keep\",\"keep\"],[\"watch\",\"continue\",\"continue\"]],\"cancels\":[[\"leave\"],[\"finish\",0]],\"dispatches\":[{plan}]"
+        )?;
         let old = r#""completions":[],"cancels":[],"dispatches":[["finish",0,5]]"#;
         let text = DEMO.replace(alloc, old, list.as_str())?;
         let told = line_of(alloc, text.as_str())?;
@@ -112,22 +200,82 @@ fn lists_have_their_limits(rt: HostRuntime) -> Result<(), Fail> {
     let keeper = r#"["keeper","keep","keep"]"#;
     list_has_line(&rt, alloc, completions, (watch, 255, watch), "read")?;
     list_has_line(&rt, alloc, completions, (watch, 256, keeper), "read")?;
-    list_has_line(&rt, alloc, completions, (watch, 256, watch), "S8 completions 256")?;
+    list_has_line(
+        &rt,
+        alloc,
+        completions,
+        (watch, 256, watch),
+        "S8 completions 256",
+    )?;
     let two = r#"["watch","continue","continue"],["free","keep","keep"]"#;
     list_has_line(&rt, alloc, completions, (two, 256, keeper), "read")?;
-    list_has_line(&rt, alloc, completions, (two, 256, watch), "S8 completions 512")?;
+    list_has_line(
+        &rt,
+        alloc,
+        completions,
+        (two, 256, watch),
+        "S8 completions 512",
+    )?;
     let broken = r#"["watch","keep","continue"]"#;
-    list_has_line(&rt, alloc, completions, (watch, 256, broken), "S5 completions 256")?;
-    list_has_line(&rt, alloc, completions, (watch, 256, "0"), "S4 completions 256")?;
+    list_has_line(
+        &rt,
+        alloc,
+        completions,
+        (watch, 256, broken),
+        "S5 completions 256",
+    )?;
+    list_has_line(
+        &rt,
+        alloc,
+        completions,
+        (watch, 256, "0"),
+        "S4 completions 256",
+    )?;
     let cancels = (r#""cancels":[]"#, "cancels");
-    list_has_line(&rt, alloc, cancels, (r#"["leave"]"#, 255, r#"["leave"]"#), "read")?;
-    list_has_line(&rt, alloc, cancels, (r#"["leave"]"#, 256, r#"["leave"]"#), "S8 cancels 256")?;
+    list_has_line(
+        &rt,
+        alloc,
+        cancels,
+        (r#"["leave"]"#, 255, r#"["leave"]"#),
+        "read",
+    )?;
+    list_has_line(
+        &rt,
+        alloc,
+        cancels,
+        (r#"["leave"]"#, 256, r#"["leave"]"#),
+        "S8 cancels 256",
+    )?;
     let dispatches = (r#""dispatches":[["finish",0,5]]"#, "dispatches");
-    list_has_line(&rt, alloc, dispatches, (r#"["skip"]"#, 255, r#"["skip"]"#), "read")?;
-    list_has_line(&rt, alloc, dispatches, (r#"["skip"]"#, 256, r#"["skip"]"#), "S8 dispatches 256")?;
-    list_has_line(&rt, alloc, dispatches, (r#"["skip"]"#, 256, r#"["hold",0]"#), "S6 dispatches 256")?;
+    list_has_line(
+        &rt,
+        alloc,
+        dispatches,
+        (r#"["skip"]"#, 255, r#"["skip"]"#),
+        "read",
+    )?;
+    list_has_line(
+        &rt,
+        alloc,
+        dispatches,
+        (r#"["skip"]"#, 256, r#"["skip"]"#),
+        "S8 dispatches 256",
+    )?;
+    list_has_line(
+        &rt,
+        alloc,
+        dispatches,
+        (r#"["skip"]"#, 256, r#"["hold",0]"#),
+        "S6 dispatches 256",
+    )?;
     let drivers = (r#""drivers":[[[3,0]]]"#, "drivers");
     list_has_line(&rt, alloc, drivers, ("[[3,0]]", 63, "[]"), "read")?;
     list_has_line(&rt, alloc, drivers, ("[[3,0]]", 64, "[]"), "S8 drivers 64")?;
-    list_has_line(&rt, alloc, drivers, ("[[3,0]]", 64, "[[3,1]]"), "S7 drivers 64")
+    list_has_line(
+        &rt,
+        alloc,
+        drivers,
+        ("[[3,0]]", 64, "[[3,1]]"),
+        "S7 drivers 64",
+    )
 }

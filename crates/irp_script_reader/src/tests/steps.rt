@@ -7,7 +7,8 @@ use irp_types::{
 };
 
 /// The demonstration's steps.
-const STEPS: &str = r#""setup":[],"steps":[{"seat":0,"do":"create_device","driver":0,"lock":0},{"seat":0,"do":"allocate","size":1,"as":"a"},{"seat":0,"do":"set_next","by":"o","irp":"a","major":3,"word":7},{"seat":0,"do":"call_driver","by":"o","irp":"a","target":0}]"#;
+const STEPS: &str =
+    r#""setup":[],"steps":[{"seat":0,"do":"create_device","driver":0,"lock":0},{"seat":0,"do":"allocate","size":1,"as":"a"},{"seat":0,"do":"set_next","by":"o","irp":"a","major":3,"word":7},{"seat":0,"do":"call_driver","by":"o","irp":"a","target":0}]"#;
 
 const IRP: IrpRef = IrpRef { slot: 4, use_no: 5 };
 
@@ -53,7 +54,10 @@ const KINDS: &[(&str, StepAct)] = &[
         },
     ),
     (r#""do":"free","irp":[4,5]"#, StepAct::Free { irp: NAMED }),
-    (r#""do":"cancel","irp":[4,5]"#, StepAct::Cancel { irp: NAMED }),
+    (
+        r#""do":"cancel","irp":[4,5]"#,
+        StepAct::Cancel { irp: NAMED },
+    ),
     (
         r#""do":"look","irp":"z""#,
         StepAct::Look {
@@ -159,7 +163,10 @@ const KINDS: &[(&str, StepAct)] = &[
         r#""do":"begin_remove","lock":3,"tag":4"#,
         StepAct::BeginRemove { lock: LOCK, tag: 4 },
     ),
-    (r#""do":"drained","lock":3"#, StepAct::Drained { lock: LOCK }),
+    (
+        r#""do":"drained","lock":3"#,
+        StepAct::Drained { lock: LOCK },
+    ),
 ];
 
 /// The line of the demonstration's script with these lists of steps.
@@ -194,39 +201,115 @@ fn each_step_has_its_keys_alone(rt: HostRuntime) -> Result<(), Fail> {
     let alloc = rt.alloc();
     for (keys, _) in KINDS {
         let further = format!(in alloc; "{{\"seat\":0,\"at\":0,{keys}}}")?;
-        assert_eq!(rt; line_with(alloc, "", further.as_str())?.as_str(), "S4 steps 0", "{keys}");
+        assert_eq!(rt;
+            line_with(alloc, "", further.as_str())?.as_str(),
+            "S4 steps 0",
+            "{keys}"
+        );
         let seatless = format!(in alloc; "{{{keys}}}")?;
-        assert_eq!(rt; line_with(alloc, "", seatless.as_str())?.as_str(), "S4 steps 0", "{keys}");
+        assert_eq!(rt;
+            line_with(alloc, "", seatless.as_str())?.as_str(),
+            "S4 steps 0",
+            "{keys}"
+        );
         let beyond = format!(in alloc; "{{\"seat\":1,{keys}}}")?;
-        assert_eq!(rt; line_with(alloc, "", beyond.as_str())?.as_str(), "S4 steps 0", "{keys}");
+        assert_eq!(rt;
+            line_with(alloc, "", beyond.as_str())?.as_str(),
+            "S4 steps 0",
+            "{keys}"
+        );
         let (first, others) = keys.split_once(',').expect(&rt, "keys");
         let nameless = format!(in alloc; "{{\"seat\":0,{others}}}")?;
-        assert_eq!(rt; line_with(alloc, "", nameless.as_str())?.as_str(), "S4 steps 0", "{first}");
+        assert_eq!(rt;
+            line_with(alloc, "", nameless.as_str())?.as_str(),
+            "S4 steps 0",
+            "{first}"
+        );
         let alone = format!(in alloc; "{{\"seat\":0,{first}}}")?;
-        assert_eq!(rt; line_with(alloc, "", alone.as_str())?.as_str(), "S4 steps 0", "{first}");
+        assert_eq!(rt;
+            line_with(alloc, "", alone.as_str())?.as_str(),
+            "S4 steps 0",
+            "{first}"
+        );
     }
     Ok(())
 }
 
 /// What is told of steps that are like one of the demonstration's.
 const CHANGED: &[(&str, &str, &str)] = &[
-    (r#"{"seat":0,"do":"call_driver""#, r#"{"seat":1,"do":"call_driver""#, "S4 steps 3"),
-    (r#"{"seat":0,"do":"call_driver""#, r#"{"seat":0.0,"do":"call_driver""#, "S4 steps 3"),
-    (r#"{"seat":0,"do":"call_driver""#, r#"{"seat":4294967296,"do":"call_driver""#, "S4 steps 3"),
-    (r#""do":"call_driver""#, r#""do":"CallDriver""#, "S4 steps 3"),
+    (
+        r#"{"seat":0,"do":"call_driver""#,
+        r#"{"seat":1,"do":"call_driver""#,
+        "S4 steps 3",
+    ),
+    (
+        r#"{"seat":0,"do":"call_driver""#,
+        r#"{"seat":0.0,"do":"call_driver""#,
+        "S4 steps 3",
+    ),
+    (
+        r#"{"seat":0,"do":"call_driver""#,
+        r#"{"seat":4294967296,"do":"call_driver""#,
+        "S4 steps 3",
+    ),
+    (
+        r#""do":"call_driver""#,
+        r#""do":"CallDriver""#,
+        "S4 steps 3",
+    ),
     (r#""do":"call_driver""#, r#""do":0"#, "S4 steps 3"),
-    (r#""do":"call_driver""#, r#""d\u006f":"c\u0061ll_driver""#, "read"),
+    (
+        r#""do":"call_driver""#,
+        r#""d\u006f":"c\u0061ll_driver""#,
+        "read",
+    ),
     (r#""target":0"#, r#""target":4294967296"#, "S4 steps 3"),
     (r#""target":0"#, r#""target":null"#, "S4 steps 3"),
-    (r#""target":0"#, r#""target":null,"target":4294967295"#, "read"),
-    (r#""by":"o","irp":"a","target""#, r#""by":"x","irp":"a","target""#, "S4 steps 3"),
-    (r#""by":"o","irp":"a","target""#, r#""by":-1,"irp":"a","target""#, "S4 steps 3"),
-    (r#""by":"o","irp":"a","target""#, r#""by":"o","irp":[0],"target""#, "S4 steps 3"),
-    (r#""by":"o","irp":"a","target""#, r#""by":"o","irp":["a",0],"target""#, "S4 steps 3"),
-    (r#""by":"o","irp":"a","target""#, r#""by":"o","irp":null,"target""#, "S4 steps 3"),
-    (r#""by":"o","irp":"a","target""#, r#""by":"o","irp":[4294967296,0],"target""#, "S4 steps 3"),
-    (r#""by":"o","irp":"a","target""#, r#""by":"o","irp":"","target""#, "S4 steps 3"),
-    (r#""by":"o","irp":"a","target""#, r#""by":"o","irp":"b","target""#, "read"),
+    (
+        r#""target":0"#,
+        r#""target":null,"target":4294967295"#,
+        "read",
+    ),
+    (
+        r#""by":"o","irp":"a","target""#,
+        r#""by":"x","irp":"a","target""#,
+        "S4 steps 3",
+    ),
+    (
+        r#""by":"o","irp":"a","target""#,
+        r#""by":-1,"irp":"a","target""#,
+        "S4 steps 3",
+    ),
+    (
+        r#""by":"o","irp":"a","target""#,
+        r#""by":"o","irp":[0],"target""#,
+        "S4 steps 3",
+    ),
+    (
+        r#""by":"o","irp":"a","target""#,
+        r#""by":"o","irp":["a",0],"target""#,
+        "S4 steps 3",
+    ),
+    (
+        r#""by":"o","irp":"a","target""#,
+        r#""by":"o","irp":null,"target""#,
+        "S4 steps 3",
+    ),
+    (
+        r#""by":"o","irp":"a","target""#,
+        r#""by":"o","irp":[4294967296,0],"target""#,
+        "S4 steps 3",
+    ),
+    (
+        r#""by":"o","irp":"a","target""#,
+        r#""by":"o","irp":"","target""#,
+        "S4 steps 3",
+    ),
+    (
+        r#""by":"o","irp":"a","target""#,
+        r#""by":"o","irp":"b","target""#,
+        "read",
+    ),
     (r#""size":1"#, r#""size":256"#, "S4 steps 1"),
     (r#""size":1"#, r#""size":1e0"#, "S4 steps 1"),
     (r#""as":"a""#, r#""as":"""#, "S4 steps 1"),
@@ -235,17 +318,53 @@ const CHANGED: &[(&str, &str, &str)] = &[
     (r#""as":"a""#, r#""as":"a b""#, "S4 steps 1"),
     (r#""as":"a""#, r#""as":"ä""#, "S4 steps 1"),
     (r#""as":"a""#, r#""as":"a\u0000""#, "S4 steps 1"),
-    (r#""as":"a""#, r#""as":"0123456789abcdefghijklmnopqrstuv""#, "read"),
-    (r#""as":"a""#, r#""as":"0123456789abcdefghijklmnopqrstuvw""#, "S4 steps 1"),
+    (
+        r#""as":"a""#,
+        r#""as":"0123456789abcdefghijklmnopqrstuv""#,
+        "read",
+    ),
+    (
+        r#""as":"a""#,
+        r#""as":"0123456789abcdefghijklmnopqrstuvw""#,
+        "S4 steps 1",
+    ),
     (r#""major":3"#, r#""major":256"#, "S4 steps 2"),
-    (r#""word":7"#, r#""word":18446744073709551616"#, "S4 steps 2"),
+    (
+        r#""word":7"#,
+        r#""word":18446744073709551616"#,
+        "S4 steps 2",
+    ),
     (r#""setup":[]"#, r#""setup":null"#, "S4 setup 0"),
-    (r#""setup":[]"#, r#""setup":[{"seat":0,"do":"detach","lower":0}]"#, "read"),
-    (r#""setup":[]"#, r#""setup":[{"seat":0,"do":"acquire","lock":0,"tag":0}]"#, "S4 setup 0"),
-    (r#""setup":[]"#, r#""setup":[{"seat":0,"do":"release","lock":0,"tag":0}]"#, "S4 setup 0"),
-    (r#""setup":[]"#, r#""setup":[{"seat":0,"do":"begin_remove","lock":0,"tag":0}]"#, "S4 setup 0"),
-    (r#""setup":[]"#, r#""setup":[{"seat":0,"do":"drained","lock":0}]"#, "S4 setup 0"),
-    (r#""setup":[]"#, r#""setup":[{"seat":0,"do":"publish","slot":0,"irp":"a"}]"#, "S4 setup 0"),
+    (
+        r#""setup":[]"#,
+        r#""setup":[{"seat":0,"do":"detach","lower":0}]"#,
+        "read",
+    ),
+    (
+        r#""setup":[]"#,
+        r#""setup":[{"seat":0,"do":"acquire","lock":0,"tag":0}]"#,
+        "S4 setup 0",
+    ),
+    (
+        r#""setup":[]"#,
+        r#""setup":[{"seat":0,"do":"release","lock":0,"tag":0}]"#,
+        "S4 setup 0",
+    ),
+    (
+        r#""setup":[]"#,
+        r#""setup":[{"seat":0,"do":"begin_remove","lock":0,"tag":0}]"#,
+        "S4 setup 0",
+    ),
+    (
+        r#""setup":[]"#,
+        r#""setup":[{"seat":0,"do":"drained","lock":0}]"#,
+        "S4 setup 0",
+    ),
+    (
+        r#""setup":[]"#,
+        r#""setup":[{"seat":0,"do":"publish","slot":0,"irp":"a"}]"#,
+        "S4 setup 0",
+    ),
 ];
 
 #[test]
@@ -273,7 +392,10 @@ fn a_script_names_at_most_4096_labels(rt: HostRuntime) -> Result<(), Fail> {
         (r#"{"seat":0,"do":"look","irp":"a4095"}"#, "read"),
         (r#"{"seat":0,"do":"look","irp":[0,0]}"#, "read"),
         (r#"{"seat":0,"do":"look","irp":"a4096"}"#, "S8 steps 3596"),
-        (r#"{"seat":0,"do":"allocate","size":1,"as":"b"}"#, "S8 steps 3596"),
+        (
+            r#"{"seat":0,"do":"allocate","size":1,"as":"b"}"#,
+            "S8 steps 3596",
+        ),
         (r#"{"seat":0,"do":"look","irp":"b","x":0}"#, "S4 steps 3596"),
         (r#"{"seat":0,"do":"look","irp":"b"},0"#, "S8 steps 3596"),
     ] {
@@ -285,7 +407,8 @@ fn a_script_names_at_most_4096_labels(rt: HostRuntime) -> Result<(), Fail> {
 }
 
 /// A script with something under each key.
-const WHOLE: &str = r#"{"steps":[{"do":"look","irp":"b","seat":1},{"do":"allocate","size":2,"as":"c","seat":0},{"do":"free","irp":"a","seat":0},{"do":"drained","lock":1,"seat":63}],
+const WHOLE: &str =
+    r#"{"steps":[{"do":"look","irp":"b","seat":1},{"do":"allocate","size":2,"as":"c","seat":0},{"do":"free","irp":"a","seat":0},{"do":"drained","lock":1,"seat":63}],
  "setup":[{"do":"allocate","size":1,"as":"a","seat":0},{"do":"reuse","irp":"b","status":0,"seat":0},{"do":"free","irp":"a","seat":0}],
  "drivers":[[],[[4,1],[3,0]]],"dispatches":[["hold",1],["forward_pend",["change",0,9,"e"]]],
  "cancels":[["finish",6],["leave"]],"completions":[["change",["replace",0,7],"continue"],["keep_on_error","continue","keep"]],
@@ -294,7 +417,10 @@ const WHOLE: &str = r#"{"steps":[{"do":"look","irp":"b","seat":1},{"do":"allocat
 #[test]
 fn a_script_is_read_whole(rt: HostRuntime) -> Result<(), Fail> {
     let script = read_script(rt.alloc(), WHOLE.as_bytes()).expect(&rt, "a script");
-    assert_eq!(rt; (script.form, script.seats, script.locks), (ScriptForm::One, 64, 2));
+    assert_eq!(rt;
+        (script.form, script.seats, script.locks),
+        (ScriptForm::One, 64, 2)
+    );
     let replacement = Replacement {
         status: Status::SUCCESS,
         information: 7,
@@ -312,10 +438,7 @@ fn a_script_is_read_whole(rt: HostRuntime) -> Result<(), Fail> {
         },
     ];
     assert_eq!(rt; script.completions.as_slice(), completions.as_slice());
-    let cancels = [
-        CancelAnswer::Finish { information: 6 },
-        CancelAnswer::Leave,
-    ];
+    let cancels = [CancelAnswer::Finish { information: 6 }, CancelAnswer::Leave];
     assert_eq!(rt; script.cancels.as_slice(), cancels.as_slice());
     let setting = Setting {
         routine: RoutineId {

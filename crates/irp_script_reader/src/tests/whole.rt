@@ -74,7 +74,11 @@ const COUNTS: &[(&str, &str)] = &[
 const ORDERS: &[(&str, &str, &str)] = &[
     (r#""form":1,"seats":1"#, r#""form":2,"seats":0"#, "S3"),
     (r#""seats":1,"#, r#""slots":1,"#, "S4 top 0"),
-    (r#""seats":1,"locks":1"#, r#""locks":0,"seats":0"#, "S4 seats 0"),
+    (
+        r#""seats":1,"locks":1"#,
+        r#""locks":0,"seats":0"#,
+        "S4 seats 0",
+    ),
     (
         r#""locks":1,"completions":[]"#,
         r#""completions":[0],"locks":0"#,
@@ -173,7 +177,10 @@ fn long_and_deep_texts_have_their_lines(rt: HostRuntime) -> Result<(), Fail> {
 fn each_beginning_of_a_script_is_no_json(rt: HostRuntime) -> Result<(), Fail> {
     for (end, _) in DEMO.as_bytes().iter().enumerate() {
         let told = read_script(rt.alloc(), &DEMO.as_bytes()[..end]);
-        assert!(rt; matches!(told, Err(ScriptFault::Refused(ScriptRefusal::NotJson))), "{end}");
+        assert!(rt;
+            matches!(told, Err(ScriptFault::Refused(ScriptRefusal::NotJson))),
+            "{end}"
+        );
     }
     Ok(())
 }
