@@ -2,6 +2,7 @@ pub mod Passed
 pub mod Locations
 pub mod Sound
 pub mod Maps
+pub mod PlacedSlots
 pub mod SlotMaps
 pub mod Scan
 pub mod OnePacket

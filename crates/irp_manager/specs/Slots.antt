@@ -1,5 +1,5 @@
 -- Live packets in a list of places, as the map from slots to packets.
-use Rattle.std.specs.Prelude.{ℕ, List, Option, Some, None, length, suc, zero, slice_index_or}
+use Rattle.std.specs.Prelude.{ℕ, ◌≡◌, List, [], ◌∷◌, Option, Some, None, length, suc, zero, slice_index_or, IfSome}
 use Rattle.std.specs.Ordering.{nat_cmp}
 use Rattle.std.specs.FinMap as fin
 use Rattle.irp_types.specs.State.{LivePacket}
@@ -25,3 +25,17 @@ kept places (suc count) = put_if (kept places count) count (place_at places coun
 -- the packets of all places
 abbrev pub live_of : List (Option LivePacket) → Slots
 live_of places = kept places (length places)
+
+-- a map with this at a slot: a packet, or none
+abbrev pub with_place : Slots → ℕ → Option LivePacket → Slots
+with_place slots slot None = fin.remove slots slot
+with_place slots slot (Some live) = fin.insert slots slot live
+
+-- the packets of places that name their slots, where the first place of a slot counts
+abbrev pub placed : List (ℕ × Option LivePacket) → Slots
+placed [] = fin.empty
+placed (place ∷ others) = with_place (placed others) place.0 place.1
+
+-- a wish for a slot that has no packet is granted
+abbrev pub IsGranted : Slots → Option ℕ → ℕ → Type 0
+IsGranted slots wish slot = IfSome wish (λ wished. fin.get slots wished ≡ None → slot ≡ wished)

@@ -1,11 +1,15 @@
 //! Where live packets are kept.
 
-ghost use Rattle.std.specs.Prelude.{◌≡◌, ℕ, ◌≤◌, Option, None, IfOk, OnSome};
+ghost use Rattle.std.specs.Prelude.{◌≡◌, ℕ, Option, None, IfOk, OnSome};
+ghost use Rattle.std.specs.List.{list_any};
 ghost use Rattle.std.specs.Option.{option_copied};
 ghost use Rattle.std.specs.FinMap as fin;
+ghost use Rattle.irp_types.specs.State.{LivePacket};
+ghost use Rattle.irp_types.specs.Refusals.{has_packet};
 ghost use Rattle.irp_manager.specs.Slots.{Slots};
 
 use irp_packet::Packet;
+use irp_types::DeviceId;
 use std::alloc::AllocError;
 use std::marker::Model;
 
@@ -42,9 +46,9 @@ pub trait Keep {
     fn len(&self) -> usize
         ensures { result ≡ fin.len (live self.now) };
 
-    /// A number above each slot that has a packet.
-    fn end(&self) -> usize
-        ensures { (slot : ℕ) → result ≤ slot → fin.get (live self.now) slot ≡ None };
+    /// Whether a device has one of the packets: it owns it, or stands in a location of it from the current one up.
+    fn is_in_flight(&self, device: DeviceId) -> bool
+        ensures { result ≡ list_any (λ (one : LivePacket). has_packet device.0 one.packet) (fin.values (live self.now)) };
 
     /// The packet at a slot, if there is one.
     fn get(&self, slot: usize) -> Option<&Live>

@@ -5,6 +5,8 @@ ghost use Rattle.std.specs.FinMap as fin;
 ghost use Rattle.irp_manager.specs.Keeps.{listed, IsLowest};
 
 use crate::keep::{Keep, Live};
+use crate::packets;
+use irp_types::DeviceId;
 use std::alloc::{AllocError, Global};
 
 /// Live packets in a list of places, a slot being a place. A new packet gets the lowest slot that isn't live, whatever
@@ -43,9 +45,15 @@ impl Keep for ListKeep {
         count
     }
 
-    #[tactic(auto, using(crate::proofs::SlotMaps::keep_rules))]
-    fn end(&self) -> usize {
-        self.places.len()
+    fn is_in_flight(&self, device: DeviceId) -> bool {
+        for slot in 0..self.places.len() {
+            if let Some(live) = self.get(slot) {
+                if packets::has_packet(live, device) {
+                    return true;
+                }
+            }
+        }
+        false
     }
 
     #[tactic(auto, using(crate::proofs::SlotMaps::keep_rules))]

@@ -8,7 +8,7 @@ ghost use Rattle.irp_types.specs.Limits.{most_locations};
 ghost use Rattle.irp_types.specs.Checks.{first_failing, or_else};
 ghost use Rattle.irp_types.specs.Stacks.{create_checks};
 ghost use Rattle.irp_types.specs.State.{Fixed, Tables, LivePacket, opening_state, live_at, packet_of};
-ghost use Rattle.irp_types.specs.Refusals.{is_in_flight, flight_check, packet_refusal, party_refusal, first_refusal};
+ghost use Rattle.irp_types.specs.Refusals.{flight_check, packet_refusal, party_refusal, first_refusal};
 ghost use Rattle.irp_types.specs.Histories.{lock_of};
 ghost use Rattle.irp_types.specs.declared.call.Call.TheVariants.{CreateDevice, Attach, Detach, Delete, Allocate, Free, Reuse, SetNext, CopyToNext, Skip, SetRoutine, MarkPending, CallDriver, Complete, SetCancelRoutine, Cancel, Look};
 ghost use Rattle.irp_types.specs.Standing.{StandingFacts};
@@ -194,27 +194,13 @@ impl<K: Keep> Core<K> {
         reply
     }
 
-    /// Whether a device has a live packet.
-    fn is_in_flight(&self, device: DeviceId) -> bool
-        ensures { result ≡ is_in_flight (state_of K.live self.now) device.0 }
-    {
-        for slot in 0..self.keep.end() {
-            if let Some(live) = self.keep.get(slot) {
-                if packets::has_packet(live, device) {
-                    return true;
-                }
-            }
-        }
-        false
-    }
-
     fn delete_refusal(&self, device: DeviceId, drained: bool) -> Option<Refusal>
         ensures { (fixed : Fixed) → result ≡ first_refusal fixed (state_of K.live self.now) drained (Delete device) }
     {
         if let Some(refusal) = self.stacks.delete_refusal(device) {
             return Some(refusal);
         }
-        if self.is_in_flight(device) {
+        if self.keep.is_in_flight(device) {
             return Some(Refusal::InFlight);
         }
         if !drained {

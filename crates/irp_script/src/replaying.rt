@@ -1,0 +1,74 @@
+//! An entry that is made again.
+
+ghost use Rattle.std.specs.Prelude.{◌≡◌, IfOk};
+ghost use Rattle.irp_types.specs.State.{AreTables};
+ghost use Rattle.irp_types.specs.Standing.{StandingFacts};
+ghost use Rattle.irp_manager.specs.Cores.{state_of};
+ghost use Rattle.irp_manager.specs.Keeps.{mapped};
+ghost use Rattle.irp_shared.specs.Headers.{fixed_of};
+ghost use Rattle.irp_script.specs.Replayed.{MakesAgain, slot_named};
+
+use crate::recorded_answers::RecordedAnswers;
+use irp_manager::{Core, DrainNote, MapKeep, step_is_settled};
+use irp_shared::Header;
+use irp_types::{Entry, LockNo, Reply, Row};
+use std::alloc::AllocError;
+
+/// A note that answers the same of each lock, as an entry says.
+#[derive(Clone, Copy)]
+struct SaysDrained(bool);
+
+impl DrainNote for SaysDrained {
+    ghost knows_drained = { λ note lock. note.0 };
+
+    fn knows(&self, lock: LockNo) -> bool {
+        let _ = lock;
+        self.0
+    }
+}
+
+/// The slot of the packet that a reply names.
+fn slot_named(reply: Reply) -> Option<usize>
+    ensures { result ≡ slot_named reply }
+{
+    match reply {
+        Reply::Irp(irp) => Some(irp.slot),
+        _ => None,
+    }
+}
+
+/// Makes an entry's call, answered as the entry says, and answers whether it makes the same entry at this place. Where it
+/// doesn't, no step of the manager does.
+///
+/// # Errors
+///
+/// `AllocError` where a growth was refused.
+pub fn makes_again(
+    core: &mut Core<MapKeep>,
+    header: &Header,
+    entry: &Entry,
+    place: u64,
+) -> Result<bool, AllocError>
+    requires tables { AreTables (fixed_of header.now).tables }
+    requires stands { StandingFacts (fixed_of header.now).tables.counts (state_of mapped core.old) }
+    requires locks { core.old.locks ≡ header.now.locks }
+    ensures made { IfOk result (λ made. MakesAgain (fixed_of header.now) place (state_of mapped core.old) entry.now made (state_of mapped core.new)) }
+    ensures stands { IfOk result (λ made. StandingFacts (fixed_of header.now).tables.counts (state_of mapped core.new)) }
+    ensures locks { IfOk result (λ made. core.new.locks ≡ header.now.locks) }
+{
+    let answers = RecordedAnswers::new(header, entry.asked.as_slice());
+    let note = SaysDrained(entry.drained);
+    let wish = slot_named(entry.reply);
+    let applied = core.apply(&answers, entry.call, &note, wish)?;
+    let again = Entry {
+        number: place,
+        seat: entry.seat,
+        call: entry.call,
+        lock: applied.lock,
+        drained: applied.drained,
+        asked: Row::from_vec(applied.asked),
+        reply: applied.reply,
+    };
+    step_is_settled();
+    Ok(again.is_same(entry))
+}
