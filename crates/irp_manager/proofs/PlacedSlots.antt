@@ -1,14 +1,16 @@
 -- Lemmas on the map of places that name their slots.
-use Rattle.std.proofs.Common.{◌≡◌, ℕ, ◌+◌, ◌-◌, ◌<◌, ◌≤◌, suc, zero, Bool, true, false, cond, List, [], ◌∷◌, length, Option, Some, None, is_some, refl, sym, ◌∙◌, ap, subst, arith, inl, inr, add-one}
+use Rattle.std.proofs.Common.{◌≡◌, ℕ, ◌+◌, ◌-◌, ◌<◌, ◌≤◌, suc, zero, Bool, true, false, cond, ◌||◌, List, [], ◌∷◌, length, Option, Some, None, is_some, refl, sym, ◌∙◌, ap, subst, arith, inl, inr, add-one}
 use Rattle.std.proofs.lemmas.Bool.{cases_eq}
 use Rattle.std.proofs.lemmas.Option.{none-some}
+use Rattle.std.specs.List.{list_any}
 use Rattle.std.specs.Ordering.{nat_cmp, eq_by_cmp}
 use Rattle.std.specs.Cmp.{nat_cmp_total, eq_by_cmp_equiv}
 use Rattle.std.specs.Map.{lookup}
 use Rattle.std.specs.BTreeMap.{is_at}
 use Rattle.std.specs.FinMap as fin
 use Rattle.irp_types.specs.State.{LivePacket}
-use Rattle.irp_manager.specs.Slots.{Slots, with_place, placed}
+use Rattle.irp_types.specs.Refusals.{has_packet}
+use Rattle.irp_manager.specs.Slots.{Slots, with_place, placed, holds_packet}
 use Rattle.irp_manager.proofs.Maps.{here_same, here_other, get_inserted, get_kept, get_removed, get_left, same, remove_absent}
 
 -- what a place has, if there is one
@@ -36,7 +38,7 @@ flipped : (k q : ℕ) → is_at (nat_cmp k) q ≡ eq_by_cmp nat_cmp q k
 flipped k q = (eq_by_cmp_equiv nat_cmp_total).symm k q
 
 -- the places of the one list are those of the other, with this at a slot
-abbrev HasAt : List (ℕ × Option LivePacket) → List (ℕ × Option LivePacket) → ℕ → Option (Option LivePacket) → Type 0
+abbrev pub HasAt : List (ℕ × Option LivePacket) → List (ℕ × Option LivePacket) → ℕ → Option (Option LivePacket) → Type 0
 HasAt old new slot place = (q : ℕ) → lookup (is_at (nat_cmp q)) new ≡ cond (is_at (nat_cmp slot) q) place (lookup (is_at (nat_cmp q)) old)
 
 pub placed_with : (old new : List (ℕ × Option LivePacket)) (slot : ℕ) (place : Option LivePacket) → HasAt old new slot (Some place) → placed new ≡ with_place (placed old) slot place
@@ -109,3 +111,35 @@ some_vacant (suc n) slots all =
     ]
 
 pub ruleset place_rules = (get-placed, placed_with, placed_without, placed_inserted, len-empty)
+
+-- what a place that is filled makes of the number of packets
+pub len-filled : (old new : List (ℕ × Option LivePacket)) (slot : ℕ) (live : LivePacket) → HasAt old new slot (Some (Some live)) → fin.len (placed new) ≡ cond (is_some (fin.get (placed old) slot)) (fin.len (placed old)) (fin.len (placed old) + 1)
+len-filled old new slot live has = ap fin.len (placed_with old new slot (Some live) has) ∙ fin.len-insert nat_cmp_total (placed old) slot live
+
+-- and one that is emptied, which had a packet
+pub len-emptied : (old new : List (ℕ × Option LivePacket)) (slot : ℕ) → is_some (fin.get (placed old) slot) ≡ true → HasAt old new slot (Some None) → fin.len (placed new) ≡ fin.len (placed old) - 1
+len-emptied old new slot there has =
+    ap fin.len (placed_with old new slot None has) ∙ fin.len-remove nat_cmp_total (placed old) slot ∙ ap (λ b. cond b (fin.len (placed old) - 1) (fin.len (placed old))) there
+
+-- where a slot is live there is a packet
+pub some_live : (slots : Slots) (slot : ℕ) → is_some (fin.get slots slot) ≡ true → 1 ≤ fin.len slots
+some_live slots slot there =
+    elim (cases_eq (fin.len slots) 0) as (λ _. 1 ≤ fin.len slots) [
+      | inl none ↦
+          let absent : is_some (fin.get slots slot) ≡ false = ap (λ (given : Slots). is_some (fin.get given slot)) (fin.empty_of_len slots none) ∙ ap is_some (fin.get-empty nat_cmp slot) in
+          absurd (cc)
+      | inr some ↦ omega (arith, some)
+    ]
+
+-- where no place has a packet of a device, it has none
+pub none_held : (device : ℕ) (places : List (ℕ × Option LivePacket)) (slot : ℕ) (live : LivePacket)
+    → list_any (λ (place : ℕ × Option LivePacket). holds_packet device place.1) places ≡ false → within (lookup (is_at (nat_cmp slot)) places) ≡ Some live → has_packet device live.packet ≡ false
+none_held device [] slot live none at = absurd (cc)
+none_held device (place ∷ others) slot live none at =
+    by (is_at (nat_cmp slot) place.0) (holds_packet device place.1) refl none at (λ rest there. none_held device others slot live rest there)
+  where
+    by : (here holds : Bool) → holds_packet device place.1 ≡ holds → (holds || list_any (λ (place : ℕ × Option LivePacket). holds_packet device place.1) others) ≡ false → within (cond here (Some place.1) (lookup (is_at (nat_cmp slot)) others)) ≡ Some live
+        → (list_any (λ (place : ℕ × Option LivePacket). holds_packet device place.1) others ≡ false → within (lookup (is_at (nat_cmp slot)) others) ≡ Some live → has_packet device live.packet ≡ false) → has_packet device live.packet ≡ false
+    by here true is none at rec = absurd (cc)
+    by true false is none at rec = sym (ap (holds_packet device) at) ∙ is
+    by false false is none at rec = rec none at

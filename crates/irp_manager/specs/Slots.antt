@@ -1,8 +1,10 @@
 -- Live packets in a list of places, as the map from slots to packets.
-use Rattle.std.specs.Prelude.{ℕ, ◌≡◌, List, [], ◌∷◌, Option, Some, None, length, suc, zero, slice_index_or, IfSome}
+use Rattle.std.specs.Prelude.{ℕ, ◌≡◌, Bool, false, List, [], ◌∷◌, Option, Some, None, length, suc, zero, slice_index_or, IfSome}
+use Rattle.std.specs.Option.{option_map_or}
 use Rattle.std.specs.Ordering.{nat_cmp}
 use Rattle.std.specs.FinMap as fin
 use Rattle.irp_types.specs.State.{LivePacket}
+use Rattle.irp_types.specs.Refusals.{has_packet}
 
 -- the live packets by their slots
 abbrev pub Slots : Type 0
@@ -39,3 +41,7 @@ placed (place ∷ others) = with_place (placed others) place.0 place.1
 -- a wish for a slot that has no packet is granted
 abbrev pub IsGranted : Slots → Option ℕ → ℕ → Type 0
 IsGranted slots wish slot = IfSome wish (λ wished. fin.get slots wished ≡ None → slot ≡ wished)
+
+-- whether a device has the packet of a place; none has where there is no packet
+abbrev pub holds_packet : ℕ → Option LivePacket → Bool
+holds_packet device place = option_map_or (λ (live : LivePacket). has_packet device live.packet) place false

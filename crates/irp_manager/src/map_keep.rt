@@ -1,11 +1,11 @@
 //! Live packets in an ordered map.
 
-ghost use Rattle.std.specs.Prelude.{◌≡◌, IsSome, is_some, None};
+ghost use Rattle.std.specs.Prelude.{◌≡◌, ◌+◌, if◌then◌else◌, IsSome, is_some, None};
 ghost use Rattle.std.specs.Ordering.{nat_cmp};
 ghost use Rattle.std.specs.BTreeMap as btree;
 ghost use Rattle.std.specs.FinMap as fin;
 ghost use Rattle.std.proofs.Props.{props};
-ghost use Rattle.irp_manager.specs.Slots.{placed, IsGranted};
+ghost use Rattle.irp_manager.specs.Slots.{placed, holds_packet, IsGranted};
 
 use crate::keep::{Keep, Live};
 use crate::packets;
@@ -22,6 +22,16 @@ pub struct MapKeep {
     /// The slot whose place is empty, if there is one.
     empty: Option<usize>,
     ghost counted: { count ≡ fin.len (placed places.entries) } by { Prim.hlevel props },
+}
+
+/// Whether a device has the packet of a place, if there is one.
+fn holds_packet(place: &Option<Live>, device: DeviceId) -> bool
+    ensures { result ≡ holds_packet device.0 place.now }
+{
+    match place {
+        Some(live) => packets::has_packet(live, device),
+        None => false,
+    }
 }
 
 impl MapKeep {
@@ -55,6 +65,19 @@ impl MapKeep {
         ensures { result ≡ is_some (fin.get (placed self.now.places.entries) slot) }
     {
         matches!(self.places.get(&slot), Some(Some(_)))
+    }
+
+    /// How many packets there are once a slot has one that has a place. A place that is empty has none, so that there are
+    /// more places than packets.
+    #[tactic(auto, using(crate::proofs::PlacedSlots::place_rules))]
+    fn count_with(&self, slot: usize) -> usize
+        requires { IsSome (btree.get nat_cmp self.now.places slot) }
+        ensures { result ≡ (if is_some (fin.get (placed self.now.places.entries) slot) then self.now.count else self.now.count + 1) }
+    {
+        if self.is_live(slot) || self.count >= self.places.len() {
+            return self.count;
+        }
+        self.count + 1
     }
 
     /// The lowest slot that isn't live.
@@ -93,11 +116,9 @@ impl Keep for MapKeep {
     }
 
     fn is_in_flight(&self, device: DeviceId) -> bool {
-        for place in self.places.values() {
-            if let Some(live) = place {
-                if packets::has_packet(live, device) {
-                    return true;
-                }
+        for (_slot, place) in &self.places {
+            if holds_packet(place, device) {
+                return true;
             }
         }
         false
@@ -124,10 +145,7 @@ impl Keep for MapKeep {
 
     #[tactic(auto, using(crate::proofs::PlacedSlots::place_rules))]
     fn put(&mut self, slot: usize, packet: Live) {
-        // A place that is empty has no packet, so that there are more places than packets.
-        if !self.is_live(slot) && self.count < self.places.len() {
-            self.count += 1;
-        }
+        self.count = self.count_with(slot);
         let _ = self.places.insert(slot, Some(packet));
     }
 

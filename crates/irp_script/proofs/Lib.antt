@@ -1,1 +1,3 @@
 pub mod AskedOnce
+pub mod MadeAgain
+pub mod Verdicts
