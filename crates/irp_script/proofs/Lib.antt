@@ -1,3 +1,4 @@
 pub mod AskedOnce
+pub mod FirstTold
 pub mod MadeAgain
 pub mod Verdicts

@@ -1,5 +1,5 @@
 -- An entry that is made again: it is the same one exactly where a step makes it.
-use Rattle.std.proofs.Common.{◌≡◌, ℕ, Bool, true, false, List, refl, sym, ◌∙◌, ap, subst, Option, Some, None, MatchOption}
+use Rattle.std.proofs.Common.{◌≡◌, ℕ, Bool, true, false, List, [], ◌∷◌, refl, sym, ◌∙◌, ap, subst, Option, Some, None, MatchOption}
 use Rattle.std.specs.Prelude.{IsTrue, IfSome}
 use Rattle.std.specs.List.{AllByRecursion}
 use Rattle.std.specs.FinMap as fin
@@ -105,5 +105,5 @@ module _ (law : StepIsSettled) (fixed : Fixed) (old new : StateValue) (entry aga
     }
 
   pub made_again : (same : Bool) → (IsTrue same ↔ (again ≡ entry)) → MakesAgain fixed again.number old entry same new
-  made_again true is = subst (λ (given : Entry). IsEntryAt fixed again.number old given new) (is.0 tt) again_is
-  made_again false is = λ other given. absurd (is.1 (same_entry other given))
+  made_again true is = subst (λ (given : Entry). IsEntryAt fixed again.number old given new) (is.0 refl) again_is
+  made_again false is = λ other given. (let no = is.1 (same_entry other given) in absurd (cc))

@@ -4,5 +4,7 @@
 mod checker;
 mod recorded_answers;
 mod replaying;
+#[cfg(test)]
+mod tests;
 
 pub use checker::{Verdict, check};

@@ -77,6 +77,7 @@ fn cancel_in(question: Asked) -> Option<CancelAnswer>
 }
 
 /// The first plan of this device's dispatch.
+#[tactic(auto, using(crate::proofs::FirstTold::first_rules))]
 fn first_plan(asked: &[Asked], device: Option<DeviceId>) -> Option<Plan>
     ensures { result ≡ first_in (plan_in device) asked.now }
 {
@@ -89,6 +90,7 @@ fn first_plan(asked: &[Asked], device: Option<DeviceId>) -> Option<Plan>
 }
 
 /// The first answer of a completion routine at this location.
+#[tactic(auto, using(crate::proofs::FirstTold::first_rules))]
 fn first_answer(asked: &[Asked], location: u32) -> Option<Answer>
     ensures { result ≡ first_in (answer_in location) asked.now }
 {
@@ -101,6 +103,7 @@ fn first_answer(asked: &[Asked], location: u32) -> Option<Answer>
 }
 
 /// The first answer of a cancel routine.
+#[tactic(auto, using(crate::proofs::FirstTold::first_rules))]
 fn first_cancel(asked: &[Asked]) -> Option<CancelAnswer>
     ensures { result ≡ first_in cancel_in asked.now }
 {
@@ -158,7 +161,7 @@ impl Ask for RecordedAnswers<'_> {
     }
 
     fn plan(&self, id: DispatchId, shown: Shown) -> Plan {
-        let known = self.header.dispatches.as_slice()[id.0 as usize];
+        let known = self.known_of(id);
         let plan = first_plan(self.asked, shown.device).unwrap_or(INVALID_REQUEST);
         guarded_plan(known, shown, plan)
     }
@@ -169,7 +172,7 @@ impl Ask for RecordedAnswers<'_> {
     }
 
     fn cancel_answer(&self, id: CancelId, shown: Shown) -> CancelAnswer {
-        let rule = self.header.cancels.as_slice()[id.0 as usize];
+        let rule = self.cancel_rule(id);
         let answer = first_cancel(self.asked).unwrap_or(CancelAnswer::Leave);
         guarded_cancel(rule, answer)
     }

@@ -1,0 +1,18 @@
+use Rattle.std.proofs.Common.{◌≡◌, true, Option, unwrap_or, sym, ap, subst, ◌∙◌}
+use Rattle.irp_types.specs.Rules.{is_allowed}
+use Rattle.irp_types.specs.declared.answer.Answer.{Answer}
+use Rattle.irp_routines.specs.Guarded.{guarded_answer}
+use Rattle.irp_routines.specs.GuardedFacts.{guarded_allowed}
+use Rattle.irp_script.specs.Recorded.{continues}
+use Rattle.irp_script.proofs.recorded_answers.RecordedAnswersAsk.answer.Goals as goal
+
+pub returns : goal.returns
+returns c =
+    let rule = c.args.id.rule in
+    let shown = c.args.shown in record {
+      allowed = record {
+        there = c.requires;
+        allowed = subst (λ (answer : Answer). is_allowed rule shown answer ≡ true) (sym c.guarded_answer.ensures) (guarded_allowed rule shown c.unwrap_or-answer.result);
+      };
+      told = c.guarded_answer.ensures ∙ ap (guarded_answer rule shown) (c.unwrap_or-answer.ensures ∙ ap (λ (given : Option Answer). unwrap_or given continues) c.first_answer.ensures);
+    }
