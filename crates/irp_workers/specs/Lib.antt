@@ -1,1 +1,3 @@
 pub mod Behaviours
+pub mod Deeds
+pub mod Numbers

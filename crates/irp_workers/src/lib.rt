@@ -2,5 +2,17 @@
 #![tactic(auto)]
 
 mod behaviours;
+mod deed;
+mod gate;
+mod labels;
+mod run;
+mod script_seat;
+#[cfg(test)]
+mod tests;
+mod worker;
+mod workplace;
 
 pub use behaviours::{cancel_rule, table_answer, table_cancel, table_plan};
+pub use gate::{AlwaysOpen, Gate};
+pub use run::{Worked, run_workers, script_seats};
+pub use script_seat::ScriptSeat;

@@ -1,0 +1,67 @@
+//! The labels of a script while it runs.
+
+use irp_script_reader::{Named, StepAct};
+use irp_types::{IrpRef, Reply};
+use std::alloc::{AllocError, Global};
+use std::sync::{Mutex, Wait};
+
+/// What a label stands for that isn't bound: a reference that is never live (this project's own format, docs/FORMATS.md).
+pub const UNBOUND: IrpRef = IrpRef {
+    slot: 0xFFFF_FFFF,
+    use_no: 0,
+};
+
+/// What each label of a script stands for. All seats share them.
+#[derive(Drop)]
+pub struct Labels {
+    packets: Mutex<Vec<IrpRef>>,
+}
+
+/// The label that an act binds where it succeeds: an allocation binds its label, and a reuse the label that named its
+/// packet.
+fn label_of(act: StepAct) -> Option<usize> {
+    match act {
+        StepAct::Allocate { label, .. } => Some(label),
+        StepAct::Reuse {
+            irp: Named::Label(label),
+            ..
+        } => Some(label),
+        _ => None,
+    }
+}
+
+impl Labels {
+    /// So many labels, none of them bound.
+    ///
+    /// # Errors
+    ///
+    /// `AllocError` where a growth was refused.
+    pub fn new(alloc: Global, count: usize) -> Result<Labels, AllocError> {
+        let packets = vec![in alloc; UNBOUND; count]?;
+        Ok(Labels {
+            packets: Mutex::new(packets),
+        })
+    }
+
+    /// The packet that is named so.
+    pub fn packet(&self, rt: &impl Wait, named: Named) -> IrpRef {
+        match named {
+            Named::Irp(irp) => irp,
+            Named::Label(label) => match self.packets.lock(rt).get(label) {
+                Some(irp) => *irp,
+                None => UNBOUND,
+            },
+        }
+    }
+
+    /// Binds the label that an act binds, where it was answered by a packet.
+    pub fn learn(&self, rt: &impl Wait, act: StepAct, reply: Reply) {
+        let (Some(label), Reply::Irp(irp)) = (label_of(act), reply) else {
+            return;
+        };
+        let mut packets = self.packets.lock(rt);
+        if let Some(packet) = packets.get_mut(label) {
+            *packet = irp;
+        }
+    }
+}

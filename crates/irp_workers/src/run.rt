@@ -1,0 +1,165 @@
+//! Running a script.
+
+ghost use Rattle.std.specs.Prelude.{◌≡◌, ◌<◌, ℕ, All, IfOk, map, sum_by, vec_len};
+ghost use Rattle.irp_remove.specs.Pairing.{IsSeatOf};
+ghost use Rattle.irp_workers.specs.Numbers.{AreSame, how_often};
+
+use crate::gate::{AlwaysOpen, Gate};
+use crate::labels::Labels;
+use crate::script_seat::ScriptSeat;
+use crate::worker::Worker;
+use crate::workplace::Workplace;
+use irp_remove::{Locks, RemoveSeat};
+use irp_routines::Ask;
+use irp_script_reader::Script;
+use irp_shared::{Seat, Session, Shared, WordLine};
+use std::alloc::{AllocError, Global};
+use std::sync::Wait;
+use std::thread;
+use std::thread::Threads;
+
+/// What became of a script's steps (this project's own call).
+#[derive(Drop)]
+pub struct Worked<'a, L: Session> {
+    /// All seats that were handed in, each once.
+    pub seats: Vec<ScriptSeat<'a, L>>,
+    /// The word lines of the steps on remove locks, by rising seat and then by rising step.
+    pub words: Vec<WordLine>,
+    /// Whether a step found no memory or wasn't recorded.
+    pub stopped: bool,
+}
+
+/// The seats of a script: each seat with the remove seat of the same place, on condition that the remove seats were opened
+/// with these locks, and that there are as many of them. They come in some order.
+///
+/// # Errors
+///
+/// `AllocError` where a growth was refused. What was handed in is gone then.
+pub fn script_seats<'a, L: Session>(
+    alloc: Global,
+    locks: &'a Locks,
+    mut seats: Vec<Seat<L>>,
+    mut removes: Vec<RemoveSeat>,
+) -> Result<Vec<ScriptSeat<'a, L>>, AllocError>
+    requires locks { All (IsSeatOf locks.now) removes.items }
+    requires both { vec_len seats ≡ vec_len removes }
+    ensures { IfOk result (λ pairs. AreSame (map (λ seat. seat.number) seats.items) (map (λ own. own.seat.number) pairs.items)) }
+{
+    let mut pairs = Vec::new(alloc);
+    while let Some(seat) = seats.pop() {
+        let Some(remove) = removes.pop() else {
+            return Ok(pairs);
+        };
+        pairs.reserve(1)?;
+        pairs.push_reserved(ScriptSeat::new(locks, seat, remove));
+    }
+    Ok(pairs)
+}
+
+/// So many workers without seats.
+fn idle<'a, L: Session>(alloc: Global, workers: u32) -> Result<Vec<Worker<'a, L>>, AllocError>
+    requires { 0 < workers }
+    ensures len { IfOk result (λ all. vec_len all ≡ workers) }
+    ensures seats { IfOk result (λ all. (number : ℕ) → sum_by (λ worker. how_often number (map (λ own. own.seat.number) worker.seats.items)) all.items ≡ 0) }
+{
+    let mut all = Vec::with_capacity(alloc, workers as usize)?;
+    for number in 0..workers {
+        all.push_reserved(Worker::new(alloc, number, workers, Vec::new(alloc)));
+    }
+    Ok(all)
+}
+
+/// The workers, each with the seats whose numbers leave its own number when divided by how many workers there are.
+fn deal<'a, L: Session>(
+    alloc: Global,
+    workers: u32,
+    mut seats: Vec<ScriptSeat<'a, L>>,
+) -> Result<Vec<Worker<'a, L>>, AllocError>
+    requires { 0 < workers }
+    ensures { IfOk result (λ all. (number : ℕ) → sum_by (λ worker. how_often number (map (λ own. own.seat.number) worker.seats.items)) all.items ≡ how_often number (map (λ own. own.seat.number) seats.entry.items)) }
+{
+    let mut all = idle(alloc, workers)?;
+    while let Some(seat) = seats.pop() {
+        let worker = &mut all[(seat.number() % workers) as usize];
+        worker.seats.reserve(1)?;
+        worker.seats.push_reserved(seat);
+    }
+    Ok(all)
+}
+
+/// What the workers did, together.
+fn gather<'a, L: Session>(
+    alloc: Global,
+    mut workers: Vec<Worker<'a, L>>,
+) -> Result<Worked<'a, L>, AllocError>
+    ensures { IfOk result (λ worked. (number : ℕ) → how_often number (map (λ own. own.seat.number) worked.seats.items) ≡ sum_by (λ worker. how_often number (map (λ own. own.seat.number) worker.seats.items)) workers.entry.items) }
+{
+    let mut seats = Vec::new(alloc);
+    let mut words = Vec::new(alloc);
+    let mut stopped = false;
+    while let Some(mut worker) = workers.pop() {
+        seats.append(&mut worker.seats)?;
+        words.append(&mut worker.words)?;
+        stopped = stopped || worker.stopped;
+    }
+    words.sort_by_key(|line: &WordLine| (line.seat, line.step))?;
+    Ok(Worked {
+        seats,
+        words,
+        stopped,
+    })
+}
+
+/// Runs a script: its setup in order, on this thread, and then so many workers in threads of their own, of which worker w
+/// runs, in the order of the script, the steps whose seat's number leaves w when divided by their number. With one worker
+/// all steps are run in the order of the script.
+///
+/// Labels are shared by all seats: one that isn't bound yet stands for a packet that is never live. A step whose seat isn't
+/// there, and one whose call isn't recorded, stops its worker; in the setup, nothing more is run. The gate is told of each
+/// of the script's `steps` by its seat and its place, before and after it, outside the session's lock. A step of the setup
+/// on a remove lock, which no script that was read has, has no word line (this project's own format, docs/FORMATS.md).
+///
+/// # Errors
+///
+/// `AllocError` where a growth was refused, which may come after steps were run. The seats are gone then.
+pub fn run_workers<
+    'a,
+    A: Ask + Send,
+    L: Session + Send + Sync,
+    G: Gate + Sync,
+    R: Threads + Wait + Sync,
+>(
+    rt: &R,
+    alloc: Global,
+    shared: &Shared<A, L>,
+    seats: Vec<ScriptSeat<'a, L>>,
+    script: &Script,
+    gate: &G,
+    workers: u32,
+) -> Result<Worked<'a, L>, AllocError>
+    requires { 0 < workers }
+    ensures { IfOk result (λ worked. AreSame (map (λ own. own.seat.number) seats.entry.items) (map (λ own. own.seat.number) worked.seats.items)) }
+{
+    let labels = Labels::new(alloc, script.labels)?;
+    let place = Workplace { shared, labels };
+    let all = Worker::new(alloc, 0, 1, seats);
+    let ready = all.run(rt, &place, &AlwaysOpen, script.setup.as_slice());
+    if ready.stopped {
+        let seats = ready.seats;
+        let words = Vec::new(alloc);
+        let stopped = true;
+        return Ok(Worked {
+            seats,
+            words,
+            stopped,
+        });
+    }
+    let steps = script.steps.as_slice();
+    let groups = deal(alloc, workers, ready.seats)?;
+    let done = thread::map_vec(
+        rt,
+        groups,
+        &|worker| { worker.run(rt, &place, gate, steps) },
+    )?;
+    gather(alloc, done)
+}

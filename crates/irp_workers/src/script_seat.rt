@@ -1,0 +1,148 @@
+//! A seat of a script.
+
+ghost use Rattle.std.specs.Prelude.{◌≡◌};
+ghost use Rattle.irp_remove.specs.Pairing.{IsSeatOf};
+
+use crate::deed::{call_of, lock_act_of, named_by};
+use crate::labels::UNBOUND;
+use crate::workplace::Workplace;
+use irp_remove::{AcquireRefusal, BeginRefusal, DrainRefusal, Locks, ReleaseRefusal, RemoveSeat};
+use irp_routines::Ask;
+use irp_script_reader::Step;
+use irp_shared::{Act, Seat, Session, WordLine, WordReply};
+use irp_types::LockNo;
+use std::sync::Wait;
+
+/// A seat of a script: the one in which it makes calls of the manager, and the remove seat of the same place, at the locks
+/// that this was opened with. What it knows of the locks is what its own remove seat knows.
+#[derive(Drop)]
+pub struct ScriptSeat<'a, L: Session> {
+    locks: &'a Locks,
+    seat: Seat<L>,
+    remove: RemoveSeat,
+    ghost fits: { IsSeatOf locks.now remove },
+}
+
+impl<'a, L: Session> ScriptSeat<'a, L> {
+    /// A seat of these two, on condition that the remove seat was opened with these locks.
+    pub fn new(locks: &'a Locks, seat: Seat<L>, remove: RemoveSeat) -> ScriptSeat<'a, L>
+        requires { IsSeatOf locks.now remove }
+        ensures { result.seat ≡ seat }
+    {
+        ScriptSeat {
+            locks,
+            seat,
+            remove,
+        }
+    }
+
+    /// The two apart.
+    pub fn into_pair(self) -> (Seat<L>, RemoveSeat)
+        ensures { result.0 ≡ self.entry.seat }
+    {
+        (self.seat, self.remove)
+    }
+
+    /// Its number, that of the seat in which it makes calls.
+    pub fn number(&self) -> u32
+        ensures { result ≡ self.now.seat.number }
+    {
+        self.seat.number()
+    }
+
+    /// Makes the call of a step, with what the remove seat knows of the locks, and binds the label that the step binds.
+    /// None where the step has no call, or it wasn't recorded.
+    fn call<A: Ask>(&mut self, rt: &impl Wait, place: &Workplace<A, L>, step: Step) -> Option<()>
+        ensures number { self.new.seat.number ≡ self.old.seat.number }
+    {
+        let irp = match named_by(step.act) {
+            Some(named) => place.labels.packet(rt, named),
+            None => UNBOUND,
+        };
+        let call = call_of(step.act, irp)?;
+        let seat = &mut self.seat;
+        let receipt = place.shared.call(rt, seat, call, &self.remove).ok()?;
+        place.labels.learn(rt, step.act, receipt.reply());
+        Some(())
+    }
+
+    fn acquire(&mut self, lock: LockNo, tag: u32) -> WordReply
+        ensures seat { self.new.seat ≡ self.old.seat }
+    {
+        match self.locks.acquire(&mut self.remove, lock, tag) {
+            Ok(()) => WordReply::Acquired,
+            Err(AcquireRefusal::NoLock) => WordReply::NoLock,
+            Err(AcquireRefusal::SeatFull) => WordReply::SeatFull,
+            Err(AcquireRefusal::DeletePending) => WordReply::DeletePending,
+        }
+    }
+
+    fn release(&mut self, lock: LockNo, tag: u32) -> WordReply
+        ensures seat { self.new.seat ≡ self.old.seat }
+    {
+        match self.locks.release(&mut self.remove, lock, tag) {
+            Ok(()) => WordReply::Done,
+            Err(ReleaseRefusal::NoLock) => WordReply::NoLock,
+            Err(ReleaseRefusal::NotHeld) => WordReply::NotHeld,
+        }
+    }
+
+    fn begin_remove(&mut self, lock: LockNo, tag: u32) -> WordReply
+        ensures seat { self.new.seat ≡ self.old.seat }
+    {
+        match self.locks.begin_remove(&mut self.remove, lock, tag) {
+            Ok(()) => WordReply::Done,
+            Err(BeginRefusal::NoLock) => WordReply::NoLock,
+            Err(BeginRefusal::NotHeld) => WordReply::NotHeld,
+            Err(BeginRefusal::AlreadyRemoving) => WordReply::AlreadyRemoving,
+        }
+    }
+
+    fn drained(&mut self, lock: LockNo) -> WordReply
+        ensures seat { self.new.seat ≡ self.old.seat }
+    {
+        match self.locks.drained(&mut self.remove, lock) {
+            Ok(()) => WordReply::Yes,
+            Err(DrainRefusal::NoLock) => WordReply::NoLock,
+            Err(DrainRefusal::Busy(word)) => WordReply::Busy { word },
+        }
+    }
+
+    /// Acts on a remove lock, and answers what a word line tells of it.
+    fn act(&mut self, act: Act) -> WordReply
+        ensures seat { self.new.seat ≡ self.old.seat }
+    {
+        match act {
+            Act::Acquire { lock, tag } => self.acquire(lock, tag),
+            Act::Release { lock, tag } => self.release(lock, tag),
+            Act::BeginRemove { lock, tag } => self.begin_remove(lock, tag),
+            Act::Drained { lock } => self.drained(lock),
+        }
+    }
+
+    /// Makes a step, which has this place: a call, or an act on a remove lock, of which it adds a word line. None where the
+    /// call wasn't recorded, or there was no memory for the line, and then nothing was done.
+    pub fn step<A: Ask>(
+        &mut self,
+        rt: &impl Wait,
+        place: &Workplace<A, L>,
+        index: u32,
+        step: Step,
+        words: &mut Vec<WordLine>,
+    ) -> Option<()>
+        ensures number { self.new.seat.number ≡ self.old.seat.number }
+    {
+        let Some(act) = lock_act_of(step.act) else {
+            return self.call(rt, place, step);
+        };
+        words.reserve(1).ok()?;
+        let reply = self.act(act);
+        words.push_reserved(WordLine {
+            seat: step.seat,
+            step: index,
+            act,
+            reply,
+        });
+        Some(())
+    }
+}
