@@ -1,3 +1,4 @@
 pub mod Behaviours
 pub mod Deeds
 pub mod Numbers
+pub mod Words

@@ -9,6 +9,7 @@ mod run;
 mod script_seat;
 #[cfg(test)]
 mod tests;
+mod words;
 mod worker;
 mod workplace;
 

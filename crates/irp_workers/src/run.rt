@@ -3,10 +3,12 @@
 ghost use Rattle.std.specs.Prelude.{◌≡◌, ◌<◌, ℕ, All, IfOk, map, sum_by, vec_len};
 ghost use Rattle.irp_remove.specs.Pairing.{IsSeatOf};
 ghost use Rattle.irp_workers.specs.Numbers.{AreSame, how_often};
+ghost use Rattle.irp_workers.specs.Words.{AreInOrder};
 
 use crate::gate::{AlwaysOpen, Gate};
 use crate::labels::Labels;
 use crate::script_seat::ScriptSeat;
+use crate::words::put_in_order;
 use crate::worker::Worker;
 use crate::workplace::Workplace;
 use irp_remove::{Locks, RemoveSeat};
@@ -92,7 +94,8 @@ fn gather<'a, L: Session>(
     alloc: Global,
     mut workers: Vec<Worker<'a, L>>,
 ) -> Result<Worked<'a, L>, AllocError>
-    ensures { IfOk result (λ worked. (number : ℕ) → how_often number (map (λ own. own.seat.number) worked.seats.items) ≡ sum_by (λ worker. how_often number (map (λ own. own.seat.number) worker.seats.items)) workers.entry.items) }
+    ensures words { IfOk result (λ worked. AreInOrder worked.words.items) }
+    ensures seats { IfOk result (λ worked. (number : ℕ) → how_often number (map (λ own. own.seat.number) worked.seats.items) ≡ sum_by (λ worker. how_often number (map (λ own. own.seat.number) worker.seats.items)) workers.entry.items) }
 {
     let mut seats = Vec::new(alloc);
     let mut words = Vec::new(alloc);
@@ -102,7 +105,7 @@ fn gather<'a, L: Session>(
         words.append(&mut worker.words)?;
         stopped = stopped || worker.stopped;
     }
-    words.sort_by_key(|line: &WordLine| (line.seat, line.step))?;
+    put_in_order(&mut words)?;
     Ok(Worked {
         seats,
         words,
@@ -138,7 +141,8 @@ pub fn run_workers<
     workers: u32,
 ) -> Result<Worked<'a, L>, AllocError>
     requires { 0 < workers }
-    ensures { IfOk result (λ worked. AreSame (map (λ own. own.seat.number) seats.entry.items) (map (λ own. own.seat.number) worked.seats.items)) }
+    ensures words { IfOk result (λ worked. AreInOrder worked.words.items) }
+    ensures seats { IfOk result (λ worked. AreSame (map (λ own. own.seat.number) seats.entry.items) (map (λ own. own.seat.number) worked.seats.items)) }
 {
     let labels = Labels::new(alloc, script.labels)?;
     let place = Workplace { shared, labels };
