@@ -2,7 +2,7 @@
 use Rattle.std.proofs.Common.{◌≡◌, ℕ, zero, suc, ◌+◌, ◌<◌, List, [], ◌∷◌, ◌++◌, length, map, set, get_or, refl, sym, ap, ◌∙◌, arith}
 use Rattle.std.proofs.lemmas.List.{map_push, map-append}
 use Rattle.std.proofs.lemmas.List.Sums.{sum_by-append, sum_by-cons, sum_by-set}
-use Rattle.std.specs.Prelude.{sum_by}
+use Rattle.std.specs.Prelude.{IfOk, Result, Ok, Err, sum_by}
 use Rattle.irp_workers.specs.Numbers.{how_often}
 
 -- one seat more
@@ -56,3 +56,8 @@ dealt f all i new old left fewer total one is within more taken so_far =
     let put : sum_by f (set all i new) + f (get_or all i old) ≡ sum_by f all + f new = sum_by-set f all i new old within in
     let same : f old ≡ f (get_or all i old) = ap f is in
     omega (arith, put, same, more, taken, so_far)
+
+-- what follows of each answer follows where there is one
+pub if_ok_on : {T E : Type 0} (result : Result T E) {P Q : T → Type 0} → ((value : T) → P value → Q value) → IfOk result P → IfOk result Q
+if_ok_on (Ok value) step holds = step value holds
+if_ok_on (Err fault) step holds = holds

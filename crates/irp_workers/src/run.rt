@@ -1,6 +1,6 @@
 //! Running a script.
 
-ghost use Rattle.std.specs.Prelude.{◌≡◌, ◌<◌, ℕ, All, IfOk, map, sum_by, vec_len};
+ghost use Rattle.std.specs.Prelude.{◌≡◌, ◌<◌, ℕ, All, IfOk, map, slice_index_or, sum_by, vec_len};
 ghost use Rattle.irp_remove.specs.Pairing.{IsSeatOf};
 ghost use Rattle.irp_workers.specs.Numbers.{AreSame, how_often};
 ghost use Rattle.irp_workers.specs.Words.{AreInOrder};
@@ -13,7 +13,7 @@ use crate::worker::Worker;
 use crate::workplace::Workplace;
 use irp_remove::{Locks, RemoveSeat};
 use irp_routines::Ask;
-use irp_script_reader::Script;
+use irp_script_reader::{Script, Step};
 use irp_shared::{Seat, Session, Shared, WordLine};
 use std::alloc::{AllocError, Global};
 use std::sync::Wait;
@@ -89,6 +89,20 @@ fn deal<'a, L: Session>(
     Ok(all)
 }
 
+/// Each worker runs in a thread of its own, and comes back with its seats.
+fn run_all<'a, A: Ask + Send, L: Session + Send + Sync, G: Gate + Sync, R: Threads + Wait + Sync>(
+    rt: &R,
+    place: &Workplace<A, L>,
+    gate: &G,
+    steps: &[Step],
+    workers: Vec<Worker<'a, L>>,
+) -> Result<Vec<Worker<'a, L>>, AllocError>
+    ensures len { IfOk result (λ done. vec_len done ≡ vec_len workers.entry) }
+    ensures back { IfOk result (λ done. (k : ℕ) (one : _) (other : _) → k < vec_len workers.entry → map (λ own. own.seat.number) (slice_index_or done.items k one).seats.items ≡ map (λ own. own.seat.number) (slice_index_or workers.entry.items k other).seats.items) }
+{
+    thread::map_vec(rt, workers, &|worker| worker.run(rt, place, gate, steps))
+}
+
 /// What the workers did, together.
 fn gather<'a, L: Session>(
     alloc: Global,
@@ -160,10 +174,6 @@ pub fn run_workers<
     }
     let steps = script.steps.as_slice();
     let groups = deal(alloc, workers, ready.seats)?;
-    let done = thread::map_vec(
-        rt,
-        groups,
-        &|worker| { worker.run(rt, &place, gate, steps) },
-    )?;
+    let done = run_all(rt, &place, gate, steps, groups)?;
     gather(alloc, done)
 }
