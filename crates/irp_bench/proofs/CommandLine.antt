@@ -1,4 +1,4 @@
--- No words, and the words `locks` and `calls`, are taken: the first meet no subcommand, the others that of their name.
+-- No words, and the words `locks`, `calls` and `write`, are taken: the first meet no subcommand, the others that of their name.
 use Rattle.std.proofs.Common.{◌≡◌, ℕ, List, [], ◌∷◌, Some, None, Result, Ok, Err, OnOk, MatchResult, true, codes, option_map, refl, sym, subst, ap, ap₂, ◌∙◌}
 use Rattle.std.specs.Box.{box_value}
 use Rattle.clap.specs.Matches.{subcommand_name_of}
@@ -21,6 +21,10 @@ calls_is_taken : (name : List ℕ) → takes command_line (name ∷ codes "calls
 unfolding clap_on_literals
 calls_is_taken name = refl
 
+write_is_taken : (name : List ℕ) → takes command_line (name ∷ codes "write" ∷ []) ≡ true
+unfolding clap_on_literals
+write_is_taken name = refl
+
 no_words_meet_none : (name : List ℕ) → option_map (λ found. found.0) (subcommand_of command_line (name ∷ [])) ≡ None
 unfolding clap_on_literals
 no_words_meet_none name = refl
@@ -32,6 +36,10 @@ locks_is_met name = refl
 calls_is_met : (name : List ℕ) → option_map (λ found. found.0) (subcommand_of command_line (name ∷ codes "calls" ∷ [])) ≡ Some (codes "calls")
 unfolding clap_on_literals
 calls_is_met name = refl
+
+write_is_met : (name : List ℕ) → option_map (λ found. found.0) (subcommand_of command_line (name ∷ codes "write" ∷ [])) ≡ Some (codes "write")
+unfolding clap_on_literals
+write_is_met name = refl
 
 command_line_is_simple : is_simple command_line ≡ true
 unfolding clap_on_literals
@@ -68,6 +76,11 @@ pub calls_is_named : (app : App) (matches : ArgMatches) (name : List ℕ) (words
 calls_is_named app matches name words app_is words_are has =
     named app matches words (name ∷ codes "calls" ∷ []) app_is words_are has ∙ calls_is_met name
 
+-- clap's matches of `NAME write` have the subcommand `write`
+pub write_is_named : (app : App) (matches : ArgMatches) (name : List ℕ) (words : List (List ℕ)) → app ≡ command_line → words ≡ name ∷ codes "write" ∷ [] → HasMatchesOf app words matches → subcommand_name_of matches ≡ Some (codes "write")
+write_is_named app matches name words app_is words_are has =
+    named app matches words (name ∷ codes "write" ∷ []) app_is words_are has ∙ write_is_met name
+
 -- clap finds no fault in words that it takes
 pub no_fault : (app : App) (words : List (List ℕ)) → app ≡ command_line → (is_simple_and_free app ≡ true → fault_of app words ≡ []) → fault_of command_line words ≡ []
 no_fault app words app_is free = ap (λ this. fault_of this words) (sym app_is) ∙ free (ap is_simple_and_free app_is ∙ command_line_is_free)
@@ -83,6 +96,10 @@ takes_locks app name words app_is words_are = ap₂ takes app_is words_are ∙ l
 -- clap takes `NAME calls`
 pub takes_calls : (app : App) (name : List ℕ) (words : List (List ℕ)) → app ≡ command_line → words ≡ name ∷ codes "calls" ∷ [] → takes app words ≡ true
 takes_calls app name words app_is words_are = ap₂ takes app_is words_are ∙ calls_is_taken name
+
+-- clap takes `NAME write`
+pub takes_write : (app : App) (name : List ℕ) (words : List (List ℕ)) → app ≡ command_line → words ≡ name ∷ codes "write" ∷ [] → takes app words ≡ true
+takes_write app name words app_is words_are = ap₂ takes app_is words_are ∙ write_is_taken name
 
 pub on_ok : {T E P : Type 0} (result : Result T E) → P → OnOk result P
 on_ok (Ok value) holds = holds

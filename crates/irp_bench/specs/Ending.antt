@@ -1,5 +1,7 @@
 -- The exit statuses, and the lines for standard error.
 use Rattle.std.specs.Prelude.{ℕ, List, Result, Ok, Err, codes}
+use Rattle.irp_transcript_writer.specs.declared.write.Cause.{Cause}
+use Rattle.irp_transcript_writer.specs.declared.write.Cause.TheVariants as cause
 use Rattle.irp_bench.specs.declared.ending.Ending.{Ending}
 use Rattle.irp_bench.specs.declared.ending.Ending.TheVariants.{Done, NoMemory, OtherWords, Failed}
 use Rattle.irp_bench.specs.declared.fault.Fault.{Fault}
@@ -16,7 +18,7 @@ status_of Failed = 5
 abbrev pub complaint_of : Ending → List ℕ
 complaint_of Done = codes ""
 complaint_of NoMemory = codes "irp_bench: out of memory"
-complaint_of OtherWords = codes "irp_bench: usage: irp_bench [locks|calls]"
+complaint_of OtherWords = codes "irp_bench: usage: irp_bench [locks|calls|write]"
 complaint_of Failed = codes "irp_bench: the clock, the output or a call failed"
 
 -- the ending of a program whose timing came out so
@@ -25,3 +27,8 @@ ending_of (Ok _) = Done
 ending_of (Err Memory) = NoMemory
 ending_of (Err Io) = Failed
 ending_of (Err Refused) = Failed
+
+-- why nothing was timed where a write stopped
+abbrev pub fault_of : Cause → Fault
+fault_of cause.Io = Io
+fault_of cause.Memory = Memory

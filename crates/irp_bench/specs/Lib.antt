@@ -1,3 +1,4 @@
 pub mod CommandLine
 pub mod Ending
 pub mod Makes
+pub mod Texts

@@ -1,5 +1,6 @@
 //! Why nothing was timed.
 
+use irp_transcript_writer::{Cause, WriteFault};
 use std::alloc::AllocError;
 use std::io;
 use thiserror::Error;
@@ -37,5 +38,33 @@ impl From<io::Error> for Fault {
 
     fn from(_error: io::Error) -> Fault {
         Fault::Io
+    }
+}
+
+impl From<WriteFault> for Fault {
+    ghost use Rattle.std.specs.Prelude.{◌≡◌};
+    ghost use Rattle.irp_bench.specs.Ending.{fault_of};
+
+    ghost from_gives = { λ write fault. fault ≡ fault_of write.cause };
+
+    fn from(write: WriteFault) -> Fault {
+        match write.cause {
+            Cause::Io => Fault::Io,
+            Cause::Memory => Fault::Memory,
+        }
+    }
+}
+
+impl From<serde_json::Error> for Fault {
+    ghost use Rattle.std.specs.Prelude.{⊤};
+
+    ghost from_gives = { λ _ _. ⊤ };
+
+    fn from(error: serde_json::Error) -> Fault {
+        if error.is_memory() {
+            Fault::Memory
+        } else {
+            Fault::Refused
+        }
     }
 }

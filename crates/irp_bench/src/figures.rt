@@ -119,6 +119,51 @@ impl fmt::Display for SendFigures {
     }
 }
 
+/// What a transcript's text took.
+#[derive(Clone, Copy, Debug, PartialEq, Eq)]
+pub struct TextTimes {
+    /// What it took as a transcript.
+    pub transcript: Duration,
+    /// What its lines took by `serde_json` alone.
+    pub json: Duration,
+}
+
+/// What the text of so many entries took.
+#[derive(Clone, Copy, Debug, PartialEq, Eq)]
+pub struct TextFigures {
+    /// How many entries the transcript has.
+    pub entries: u32,
+    /// How many bytes its text has.
+    pub bytes: u64,
+    /// What the text took.
+    pub times: TextTimes,
+}
+
+/// So many in a second, where all took so long.
+fn per_second(count: f64, taken: Duration) -> f64 {
+    count / taken.as_secs_f64()
+}
+
+impl fmt::Display for TextFigures {
+    fn fmt<W: fmt::Write>(&self, f: &mut fmt::Formatter<W>) -> fmt::Result {
+        let TextFigures {
+            entries,
+            bytes,
+            times,
+        } = *self;
+        let count = f64::from(entries);
+        let megabytes = bytes as f64 / 1e6;
+        let first = per_second(megabytes, times.transcript);
+        let second = per_second(count, times.transcript);
+        let third = per_second(megabytes, times.json);
+        let fourth = per_second(count, times.json);
+        write!(
+            f,
+            "entries {entries}, {megabytes:.1} MB: {first:.1} MB and {second:.0} entries a second; by serde_json alone {third:.1} MB and {fourth:.0} entries a second"
+        )
+    }
+}
+
 #[cfg(test)]
 mod tests {
     use super::*;
@@ -149,6 +194,23 @@ mod tests {
         assert_eq!(rt;
             format!(in rt.alloc(); "{figures}")?.as_str(),
             "threads 4: a round of four recorded calls 2000.0 ns, rounds a second 2000000"
+        );
+        Ok(())
+    }
+
+    #[test]
+    fn figures_of_texts_are_written_in_one_line(rt: HostRuntime) -> Result<(), Fail> {
+        let figures = TextFigures {
+            entries: 100_000,
+            bytes: 20_000_000,
+            times: TextTimes {
+                transcript: Duration::from_millis(500),
+                json: Duration::from_millis(250),
+            },
+        };
+        assert_eq!(rt;
+            format!(in rt.alloc(); "{figures}")?.as_str(),
+            "entries 100000, 20.0 MB: 40.0 MB and 200000 entries a second; by serde_json alone 80.0 MB and 400000 entries a second"
         );
         Ok(())
     }

@@ -14,7 +14,7 @@ pub const KNOWN: Known = Known {
 };
 
 /// The routine of rule Watch, on success, on error and on cancel.
-const SETTING: Setting = Setting {
+pub const SETTING: Setting = Setting {
     routine: RoutineId {
         rule: Rule::Watch,
         no: 0,

@@ -1,7 +1,8 @@
-//! The program: times what the calls of remove locks and of the manager cost.
+//! The program: times what the calls of remove locks and of the manager cost, and the texts of transcripts.
 #![tactic(auto)]
 
 mod caller;
+mod counter;
 mod descents;
 mod ending;
 mod fault;
@@ -10,9 +11,12 @@ mod forwarding;
 mod loads;
 mod orders;
 mod packets;
+mod samples;
 mod sessions;
+mod texts;
 mod timing;
 mod words;
+mod writing;
 
 use crate::ending::Ending;
 use crate::fault::Fault;
@@ -58,6 +62,15 @@ fn time_calls<R: Threads + Wait + Sync + Clock + Eprint + AllocGlobal>(
     Ok(())
 }
 
+/// Writes the figures of the writing of transcripts to standard error, for 100,000 entries and for 1,000,000.
+fn time_writing<R: Clock + Eprint + AllocGlobal>(rt: &R) -> Result<(), Fault> {
+    for entries in [100_000, 1_000_000] {
+        let figures = writing::write_figures(rt, entries)?;
+        eprintln!(rt; "irp_bench: write, {figures}")?;
+    }
+    Ok(())
+}
+
 /// Does what the words ask for.
 fn run<R: Threads + Wait + Sync + Clock + Env + Eprint + AllocGlobal>(rt: &R) -> Ending {
     let order = match words_of(rt) {
@@ -68,6 +81,7 @@ fn run<R: Threads + Wait + Sync + Clock + Env + Eprint + AllocGlobal>(rt: &R) ->
         Ok(Order::Nothing) => Ending::Done,
         Ok(Order::Locks) => Ending::of(time_locks(rt)),
         Ok(Order::Calls) => Ending::of(time_calls(rt)),
+        Ok(Order::Write) => Ending::of(time_writing(rt)),
         Err(Unread::Usage) => Ending::OtherWords,
         Err(Unread::Memory) => Ending::NoMemory,
     }

@@ -12,6 +12,8 @@ pub enum Order {
     Locks,
     /// Time the manager's calls.
     Calls,
+    /// Time the writing of transcripts.
+    Write,
 }
 
 /// Why words ask for nothing (this project's own command line, README.md).

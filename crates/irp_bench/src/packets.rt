@@ -75,7 +75,7 @@ fn unsent<C: Caller>(caller: &mut C) -> Option<()>
 }
 
 /// The call that fills the highest location with a read.
-const fn fill(irp: IrpRef) -> Call
+pub const fn fill(irp: IrpRef) -> Call
     ensures { result ≡ SetNext Originator irp 0x03 7 }
 {
     Call::SetNext {

@@ -18,7 +18,8 @@ fn command<'a>(alloc: Global) -> Result<Command<'a>, AllocError>
 {
     let command = Command::new(alloc, "irp_bench");
     let command = command.subcommand(Command::new(alloc, "locks"))?;
-    command.subcommand(Command::new(alloc, "calls"))
+    let command = command.subcommand(Command::new(alloc, "calls"))?;
+    command.subcommand(Command::new(alloc, "write"))
 }
 
 /// What clap's matches ask for.
@@ -26,6 +27,7 @@ fn order_of(matches: &ArgMatches<'_>) -> Result<Order, Unread>
     ensures nothing { (result ≡ Ok Order.Nothing) ↔ (subcommand_name_of matches.now ≡ None) }
     ensures locks { (result ≡ Ok Order.Locks) ↔ (subcommand_name_of matches.now ≡ Some (codes "locks")) }
     ensures calls { (result ≡ Ok Order.Calls) ↔ (subcommand_name_of matches.now ≡ Some (codes "calls")) }
+    ensures write { (result ≡ Ok Order.Write) ↔ (subcommand_name_of matches.now ≡ Some (codes "write")) }
 {
     let Some((name, _)) = matches.subcommand() else {
         return Ok(Order::Nothing);
@@ -34,6 +36,8 @@ fn order_of(matches: &ArgMatches<'_>) -> Result<Order, Unread>
         Ok(Order::Locks)
     } else if name == "calls" {
         Ok(Order::Calls)
+    } else if name == "write" {
+        Ok(Order::Write)
     } else {
         Err(Unread::Usage)
     }
@@ -61,6 +65,7 @@ pub fn order<'a, S: AsStr>(alloc: Global, words: &'a [S]) -> Result<Order, Unrea
     ensures nothing { IsCalledWith [] (map S.text words.entry.now) → MatchResult result (λ order. order ≡ Order.Nothing) (λ unread. unread ≡ Unread.Memory) }
     ensures locks { IsCalledWith (codes "locks" ∷ []) (map S.text words.entry.now) → MatchResult result (λ order. order ≡ Order.Locks) (λ unread. unread ≡ Unread.Memory) }
     ensures calls { IsCalledWith (codes "calls" ∷ []) (map S.text words.entry.now) → MatchResult result (λ order. order ≡ Order.Calls) (λ unread. unread ≡ Unread.Memory) }
+    ensures write { IsCalledWith (codes "write" ∷ []) (map S.text words.entry.now) → MatchResult result (λ order. order ≡ Order.Write) (λ unread. unread ≡ Unread.Memory) }
 {
     let command = command(alloc)?;
     match command.try_get_matches_from(words) {
@@ -84,6 +89,10 @@ mod tests {
         assert_eq!(rt;
             order(rt.alloc(), &["irp_bench", "calls"]),
             Ok(Order::Calls)
+        );
+        assert_eq!(rt;
+            order(rt.alloc(), &["irp_bench", "write"]),
+            Ok(Order::Write)
         );
     }
 

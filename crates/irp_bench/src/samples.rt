@@ -1,0 +1,259 @@
+//! Transcripts of any length, to be written and read.
+
+ghost use Rattle.std.specs.Prelude.{◌≡◌, [], length, IfOk};
+
+use crate::fault::Fault;
+use crate::forwarding::{KNOWN, SETTING};
+use crate::packets::{READ, fill};
+use irp_shared::{Form, Header, Transcript};
+use irp_types::{
+    Answer, Asked, Call, DeviceId, DispatchId, DriverId, Entry, IrpRef, Known, LockNo, Owner,
+    Party, Plan, Refusal, Reply, Row, Seen, Shown, Status,
+};
+use std::alloc::{AllocError, Global};
+
+/// How many calls are made with each packet.
+const CALLS: u64 = 7;
+
+/// What the dispatch plans.
+const FINISH: Plan = Plan::Finish {
+    status: Status::SUCCESS,
+    information: 5,
+};
+
+/// What Look shows of a packet that was completed.
+const SEEN: Seen = Seen {
+    owner: Owner::Ended,
+    current: 2,
+    status: Status::SUCCESS,
+    information: 5,
+    cancel: false,
+    cancel_routine: None,
+    pending_returned: false,
+    marked: false,
+};
+
+/// The calls that are made with a packet, in order, each with its reply. It is allocated with one location, filled with a
+/// read, given a completion routine, and sent; to complete it is then refused; it is looked at and given back.
+fn call_at(irp: IrpRef, place: u64) -> (Call, Reply) {
+    let party = Party::Originator;
+    match place {
+        0 => (Call::Allocate { size: 1 }, Reply::Irp(irp)),
+        1 => (fill(irp), Reply::Done),
+        2 => {
+            let setting = SETTING;
+            (
+                Call::SetRoutine {
+                    party,
+                    irp,
+                    setting,
+                },
+                Reply::Done,
+            )
+        }
+        3 => {
+            let target = DeviceId(0);
+            let send = Call::CallDriver { party, irp, target };
+            (send, Reply::Status(Status::SUCCESS))
+        }
+        4 => {
+            let complete = Call::Complete {
+                party,
+                irp,
+                status: Status::SUCCESS,
+                information: 0,
+            };
+            (complete, Reply::Refused(Refusal::Ended))
+        }
+        5 => (Call::Look { irp }, Reply::Seen(SEEN)),
+        _ => (Call::Free { irp }, Reply::Done),
+    }
+}
+
+/// What is asked where a packet is sent: the dispatch, which finishes it, and then the completion routine, which continues.
+fn questions(irp: IrpRef) -> [Asked; 2] {
+    let sent = Shown {
+        device: Some(DeviceId(0)),
+        irp,
+        major: READ,
+        location: 1,
+        word: 7,
+        status: Status::SUCCESS,
+        information: 0,
+        pending_returned: false,
+        cancel: false,
+        context: 0,
+        has_lower: false,
+    };
+    let returned = Shown {
+        device: None,
+        location: 2,
+        information: 5,
+        ..sent
+    };
+    let continues = Answer {
+        keep: false,
+        mark: false,
+        replacement: None,
+    };
+    [
+        Asked::Dispatch {
+            id: DispatchId(0),
+            shown: sent,
+            plan: FINISH,
+        },
+        Asked::Completion {
+            id: SETTING.routine,
+            shown: returned,
+            answer: continues,
+        },
+    ]
+}
+
+/// The entry of this number: the first creates a device, and the others are the calls of one packet after the other.
+fn entry(alloc: Global, number: u64) -> Result<Entry, AllocError> {
+    let mut asked = Vec::new(alloc);
+    let (call, reply) = if number == 0 {
+        let create = Call::CreateDevice {
+            driver: DriverId(0),
+            lock: LockNo(0),
+        };
+        (create, Reply::Device(DeviceId(0)))
+    } else {
+        let irp = IrpRef {
+            slot: 0,
+            use_no: (number - 1) / CALLS + 1,
+        };
+        let place = (number - 1) % CALLS;
+        if place == 3 {
+            asked.extend_from_slice(&questions(irp))?;
+        }
+        call_at(irp, place)
+    };
+    Ok(Entry {
+        number,
+        seat: 0,
+        call,
+        lock: None,
+        drained: false,
+        asked: Row::from_vec(asked),
+        reply,
+    })
+}
+
+/// So many entries, with their places as numbers.
+fn entries(alloc: Global, count: u32) -> Result<Vec<Entry>, AllocError>
+    ensures { IfOk result (λ entries. length entries.items ≡ count) }
+{
+    let mut entries = Vec::with_capacity(alloc, count as usize)?;
+    for number in 0..u64::from(count) {
+        entries.push(entry(alloc, number)?)?;
+    }
+    Ok(entries)
+}
+
+/// The header: one driver, whose reads go to a dispatch that names no routine, and one completion routine of rule Watch.
+fn header(alloc: Global) -> Result<Header, AllocError> {
+    let driver = Row::from_vec([(READ, DispatchId(0))].to_vec(alloc)?);
+    Ok(Header {
+        cancels: Row::from_vec(Vec::new(alloc)),
+        completions: KNOWN,
+        dispatches: Row::from_vec([Known::NONE].to_vec(alloc)?),
+        drivers: Row::from_vec(Vec::from_array(alloc, [driver])?),
+        form: Form::One,
+        locks: 1,
+        seats: 1,
+    })
+}
+
+/// A transcript of so many entries, as a session of one seat records them: a device is created, and one packet after the
+/// other is allocated, filled, given a completion routine, sent, refused to be completed, looked at and given back.
+///
+/// # Errors
+///
+/// `Memory` where memory ran out. No clause says that `Refused` doesn't come: it would where the formats didn't accept the
+/// header.
+pub fn transcript(alloc: Global, count: u32) -> Result<Transcript, Fault>
+    ensures { IfOk result (λ transcript. length transcript.entries ≡ count) }
+{
+    let header = header(alloc)?;
+    if !header.is_accepted() {
+        return Err(Fault::Refused);
+    }
+    let entries = Row::from_vec(entries(alloc, count)?);
+    let words = Row::from_vec(Vec::new(alloc));
+    Ok(Transcript::new(header, entries, words))
+}
+
+#[cfg(test)]
+mod tests {
+    use super::*;
+    use crate::texts::text;
+    use irp_manager::KnowsNothing;
+    use irp_routines::{AnswerTable, Behaviour, Reaction};
+    use irp_shared::{Session, open};
+    use irp_types::Rule;
+    use std::marker::Brand;
+    use std::process::Abort;
+    use std::sync::Wait;
+    use std::sync::ledger::Blank;
+    use std::test::Fail;
+
+    /// The code that the transcripts tell of: one driver, and one completion routine.
+    fn code(alloc: Global) -> Option<AnswerTable> {
+        let mut table = AnswerTable::new(alloc);
+        let goes_on = Reaction {
+            keep: false,
+            replacement: None,
+        };
+        let behaviour = Behaviour {
+            on_success: goes_on,
+            on_error: goes_on,
+        };
+        table.add(Rule::Watch, behaviour).ok()?;
+        let reads = table.add_dispatch(Known::NONE, FINISH).ok()?;
+        table.add_driver([(READ, reads)].to_vec(alloc).ok()?).ok()?;
+        Some(table)
+    }
+
+    /// The calls of these entries, made in a session, whose transcript is this one.
+    fn session<L: Session, R: Wait + Abort>(
+        rt: &R,
+        alloc: Global,
+        blank: Blank,
+        table: AnswerTable,
+        locks: u32,
+        seats: u32,
+        made: &Transcript,
+    ) -> Result<(), Fail>
+        requires blank { (blank.name ≡ L.name) × (blank.parts ≡ L.parts) }
+        requires seats { (L.parts ≡ seats) × (L.seats ≡ seats) }
+        requires fixed { L.fixed ≡ record { locks = locks; tables = table.tables } }
+    {
+        let Ok((shared, mut places)) = open::<AnswerTable, L>(alloc, blank, table, locks, seats)
+        else {
+            return Err("not opened".into());
+        };
+        let mut seat = places.pop().ok_or("no seat")?;
+        for entry in made.entries() {
+            let called = shared.call(rt, &mut seat, entry.call, &KnowsNothing);
+            assert!(rt; called.is_ok());
+        }
+        assert!(rt; places.push(seat).is_ok());
+        let Ok(transcript) = shared.close(places) else {
+            return Err("not closed".into());
+        };
+        assert_eq!(rt;
+            text(alloc, &transcript)?.as_slice(),
+            text(alloc, made)?.as_slice()
+        );
+        Ok(())
+    }
+
+    #[test]
+    fn entries_are_those_that_a_session_records(rt: HostRuntime) -> Result<(), Fail> {
+        let made = transcript(rt.alloc(), 23)?;
+        let table = code(rt.alloc()).ok_or("no table")?;
+        session::<Brand, HostRuntime>(&rt, rt.alloc(), Blank::new(1), table, 1, 1, &made)
+    }
+}
