@@ -11,7 +11,7 @@ pub record HasTaken (counter : Counter) (text : List ℕ) : Type 0 where
   pub taken : counter.taken ≡ told (length text)
 
 -- a transcript of so many entries has a text of so many bytes
-pub record HasText (entries bytes : ℕ) : Type 0 where
+pub record HasText (count size : ℕ) : Type 0 where
   pub transcript : TranscriptValue
-  pub entries : length transcript.entries ≡ entries
-  pub bytes : bytes ≡ length (text_of (lines transcript))
+  pub entries : length transcript.entries ≡ count
+  pub bytes : length (text_of (lines transcript)) ≡ size

@@ -1,6 +1,7 @@
 //! The figures, and how they are written.
 
 use std::fmt;
+use std::num::nearest_u64_to_f64;
 use std::time::Duration;
 
 /// What pairs took: each of so many threads made so many of them at once.
@@ -152,7 +153,7 @@ impl fmt::Display for TextFigures {
             times,
         } = *self;
         let count = f64::from(entries);
-        let megabytes = bytes as f64 / 1e6;
+        let megabytes = nearest_u64_to_f64(bytes) / 1e6;
         let first = per_second(megabytes, times.transcript);
         let second = per_second(count, times.transcript);
         let third = per_second(megabytes, times.json);
