@@ -87,7 +87,6 @@ fn questions(irp: IrpRef) -> [Asked; 2] {
     };
     let returned = Shown {
         device: None,
-        location: 2,
         information: 5,
         ..sent
     };
@@ -243,10 +242,8 @@ mod tests {
         let Ok(transcript) = shared.close(places) else {
             return Err("not closed".into());
         };
-        assert_eq!(rt;
-            text(alloc, &transcript)?.as_slice(),
-            text(alloc, made)?.as_slice()
-        );
+        let recorded = text(alloc, &transcript)?;
+        assert!(rt; recorded.as_slice() == text(alloc, made)?.as_slice());
         Ok(())
     }
 
