@@ -2,12 +2,14 @@
 use Rattle.std.specs.Prelude.{◌≡◌, ℕ, List, ◌∷◌, codes}
 use Rattle.clap.specs.Simple.{App, new_app, with_subcommand}
 
--- the program, which has the subcommands `locks`, `calls` and `write` and needs none
+-- the program, which has the subcommands `locks`, `calls`, `write` and `read` and needs none
 abbrev pub command_line : App
 command_line =
     with_subcommand
+    (with_subcommand
     (with_subcommand (with_subcommand (new_app (codes "irp_bench")) (new_app (codes "locks")).top) (new_app (codes "calls")).top)
-    (new_app (codes "write")).top
+    (new_app (codes "write")).top)
+    (new_app (codes "read")).top
 
 -- the program's name, whatever it is, and these words behind it
 abbrev pub IsCalledWith : List (List ℕ) → List (List ℕ) → Type 0

@@ -2,6 +2,8 @@
 use Rattle.std.specs.Prelude.{ℕ, List, Result, Ok, Err, codes}
 use Rattle.irp_transcript_writer.specs.declared.write.Cause.{Cause}
 use Rattle.irp_transcript_writer.specs.declared.write.Cause.TheVariants as cause
+use Rattle.irp_transcript_reader.specs.declared.read_fault.ReadFault.{ReadFault}
+use Rattle.irp_transcript_reader.specs.declared.read_fault.ReadFault.TheVariants as read
 use Rattle.irp_bench.specs.declared.ending.Ending.{Ending}
 use Rattle.irp_bench.specs.declared.ending.Ending.TheVariants.{Done, NoMemory, OtherWords, Failed}
 use Rattle.irp_bench.specs.declared.fault.Fault.{Fault}
@@ -18,7 +20,7 @@ status_of Failed = 5
 abbrev pub complaint_of : Ending → List ℕ
 complaint_of Done = codes ""
 complaint_of NoMemory = codes "irp_bench: out of memory"
-complaint_of OtherWords = codes "irp_bench: usage: irp_bench [locks|calls|write]"
+complaint_of OtherWords = codes "irp_bench: usage: irp_bench [locks|calls|write|read]"
 complaint_of Failed = codes "irp_bench: the clock, the output or a call failed"
 
 -- the ending of a program whose timing came out so
@@ -32,3 +34,8 @@ ending_of (Err Refused) = Failed
 abbrev pub fault_of : Cause → Fault
 fault_of cause.Io = Io
 fault_of cause.Memory = Memory
+
+-- why nothing was timed where a transcript was not read
+abbrev pub fault_of_read : ReadFault → Fault
+fault_of_read (read.Line line) = Refused
+fault_of_read read.NoMemory = Memory

@@ -58,7 +58,7 @@ impl Ending {
         match self {
             Ending::Done => "",
             Ending::NoMemory => "irp_bench: out of memory",
-            Ending::OtherWords => "irp_bench: usage: irp_bench [locks|calls|write]",
+            Ending::OtherWords => "irp_bench: usage: irp_bench [locks|calls|write|read]",
             Ending::Failed => "irp_bench: the clock, the output or a call failed",
         }
     }
@@ -76,7 +76,7 @@ mod tests {
         assert_eq!(rt; Ending::Failed.status(), 5);
         assert_eq!(rt; Ending::Done.line(), "");
         assert_eq!(rt; Ending::NoMemory.line(), "irp_bench: out of memory");
-        let usage = "irp_bench: usage: irp_bench [locks|calls|write]";
+        let usage = "irp_bench: usage: irp_bench [locks|calls|write|read]";
         assert_eq!(rt; Ending::OtherWords.line(), usage);
         let failed = "irp_bench: the clock, the output or a call failed";
         assert_eq!(rt; Ending::Failed.line(), failed);

@@ -1,5 +1,6 @@
 //! Why nothing was timed.
 
+use irp_transcript_reader::ReadFault;
 use irp_transcript_writer::{Cause, WriteFault};
 use std::alloc::AllocError;
 use std::io;
@@ -51,6 +52,20 @@ impl From<WriteFault> for Fault {
         match write.cause {
             Cause::Io => Fault::Io,
             Cause::Memory => Fault::Memory,
+        }
+    }
+}
+
+impl From<ReadFault> for Fault {
+    ghost use Rattle.std.specs.Prelude.{◌≡◌};
+    ghost use Rattle.irp_bench.specs.Ending.{fault_of_read};
+
+    ghost from_gives = { λ read fault. fault ≡ fault_of_read read };
+
+    fn from(read: ReadFault) -> Fault {
+        match read {
+            ReadFault::Line(_) => Fault::Refused,
+            ReadFault::NoMemory => Fault::Memory,
         }
     }
 }

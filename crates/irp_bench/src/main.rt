@@ -11,6 +11,7 @@ mod forwarding;
 mod loads;
 mod orders;
 mod packets;
+mod reading;
 mod samples;
 mod sessions;
 mod texts;
@@ -71,6 +72,15 @@ fn time_writing<R: Clock + Eprint + AllocGlobal>(rt: &R) -> Result<(), Fault> {
     Ok(())
 }
 
+/// Writes the figures of the reading of transcripts to standard error, for 100,000 entries and for 1,000,000.
+fn time_reading<R: Clock + Eprint + AllocGlobal>(rt: &R) -> Result<(), Fault> {
+    for entries in [100_000, 1_000_000] {
+        let figures = reading::read_figures(rt, entries)?;
+        eprintln!(rt; "irp_bench: read, {figures}")?;
+    }
+    Ok(())
+}
+
 /// Does what the words ask for.
 fn run<R: Threads + Wait + Sync + Clock + Env + Eprint + AllocGlobal>(rt: &R) -> Ending {
     let order = match words_of(rt) {
@@ -82,6 +92,7 @@ fn run<R: Threads + Wait + Sync + Clock + Env + Eprint + AllocGlobal>(rt: &R) ->
         Ok(Order::Locks) => Ending::of(time_locks(rt)),
         Ok(Order::Calls) => Ending::of(time_calls(rt)),
         Ok(Order::Write) => Ending::of(time_writing(rt)),
+        Ok(Order::Read) => Ending::of(time_reading(rt)),
         Err(Unread::Usage) => Ending::OtherWords,
         Err(Unread::Memory) => Ending::NoMemory,
     }

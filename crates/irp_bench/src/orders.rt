@@ -14,6 +14,8 @@ pub enum Order {
     Calls,
     /// Time the writing of transcripts.
     Write,
+    /// Time the reading of transcripts.
+    Read,
 }
 
 /// Why words ask for nothing (this project's own command line, README.md).

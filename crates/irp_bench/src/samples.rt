@@ -15,6 +15,9 @@ use std::alloc::{AllocError, Global};
 /// How many calls are made with each packet.
 const CALLS: u64 = 7;
 
+/// Which of these calls sends the packet, counted from 0.
+const SEND: u64 = 3;
+
 /// What the dispatch plans.
 const FINISH: Plan = Plan::Finish {
     status: Status::SUCCESS,
@@ -41,17 +44,14 @@ fn call_at(irp: IrpRef, place: u64) -> (Call, Reply) {
         0 => (Call::Allocate { size: 1 }, Reply::Irp(irp)),
         1 => (fill(irp), Reply::Done),
         2 => {
-            let setting = SETTING;
-            (
-                Call::SetRoutine {
-                    party,
-                    irp,
-                    setting,
-                },
-                Reply::Done,
-            )
+            let set = Call::SetRoutine {
+                party,
+                irp,
+                setting: SETTING,
+            };
+            (set, Reply::Done)
         }
-        3 => {
+        SEND => {
             let target = DeviceId(0);
             let send = Call::CallDriver { party, irp, target };
             (send, Reply::Status(Status::SUCCESS))
@@ -124,7 +124,7 @@ fn entry(alloc: Global, number: u64) -> Result<Entry, AllocError> {
             use_no: (number - 1) / CALLS + 1,
         };
         let place = (number - 1) % CALLS;
-        if place == 3 {
+        if place == SEND {
             asked.extend_from_slice(&questions(irp))?;
         }
         call_at(irp, place)

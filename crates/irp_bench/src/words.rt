@@ -19,7 +19,8 @@ fn command<'a>(alloc: Global) -> Result<Command<'a>, AllocError>
     let command = Command::new(alloc, "irp_bench");
     let command = command.subcommand(Command::new(alloc, "locks"))?;
     let command = command.subcommand(Command::new(alloc, "calls"))?;
-    command.subcommand(Command::new(alloc, "write"))
+    let command = command.subcommand(Command::new(alloc, "write"))?;
+    command.subcommand(Command::new(alloc, "read"))
 }
 
 /// What clap's matches ask for.
@@ -28,6 +29,7 @@ fn order_of(matches: &ArgMatches<'_>) -> Result<Order, Unread>
     ensures locks { (result ≡ Ok Order.Locks) ↔ (subcommand_name_of matches.now ≡ Some (codes "locks")) }
     ensures calls { (result ≡ Ok Order.Calls) ↔ (subcommand_name_of matches.now ≡ Some (codes "calls")) }
     ensures write { (result ≡ Ok Order.Write) ↔ (subcommand_name_of matches.now ≡ Some (codes "write")) }
+    ensures read { (result ≡ Ok Order.Read) ↔ (subcommand_name_of matches.now ≡ Some (codes "read")) }
 {
     let Some((name, _)) = matches.subcommand() else {
         return Ok(Order::Nothing);
@@ -38,6 +40,8 @@ fn order_of(matches: &ArgMatches<'_>) -> Result<Order, Unread>
         Ok(Order::Calls)
     } else if name == "write" {
         Ok(Order::Write)
+    } else if name == "read" {
+        Ok(Order::Read)
     } else {
         Err(Unread::Usage)
     }
@@ -66,6 +70,7 @@ pub fn order<'a, S: AsStr>(alloc: Global, words: &'a [S]) -> Result<Order, Unrea
     ensures locks { IsCalledWith (codes "locks" ∷ []) (map S.text words.entry.now) → MatchResult result (λ order. order ≡ Order.Locks) (λ unread. unread ≡ Unread.Memory) }
     ensures calls { IsCalledWith (codes "calls" ∷ []) (map S.text words.entry.now) → MatchResult result (λ order. order ≡ Order.Calls) (λ unread. unread ≡ Unread.Memory) }
     ensures write { IsCalledWith (codes "write" ∷ []) (map S.text words.entry.now) → MatchResult result (λ order. order ≡ Order.Write) (λ unread. unread ≡ Unread.Memory) }
+    ensures read { IsCalledWith (codes "read" ∷ []) (map S.text words.entry.now) → MatchResult result (λ order. order ≡ Order.Read) (λ unread. unread ≡ Unread.Memory) }
 {
     let command = command(alloc)?;
     match command.try_get_matches_from(words) {
@@ -94,6 +99,7 @@ mod tests {
             order(rt.alloc(), &["irp_bench", "write"]),
             Ok(Order::Write)
         );
+        assert_eq!(rt; order(rt.alloc(), &["irp_bench", "read"]), Ok(Order::Read));
     }
 
     #[test]
