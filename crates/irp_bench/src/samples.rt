@@ -1,6 +1,6 @@
 //! Transcripts of any length, to be written and read.
 
-ghost use Rattle.std.specs.Prelude.{◌≡◌, [], length, IfOk};
+ghost use Rattle.std.specs.Prelude.{◌≡◌, length, IfOk};
 
 use crate::fault::Fault;
 use crate::forwarding::{KNOWN, SETTING};

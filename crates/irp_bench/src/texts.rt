@@ -1,6 +1,6 @@
 //! Transcripts as texts in memory.
 
-ghost use Rattle.std.specs.Prelude.{◌≡◌, ◌≤◌, [], IfOk, IfSome};
+ghost use Rattle.std.specs.Prelude.{◌≡◌, [], IfOk, IfSome};
 ghost use Rattle.irp_transcript_writer.specs.Lines.{lines, text_of};
 ghost use Rattle.irp_bench.specs.Texts.{HasTaken};
 
