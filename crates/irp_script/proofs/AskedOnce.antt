@@ -176,9 +176,9 @@ one_more : (shown : Shown) (device : ℕ) (dispatch : Option DispatchId) (plan :
 one_more shown device None plan asked at apart are = are
 one_more shown device (Some dispatch) None asked at apart are = are
 one_more shown device (Some dispatch) (Some plan) asked at apart are = (
-    ap (λ told. option_or told (first_in (plan_in shown.device) asked)) (cond-true _ _ _ (ap (λ (there : Option DeviceId). is_same_device there there) at ∙ same_number device)),
-    all_passed (Dispatch dispatch shown plan) asked asked (each asked (elsewhere_passed dispatch shown plan device at) apart) are,
-  )
+  ap (λ told. option_or told (first_in (plan_in shown.device) asked)) (cond-true _ _ _ (ap (λ (there : Option DeviceId). is_same_device there there) at ∙ same_number device)),
+  all_passed (Dispatch dispatch shown plan) asked asked (each asked (elsewhere_passed dispatch shown plan device at) apart) are,
+)
 
 question_elsewhere : (shown : Shown) (device other : ℕ) (dispatch : Option DispatchId) (plan : Option Plan) → shown.device ≡ Some (record { 0 = other }) → (device ≡ other → ⊥) → AllByRecursion (IsElsewhere device) (as_question shown dispatch plan)
 question_elsewhere shown device other None plan at apart = tt
@@ -224,9 +224,10 @@ module _ (devices : DevicesValue) where
       let there : depth_of devices (get_or stack n target) ≡ n = depth n (omega arith) in
       let more : take (suc n) stack ≡ take n stack ++ get_or stack n target ∷ [] = ap (λ count. take count stack) (next n) ∙ take_more stack n target (omega arith) in
       let turned : reverse (take (suc n) stack) ≡ get_or stack n target ∷ reverse (take n stack) = ap reverse more ∙ reverse-append (take n stack) (get_or stack n target ∷ []) in
-      subst (λ list. AllByRecursion (λ device. depth_of devices device < suc n) list × GoesDown list) (sym turned)
-      ((omega (arith, there), each (reverse (take n stack)) (λ device (low : depth_of devices device < n). omega (arith, low)) below.0),
-      (each (reverse (take n stack)) (λ device (low : depth_of devices device < n). omega (arith, low, there)) below.0, below.1))
+      subst (λ list. AllByRecursion (λ device. depth_of devices device < suc n) list × GoesDown list) (sym turned) (
+        (omega (arith, there), each (reverse (take n stack)) (λ device (low : depth_of devices device < n). omega (arith, low)) below.0),
+        (each (reverse (take n stack)) (λ device (low : depth_of devices device < n). omega (arith, low, there)) below.0, below.1),
+      )
 
   -- the devices from a target down
   devices_go_down : (target count : ℕ) → AreStacks devices → GoesDown (devices_down devices target count)
@@ -306,8 +307,11 @@ followed_own : (tables : Tables) (irp : IrpRef) (old new : PacketValue) (routine
     → IsCancelAllowed tables routine answer → Follows irp old answer later new → AreOwn tables (CancelAsked routine shown answer ∷ later)
 followed_own tables irp old new routine shown (CancelFinish information) later allowed follows =
     subst (λ (given : List Asked). AreOwn tables (CancelAsked routine shown (CancelFinish information) ∷ given)) (sym follows.2) (
-      (refl, all_passed (CancelAsked routine shown (CancelFinish information)) (map as_asked follows.0) (map as_asked follows.0)
-      (completion_passed routine shown (CancelFinish information) follows.0) (unwound_first irp (with_status old cancelled information) new follows.0 follows.1)),
+      (
+        refl,
+        all_passed (CancelAsked routine shown (CancelFinish information)) (map as_asked follows.0) (map as_asked follows.0)
+            (completion_passed routine shown (CancelFinish information) follows.0) (unwound_first irp (with_status old cancelled information) new follows.0 follows.1),
+      ),
       (allowed, unwound_right tables irp (with_status old cancelled information) new follows.0 follows.1),
     )
 followed_own tables irp old new routine shown Leave later allowed follows =

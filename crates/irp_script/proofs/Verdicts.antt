@@ -27,14 +27,14 @@ taken_within (suc n) (first ∷ xs) (suc k) x at = omega (arith, taken_within n 
 -- a history of no entries leads to the opening state
 pub opens : (fixed : Fixed) → LeadsTo fixed [] opening_state
 opens fixed = (
-    opening_state ∷ [],
-    record {
-      longer = refl;
-      opens = refl;
-      follows = λ number entry old new at from to. absurd (cc);
-    },
-    refl,
-  )
+  opening_state ∷ [],
+  record {
+    longer = refl;
+    opens = refl;
+    follows = λ number entry old new at from to. absurd (cc);
+  },
+  refl,
+)
 
 -- the first entries lead through the first states
 first_states : (fixed : Fixed) (history : List Entry) (states : List StateValue) (n : ℕ) → n ≤ length history → LeadsThrough fixed history states → LeadsThrough fixed (take n history) (take (n + 1) states)
@@ -89,13 +89,13 @@ pub illegal_verdict : (fixed : Fixed) (history : List Entry) (at : ℕ) → IsFi
 illegal_verdict fixed history at first = record {
   legal = λ entries. (λ same. absurd (cc (same)), λ given. absurd (first.1 (beginning fixed history (at + 1) given.0)));
   illegal = λ other. (
-      λ same. (let is : at ≡ other = cc (same) in subst (IsFirstIllegal fixed history) is first),
-      λ given. (elim (cases_eq at other) as (λ _. Illegal at ≡ Illegal other) [
-        | inl same ↦ ap Illegal same
-        | inr apart ↦ elim (cases_lt at other) as (λ _. Illegal at ≡ Illegal other) [
-          | inl low ↦ absurd (first.1 (earlier fixed history (at + 1) other (omega (arith, low)) given.0))
-          | inr high ↦ absurd (given.1 (earlier fixed history (other + 1) at (omega (arith, high, apart)) first.0))
-        ]
-      ]),
-    );
+    λ same. (let is : at ≡ other = cc (same) in subst (IsFirstIllegal fixed history) is first),
+    λ given. (elim (cases_eq at other) as (λ _. Illegal at ≡ Illegal other) [
+      | inl same ↦ ap Illegal same
+      | inr apart ↦ elim (cases_lt at other) as (λ _. Illegal at ≡ Illegal other) [
+        | inl low ↦ absurd (first.1 (earlier fixed history (at + 1) other (omega (arith, low)) given.0))
+        | inr high ↦ absurd (given.1 (earlier fixed history (other + 1) at (omega (arith, high, apart)) first.0))
+      ]
+    ]),
+  );
 }

@@ -9,8 +9,8 @@ ghost use Rattle.irp_script.specs.Recorded.{is_same_device, plan_in, answer_in, 
 use irp_routines::{Ask, guarded_answer, guarded_cancel, guarded_plan};
 use irp_shared::Header;
 use irp_types::{
-    Answer, Asked, CancelAnswer, CancelId, CancelRule, DeviceId, DispatchId, DriverId, Known,
-    Plan, RoutineId, Shown, Status,
+    Answer, Asked, CancelAnswer, CancelId, CancelRule, DeviceId, DispatchId, DriverId, Known, Plan,
+    RoutineId, Shown, Status,
 };
 
 /// Who is asked while an entry is made again: each closure answers what the entry says that it answered, where the

@@ -6,8 +6,8 @@ mod removing;
 use super::*;
 use irp_shared::{Form, Header, Transcript};
 use irp_types::{
-    Answer, Asked, Call, CancelRule, DeviceId, DispatchId, DriverId, Entry, IrpRef, Known, LockNo, Party,
-    Plan, Refusal, Reply, RoutineId, Row, Rule, Setting, Shown, Status,
+    Answer, Asked, Call, CancelRule, DeviceId, DispatchId, DriverId, Entry, IrpRef, Known, LockNo,
+    Party, Plan, Refusal, Reply, RoutineId, Row, Rule, Setting, Shown, Status,
 };
 use std::alloc::Global;
 use std::test::Fail;
@@ -117,7 +117,11 @@ fn read(alloc: Global, changes: Changes) -> Result<Vec<Entry>, Fail> {
         word: changes.word,
         ..shown(irp)
     })];
-    let questions = if changes.is_asked { asked.as_slice() } else { &[] };
+    let questions = if changes.is_asked {
+        asked.as_slice()
+    } else {
+        &[]
+    };
     let entries = [
         entry(alloc, 0, CREATES, &[], Reply::Device(DEVICE))?,
         entry(
@@ -183,7 +187,10 @@ fn a_reply_with_another_status_is_illegal(rt: HostRuntime) -> Result<(), Fail> {
         status: Status::PENDING,
         ..AS_IT_WAS
     };
-    assert_eq!(rt; judged(rt.alloc(), changes)?, Some(Verdict::Illegal { at: 3 }));
+    assert_eq!(rt;
+        judged(rt.alloc(), changes)?,
+        Some(Verdict::Illegal { at: 3 })
+    );
     Ok(())
 }
 
@@ -193,7 +200,10 @@ fn an_entry_with_another_number_is_illegal(rt: HostRuntime) -> Result<(), Fail> 
         number: 7,
         ..AS_IT_WAS
     };
-    assert_eq!(rt; judged(rt.alloc(), changes)?, Some(Verdict::Illegal { at: 1 }));
+    assert_eq!(rt;
+        judged(rt.alloc(), changes)?,
+        Some(Verdict::Illegal { at: 1 })
+    );
     Ok(())
 }
 
@@ -205,7 +215,10 @@ fn a_new_packet_may_be_in_any_slot(rt: HostRuntime) -> Result<(), Fail> {
         allocated: irp,
         ..AS_IT_WAS
     };
-    assert_eq!(rt; judged(rt.alloc(), changes)?, Some(Verdict::Legal { entries: 4 }));
+    assert_eq!(rt;
+        judged(rt.alloc(), changes)?,
+        Some(Verdict::Legal { entries: 4 })
+    );
     Ok(())
 }
 
@@ -215,7 +228,10 @@ fn a_new_packet_has_the_next_use_number(rt: HostRuntime) -> Result<(), Fail> {
         allocated: IrpRef { slot: 0, use_no: 2 },
         ..AS_IT_WAS
     };
-    assert_eq!(rt; judged(rt.alloc(), changes)?, Some(Verdict::Illegal { at: 1 }));
+    assert_eq!(rt;
+        judged(rt.alloc(), changes)?,
+        Some(Verdict::Illegal { at: 1 })
+    );
     Ok(())
 }
 
@@ -225,7 +241,10 @@ fn what_was_shown_is_judged(rt: HostRuntime) -> Result<(), Fail> {
         word: 8,
         ..AS_IT_WAS
     };
-    assert_eq!(rt; judged(rt.alloc(), changes)?, Some(Verdict::Illegal { at: 3 }));
+    assert_eq!(rt;
+        judged(rt.alloc(), changes)?,
+        Some(Verdict::Illegal { at: 3 })
+    );
     Ok(())
 }
 
@@ -235,6 +254,9 @@ fn what_was_asked_is_judged(rt: HostRuntime) -> Result<(), Fail> {
         is_asked: false,
         ..AS_IT_WAS
     };
-    assert_eq!(rt; judged(rt.alloc(), changes)?, Some(Verdict::Illegal { at: 3 }));
+    assert_eq!(rt;
+        judged(rt.alloc(), changes)?,
+        Some(Verdict::Illegal { at: 3 })
+    );
     Ok(())
 }

@@ -41,11 +41,11 @@ fn always(routine: RoutineId) -> Option<Setting> {
     })
 }
 
-/// What the dispatch of a device is shown, in a stack of three.
-fn shown_to(device: u32) -> Shown {
+/// What the dispatch of a device is shown in a location, in a stack of three.
+fn shown_to(device: u32, location: u32) -> Shown {
     Shown {
         device: Some(DeviceId(device)),
-        location: device + 1,
+        location,
         has_lower: device > 0,
         ..shown(IRP)
     }
@@ -61,17 +61,17 @@ fn questions(answer: Answer) -> [Asked; 4] {
     [
         Asked::Dispatch {
             id: DispatchId(2),
-            shown: shown_to(2),
+            shown: shown_to(2, 3),
             plan: Plan::Forward { set: always(WATCH) },
         },
         Asked::Dispatch {
             id: DispatchId(1),
-            shown: shown_to(1),
+            shown: shown_to(1, 2),
             plan: Plan::ForwardPend {
                 set: always(KEEPER),
             },
         },
-        question(shown_to(0)),
+        question(shown_to(0, 1)),
         Asked::Completion {
             id: KEEPER,
             shown: kept,
@@ -86,7 +86,13 @@ fn creates(alloc: Global, number: u32) -> Result<Entry, Fail> {
         driver: DriverId(number),
         lock: LockNo(0),
     };
-    entry(alloc, number as u64, call, &[], Reply::Device(DeviceId(number)))
+    entry(
+        alloc,
+        number as u64,
+        call,
+        &[],
+        Reply::Device(DeviceId(number)),
+    )
 }
 
 /// A device is put on top of device 0's stack, whose top was another.
@@ -148,12 +154,18 @@ fn stack_header(alloc: Global) -> Result<Header, Fail> {
 
 #[test]
 fn a_keeper_that_keeps_is_legal(rt: HostRuntime) -> Result<(), Fail> {
-    assert_eq!(rt; judged(rt.alloc(), KEEPS)?, Some(Verdict::Legal { entries: 8 }));
+    assert_eq!(rt;
+        judged(rt.alloc(), KEEPS)?,
+        Some(Verdict::Legal { entries: 8 })
+    );
     Ok(())
 }
 
 #[test]
 fn a_keeper_that_continues_is_illegal(rt: HostRuntime) -> Result<(), Fail> {
-    assert_eq!(rt; judged(rt.alloc(), CONTINUES)?, Some(Verdict::Illegal { at: 7 }));
+    assert_eq!(rt;
+        judged(rt.alloc(), CONTINUES)?,
+        Some(Verdict::Illegal { at: 7 })
+    );
     Ok(())
 }

@@ -14,10 +14,10 @@ use Rattle.irp_script.proofs.checker.judge.Goals as goal
 
 pub loop-place-init : goal.loop-place-init
 loop-place-init c = (
-    subst (LeadsTo (fixed_of c.args.header.now) []) (sym c.new-core.ensures.state) (opens (fixed_of c.args.header.now)),
-    c.new-core.ensures.stands c.args.header.now.completions,
-    c.new-core.ensures.locks,
-  )
+  subst (LeadsTo (fixed_of c.args.header.now) []) (sym c.new-core.ensures.state) (opens (fixed_of c.args.header.now)),
+  c.new-core.ensures.stands c.args.header.now.completions,
+  c.new-core.ensures.locks,
+)
 
 pub returns-then-not-branch : goal.returns-then-not-branch
 returns-then-not-branch c =
