@@ -4,7 +4,7 @@ use Rattle.std.proofs.Common.{bytes_eq}
 use Rattle.serde_json.specs.Data.{Data}
 use Rattle.serde_json.specs.Find.{get, as_str}
 use Rattle.irp_forms.specs.Parts.{◌>>=◌, has_keys, u8_at, u32_at, u64_at}
-use Rattle.irp_forms.specs.Values.{cancel_or_null_at, device_at, lock_at, party_at, setting_at, status_at}
+use Rattle.irp_forms.specs.Values.{cancel_or_null_at, device_at, driver_at, lock_at, party_at, setting_at, status_at}
 use Rattle.irp_types.specs.declared.call.Party.{Party}
 use Rattle.irp_types.specs.declared.names.LockNo.{LockNo}
 use Rattle.irp_script_reader.specs.Labels.{is_label, named_at}
@@ -17,9 +17,9 @@ use Rattle.irp_script_reader.specs.declared.act.StepAct.TheVariants as act
 
 unfoldable pub create_device_at : Data → Option StepAct
 create_device_at form = if has_keys (codes "do" ∷ codes "driver" ∷ codes "lock" ∷ codes "seat" ∷ []) form then (do
-  driver ← get (codes "driver") form >>= u32_at
+  driver ← get (codes "driver") form >>= driver_at
   lock ← get (codes "lock") form >>= lock_at
-  Some (act.CreateDevice (record { 0 = driver }) lock)) else None
+  Some (act.CreateDevice driver lock)) else None
 
 unfoldable pub attach_at : Data → Option StepAct
 attach_at form = if has_keys (codes "device" ∷ codes "do" ∷ codes "seat" ∷ codes "to" ∷ []) form then (do

@@ -33,10 +33,10 @@ ghost use Rattle.irp_script_reader.specs.Acts.{
 use crate::act::{Named, Step, StepAct};
 use crate::labels::{is_label, named_at};
 use irp_forms::{
-    cancel_or_null_at, device_at, has_keys, lock_at, party_at, setting_at, status_at, u8_at,
-    u32_at, u64_at,
+    cancel_or_null_at, device_at, driver_at, has_keys, lock_at, party_at, setting_at, status_at,
+    u8_at, u32_at, u64_at,
 };
-use irp_types::{DriverId, LockNo, Party};
+use irp_types::{LockNo, Party};
 use serde_json::Value;
 
 /// A new device.
@@ -47,12 +47,9 @@ fn create_device_at(value: &Value) -> Option<StepAct>
     if !has_keys(value, &["do", "driver", "lock", "seat"]) {
         return None;
     }
-    let driver = u32_at(value.get("driver")?)?;
+    let driver = driver_at(value.get("driver")?)?;
     let lock = lock_at(value.get("lock")?)?;
-    Some(StepAct::CreateDevice {
-        driver: DriverId(driver),
-        lock,
-    })
+    Some(StepAct::CreateDevice { driver, lock })
 }
 
 /// A device on top of another.
