@@ -1,6 +1,6 @@
 //! The labels of a script.
 
-ghost use Rattle.std.specs.Prelude.{◌≡◌, ◌++◌, ◌∷◌, [], List, length, option_map, OnOk};
+ghost use Rattle.std.specs.Prelude.{◌≡◌, [], length, option_map};
 ghost use Rattle.serde_json.specs.View.{view};
 ghost use Rattle.irp_script_reader.specs.Labels.{
   are_label_bytes,

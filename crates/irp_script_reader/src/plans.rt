@@ -1,6 +1,6 @@
 //! What the plans and the drivers of a script may name.
 
-ghost use Rattle.std.specs.Prelude.{◌≡◌, length};
+ghost use Rattle.std.specs.Prelude.{◌≡◌};
 ghost use Rattle.irp_script_reader.specs.Plans.{has_major, is_driver, is_handler, is_plan_sound, names_known};
 
 use irp_types::{DispatchId, Known, Plan, Rule};
