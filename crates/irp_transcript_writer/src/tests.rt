@@ -3,6 +3,7 @@
 ghost use Rattle.std.specs.Prelude.{Some};
 
 mod calls;
+mod reading_back;
 mod word_lines;
 
 use super::*;
