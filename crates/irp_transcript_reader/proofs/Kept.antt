@@ -5,7 +5,7 @@ use Rattle.serde_json.specs.Data.{Data}
 use Rattle.irp_forms.specs.Parts.{◌>>=◌}
 use Rattle.irp_shared.specs.Transcripts.{TranscriptValue, IsTranscript}
 use Rattle.irp_shared.specs.declared.header.Header.{Header}
-use Rattle.irp_transcript_reader.specs.Reading.{IsNext, IsNextUnder, Takes, is_entry, most_entries, seated_entry_at, seated_word_at, with_entry, with_line, with_word}
+use Rattle.irp_transcript_reader.specs.Reading.{IsNext, IsNextUnder, is_entry, most_entries, seated_entry_at, seated_word_at, with_entry, with_line, with_word}
 
 -- whatever is put to it, its header stays
 stays : {T : Type 0} (known : Option Header) (given : Option T) (put : T → TranscriptValue) (after : TranscriptValue)
