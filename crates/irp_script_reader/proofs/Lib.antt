@@ -1,1 +1,2 @@
 pub mod Rests
+pub mod Sounds

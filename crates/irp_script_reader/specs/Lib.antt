@@ -5,3 +5,4 @@ pub mod Plans
 pub mod Acts
 pub mod Members
 pub mod Scripts
+pub mod Sound

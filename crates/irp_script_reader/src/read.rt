@@ -1,6 +1,6 @@
 //! Scripts from their texts.
 
-ghost use Rattle.std.specs.Prelude.{◌≡◌};
+ghost use Rattle.std.specs.Prelude.{◌≡◌, IfOk};
 ghost use Rattle.std.specs.Option.{option_and_then};
 ghost use Rattle.serde_json.specs.Find.{get};
 ghost use Rattle.serde_json.specs.View.{view};
@@ -18,6 +18,7 @@ ghost use Rattle.irp_script_reader.specs.Scripts.{
   steps_at,
 };
 ghost use Rattle.irp_forms.specs.Parts.{u32_at};
+ghost use Rattle.irp_script_reader.specs.Sound.{IsSound};
 ghost use Rattle.irp_script_reader.specs.Taking.{Tells};
 
 use crate::act::Step;
@@ -218,8 +219,10 @@ fn script_at(alloc: Global, value: &Value) -> Result<Script, ScriptFault>
 /// from it; the value is no object, or its `form` isn't known; a key is missing or unknown; then the faults of `seats`,
 /// `locks`, `completions`, `cancels`, `dispatches`, `drivers`, `setup` and `steps`, in a list by place. `NoMemory` where
 /// memory runs out.
+#[tactic(auto, using(crate::proofs::Sounds::told_sound))]
 pub fn read_script(alloc: Global, bytes: &[u8]) -> Result<Script, ScriptFault>
-    ensures { ReadsScript result bytes.now }
+    ensures reads { ReadsScript result bytes.now }
+    ensures sound { IfOk result IsSound }
 {
     if bytes.len() > MOST_BYTES {
         return Err(ScriptFault::Refused(ScriptRefusal::TooLong));

@@ -1,0 +1,276 @@
+-- A script that is read is sound: what each member keeps is kept by its list.
+use Rattle.std.proofs.Common.{◌≡◌, ℕ, ◌+◌, ◌<◌, ◌≤◌, List, [], ◌∷◌, ◌++◌, length, Bool, true, false, not, ◌&&◌, nat_lt, Option, Some, None, Result, Ok, Err, refl, sym, ap, ◌∙◌, subst, arith, if◌then◌else◌, codes, ltb}
+use Rattle.std.specs.Prelude.{IfOk}
+use Rattle.std.specs.List.{All}
+use Rattle.std.proofs.lemmas.List.Elements.{All-nil, All-push}
+use Rattle.std.proofs.lemmas.Bool.{and_parts, ltb-true, not-true}
+use Rattle.std.proofs.lemmas.Grind.{common_steps}
+use Rattle.serde_json.specs.Data.{Data, Items, no_items, item}
+use Rattle.serde_json.specs.Find.{get, as_array}
+use Rattle.irp_forms.specs.Parts as parts
+use Rattle.irp_forms.specs.Values.{cancel_answer_at, handler_at, plan_at}
+use Rattle.irp_types.specs.declared.answer.Plan.{Plan}
+use Rattle.irp_types.specs.declared.names.DispatchId.{DispatchId}
+use Rattle.irp_types.specs.declared.routine.Known.{Known}
+use Rattle.irp_types.specs.declared.routine.Rule.{Rule}
+use Rattle.irp_types.specs.declared.routine.Rule.TheVariants.{Watch, Change, Keeper, KeepOnError, Free}
+use Rattle.irp_script_reader.specs.Acts.{step_at}
+use Rattle.irp_script_reader.specs.Labels.{label_at, place_among, with_labels}
+use Rattle.irp_script_reader.specs.Members.{in_room, is_on_lock, may_have, takes_cancel, takes_completion, takes_dispatch, takes_driver, takes_step}
+use Rattle.irp_script_reader.specs.Plans.{is_driver, is_plan_sound, names_known}
+use Rattle.irp_script_reader.specs.Routines.{completion_at, counted, obeys_its_rule, one_more}
+use Rattle.irp_script_reader.specs.Scripts.{cancels_at, completions_at, count_at, dispatches_at, drivers_at, form_at, keys_at, list_at, none, script_at, steps_at, under}
+use Rattle.irp_script_reader.specs.Sound.{IsSound, known_of, with_all, with_one}
+use Rattle.irp_script_reader.specs.Taking.{◌>>=◌, Tells, formed, if_list, list_of, members_at, told, unless, with_item}
+use Rattle.irp_script_reader.specs.declared.act.Step.{Step}
+use Rattle.irp_script_reader.specs.declared.lists.Cancels.{Cancels}
+use Rattle.irp_script_reader.specs.declared.lists.Completions.{Completions}
+use Rattle.irp_script_reader.specs.declared.lists.Dispatches.{Dispatches}
+use Rattle.irp_script_reader.specs.declared.lists.Drivers.{Drivers}
+use Rattle.irp_script_reader.specs.declared.lists.Steps.{Steps}
+use Rattle.irp_script_reader.specs.declared.refusal.Fault.{Fault}
+use Rattle.irp_script_reader.specs.declared.refusal.Fault.TheVariants.{BadField, RuleBroken, NoRoutine, BadDispatch, TooMany}
+use Rattle.irp_script_reader.specs.declared.refusal.ScriptFault.{ScriptFault}
+use Rattle.irp_script_reader.specs.declared.refusal.ScriptFault.TheVariants.{Refused, NoMemory}
+use Rattle.irp_script_reader.specs.declared.refusal.ScriptRefusal.{ScriptRefusal}
+use Rattle.irp_script_reader.specs.declared.refusal.Section.{Section}
+use Rattle.irp_script_reader.specs.declared.refusal.Section.TheVariants as section
+use Rattle.irp_script_reader.specs.declared.script.CompletionRoutine.{CompletionRoutine}
+use Rattle.irp_script_reader.specs.declared.script.Script.{Script}
+
+-- ---- one after another
+
+then_any : {A B E : Type 0} (first : Result A E) (next : A → Result B E) (P : B → Type 0)
+    → ((value : A) → first ≡ Ok value → IfOk (next value) P) → IfOk (first >>= next) P
+then_any (Ok value) next P goes = goes value refl
+then_any (Err fault) next P goes = tt
+
+then_from : {A B E : Type 0} (first : Result A E) (next : A → Result B E) (Q : A → Type 0) (P : B → Type 0)
+    → IfOk first Q → ((value : A) → Q value → IfOk (next value) P) → IfOk (first >>= next) P
+then_from (Ok value) next Q P has goes = goes value has
+then_from (Err fault) next Q P has goes = tt
+
+then_if : {B : Type 0} (holds : Bool) (fault : Fault) (next : Unit {0} → Result B Fault) (P : B → Type 0)
+    → (holds ≡ true → IfOk (next tt) P) → IfOk (unless holds fault >>= next) P
+then_if true fault next P goes = goes refl
+then_if false fault next P goes = tt
+
+told_kept : {L : Type 0} (part : Section) (index : ℕ) (rest : L → Result L ScriptRefusal) (taken : Result L Fault) (P : L → Type 0)
+    → IfOk taken P → ((list : L) → P list → IfOk (rest list) P) → IfOk (told part index rest taken) P
+told_kept part index rest (Ok list) P has goes = goes list has
+told_kept part index rest (Err fault) P has goes = tt
+
+members_kept : {L : Type 0} (takes : L → Data → Result L Fault) (part : Section) (P : L → Type 0)
+    → ((list : L) (form : Data) → P list → IfOk (takes list form) P)
+    → (index : ℕ) (list : L) (members : Items) → P list → IfOk (members_at takes part index list members) P
+members_kept takes part P each index list no_items has = has
+members_kept takes part P each index list (item first others) has =
+    told_kept part index (λ next. members_at takes part (index + 1) next others) (takes list first) P (each list first has)
+    (λ next there. members_kept takes part P each (index + 1) next others there)
+
+given_kept : {L : Type 0} (takes : L → Data → Result L Fault) (part : Section) (P : L → Type 0)
+    → ((list : L) (form : Data) → P list → IfOk (takes list form) P)
+    → (empty : L) (members : Option Items) → P empty → IfOk (if_list takes part empty members) P
+given_kept takes part P each empty None has = tt
+given_kept takes part P each empty (Some members) has = members_kept takes part P each 0 empty members has
+
+list_kept : {L : Type 0} (takes : L → Data → Result L Fault) (part : Section) (P : L → Type 0)
+    → ((list : L) (form : Data) → P list → IfOk (takes list form) P)
+    → (empty : L) (found : Option Data) → P empty → IfOk (under takes part empty found) P
+unfolding list_of
+list_kept takes part P each empty None has = tt
+list_kept takes part P each empty (Some form) has = given_kept takes part P each empty (as_array form) has
+
+-- ---- completion routines
+
+with_all_more : (counts : Known) (routines : List CompletionRoutine) (added : CompletionRoutine)
+    → with_all counts (routines ++ added ∷ []) ≡ with_one (with_all counts routines) added.rule
+with_all_more counts [] added = refl
+with_all_more counts (first ∷ others) added = with_all_more (with_one counts first.rule) others added
+
+-- completion routines say nothing of cancel routines
+one_cancel : (counts : Known) (rule : Rule) → (with_one counts rule).cancel ≡ counts.cancel
+one_cancel counts Watch = refl
+one_cancel counts Change = refl
+one_cancel counts Keeper = refl
+one_cancel counts KeepOnError = refl
+one_cancel counts Free = refl
+
+all_cancel : (counts : Known) (routines : List CompletionRoutine) → (with_all counts routines).cancel ≡ counts.cancel
+all_cancel counts [] = refl
+all_cancel counts (first ∷ others) = all_cancel (with_one counts first.rule) others ∙ one_cancel counts first.rule
+
+more_kept : (holds : Bool) (count : ℕ) (make : ℕ → Known) (P : Known → Type 0)
+    → P (make count) → IfOk (in_room (parts.◌>>=◌ (if holds then Some count else None) (λ n. Some (make n)))) P
+more_kept true count make P has = has
+more_kept false count make P has = tt
+
+counted_kept : (counts : Known) (rule : Rule) (P : Known → Type 0) → P (with_one counts rule) → IfOk (in_room (counted counts rule)) P
+unfolding counted
+counted_kept counts Watch P has = more_kept (nat_lt counts.watch 256) (counts.watch + 1) (λ n. record counts { watch = n }) P has
+counted_kept counts Change P has = more_kept (nat_lt counts.change 256) (counts.change + 1) (λ n. record counts { change = n }) P has
+counted_kept counts Keeper P has = more_kept (nat_lt counts.keeper 256) (counts.keeper + 1) (λ n. record counts { keeper = n }) P has
+counted_kept counts KeepOnError P has = more_kept (nat_lt counts.keep_on_error 256) (counts.keep_on_error + 1) (λ n. record counts { keep_on_error = n }) P has
+counted_kept counts Free P has = more_kept (nat_lt counts.free 256) (counts.free + 1) (λ n. record counts { free = n }) P has
+
+abbrev AreCompletions : Completions → Type 0
+AreCompletions list = (list.counts ≡ with_all none list.routines) × All (λ routine. obeys_its_rule routine ≡ true) list.routines
+
+completion_kept : (list : Completions) (form : Data) → AreCompletions list → IfOk (takes_completion list form) AreCompletions
+unfolding takes_completion
+completion_kept list form has =
+    then_any (formed (completion_at form)) _ AreCompletions (λ routine read.
+    then_if (obeys_its_rule routine) RuleBroken _ AreCompletions (λ obeys.
+    then_from (in_room (counted list.counts routine.rule)) _ (λ counts. counts ≡ with_one list.counts routine.rule) AreCompletions
+    (counted_kept list.counts routine.rule (λ counts. counts ≡ with_one list.counts routine.rule) refl)
+    (λ counts is. (
+      is ∙ ap (λ given. with_one given routine.rule) has.0 ∙ sym (with_all_more none list.routines routine),
+      All-push (λ given. obeys_its_rule given ≡ true) list.routines routine has.1 obeys,
+    ))))
+
+-- ---- cancel routines
+
+abbrev AreCancels : Known → Cancels → Type 0
+AreCancels counts list = list.counts ≡ record counts { cancel = counts.cancel + length list.answers }
+
+room_kept : (holds : Bool) (count : ℕ) (P : ℕ → Type 0) → P count → IfOk (in_room (if holds then Some count else None)) P
+room_kept true count P has = has
+room_kept false count P has = tt
+
+plus_none : (n : ℕ) → n ≡ n + 0
+plus_none n = omega arith
+
+none_plus : (n : ℕ) → 0 + n ≡ n
+none_plus n = omega arith
+
+longer : {T : Type 0} (items : List T) (added : T) (n : ℕ) → (n + length items) + 1 ≡ n + length (items ++ added ∷ [])
+longer items added n = grind (arith, common_steps)
+
+cancel_kept : (counts : Known) (list : Cancels) (form : Data) → AreCancels counts list → IfOk (takes_cancel list form) (AreCancels counts)
+unfolding takes_cancel
+cancel_kept counts list form has =
+    then_any (formed (cancel_answer_at form)) _ (AreCancels counts) (λ answer read.
+    then_from (in_room (one_more list.counts.cancel)) _ (λ count. count ≡ list.counts.cancel + 1) (AreCancels counts)
+    (room_kept (nat_lt list.counts.cancel 256) (list.counts.cancel + 1) (λ count. count ≡ list.counts.cancel + 1) refl)
+    (λ count is.
+    ap (λ (given : Known). record given { cancel = count }) has
+    ∙ ap (λ n. record counts { cancel = n }) (is ∙ ap (λ (given : Known). given.cancel + 1) has ∙ longer list.answers answer counts.cancel)))
+
+-- ---- dispatches
+
+abbrev ArePlans : Known → Dispatches → Type 0
+ArePlans known list = (list.known ≡ known) × All (λ plan. (is_plan_sound plan ≡ true) × (names_known known plan ≡ true)) list.plans
+
+dispatch_kept : (known : Known) (list : Dispatches) (form : Data) → ArePlans known list → IfOk (takes_dispatch list form) (ArePlans known)
+unfolding takes_dispatch
+dispatch_kept known list form has =
+    then_any (formed (plan_at form)) _ (ArePlans known) (λ plan read.
+    then_if (is_plan_sound plan) RuleBroken _ (ArePlans known) (λ sound.
+    then_if (names_known list.known plan) NoRoutine _ (ArePlans known) (λ names.
+    then_if (nat_lt (length list.plans) 256) TooMany _ (ArePlans known) (λ room. (
+      has.0,
+      All-push (λ given. (is_plan_sound given ≡ true) × (names_known known given ≡ true)) list.plans plan has.1
+          (sound, ap (λ given. names_known given plan) (sym has.0) ∙ names),
+    )))))
+
+-- ---- drivers
+
+abbrev AreDrivers : ℕ → Drivers → Type 0
+AreDrivers dispatches list = (list.dispatches ≡ dispatches) × All (λ handlers. is_driver dispatches handlers ≡ true) list.tables
+
+driver_kept : (dispatches : ℕ) (list : Drivers) (form : Data) → AreDrivers dispatches list → IfOk (takes_driver list form) (AreDrivers dispatches)
+unfolding takes_driver
+driver_kept dispatches list form has =
+    then_any (formed (parts.list_at handler_at form)) _ (AreDrivers dispatches) (λ handlers read.
+    then_if (is_driver list.dispatches handlers) BadDispatch _ (AreDrivers dispatches) (λ there.
+    then_if (nat_lt (length list.tables) 64) TooMany _ (AreDrivers dispatches) (λ room. (
+      has.0,
+      All-push (λ given. is_driver dispatches given ≡ true) list.tables handlers has.1
+          (ap (λ given. is_driver given handlers) (sym has.0) ∙ there),
+    ))))
+
+-- ---- steps
+
+abbrev AreSteps : ℕ → Bool → Steps → Type 0
+AreSteps seats in_setup list = (list.seats ≡ seats) × (list.in_setup ≡ in_setup)
+    × All (λ step. (step.seat < seats) × (in_setup && is_on_lock step.act ≡ false)) list.steps
+
+may_is : (list : Steps) (step : Step) → may_have list step ≡ true → (step.seat < list.seats) × (list.in_setup && is_on_lock step.act ≡ false)
+may_is list step may =
+    let both = and_parts (nat_lt step.seat list.seats) (not (list.in_setup && is_on_lock step.act)) may in
+    (ltb-true step.seat list.seats both.0, not-true (list.in_setup && is_on_lock step.act) both.1)
+
+step_kept : (seats : ℕ) (in_setup : Bool) (list : Steps) (form : Data) → AreSteps seats in_setup list → IfOk (takes_step list form) (AreSteps seats in_setup)
+unfolding takes_step
+step_kept seats in_setup list form has =
+    then_any (formed (step_at (place_among list.labels (label_at form)) form)) _ (AreSteps seats in_setup) (λ step read.
+    then_if (may_have list step) BadField _ (AreSteps seats in_setup) (λ may.
+    then_any (with_labels list.labels (label_at form)) _ (AreSteps seats in_setup) (λ labels named. (
+      has.0,
+      has.1,
+      All-push (λ given. (given.seat < seats) × (in_setup && is_on_lock given.act ≡ false)) list.steps step has.2
+          (subst (λ given. (step.seat < given) × (in_setup && is_on_lock step.act ≡ false)) has.0
+          (subst (λ given. (step.seat < list.seats) × (given && is_on_lock step.act ≡ false)) has.1 (may_is list step may))),
+    ))))
+
+steps_kept : (seats : ℕ) (whole : Data)
+    → IfOk (steps_at seats whole) (λ steps. All (λ step. (step.seat < seats) × (is_on_lock step.act ≡ false)) steps.0 × AreSteps seats false steps.1)
+unfolding steps_at list_at
+steps_kept seats whole =
+    then_from (under takes_step section.Setup (record { seats = seats; in_setup = true; labels = []; steps = [] }) (get (codes "setup") whole)) _
+    (AreSteps seats true) _
+    (list_kept takes_step section.Setup (AreSteps seats true) (step_kept seats true)
+    (record { seats = seats; in_setup = true; labels = []; steps = [] }) (get (codes "setup") whole) (refl, refl, All-nil _))
+    (λ setup seated.
+    then_from (under takes_step section.Steps (record { seats = seats; in_setup = false; labels = setup.labels; steps = [] }) (get (codes "steps") whole)) _
+    (AreSteps seats false) _
+    (list_kept takes_step section.Steps (AreSteps seats false) (step_kept seats false)
+    (record { seats = seats; in_setup = false; labels = setup.labels; steps = [] }) (get (codes "steps") whole) (refl, refl, All-nil _))
+    (λ steps others. (seated.2, others)))
+
+-- ---- the whole
+
+script_sound : (whole : Data) → IfOk (script_at whole) IsSound
+unfolding script_at completions_at cancels_at dispatches_at drivers_at list_at
+script_sound whole =
+    then_any (form_at whole) _ IsSound (λ form read.
+    then_any (keys_at whole) _ IsSound (λ keys there.
+    then_any (count_at section.Seats (codes "seats") whole) _ IsSound (λ seats first.
+    then_any (count_at section.Locks (codes "locks") whole) _ IsSound (λ locks second.
+    then_from (completions_at whole) _ AreCompletions IsSound
+    (list_kept takes_completion section.Completions AreCompletions completion_kept
+    (record { routines = []; counts = none }) (get (codes "completions") whole) (refl, All-nil _))
+    (λ completions obey.
+    then_from (cancels_at completions.counts whole) _ (AreCancels completions.counts) IsSound
+    (list_kept takes_cancel section.Cancels (AreCancels completions.counts) (cancel_kept completions.counts)
+    (record { answers = []; counts = completions.counts }) (get (codes "cancels") whole)
+    (ap (λ n. record completions.counts { cancel = n }) (plus_none completions.counts.cancel)))
+    (λ cancels counted.
+    then_from (dispatches_at cancels.counts whole) _ (ArePlans cancels.counts) IsSound
+    (list_kept takes_dispatch section.Dispatches (ArePlans cancels.counts) (dispatch_kept cancels.counts)
+    (record { known = cancels.counts; plans = [] }) (get (codes "dispatches") whole) (refl, All-nil _))
+    (λ dispatches plans.
+    then_from (drivers_at (length dispatches.plans) whole) _ (AreDrivers (length dispatches.plans)) IsSound
+    (list_kept takes_driver section.Drivers (AreDrivers (length dispatches.plans)) (driver_kept (length dispatches.plans))
+    (record { dispatches = length dispatches.plans; tables = [] }) (get (codes "drivers") whole) (refl, All-nil _))
+    (λ drivers tables.
+    then_from (steps_at seats whole) _
+    (λ steps. All (λ step. (step.seat < seats) × (is_on_lock step.act ≡ false)) steps.0 × AreSteps seats false steps.1) IsSound
+    (steps_kept seats whole)
+    (λ steps seated. record {
+      completions = obey.1;
+      dispatches = subst (λ known. All (λ plan. (is_plan_sound plan ≡ true) × (names_known known plan ≡ true)) dispatches.plans)
+          (counted
+          ∙ ap (λ (given : Known). record given { cancel = given.cancel + length cancels.answers }) obey.0
+          ∙ ap (λ n. record (with_all none completions.routines) { cancel = n + length cancels.answers }) (all_cancel none completions.routines)
+          ∙ ap (λ n. record (with_all none completions.routines) { cancel = n }) (none_plus (length cancels.answers)))
+          plans.1;
+      drivers = tables.1;
+      setup = seated.0;
+      steps = λ k step within. (seated.1.2 k step within).0;
+    })))))))))
+
+pub told_sound : (result : Result Script ScriptFault) (whole : Data) → Tells result (script_at whole) → IfOk result IsSound
+told_sound (Ok script) whole is = subst (λ given. IfOk given IsSound) is (script_sound whole)
+told_sound (Err (Refused refusal)) whole is = tt
+told_sound (Err NoMemory) whole is = tt
