@@ -28,20 +28,28 @@ pub enum Section {
     /// The keys of the object.
     #[error("top")]
     Top,
+    /// The number of seats.
     #[error("seats")]
     Seats,
+    /// The number of remove locks.
     #[error("locks")]
     Locks,
+    /// The completion routines.
     #[error("completions")]
     Completions,
+    /// The cancel routines.
     #[error("cancels")]
     Cancels,
+    /// The plans of the dispatches.
     #[error("dispatches")]
     Dispatches,
+    /// The tables of the drivers.
     #[error("drivers")]
     Drivers,
+    /// The steps before the workers.
     #[error("setup")]
     Setup,
+    /// The steps of the workers.
     #[error("steps")]
     Steps,
 }
@@ -61,8 +69,11 @@ pub enum ScriptRefusal {
     /// A part has a fault: which member of which list, or 0 of what is no list.
     #[error("{fault} {section} {index}")]
     At {
+        /// What is wrong.
         fault: Fault,
+        /// In which part.
         section: Section,
+        /// In which member of the list, from 0.
         index: usize,
     },
 }

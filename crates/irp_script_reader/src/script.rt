@@ -17,6 +17,7 @@ pub enum Behaviour {
 /// A completion routine of a script (this project's own format, docs/FORMATS.md).
 #[derive(Clone, Copy, PartialEq, Eq, Debug)]
 pub struct CompletionRoutine {
+    /// The rule that its behaviours are of.
     pub rule: Rule,
     /// What it does where the status that it is shown is a success.
     pub on_ok: Behaviour,
@@ -34,6 +35,7 @@ pub enum ScriptForm {
 /// What a script says, key by key (this project's own format, docs/FORMATS.md).
 #[derive(Drop)]
 pub struct Script {
+    /// Which steps it may have.
     pub form: ScriptForm,
     /// How many seats there are, 1 to 64 in a script that was read.
     pub seats: u32,
@@ -52,6 +54,6 @@ pub struct Script {
     pub setup: Row<Step>,
     /// The steps of the workers.
     pub steps: Row<Step>,
-    /// How many labels there are.
+    /// How many labels the steps name, at most 4,096 in a script that was read. Each label's place is below it.
     pub labels: usize,
 }
