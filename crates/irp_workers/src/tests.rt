@@ -1,5 +1,4 @@
 //! Scripts run by workers.
-mod behaving;
 mod meeting;
 
 ghost use Rattle.std.specs.Prelude.{◌≡◌, ◌<◌, IfOk};
