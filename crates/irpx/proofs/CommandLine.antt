@@ -1,5 +1,5 @@
--- The words `NAME demo` are taken, and stand for the subcommand `demo`.
-use Rattle.std.proofs.Common.{◌≡◌, ℕ, List, [], ◌∷◌, Some, None, Result, Ok, Err, OnOk, IfErr, is_ok, true, codes, option_map, refl, sym, ap, ap₂, ◌∙◌, rules}
+-- The words `NAME demo` and `NAME check` are taken, and stand for the subcommand of their name.
+use Rattle.std.proofs.Common.{◌≡◌, ℕ, List, [], ◌∷◌, Option, Some, None, Result, Ok, Err, OnOk, MatchResult, true, codes, option_map, refl, sym, subst, ap, ap₂, ◌∙◌}
 use Rattle.std.specs.Box.{box_value}
 use Rattle.clap.specs.Matches.{subcommand_name_of}
 use Rattle.clap.specs.Simple.{App, HasMatchesOf, subcommand_rows, subcommand_rows_of}
@@ -13,9 +13,17 @@ demo_is_taken : (name : List ℕ) → takes command_line (name ∷ codes "demo" 
 unfolding clap_on_literals
 demo_is_taken name = refl
 
+check_is_taken : (name : List ℕ) → takes command_line (name ∷ codes "check" ∷ []) ≡ true
+unfolding clap_on_literals
+check_is_taken name = refl
+
 demo_is_met : (name : List ℕ) → option_map (λ found. found.0) (subcommand_of command_line (name ∷ codes "demo" ∷ [])) ≡ Some (codes "demo")
 unfolding clap_on_literals
 demo_is_met name = refl
+
+check_is_met : (name : List ℕ) → option_map (λ found. found.0) (subcommand_of command_line (name ∷ codes "check" ∷ [])) ≡ Some (codes "check")
+unfolding clap_on_literals
+check_is_met name = refl
 
 command_line_is_simple : is_simple command_line ≡ true
 unfolding clap_on_literals
@@ -31,12 +39,21 @@ met_name matches =
     elim (out-ArgMatches matches).subcommand as (λ found. option_map (λ pair. pair.0) (subcommand_rows found) ≡ option_map (λ inner. (out-SubCommand (box_value inner)).name.now) found)
     [ None ↦ refl | Some inner ↦ refl ]
 
+-- the subcommand in clap's matches is the one that the words have
+named : (app : App) (matches : ArgMatches) (words line : List (List ℕ)) → app ≡ command_line → words ≡ line → HasMatchesOf app words matches → subcommand_name_of matches ≡ option_map (λ found. found.0) (subcommand_of command_line line)
+named app matches words line app_is words_are has =
+    sym (met_name matches)
+    ∙ ap (option_map (λ found. found.0)) ((has (ap is_simple app_is ∙ command_line_is_simple)).1 ∙ ap₂ subcommand_of app_is words_are)
+
 -- clap's matches of `NAME demo` have the subcommand `demo`
 pub demo_is_named : (app : App) (matches : ArgMatches) (name : List ℕ) (words : List (List ℕ)) → app ≡ command_line → words ≡ name ∷ codes "demo" ∷ [] → HasMatchesOf app words matches → subcommand_name_of matches ≡ Some (codes "demo")
 demo_is_named app matches name words app_is words_are has =
-    sym (met_name matches)
-    ∙ ap (option_map (λ found. found.0)) ((has (ap is_simple app_is ∙ command_line_is_simple)).1 ∙ ap₂ subcommand_of app_is words_are)
-    ∙ demo_is_met name
+    named app matches words (name ∷ codes "demo" ∷ []) app_is words_are has ∙ demo_is_met name
+
+-- clap's matches of `NAME check` have the subcommand `check`
+pub check_is_named : (app : App) (matches : ArgMatches) (name : List ℕ) (words : List (List ℕ)) → app ≡ command_line → words ≡ name ∷ codes "check" ∷ [] → HasMatchesOf app words matches → subcommand_name_of matches ≡ Some (codes "check")
+check_is_named app matches name words app_is words_are has =
+    named app matches words (name ∷ codes "check" ∷ []) app_is words_are has ∙ check_is_met name
 
 -- clap finds no fault in words that it takes
 pub no_fault : (app : App) (words : List (List ℕ)) → app ≡ command_line → (is_simple_and_free app ≡ true → fault_of app words ≡ []) → fault_of command_line words ≡ []
@@ -46,10 +63,14 @@ no_fault app words app_is free = ap (λ this. fault_of this words) (sym app_is) 
 pub takes_demo : (app : App) (name : List ℕ) (words : List (List ℕ)) → app ≡ command_line → words ≡ name ∷ codes "demo" ∷ [] → takes app words ≡ true
 takes_demo app name words app_is words_are = ap₂ takes app_is words_are ∙ demo_is_taken name
 
+-- clap takes `NAME check`
+pub takes_check : (app : App) (name : List ℕ) (words : List (List ℕ)) → app ≡ command_line → words ≡ name ∷ codes "check" ∷ [] → takes app words ≡ true
+takes_check app name words app_is words_are = ap₂ takes app_is words_are ∙ check_is_taken name
+
 pub on_ok : {T E P : Type 0} (result : Result T E) → P → OnOk result P
 on_ok (Ok value) holds = holds
 on_ok (Err error) holds = tt
 
-pub no_error : {T E : Type 0} (P : E → Type 0) (result : Result T E) → is_ok result ≡ true → IfErr result P
-no_error P (Ok value) is = tt
-no_error P (Err error) is = absurd (search rules)
+-- what comes of a value that is there is so with each error allowed
+pub just : {T E : Type 0} (P : E → Type 0) (result : Result T E) (value : T) → result ≡ Ok value → MatchResult result (λ this. this ≡ value) P
+just P result value is = subst (λ this. MatchResult this (λ that. that ≡ value) P) (sym is) refl

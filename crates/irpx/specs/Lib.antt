@@ -1,3 +1,4 @@
+pub mod Checking
 pub mod CommandLine
 pub mod Demo
 pub mod Ending

@@ -1,16 +1,21 @@
 //! How the program ends.
 
 ghost use Rattle.std.specs.Prelude.{◌≡◌};
-ghost use Rattle.irpx.specs.Ending.{status_of, complaint_of};
+ghost use Rattle.irpx.specs.Ending.{status_of, has_line};
 ghost use Rattle.std.specs.Process.{exit_status};
 
+use std::fmt;
 use std::process::ExitCode;
 
 /// How the program ends: its exit status, and the line for standard error (this project's own command line, README.md).
 #[derive(Clone, Copy, Debug, PartialEq, Eq)]
 pub enum Ending {
-    /// All was done: status 0, and no line.
+    /// All was done, and a transcript that was checked is legal: status 0, and no line.
     Done,
+    /// The transcript is refused at this line, from 1: status 1.
+    RefusedLine { line: u64 },
+    /// The transcript that was checked isn't legal: status 2, and no line.
+    Illegal,
     /// Memory ran out: status 3.
     NoMemory,
     /// The words are none that the program takes: status 4.
@@ -26,6 +31,8 @@ impl Ending {
     {
         match self {
             Ending::Done => 0,
+            Ending::RefusedLine { .. } => 1,
+            Ending::Illegal => 2,
             Ending::NoMemory => 3,
             Ending::OtherWords => 4,
             Ending::Failed => 5,
@@ -39,15 +46,30 @@ impl Ending {
         ExitCode::from(self.status())
     }
 
-    /// The line for standard error, which is empty where all was done.
-    pub fn line(self) -> &'static str
-        ensures { result.now ≡ complaint_of self }
+    /// Whether there is a line for standard error.
+    pub fn has_line(self) -> bool
+        ensures { result ≡ has_line self }
     {
+        !matches!(self, Ending::Done | Ending::Illegal)
+    }
+}
+
+/// The line for standard error, without its newline; no text where there is none.
+impl fmt::Display for Ending {
+    ghost use Rattle.std.specs.Prelude.{Some};
+    ghost use Rattle.irpx.specs.Ending.{complaint_of};
+
+    ghost output = { λ ending. Some (complaint_of ending) };
+
+    fn fmt<W: fmt::Write>(&self, f: &mut fmt::Formatter<W>) -> fmt::Result {
         match self {
-            Ending::Done => "",
-            Ending::NoMemory => "irpx: out of memory",
-            Ending::OtherWords => "irpx: usage: irpx demo, run [--workers N] or check",
-            Ending::Failed => "irpx: input or output failed",
+            Ending::Done | Ending::Illegal => Ok(()),
+            Ending::RefusedLine { line } => write!(f, "irpx: transcript refused: line {line}"),
+            Ending::NoMemory => f.write_str("irpx: out of memory"),
+            Ending::OtherWords => {
+                f.write_str("irpx: usage: irpx demo, run [--workers N] or check")
+            }
+            Ending::Failed => f.write_str("irpx: input or output failed"),
         }
     }
 }

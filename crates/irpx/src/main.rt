@@ -1,8 +1,10 @@
 //! The program: packets go through the manager, and the history is printed.
 #![tactic(auto)]
 
+mod checking;
 mod demo;
 mod ending;
+mod input;
 mod orders;
 #[cfg(test)]
 mod tests;
@@ -13,7 +15,7 @@ use crate::orders::{Order, Unread};
 use irp_transcript_writer::{Out, WriterOut};
 use std::alloc::Global;
 use std::env;
-use std::io::{self, Write};
+use std::io::{self, Read, Write};
 use std::process::ExitCode;
 use std::sync::Wait;
 
@@ -33,15 +35,17 @@ fn order(rt: &HostRuntime) -> Result<Order, Unread> {
     words::order(rt.alloc(), words.as_slice())
 }
 
-/// Does what is asked for, and writes to the output.
-fn run<O: Out>(
+/// Does what is asked for: reads from the input, and writes to the output.
+fn run<R: Read, O: Out>(
     rt: &impl Wait,
     alloc: Global,
+    input: &mut R,
     output: &mut O,
     order: Result<Order, Unread>,
 ) -> Ending {
     match order {
         Ok(Order::Demo) => demo::demo(rt, alloc, output),
+        Ok(Order::Check) => checking::check(alloc, input, output),
         Err(Unread::Usage) => Ending::OtherWords,
         Err(Unread::Memory) => Ending::NoMemory,
     }
@@ -49,8 +53,9 @@ fn run<O: Out>(
 
 fn main(rt: HostRuntime) -> ExitCode {
     let mut output = WriterOut::new(io::writer(&rt));
-    let mut ending = run(&rt, rt.alloc(), &mut output, order(&rt));
-    if ending != Ending::Done && writeln!(rt.stderr(), "{}", ending.line()).is_err() {
+    let mut input = rt.stdin();
+    let mut ending = run(&rt, rt.alloc(), &mut input, &mut output, order(&rt));
+    if ending.has_line() && writeln!(rt.stderr(), "{ending}").is_err() {
         ending = Ending::Failed;
     }
     ending.code()

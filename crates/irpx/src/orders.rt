@@ -8,6 +8,8 @@ use thiserror::Error;
 pub enum Order {
     /// Run the built-in scenario and write its transcript.
     Demo,
+    /// Read a transcript and tell whether its history is legal.
+    Check,
 }
 
 /// Why words ask for nothing (this project's own command line, README.md).

@@ -1,5 +1,6 @@
 //! Worked examples of the demonstration. `docs/EXAMPLES.md` has them by name.
 
+mod checking;
 mod sharing;
 
 use crate::demo::demo;
@@ -34,14 +35,23 @@ fn a_full_output_ends_the_demonstration(rt: HostRuntime) {
 }
 
 #[test]
-fn endings_have_their_status_and_line(rt: HostRuntime) {
-    assert_eq!(rt; Ending::Done.status(), 0);
-    assert_eq!(rt; Ending::NoMemory.status(), 3);
-    assert_eq!(rt; Ending::OtherWords.status(), 4);
-    assert_eq!(rt; Ending::Failed.status(), 5);
-    assert_eq!(rt; Ending::Done.line(), "");
-    assert_eq!(rt; Ending::NoMemory.line(), "irpx: out of memory");
-    let usage = "irpx: usage: irpx demo, run [--workers N] or check";
-    assert_eq!(rt; Ending::OtherWords.line(), usage);
-    assert_eq!(rt; Ending::Failed.line(), "irpx: input or output failed");
+fn endings_have_their_status_and_line(rt: HostRuntime) -> Result<(), Fail> {
+    let refused = Ending::RefusedLine { line: 5 };
+    for (ending, status, line) in [
+        (Ending::Done, 0, ""),
+        (refused, 1, "irpx: transcript refused: line 5"),
+        (Ending::Illegal, 2, ""),
+        (Ending::NoMemory, 3, "irpx: out of memory"),
+        (
+            Ending::OtherWords,
+            4,
+            "irpx: usage: irpx demo, run [--workers N] or check",
+        ),
+        (Ending::Failed, 5, "irpx: input or output failed"),
+    ] {
+        assert_eq!(rt; ending.status(), status, "{line}");
+        assert_eq!(rt; ending.to_string(rt.alloc())?.as_str(), line);
+        assert_eq!(rt; ending.has_line(), !line.is_empty(), "{line}");
+    }
+    Ok(())
 }

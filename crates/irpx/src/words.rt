@@ -1,10 +1,10 @@
 //! What the command line asks for.
 
-ghost use Rattle.std.specs.Prelude.{◌≡◌, ◌↔◌, [], Some, codes, map, IfErr, IfOk, IsSome, OnOk};
+ghost use Rattle.std.specs.Prelude.{◌≡◌, ◌↔◌, [], Some, codes, map, IfOk, MatchResult, OnOk};
 ghost use Rattle.clap.specs.Matches.{subcommand_name_of};
 ghost use Rattle.clap.specs.Values.{kind_of};
 ghost use Rattle.clap.specs.Words.{app_of, fault_of};
-ghost use Rattle.irpx.specs.CommandLine.{IsDemo, command_line};
+ghost use Rattle.irpx.specs.CommandLine.{IsOneWord, command_line};
 
 use crate::orders::{Order, Unread};
 use clap::error::ErrorKind;
@@ -17,18 +17,24 @@ fn command<'a>(alloc: Global) -> Result<Command<'a>, AllocError>
     ensures { IfOk result (λ command. app_of command ≡ command_line) }
 {
     let command = Command::new(alloc, "irpx").subcommand_required(true);
-    command.subcommand(Command::new(alloc, "demo"))
+    let command = command.subcommand(Command::new(alloc, "demo"))?;
+    command.subcommand(Command::new(alloc, "check"))
 }
 
 /// What clap's matches ask for.
-fn order_of(matches: &ArgMatches<'_>) -> Option<Order>
-    ensures { IsSome result ↔ (subcommand_name_of matches.now ≡ Some (codes "demo")) }
+fn order_of(matches: &ArgMatches<'_>) -> Result<Order, Unread>
+    ensures demo { (result ≡ Ok Order.Demo) ↔ (subcommand_name_of matches.now ≡ Some (codes "demo")) }
+    ensures check { (result ≡ Ok Order.Check) ↔ (subcommand_name_of matches.now ≡ Some (codes "check")) }
 {
-    let (name, _) = matches.subcommand()?;
+    let Some((name, _)) = matches.subcommand() else {
+        return Err(Unread::Usage);
+    };
     if name == "demo" {
-        Some(Order::Demo)
+        Ok(Order::Demo)
+    } else if name == "check" {
+        Ok(Order::Check)
     } else {
-        None
+        Err(Unread::Usage)
     }
 }
 
@@ -51,11 +57,12 @@ fn unread_of(error: &Error) -> Unread
 pub fn order<'a, S: AsStr>(alloc: Global, words: &'a [S]) -> Result<Order, Unread>
     // No order comes of words in which clap finds a fault.
     ensures ok { OnOk result (fault_of command_line (map S.text words.entry.now) ≡ []) }
-    ensures demo { IsDemo (map S.text words.entry.now) → IfErr result (λ unread. unread ≡ Unread.Memory) }
+    ensures demo { IsOneWord (codes "demo") (map S.text words.entry.now) → MatchResult result (λ order. order ≡ Order.Demo) (λ unread. unread ≡ Unread.Memory) }
+    ensures check { IsOneWord (codes "check") (map S.text words.entry.now) → MatchResult result (λ order. order ≡ Order.Check) (λ unread. unread ≡ Unread.Memory) }
 {
     let command = command(alloc)?;
     match command.try_get_matches_from(words) {
-        Ok(matches) => order_of(&matches).ok_or(Unread::Usage),
+        Ok(matches) => order_of(&matches),
         Err(error) => Err(unread_of(&error)),
     }
 }
@@ -66,8 +73,9 @@ mod tests {
     use std::test::Fail;
 
     #[test]
-    fn demo_is_an_order(rt: HostRuntime) {
+    fn the_words_that_are_orders(rt: HostRuntime) {
         assert_eq!(rt; order(rt.alloc(), &["irpx", "demo"]), Ok(Order::Demo));
+        assert_eq!(rt; order(rt.alloc(), &["irpx", "check"]), Ok(Order::Check));
     }
 
     #[test]
@@ -79,7 +87,11 @@ mod tests {
             order(rt.alloc(), &["irpx", "demo", "x"]),
             Err(Unread::Usage)
         );
-        for word in ["help", "--help", "-h", "run", "check", "dem", "Demo", ""] {
+        assert_eq!(rt;
+            order(rt.alloc(), &["irpx", "check", "demo"]),
+            Err(Unread::Usage)
+        );
+        for word in ["help", "--help", "-h", "run", "checks", "dem", "Demo", ""] {
             assert_eq!(rt;
                 order(rt.alloc(), &["irpx", word]),
                 Err(Unread::Usage),

@@ -1,0 +1,36 @@
+-- Bytes that were read one piece after another.
+use Rattle.std.proofs.Common.{◌≡◌, ℕ, ◌≤◌, List, [], ◌∷◌, ◌++◌, ◌+◌, length, take, Option, Some, None, IfSome, refl, sym, subst, ap, ◌∙◌, append_assoc, append-nil, arith}
+use Rattle.std.proofs.lemmas.Grind.{common_steps}
+use Rattle.std.proofs.lemmas.List.{take_at}
+use Rattle.std.specs.Io.KnownBytes.{Consumes, IsAtEnd}
+
+pub reads_none : (old : Option (List ℕ)) → Consumes old old []
+reads_none None = tt
+reads_none (Some xs) = refl
+
+pub reads_on : (t u : List ℕ) (old mid new : Option (List ℕ)) → Consumes old mid t → Consumes mid new u → Consumes old new (t ++ u)
+reads_on t u None mid new h k = tt
+reads_on t u (Some xs) None new h k = absurd h
+reads_on t u (Some xs) (Some ys) None h k = absurd k
+reads_on t u (Some xs) (Some ys) (Some zs) h k = h ∙ ap (λ s. t ++ s) k ∙ sym (append_assoc t u zs)
+
+pub reads_full : (t : List ℕ) (n : ℕ) (old new : Option (List ℕ)) → length t ≡ n → Consumes old new t → IfSome old (λ xs. t ≡ take n xs)
+reads_full t n None new e h = tt
+reads_full t n (Some xs) None e h = absurd h
+reads_full t n (Some xs) (Some ys) e h = sym (ap (take n) h ∙ take_at t ys n e)
+
+take_all : (i : ℕ) (xs : List ℕ) → length xs ≤ i → take i xs ≡ xs
+take_all i xs h = grind (arith, common_steps)
+
+pub reads_end : (t : List ℕ) (n : ℕ) (old new : Option (List ℕ)) → length t ≤ n → Consumes old new t → IsAtEnd new → IfSome old (λ xs. t ≡ take n xs)
+reads_end t n None new e h k = tt
+reads_end t n (Some xs) None e h k = absurd h
+reads_end t n (Some xs) (Some ys) e h k = sym (ap (take n) (h ∙ ap (λ s. t ++ s) k ∙ append-nil t) ∙ take_all n t e)
+
+short : (limit : ℕ) (left : List ℕ) → length (take (limit + 1) left) ≤ limit → length left ≤ limit + 1
+short limit left few = grind (arith, common_steps)
+
+-- what was read up to one more than a limit, and isn't longer than the limit, is all that was left
+pub all_read : (limit : ℕ) (text : List ℕ) (input : Option (List ℕ)) → length text ≤ limit → IfSome input (λ left. text ≡ take (limit + 1) left) → IfSome input (λ left. text ≡ left)
+all_read limit text None few is = tt
+all_read limit text (Some left) few is = is ∙ take_all (limit + 1) left (short limit left (subst (λ these. length these ≤ limit) is few))

@@ -1,0 +1,46 @@
+//! Reading an input up to a limit.
+
+ghost use Rattle.std.specs.Prelude.{◌≡◌, ◌≤◌, take, vec_len, IfOk, IfSome};
+
+use std::alloc::Global;
+use std::io::Read;
+
+/// How many bytes are asked for in one turn, at most.
+const PIECE: usize = 65_536;
+
+/// Why an input was not read.
+#[derive(Clone, Copy, Debug, PartialEq, Eq)]
+pub enum InputFault {
+    /// A read failed, or was interrupted.
+    Failed,
+    /// Memory ran out.
+    Memory,
+}
+
+/// The first bytes of the input, at most so many. Each turn takes a byte or is the last, and an interrupted read is a
+/// failed one (this project's own rule).
+pub fn read_up_to<R: Read>(
+    alloc: Global,
+    reader: &mut R,
+    limit: usize,
+) -> Result<Vec<u8>, InputFault>
+    ensures bound { IfOk result (λ read. vec_len read ≤ limit) }
+    ensures bytes { IfOk result (λ read. IfSome (R.remaining reader.old) (λ input. read.items ≡ take limit input)) }
+{
+    let mut bytes = Vec::new(alloc);
+    let mut buffer = [0u8; PIECE];
+    while bytes.len() < limit {
+        let wanted = PIECE.min(limit - bytes.len());
+        let piece = &mut buffer[..wanted];
+        let Ok(taken) = reader.read(piece) else {
+            return Err(InputFault::Failed);
+        };
+        if taken == 0 {
+            return Ok(bytes);
+        }
+        if bytes.extend_from_slice(&piece[..taken]).is_err() {
+            return Err(InputFault::Memory);
+        }
+    }
+    Ok(bytes)
+}
