@@ -18,9 +18,9 @@ const KEPT: &str =
 {"asked":[],"call":{"device":2,"do":"attach","to":1},"n":4,"reply":{"device":1},"seat":0}
 {"asked":[],"call":{"do":"allocate","size":3},"n":5,"reply":{"irp":[0,1]},"seat":0}
 {"asked":[],"call":{"by":"o","do":"set_next","irp":[0,1],"major":3,"word":7},"n":6,"reply":"done","seat":0}
-{"asked":[{"dispatch":2,"plan":["forward",["watch",0,0,"sec"]],"shown":[2,0,1,3,3,7,0,0,false,false,0,true]},{"dispatch":1,"plan":["forward_pend",["keeper",0,0,"sec"]],"shown":[1,0,1,3,2,7,0,0,false,false,0,true]},{"dispatch":0,"plan":["finish",0,5],"shown":[0,0,1,3,1,7,0,0,false,false,0,false]},{"answer":["keep",false,null],"completion":["keeper",0],"shown":[1,0,1,3,1,7,0,5,false,false,0,true]}],"call":{"by":"o","do":"call_driver","irp":[0,1],"target":2},"n":7,"reply":{"status":259},"seat":0}
+{"asked":[{"dispatch":2,"plan":["forward",["watch",0,0,"sec"]],"shown":[2,0,1,3,3,7,0,0,false,false,0,true]},{"dispatch":1,"plan":["forward_pend",["keeper",0,0,"sec"]],"shown":[1,0,1,3,2,7,0,0,false,false,0,true]},{"dispatch":0,"plan":["finish",0,5],"shown":[0,0,1,3,1,7,0,0,false,false,0,false]},{"answer":["keep",false,null],"completion":["keeper",0],"shown":[1,0,1,3,1,7,0,5,false,false,0,false]}],"call":{"by":"o","do":"call_driver","irp":[0,1],"target":2},"n":7,"reply":{"status":259},"seat":0}
 {"asked":[],"call":{"do":"look","irp":[0,1]},"n":8,"reply":{"seen":[1,2,0,5,false,null,false,true]},"seat":0}
-{"asked":[{"answer":["continue",true,null],"completion":["watch",0],"shown":[2,0,1,3,2,7,0,6,true,false,0,true]}],"call":{"by":1,"do":"complete","information":6,"irp":[0,1],"status":0},"n":9,"reply":"done","seat":0}
+{"asked":[{"answer":["continue",true,null],"completion":["watch",0],"shown":[2,0,1,3,2,7,0,6,true,false,0,false]}],"call":{"by":1,"do":"complete","information":6,"irp":[0,1],"status":0},"n":9,"reply":"done","seat":0}
 {"asked":[],"call":{"do":"look","irp":[0,1]},"n":10,"reply":{"seen":["ended",4,0,6,false,null,true,false]},"seat":0}
 "#;
 

@@ -149,6 +149,28 @@ fn each_call_is_read_back(rt: HostRuntime) -> Result<(), Fail> {
 }
 
 #[test]
+fn a_delete_of_an_unknown_device_is_read_back(rt: HostRuntime) -> Result<(), Fail> {
+    let entry = Entry {
+        number: 999999,
+        seat: 0,
+        call: Call::Delete {
+            device: DeviceId(9),
+        },
+        lock: None,
+        drained: false,
+        asked: Row::from_vec(Vec::new(rt.alloc())),
+        reply: Reply::Refused(Refusal::NoDevice),
+    };
+    let entries = Vec::from_array(rt.alloc(), [entry])?;
+    let transcript = transcript_of(rt.alloc(), entries, &[])?.expect(
+        &rt,
+        "a header that is accepted",
+    );
+    assert!(rt; is_read_back(rt.alloc(), &transcript));
+    Ok(())
+}
+
+#[test]
 fn each_reply_is_read_back(rt: HostRuntime) -> Result<(), Fail> {
     for reply in [
         Reply::Done,
