@@ -1,4 +1,4 @@
--- No words, and the words `locks`, `calls`, `write` and `read`, are taken: the first meet no subcommand, the others that of their name.
+-- No words, and the words `locks`, `calls`, `write`, `read` and `check`, are taken: the first meet no subcommand, the others that of their name.
 use Rattle.std.proofs.Common.{◌≡◌, ℕ, List, [], ◌∷◌, Some, None, Result, Ok, Err, OnOk, MatchResult, true, codes, option_map, refl, sym, subst, ap, ap₂, ◌∙◌}
 use Rattle.std.specs.Box.{box_value}
 use Rattle.clap.specs.Matches.{subcommand_name_of}
@@ -29,6 +29,10 @@ read_is_taken : (name : List ℕ) → takes command_line (name ∷ codes "read" 
 unfolding clap_on_literals
 read_is_taken name = refl
 
+check_is_taken : (name : List ℕ) → takes command_line (name ∷ codes "check" ∷ []) ≡ true
+unfolding clap_on_literals
+check_is_taken name = refl
+
 no_words_meet_none : (name : List ℕ) → option_map (λ found. found.0) (subcommand_of command_line (name ∷ [])) ≡ None
 unfolding clap_on_literals
 no_words_meet_none name = refl
@@ -48,6 +52,10 @@ write_is_met name = refl
 read_is_met : (name : List ℕ) → option_map (λ found. found.0) (subcommand_of command_line (name ∷ codes "read" ∷ [])) ≡ Some (codes "read")
 unfolding clap_on_literals
 read_is_met name = refl
+
+check_is_met : (name : List ℕ) → option_map (λ found. found.0) (subcommand_of command_line (name ∷ codes "check" ∷ [])) ≡ Some (codes "check")
+unfolding clap_on_literals
+check_is_met name = refl
 
 command_line_is_simple : is_simple command_line ≡ true
 unfolding clap_on_literals
@@ -94,6 +102,11 @@ pub read_is_named : (app : App) (matches : ArgMatches) (name : List ℕ) (words 
 read_is_named app matches name words app_is words_are has =
     named app matches words (name ∷ codes "read" ∷ []) app_is words_are has ∙ read_is_met name
 
+-- clap's matches of `NAME check` have the subcommand `check`
+pub check_is_named : (app : App) (matches : ArgMatches) (name : List ℕ) (words : List (List ℕ)) → app ≡ command_line → words ≡ name ∷ codes "check" ∷ [] → HasMatchesOf app words matches → subcommand_name_of matches ≡ Some (codes "check")
+check_is_named app matches name words app_is words_are has =
+    named app matches words (name ∷ codes "check" ∷ []) app_is words_are has ∙ check_is_met name
+
 -- clap finds no fault in words that it takes
 pub no_fault : (app : App) (words : List (List ℕ)) → app ≡ command_line → (is_simple_and_free app ≡ true → fault_of app words ≡ []) → fault_of command_line words ≡ []
 no_fault app words app_is free = ap (λ this. fault_of this words) (sym app_is) ∙ free (ap is_simple_and_free app_is ∙ command_line_is_free)
@@ -117,6 +130,10 @@ takes_write app name words app_is words_are = ap₂ takes app_is words_are ∙ w
 -- clap takes `NAME read`
 pub takes_read : (app : App) (name : List ℕ) (words : List (List ℕ)) → app ≡ command_line → words ≡ name ∷ codes "read" ∷ [] → takes app words ≡ true
 takes_read app name words app_is words_are = ap₂ takes app_is words_are ∙ read_is_taken name
+
+-- clap takes `NAME check`
+pub takes_check : (app : App) (name : List ℕ) (words : List (List ℕ)) → app ≡ command_line → words ≡ name ∷ codes "check" ∷ [] → takes app words ≡ true
+takes_check app name words app_is words_are = ap₂ takes app_is words_are ∙ check_is_taken name
 
 pub on_ok : {T E P : Type 0} (result : Result T E) → P → OnOk result P
 on_ok (Ok value) holds = holds

@@ -12,6 +12,8 @@ use std::process::ExitCode;
 pub enum Ending {
     /// All was done: status 0, and no line.
     Done,
+    /// A transcript was not judged legal: status 2.
+    NotLegal,
     /// Memory ran out: status 3.
     NoMemory,
     /// The words are none that the program takes: status 4.
@@ -29,6 +31,7 @@ impl Ending {
             Ok(()) => Ending::Done,
             Err(Fault::Memory) => Ending::NoMemory,
             Err(Fault::Io | Fault::Refused) => Ending::Failed,
+            Err(Fault::NotLegal) => Ending::NotLegal,
         }
     }
 
@@ -38,6 +41,7 @@ impl Ending {
     {
         match self {
             Ending::Done => 0,
+            Ending::NotLegal => 2,
             Ending::NoMemory => 3,
             Ending::OtherWords => 4,
             Ending::Failed => 5,
@@ -57,8 +61,9 @@ impl Ending {
     {
         match self {
             Ending::Done => "",
+            Ending::NotLegal => "irp_bench: a transcript was not judged legal",
             Ending::NoMemory => "irp_bench: out of memory",
-            Ending::OtherWords => "irp_bench: usage: irp_bench [locks|calls|write|read]",
+            Ending::OtherWords => "irp_bench: usage: irp_bench [locks|calls|write|read|check]",
             Ending::Failed => "irp_bench: the clock, the output or a call failed",
         }
     }
@@ -71,13 +76,16 @@ mod tests {
     #[test]
     fn endings_have_their_status_and_line(rt: HostRuntime) {
         assert_eq!(rt; Ending::Done.status(), 0);
+        assert_eq!(rt; Ending::NotLegal.status(), 2);
         assert_eq!(rt; Ending::NoMemory.status(), 3);
         assert_eq!(rt; Ending::OtherWords.status(), 4);
         assert_eq!(rt; Ending::Failed.status(), 5);
         assert_eq!(rt; Ending::Done.line(), "");
         assert_eq!(rt; Ending::NoMemory.line(), "irp_bench: out of memory");
-        let usage = "irp_bench: usage: irp_bench [locks|calls|write|read]";
+        let usage = "irp_bench: usage: irp_bench [locks|calls|write|read|check]";
         assert_eq!(rt; Ending::OtherWords.line(), usage);
+        let illegal = "irp_bench: a transcript was not judged legal";
+        assert_eq!(rt; Ending::NotLegal.line(), illegal);
         let failed = "irp_bench: the clock, the output or a call failed";
         assert_eq!(rt; Ending::Failed.line(), failed);
     }

@@ -18,6 +18,9 @@ pub enum Fault {
     /// A call was answered otherwise than it should be, so the time is not that of all calls.
     #[error("a call was answered otherwise")]
     Refused,
+    /// A transcript was not judged legal.
+    #[error("a transcript was not judged legal")]
+    NotLegal,
 }
 
 impl From<AllocError> for Fault {

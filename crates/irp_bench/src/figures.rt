@@ -165,6 +165,61 @@ impl fmt::Display for TextFigures {
     }
 }
 
+/// What a transcript's text took.
+#[derive(Clone, Copy, Debug, PartialEq, Eq)]
+pub struct CheckTimes {
+    /// What it took to be read.
+    pub read: Duration,
+    /// What the transcript took to be judged.
+    pub judged: Duration,
+}
+
+/// What a transcript of so many entries took.
+#[derive(Clone, Copy, Debug, PartialEq, Eq)]
+pub struct CheckFigures {
+    /// How many entries the transcript has.
+    pub entries: u32,
+    /// How many bytes its text has.
+    pub bytes: u64,
+    /// What it took.
+    pub times: CheckTimes,
+}
+
+impl CheckFigures {
+    /// The seconds for each entry, where all took so long.
+    fn of_each(self, taken: Duration) -> f64 {
+        taken.as_secs_f64() / f64::from(self.entries)
+    }
+}
+
+/// What a transcript took, beside what a smaller one took of the same load.
+#[derive(Clone, Copy, Debug, PartialEq, Eq)]
+pub struct CheckGrowth {
+    /// What the transcript took.
+    pub figures: CheckFigures,
+    /// What the smaller one took.
+    pub smaller: CheckFigures,
+}
+
+impl fmt::Display for CheckGrowth {
+    fn fmt<W: fmt::Write>(&self, f: &mut fmt::Formatter<W>) -> fmt::Result {
+        let CheckGrowth { figures, smaller } = *self;
+        let CheckTimes { read, judged } = figures.times;
+        let entries = figures.entries;
+        let bytes = figures.bytes;
+        let reading = read.as_secs_f64();
+        let read_ratio = figures.of_each(read) / smaller.of_each(smaller.times.read);
+        let judging = judged.as_secs_f64();
+        let judged_ratio = figures.of_each(judged) / smaller.of_each(smaller.times.judged);
+        let count = per_second(f64::from(entries), judged);
+        let megabytes = per_second(nearest_u64_to_f64(bytes) / 1e6, judged);
+        write!(
+            f,
+            "entries {entries}, bytes {bytes}: read in {reading:.3} s, ratio {read_ratio:.2}; judged in {judging:.3} s, ratio {judged_ratio:.2}: {megabytes:.1} MB and {count:.0} entries a second"
+        )
+    }
+}
+
 #[cfg(test)]
 mod tests {
     use super::*;
@@ -212,6 +267,31 @@ mod tests {
         assert_eq!(rt;
             format!(in rt.alloc(); "{figures}")?.as_str(),
             "entries 100000, 20.0 MB: 40.0 MB and 200000 entries a second; by serde_json alone 80.0 MB and 400000 entries a second"
+        );
+        Ok(())
+    }
+
+    #[test]
+    fn figures_of_judging_are_written_in_one_line(rt: HostRuntime) -> Result<(), Fail> {
+        let smaller = CheckFigures {
+            entries: 10_000,
+            bytes: 2_000_000,
+            times: CheckTimes {
+                read: Duration::from_millis(50),
+                judged: Duration::from_millis(10),
+            },
+        };
+        let figures = CheckFigures {
+            entries: 100_000,
+            bytes: 20_000_000,
+            times: CheckTimes {
+                read: Duration::from_millis(500),
+                judged: Duration::from_millis(125),
+            },
+        };
+        assert_eq!(rt;
+            format!(in rt.alloc(); "{}", CheckGrowth { figures, smaller })?.as_str(),
+            "entries 100000, bytes 20000000: read in 0.500 s, ratio 1.00; judged in 0.125 s, ratio 1.25: 160.0 MB and 800000 entries a second"
         );
         Ok(())
     }

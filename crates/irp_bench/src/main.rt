@@ -1,7 +1,8 @@
-//! The program: times what the calls of remove locks and of the manager cost, and the texts of transcripts.
+//! The program: times what the calls of remove locks and of the manager cost, the texts of transcripts, and their judging.
 #![tactic(auto)]
 
 mod caller;
+mod checking;
 mod counter;
 mod descents;
 mod ending;
@@ -12,6 +13,7 @@ mod loads;
 mod orders;
 mod packets;
 mod reading;
+mod recordings;
 mod samples;
 mod sessions;
 mod texts;
@@ -21,14 +23,16 @@ mod writing;
 
 use crate::ending::Ending;
 use crate::fault::Fault;
+use crate::figures::CheckGrowth;
 use crate::orders::{Order, Unread};
+use crate::recordings::Load;
 use std::process::ExitCode;
 use std::rt::{Clock, Env};
 use std::sync::Wait;
 use std::thread::Threads;
 use std::{env, io};
 
-/// The words that the program was given. None where they can't be had, which counts as other words.
+/// The words that the program was given. `Usage` where they can't be had, and `Memory` where memory was missing for them.
 fn words_of<R: Env + AllocGlobal>(rt: &R) -> Result<Vec<String>, Unread> {
     let words = match env::args(rt) {
         Ok(words) => words,
@@ -81,6 +85,27 @@ fn time_reading<R: Clock + Eprint + AllocGlobal>(rt: &R) -> Result<(), Fault> {
     Ok(())
 }
 
+/// Writes the figures of the judging of transcripts to standard error, for each load and for 10,000 entries, for 100,000
+/// and for 1,000,000.
+fn time_checking<R: Wait + Clock + Eprint + AllocGlobal>(rt: &R) -> Result<(), Fault> {
+    for load in [Load::Refused, Load::Sent] {
+        let smaller = checking::check_figures(rt, load, 10_000)?;
+        let figures = smaller;
+        eprintln!(rt;
+            "irp_bench: check, {load}, {}",
+            CheckGrowth { figures, smaller }
+        )?;
+        for entries in [100_000, 1_000_000] {
+            let figures = checking::check_figures(rt, load, entries)?;
+            eprintln!(rt;
+                "irp_bench: check, {load}, {}",
+                CheckGrowth { figures, smaller }
+            )?;
+        }
+    }
+    Ok(())
+}
+
 /// Does what the words ask for.
 fn run<R: Threads + Wait + Sync + Clock + Env + Eprint + AllocGlobal>(rt: &R) -> Ending {
     let order = match words_of(rt) {
@@ -93,6 +118,7 @@ fn run<R: Threads + Wait + Sync + Clock + Env + Eprint + AllocGlobal>(rt: &R) ->
         Ok(Order::Calls) => Ending::of(time_calls(rt)),
         Ok(Order::Write) => Ending::of(time_writing(rt)),
         Ok(Order::Read) => Ending::of(time_reading(rt)),
+        Ok(Order::Check) => Ending::of(time_checking(rt)),
         Err(Unread::Usage) => Ending::OtherWords,
         Err(Unread::Memory) => Ending::NoMemory,
     }

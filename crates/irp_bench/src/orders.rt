@@ -16,6 +16,8 @@ pub enum Order {
     Write,
     /// Time the reading of transcripts.
     Read,
+    /// Time the judging of transcripts.
+    Check,
 }
 
 /// Why words ask for nothing (this project's own command line, README.md).

@@ -3,10 +3,10 @@
 ghost use Rattle.std.specs.Prelude.{◌≡◌, IfSome, true};
 ghost use Rattle.irp_types.specs.declared.call.Call.TheVariants.{SetNext};
 ghost use Rattle.irp_types.specs.declared.call.Party.TheVariants.{Originator};
-ghost use Rattle.irp_bench.specs.Makes.{MakesRound, MakesUnsent, MakesSent, Repeats};
+ghost use Rattle.irp_bench.specs.Makes.{MakesRound, MakesUnsent, MakesSent, MakesRefused, MakesLook, Repeats};
 
 use crate::caller::Caller;
-use irp_types::{Call, DeviceId, DriverId, IrpRef, LockNo, Party, Reply, Status};
+use irp_types::{Call, DeviceId, DriverId, IrpRef, LockNo, Party, Refusal, Reply, Status};
 
 /// The major function code of a read, IRP_MJ_READ (WDK: "IRP_MJ_READ").
 pub const READ: u8 = 0x03;
@@ -134,6 +134,62 @@ pub fn sent_packets<C: Caller>(caller: &mut C, target: DeviceId, count: u32) -> 
         if sent(caller, target).is_none() {
             return false;
         }
+    }
+    true
+}
+
+/// Allocates a packet of one location, completes it as device 9, which doesn't own it and is refused, and gives it back.
+/// None where a call was not made, or was answered otherwise.
+fn refused<C: Caller>(caller: &mut C) -> Option<()>
+    requires { C.is_ready caller.old }
+    ensures ready { C.is_ready caller.new }
+    ensures made { IfSome result (λ _. MakesRefused C.makes caller.old caller.new) }
+{
+    let Reply::Irp(irp) = caller.reply_to(Call::Allocate { size: 1 })? else {
+        return None;
+    };
+    let complete = Call::Complete {
+        party: Party::Device(DeviceId(9)),
+        irp,
+        status: Status::SUCCESS,
+        information: 0,
+    };
+    let Reply::Refused(Refusal::NotOwner) = caller.reply_to(complete)? else {
+        return None;
+    };
+    let Reply::Done = caller.reply_to(Call::Free { irp })? else {
+        return None;
+    };
+    Some(())
+}
+
+/// Allocates so many packets of one location, completes each as device 9, which is refused, and gives it back. It stops
+/// where a call was not made, or was answered otherwise, and answers whether it was so for all.
+pub fn refused_packets<C: Caller>(caller: &mut C, count: u32) -> bool
+    requires { C.is_ready caller.old }
+    ensures ready { C.is_ready caller.new }
+    ensures made { result ≡ true → Repeats (MakesRefused C.makes) count caller.old caller.new }
+{
+    for made in 0..count {
+        if refused(caller).is_none() {
+            return false;
+        }
+    }
+    true
+}
+
+/// Looks at a packet that there isn't, so many times. It stops where a call was not made, or was answered otherwise, and
+/// answers whether it was so for all.
+pub fn looks<C: Caller>(caller: &mut C, count: u32) -> bool
+    requires { C.is_ready caller.old }
+    ensures ready { C.is_ready caller.new }
+    ensures made { result ≡ true → Repeats (MakesLook C.makes) count caller.old caller.new }
+{
+    let irp = IrpRef { slot: 0, use_no: 0 };
+    for made in 0..count {
+        let Some(Reply::Refused(Refusal::NoIrp)) = caller.reply_to(Call::Look { irp }) else {
+            return false;
+        };
     }
     true
 }

@@ -4,7 +4,7 @@ ghost use Rattle.std.specs.Prelude.{◌≡◌, ◌↔◌, [], ◌∷◌, Some, N
 ghost use Rattle.clap.specs.Matches.{subcommand_name_of};
 ghost use Rattle.clap.specs.Values.{kind_of};
 ghost use Rattle.clap.specs.Words.{app_of, fault_of};
-ghost use Rattle.irp_bench.specs.CommandLine.{IsCalledWith, command_line};
+ghost use Rattle.irp_bench.specs.CommandLine.{IsCalledWith, command_line, with_calls};
 
 use crate::orders::{Order, Unread};
 use clap::error::ErrorKind;
@@ -12,15 +12,23 @@ use clap::{ArgMatches, Command, Error};
 use std::alloc::{AllocError, Global};
 use std::convert::AsStr;
 
+/// The command line with the words `locks` and `calls`.
+fn calls_command<'a>(alloc: Global) -> Result<Command<'a>, AllocError>
+    ensures { IfOk result (λ command. app_of command ≡ with_calls) }
+{
+    let command = Command::new(alloc, "irp_bench");
+    let command = command.subcommand(Command::new(alloc, "locks"))?;
+    command.subcommand(Command::new(alloc, "calls"))
+}
+
 /// The command line that the program takes.
 fn command<'a>(alloc: Global) -> Result<Command<'a>, AllocError>
     ensures { IfOk result (λ command. app_of command ≡ command_line) }
 {
-    let command = Command::new(alloc, "irp_bench");
-    let command = command.subcommand(Command::new(alloc, "locks"))?;
-    let command = command.subcommand(Command::new(alloc, "calls"))?;
+    let command = calls_command(alloc)?;
     let command = command.subcommand(Command::new(alloc, "write"))?;
-    command.subcommand(Command::new(alloc, "read"))
+    let command = command.subcommand(Command::new(alloc, "read"))?;
+    command.subcommand(Command::new(alloc, "check"))
 }
 
 /// What clap's matches ask for.
@@ -30,6 +38,7 @@ fn order_of(matches: &ArgMatches<'_>) -> Result<Order, Unread>
     ensures calls { (result ≡ Ok Order.Calls) ↔ (subcommand_name_of matches.now ≡ Some (codes "calls")) }
     ensures write { (result ≡ Ok Order.Write) ↔ (subcommand_name_of matches.now ≡ Some (codes "write")) }
     ensures read { (result ≡ Ok Order.Read) ↔ (subcommand_name_of matches.now ≡ Some (codes "read")) }
+    ensures check { (result ≡ Ok Order.Check) ↔ (subcommand_name_of matches.now ≡ Some (codes "check")) }
 {
     let Some((name, _)) = matches.subcommand() else {
         return Ok(Order::Nothing);
@@ -42,6 +51,8 @@ fn order_of(matches: &ArgMatches<'_>) -> Result<Order, Unread>
         Ok(Order::Write)
     } else if name == "read" {
         Ok(Order::Read)
+    } else if name == "check" {
+        Ok(Order::Check)
     } else {
         Err(Unread::Usage)
     }
@@ -71,6 +82,7 @@ pub fn order<'a, S: AsStr>(alloc: Global, words: &'a [S]) -> Result<Order, Unrea
     ensures calls { IsCalledWith (codes "calls" ∷ []) (map S.text words.entry.now) → MatchResult result (λ order. order ≡ Order.Calls) (λ unread. unread ≡ Unread.Memory) }
     ensures write { IsCalledWith (codes "write" ∷ []) (map S.text words.entry.now) → MatchResult result (λ order. order ≡ Order.Write) (λ unread. unread ≡ Unread.Memory) }
     ensures read { IsCalledWith (codes "read" ∷ []) (map S.text words.entry.now) → MatchResult result (λ order. order ≡ Order.Read) (λ unread. unread ≡ Unread.Memory) }
+    ensures check { IsCalledWith (codes "check" ∷ []) (map S.text words.entry.now) → MatchResult result (λ order. order ≡ Order.Check) (λ unread. unread ≡ Unread.Memory) }
 {
     let command = command(alloc)?;
     match command.try_get_matches_from(words) {
@@ -100,6 +112,10 @@ mod tests {
             Ok(Order::Write)
         );
         assert_eq!(rt; order(rt.alloc(), &["irp_bench", "read"]), Ok(Order::Read));
+        assert_eq!(rt;
+            order(rt.alloc(), &["irp_bench", "check"]),
+            Ok(Order::Check)
+        );
     }
 
     #[test]

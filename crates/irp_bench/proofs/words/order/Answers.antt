@@ -1,5 +1,5 @@
--- An order comes of words in which clap finds no fault; of `NAME` alone and behind it `locks`, `calls`, `write` or `read` one does, unless memory runs out.
-use Rattle.irp_bench.proofs.CommandLine.{calls_is_named, just, locks_is_named, no_fault, none_is_named, on_ok, read_is_named, takes_calls, takes_locks, takes_no_words, takes_read, takes_write, write_is_named}
+-- An order comes of words in which clap finds no fault; of `NAME` alone and behind it `locks`, `calls`, `write`, `read` or `check` one does, unless memory runs out.
+use Rattle.irp_bench.proofs.CommandLine.{calls_is_named, check_is_named, just, locks_is_named, no_fault, none_is_named, on_ok, read_is_named, takes_calls, takes_check, takes_locks, takes_no_words, takes_read, takes_write, write_is_named}
 use Rattle.irp_bench.proofs.words.order.Goals as goal
 
 pub returns-in-Ok-clause-ok : goal.returns-in-Ok-clause-ok
@@ -30,6 +30,11 @@ returns-in-Ok-clause-read g c called =
     just _ c.order_of.result _
     (c.order_of.ensures.read.1 (read_is_named _ c.in-Ok.matches called.0 _ c.in_ok-command.ensures called.1 c.in-Ok.ensures.matches))
 
+pub returns-in-Ok-clause-check : goal.returns-in-Ok-clause-check
+returns-in-Ok-clause-check g c called =
+    just _ c.order_of.result _
+    (c.order_of.ensures.check.1 (check_is_named _ c.in-Ok.matches called.0 _ c.in_ok-command.ensures called.1 c.in-Ok.ensures.matches))
+
 pub returns-in-Err-clause-nothing : goal.returns-in-Err-clause-nothing
 returns-in-Err-clause-nothing g c called =
     c.unread_of.ensures.1 (c.in-Err.ensures.passes (takes_no_words _ called.0 _ c.in_ok-command.ensures called.1))
@@ -49,3 +54,7 @@ returns-in-Err-clause-write g c called =
 pub returns-in-Err-clause-read : goal.returns-in-Err-clause-read
 returns-in-Err-clause-read g c called =
     c.unread_of.ensures.1 (c.in-Err.ensures.passes (takes_read _ called.0 _ c.in_ok-command.ensures called.1))
+
+pub returns-in-Err-clause-check : goal.returns-in-Err-clause-check
+returns-in-Err-clause-check g c called =
+    c.unread_of.ensures.1 (c.in-Err.ensures.passes (takes_check _ called.0 _ c.in_ok-command.ensures called.1))
