@@ -43,10 +43,6 @@ abbrev pub or_null_at : {T : Type 0} → (Data → Option T) → Data → Option
 or_null_at reads null = Some None
 or_null_at reads form = reads form >>= λ value. Some (Some value)
 
--- a number in 32 bits, or null
-unfoldable pub u32_or_null_at : Data → Option (Option ℕ)
-u32_or_null_at form = or_null_at u32_at form
-
 -- an array of so many items
 abbrev pub has_items : ℕ → Data → Bool
 has_items count (array items) = items_len items == count

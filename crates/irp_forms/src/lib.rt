@@ -9,13 +9,10 @@ mod unread;
 mod values;
 
 pub use list::{FromJson, list_at};
-pub use names::{Flags, cancel_rule_at, flags_at, rule_at};
-pub use parts::{has_items, has_keys, u8_at, u32_at, u32_or_null_at, u64_at};
-pub use questions::asked_at;
+pub use names::rule_at;
+pub use parts::{has_items, has_keys, u8_at, u32_at, u64_at};
 pub use unread::{Unread, form_of};
 pub use values::{
-    cancel_answer_at, cancel_at, cancel_or_null_at, completions_at, device_at, device_or_null_at,
-    dispatch_at, driver_at, handler_at, irp_at, known_at, lock_at, lock_or_null_at, party_at,
-    plan_at, replacement_at, replacement_or_null_at, routine_at, setting_at, setting_or_null_at,
-    status_at,
+    cancel_answer_at, cancel_or_null_at, completions_at, device_at, driver_at, handler_at, irp_at,
+    lock_at, lock_or_null_at, party_at, plan_at, setting_at, status_at,
 };

@@ -8,7 +8,6 @@ ghost use Rattle.irp_forms.specs.Parts.{
   has_keys,
   number_at,
   u32_at,
-  u32_or_null_at,
   u64_at,
   u8_at,
 };
@@ -63,20 +62,6 @@ pub fn u64_at(value: &Value) -> Option<u64>
     ensures { result ≡ u64_at (view value.now) }
 {
     number_at(value, u64::MAX)
-}
-
-/// A whole number below 2^32, or null, which is read as `Some(None)` (this project's own format, docs/FORMATS.md).
-#[tactic(auto, unfolding(crate::specs::Parts::u32_or_null_at))]
-pub fn u32_or_null_at(value: &Value) -> Option<Option<u32>>
-    ensures { result ≡ u32_or_null_at (view value.now) }
-{
-    match value {
-        Value::Null => Some(None),
-        _ => {
-            let number = u32_at(value)?;
-            Some(Some(number))
-        }
-    }
 }
 
 /// Whether it is an array of so many items.

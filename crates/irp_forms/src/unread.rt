@@ -1,6 +1,8 @@
 //! Why a JSON value wasn't read.
 
+ghost use Rattle.std.specs.Prelude.{◌≡◌, IfErr};
 ghost use Rattle.irp_forms.specs.Parts.{Gives};
+ghost use Rattle.irp_forms.specs.declared.unread.Unread.TheVariants.{Form};
 
 use thiserror::Error;
 
@@ -15,9 +17,14 @@ pub enum Unread {
     NoMemory,
 }
 
-/// What was read, or `Unread::Form` where nothing was. It takes no memory (this project's own rule).
+/// What was read. It takes no memory (this project's own rule).
+///
+/// # Errors
+///
+/// `Unread::Form` where nothing was read, and no other.
 pub fn form_of<T>(read: Option<T>) -> Result<T, Unread>
-    ensures { Gives result read }
+    ensures reads { Gives result read }
+    ensures refuses { IfErr result (λ why. why ≡ Form) }
 {
     match read {
         Some(value) => Ok(value),

@@ -1,17 +1,17 @@
 -- A step asks the dispatch of a device, the routine of a location and a cancel routine once at most, and each answer is
 -- allowed. So an entry's own questions are answered by what it tells.
-use Rattle.std.proofs.Common.{◌≡◌, ℕ, ◌+◌, ◌-◌, ◌<◌, ◌≤◌, ◌==◌, zero, suc, Bool, true, false, cond, List, [], ◌∷◌, ◌++◌, map, filter, length, take, reverse, get_or, refl, sym, ◌∙◌, ap, subst, arith, Option, Some, None, MatchOption, inl, inr, unwrap_or, slice_get}
-use Rattle.std.specs.List.{range_with_len, flat_map, AllByRecursion}
+use Rattle.std.proofs.Common.{◌≡◌, ℕ, ◌+◌, ◌<◌, ◌≤◌, ◌==◌, zero, suc, Bool, true, false, List, [], ◌∷◌, ◌++◌, map, filter, length, take, reverse, get_or, refl, sym, ◌∙◌, ap, subst, arith, Option, Some, None, MatchOption, inl, inr, unwrap_or}
+use Rattle.std.specs.List.{range_with_len, AllByRecursion}
 use Rattle.std.specs.Option.{option_or, option_map_or}
-use Rattle.std.proofs.lemmas.Bool.{cond-true, cond-false, cases_Bool, cases_eq, cases_lt}
+use Rattle.std.proofs.lemmas.Bool.{cond-true, cond-false, cases_lt}
 use Rattle.std.proofs.lemmas.List.{take_more, reverse-append, append_assoc, get_or_past}
 use Rattle.irp_types.specs.Status.{cancelled, invalid_device_request}
-use Rattle.irp_types.specs.Rules.{is_allowed, is_plan_allowed, is_cancel_allowed}
+use Rattle.irp_types.specs.Rules.{is_allowed}
 use Rattle.irp_types.specs.Allowed.{IsPlanAllowed, IsCancelAllowed}
 use Rattle.irp_types.specs.Packet.{PacketValue, with_status}
-use Rattle.irp_types.specs.Unwinding.{Asking, place_of, as_asked, from_to, is_met_at, stop_of, IsAskedRight, Unwound}
+use Rattle.irp_types.specs.Unwinding.{Asking, place_of, as_asked, is_met_at, IsAskedRight, Unwound}
 use Rattle.irp_types.specs.Stacks.{DevicesValue, stack_of, stack_size_of, depth_of, AreStacks}
-use Rattle.irp_types.specs.State.{StateValue, Fixed, Tables, packet_of, known_of}
+use Rattle.irp_types.specs.State.{StateValue, Fixed, Tables, packet_of}
 use Rattle.irp_types.specs.Descent.{Frame, shown_to, dispatch_at, as_question, question_at, questions_of, devices_down, last_frame, IsPlanOf, IsPlanned, Ends, Descended}
 use Rattle.irp_types.specs.Refusals.{first_refusal}
 use Rattle.irp_types.specs.Standing.{StandingFacts}
@@ -21,7 +21,6 @@ use Rattle.irp_types.specs.declared.names.IrpRef.{IrpRef}
 use Rattle.irp_types.specs.declared.names.DeviceId.{DeviceId}
 use Rattle.irp_types.specs.declared.names.DispatchId.{DispatchId}
 use Rattle.irp_types.specs.declared.names.CancelId.{CancelId}
-use Rattle.irp_types.specs.declared.routine.RoutineId.{RoutineId}
 use Rattle.irp_types.specs.declared.routine.CancelRule.{CancelRule}
 use Rattle.irp_types.specs.declared.routine.Known.{Known}
 use Rattle.irp_types.specs.declared.shown.Shown.{Shown}

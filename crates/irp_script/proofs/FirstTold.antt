@@ -1,5 +1,5 @@
 -- The first answer that the rest of a list tells.
-use Rattle.std.proofs.Common.{◌≡◌, ℕ, ◌+◌, ◌<◌, ◌≤◌, zero, suc, List, [], ◌∷◌, drop, length, get_or, refl, sym, ◌∙◌, ap, arith, Option, Some, None}
+use Rattle.std.proofs.Common.{◌≡◌, ℕ, ◌+◌, ◌<◌, ◌≤◌, zero, suc, List, [], ◌∷◌, drop, length, get_or, refl, ◌∙◌, ap, arith, Option, Some, None}
 use Rattle.std.specs.Option.{option_or}
 use Rattle.irp_types.specs.declared.asked.Asked.{Asked}
 use Rattle.irp_script.specs.Recorded.{first_in}

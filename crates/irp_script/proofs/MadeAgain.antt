@@ -1,10 +1,8 @@
 -- An entry that is made again: it is the same one exactly where a step makes it.
 use Rattle.std.proofs.Common.{◌≡◌, ℕ, Bool, true, false, List, [], ◌∷◌, refl, sym, ◌∙◌, ap, subst, Option, Some, None, MatchOption}
-use Rattle.std.specs.Prelude.{IsTrue, IfSome}
+use Rattle.std.specs.Prelude.{IsTrue}
 use Rattle.std.specs.List.{AllByRecursion}
-use Rattle.std.specs.FinMap as fin
 use mathlib.Core.Logic.{◌↔◌}
-use Rattle.irp_types.specs.Allowed.{IsPlanAllowed}
 use Rattle.irp_types.specs.State.{StateValue, Fixed, Tables, live_at}
 use Rattle.irp_types.specs.Refusals.{first_refusal}
 use Rattle.irp_types.specs.Standing.{StandingFacts}
@@ -26,7 +24,7 @@ use Rattle.irp_manager.specs.Laws.{IsSameSlot, StepIsSettled}
 use Rattle.irp_manager.specs.Notes.{known_by}
 use Rattle.irp_manager.specs.Slots.{IsGranted}
 use Rattle.irp_script.specs.Recorded.{plan_told, answer_told, cancel_told, IsPlanTold, IsAnswerTold, IsCancelTold}
-use Rattle.irp_script.specs.Replayed.{IsNoEntryAt, MakesAgain, slot_named}
+use Rattle.irp_script.specs.Replayed.{MakesAgain, slot_named}
 use Rattle.irp_script.proofs.AskedOnce.{step_told}
 
 -- what is answered as it is told is answered so

@@ -1,11 +1,11 @@
 -- Beginnings of a legal history are legal, and a verdict is right.
-use Rattle.std.proofs.Common.{◌≡◌, ℕ, ◌+◌, ◌<◌, ◌≤◌, suc, zero, List, [], ◌∷◌, take, length, refl, sym, ◌∙◌, ap, subst, arith, Option, Some, None, inl, inr, length-take-le}
+use Rattle.std.proofs.Common.{◌≡◌, ℕ, ◌+◌, ◌<◌, ◌≤◌, suc, zero, List, [], ◌∷◌, take, length, refl, sym, ◌∙◌, ap, subst, arith, Some, inl, inr, length-take-le}
 use Rattle.std.specs.Prelude.{slice_get}
 use Rattle.std.proofs.lemmas.Bool.{cases_lt, cases_eq}
 use Rattle.std.proofs.lemmas.List.{take_all, take-take}
 use Rattle.std.proofs.lemmas.Option.{slice_get_cases, slice_get_within}
 use Rattle.irp_types.specs.State.{StateValue, Fixed, opening_state}
-use Rattle.irp_types.specs.Histories.{IsEntryAt, LeadsThrough, LeadsTo, IsLegal, HistorySettlesStates}
+use Rattle.irp_types.specs.Histories.{LeadsThrough, LeadsTo, IsLegal, HistorySettlesStates}
 use Rattle.irp_types.specs.declared.entry.Entry.{Entry}
 use Rattle.irp_script.specs.Checked.{IsFirstIllegal, IsVerdict}
 use Rattle.irp_script.specs.Replayed.{IsNoEntryAt}

@@ -1,14 +1,17 @@
 -- A script that is read is sound: what each member keeps is kept by its list.
-use Rattle.std.proofs.Common.{◌≡◌, ℕ, ◌+◌, ◌<◌, ◌≤◌, List, [], ◌∷◌, ◌++◌, length, Bool, true, false, not, ◌&&◌, nat_lt, Option, Some, None, Result, Ok, Err, refl, sym, ap, ◌∙◌, subst, arith, if◌then◌else◌, codes, ltb}
-use Rattle.std.specs.Prelude.{IfOk}
+use Rattle.std.proofs.Common.{◌≡◌, ℕ, ◌+◌, ◌<◌, ◌≤◌, List, [], ◌∷◌, ◌++◌, length, Bool, true, false, not, ◌&&◌, nat_lt, Option, Some, None, Result, Ok, Err, refl, sym, ap, ◌∙◌, subst, arith, if◌then◌else◌, codes, ltb, inr}
+use Rattle.std.specs.Prelude.{IfOk, IsUtf8}
 use Rattle.std.specs.List.{All}
 use Rattle.std.proofs.lemmas.List.Elements.{All-nil, All-push}
 use Rattle.std.proofs.lemmas.Bool.{and_parts, ltb-true, not-true}
 use Rattle.std.proofs.lemmas.Grind.{common_steps}
 use Rattle.serde_json.specs.Data.{Data, Items, no_items, item}
 use Rattle.serde_json.specs.Find.{get, as_array}
+use Rattle.serde_json.specs.Read.{read}
 use Rattle.irp_forms.specs.Parts as parts
+use Rattle.irp_forms.proofs.Texts.{some_text}
 use Rattle.irp_forms.specs.Values.{cancel_answer_at, handler_at, plan_at}
+use Rattle.irp_types.specs.State.{no_routines}
 use Rattle.irp_types.specs.declared.answer.Plan.{Plan}
 use Rattle.irp_types.specs.declared.names.DispatchId.{DispatchId}
 use Rattle.irp_types.specs.declared.routine.Known.{Known}
@@ -19,7 +22,7 @@ use Rattle.irp_script_reader.specs.Labels.{label_at, place_among, with_labels}
 use Rattle.irp_script_reader.specs.Members.{in_room, is_on_lock, may_have, takes_cancel, takes_completion, takes_dispatch, takes_driver, takes_step}
 use Rattle.irp_script_reader.specs.Plans.{is_driver, is_plan_sound, names_known}
 use Rattle.irp_script_reader.specs.Routines.{completion_at, counted, obeys_its_rule, one_more}
-use Rattle.irp_script_reader.specs.Scripts.{cancels_at, completions_at, count_at, dispatches_at, drivers_at, form_at, keys_at, list_at, none, script_at, steps_at, under}
+use Rattle.irp_script_reader.specs.Scripts.{cancels_at, completions_at, count_at, dispatches_at, drivers_at, form_at, keys_at, ReadsScript, list_at, script_at, steps_at, under}
 use Rattle.irp_script_reader.specs.Sound.{IsSound, known_of, with_all, with_one}
 use Rattle.irp_script_reader.specs.Taking.{◌>>=◌, Tells, formed, if_list, list_of, members_at, told, unless, with_item}
 use Rattle.irp_script_reader.specs.declared.act.Step.{Step}
@@ -114,7 +117,7 @@ counted_kept counts KeepOnError P has = more_kept (nat_lt counts.keep_on_error 2
 counted_kept counts Free P has = more_kept (nat_lt counts.free 256) (counts.free + 1) (λ n. record counts { free = n }) P has
 
 abbrev AreCompletions : Completions → Type 0
-AreCompletions list = (list.counts ≡ with_all none list.routines) × All (λ routine. obeys_its_rule routine ≡ true) list.routines
+AreCompletions list = (list.counts ≡ with_all no_routines list.routines) × All (λ routine. obeys_its_rule routine ≡ true) list.routines
 
 completion_kept : (list : Completions) (form : Data) → AreCompletions list → IfOk (takes_completion list form) AreCompletions
 unfolding takes_completion
@@ -124,7 +127,7 @@ completion_kept list form has =
     then_from (in_room (counted list.counts routine.rule)) _ (λ counts. counts ≡ with_one list.counts routine.rule) AreCompletions
     (counted_kept list.counts routine.rule (λ counts. counts ≡ with_one list.counts routine.rule) refl)
     (λ counts is. (
-      is ∙ ap (λ given. with_one given routine.rule) has.0 ∙ sym (with_all_more none list.routines routine),
+      is ∙ ap (λ given. with_one given routine.rule) has.0 ∙ sym (with_all_more no_routines list.routines routine),
       All-push (λ given. obeys_its_rule given ≡ true) list.routines routine has.1 obeys,
     ))))
 
@@ -239,7 +242,7 @@ script_sound whole =
     then_any (count_at section.Locks (codes "locks") whole) _ IsSound (λ locks second.
     then_from (completions_at whole) _ AreCompletions IsSound
     (list_kept takes_completion section.Completions AreCompletions completion_kept
-    (record { routines = []; counts = none }) (get (codes "completions") whole) (refl, All-nil _))
+    (record { routines = []; counts = no_routines }) (get (codes "completions") whole) (refl, All-nil _))
     (λ completions obey.
     then_from (cancels_at completions.counts whole) _ (AreCancels completions.counts) IsSound
     (list_kept takes_cancel section.Cancels (AreCancels completions.counts) (cancel_kept completions.counts)
@@ -262,8 +265,8 @@ script_sound whole =
       dispatches = subst (λ known. All (λ plan. (is_plan_sound plan ≡ true) × (names_known known plan ≡ true)) dispatches.plans)
           (counted
           ∙ ap (λ (given : Known). record given { cancel = given.cancel + length cancels.answers }) obey.0
-          ∙ ap (λ n. record (with_all none completions.routines) { cancel = n + length cancels.answers }) (all_cancel none completions.routines)
-          ∙ ap (λ n. record (with_all none completions.routines) { cancel = n }) (none_plus (length cancels.answers)))
+          ∙ ap (λ n. record (with_all no_routines completions.routines) { cancel = n + length cancels.answers }) (all_cancel no_routines completions.routines)
+          ∙ ap (λ n. record (with_all no_routines completions.routines) { cancel = n }) (none_plus (length cancels.answers)))
           plans.1;
       drivers = tables.1;
       setup = seated.0;
@@ -274,3 +277,10 @@ pub told_sound : (result : Result Script ScriptFault) (whole : Data) → Tells r
 told_sound (Ok script) whole is = subst (λ given. IfOk given IsSound) is (script_sound whole)
 told_sound (Err (Refused refusal)) whole is = tt
 told_sound (Err NoMemory) whole is = tt
+
+-- what the value of a text gives is what the text gives
+pub told_reads : (result : Result Script ScriptFault) (text : List ℕ) (whole : Data) → length text ≤ 1048576 → IsUtf8 text → read text ≡ Some whole
+    → Tells result (script_at whole) → ReadsScript result text
+told_reads (Ok script) text whole few utf8 is given = (whole, (few, utf8, is), given)
+told_reads (Err (Refused refusal)) text whole few utf8 is given = inr (inr (whole, (few, utf8, is), given))
+told_reads (Err NoMemory) text whole few utf8 is given = (some_text text whole is, few)

@@ -6,6 +6,7 @@ use Rattle.serde_json.specs.Data.{Data}
 use Rattle.serde_json.specs.Find.{get}
 use Rattle.serde_json.specs.Read.{read}
 use Rattle.irp_forms.specs.Parts.{has_keys, u32_at}
+use Rattle.irp_types.specs.State.{no_routines}
 use Rattle.irp_types.specs.declared.routine.Known.{Known}
 use Rattle.irp_script_reader.specs.Members.{takes_cancel, takes_completion, takes_dispatch, takes_driver, takes_step}
 use Rattle.irp_script_reader.specs.Taking.{◌>>=◌, list_of}
@@ -60,14 +61,10 @@ under takes part empty (Some form) = list_of takes part empty form
 unfoldable pub list_at : {L : Type 0} → (L → Data → Result L Fault) → Section → List ℕ → L → Data → Result L ScriptRefusal
 list_at takes part key empty whole = under takes part empty (get key whole)
 
--- no routines
-abbrev pub none : Known
-none = record { watch = 0; change = 0; keeper = 0; keep_on_error = 0; free = 0; cancel = 0 }
-
 -- the completion routines
 unfoldable pub completions_at : Data → Result Completions ScriptRefusal
 completions_at whole =
-    list_at takes_completion section.Completions (codes "completions") (record { routines = []; counts = none }) whole
+    list_at takes_completion section.Completions (codes "completions") (record { routines = []; counts = no_routines }) whole
 
 -- the cancel routines, beside so many completion routines
 unfoldable pub cancels_at : Known → Data → Result Cancels ScriptRefusal
@@ -126,11 +123,12 @@ abbrev pub IsText : List ℕ → Data → Type 0
 IsText text whole = (length text ≤ 1048576) × IsUtf8 text × (read text ≡ Some whole)
 
 -- A script only where its value is read. S1 only where the text is too long; S2 only where it isn't, and no value is read;
--- another refusal only where it is the first fault of the value that is read.
+-- another refusal only where it is the first fault of the value that is read. Memory runs out only for a text that isn't
+-- empty and isn't too long.
 abbrev pub ReadsScript : Result Script ScriptFault → List ℕ → Type 0
 ReadsScript (Ok script) text = (whole : Data) × IsText text whole × (script_at whole ≡ Ok script)
 ReadsScript (Err (Refused refusal)) text =
     ((1048576 < length text) × (refusal ≡ TooLong))
     ⊎ (((length text ≤ 1048576) × IsNotJson text × (refusal ≡ NotJson))
     ⊎ ((whole : Data) × IsText text whole × (script_at whole ≡ Err refusal)))
-ReadsScript (Err NoMemory) text = Unit {0}
+ReadsScript (Err NoMemory) text = (0 < length text) × (length text ≤ 1048576)

@@ -1,6 +1,7 @@
 -- What is true of every script that is read, list by list.
 use Rattle.std.specs.Prelude.{◌≡◌, ℕ, ◌+◌, ◌<◌, ◌≤◌, List, [], ◌∷◌, length, Bool, true, false}
 use Rattle.std.specs.List.{All}
+use Rattle.irp_types.specs.State.{no_routines}
 use Rattle.irp_types.specs.declared.answer.Plan.{Plan}
 use Rattle.irp_types.specs.declared.names.DispatchId.{DispatchId}
 use Rattle.irp_types.specs.declared.routine.Known.{Known}
@@ -9,7 +10,6 @@ use Rattle.irp_types.specs.declared.routine.Rule.TheVariants.{Watch, Change, Kee
 use Rattle.irp_script_reader.specs.Members.{is_on_lock}
 use Rattle.irp_script_reader.specs.Plans.{is_driver, is_plan_sound, names_known}
 use Rattle.irp_script_reader.specs.Routines.{obeys_its_rule}
-use Rattle.irp_script_reader.specs.Scripts.{none}
 use Rattle.irp_script_reader.specs.declared.act.Step.{Step}
 use Rattle.irp_script_reader.specs.declared.script.CompletionRoutine.{CompletionRoutine}
 use Rattle.irp_script_reader.specs.declared.script.Script.{Script}
@@ -29,7 +29,7 @@ with_all counts (first ∷ others) = with_all (with_one counts first.rule) other
 
 -- the routines that a script has
 abbrev pub known_of : Script → Known
-known_of script = record (with_all none script.completions) { cancel = length script.cancels }
+known_of script = record (with_all no_routines script.completions) { cancel = length script.cancels }
 
 -- Behaviours are those of their rules; plans are sound, and name only routines that the script has; drivers name only
 -- dispatches that it has; each step's seat is there, and `setup` has none on a remove lock.

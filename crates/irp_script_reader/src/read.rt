@@ -218,8 +218,8 @@ fn script_at(alloc: Global, value: &Value) -> Result<Script, ScriptFault>
 /// `Refused` with the first fault, in this order: the text is longer than 1,048,576 bytes; `serde_json` reads no value
 /// from it; the value is no object, or its `form` isn't known; a key is missing or unknown; then the faults of `seats`,
 /// `locks`, `completions`, `cancels`, `dispatches`, `drivers`, `setup` and `steps`, in a list by place. `NoMemory` where
-/// memory runs out.
-#[tactic(auto, using(crate::proofs::Sounds::told_sound))]
+/// memory runs out: never for an empty text, or for one that is too long.
+#[tactic(auto, using(crate::proofs::Sounds::told_sound, crate::proofs::Sounds::told_reads))]
 pub fn read_script(alloc: Global, bytes: &[u8]) -> Result<Script, ScriptFault>
     ensures reads { ReadsScript result bytes.now }
     ensures sound { IfOk result IsSound }

@@ -74,7 +74,11 @@ pub fn refused(fault: Fault, section: Section, index: usize) -> ScriptFault
     })
 }
 
-/// A list that a JSON value is, from nothing read of it, or the first fault.
+/// A list that a JSON value is, from nothing read of it.
+///
+/// # Errors
+///
+/// `Refused` with the first fault and its place: `BadField` at 0 where it is no list. `NoMemory` where memory runs out.
 #[tactic(auto, unfolding(crate::specs::Taking::list_of))]
 pub fn list_of<L: Taking + Drop>(
     alloc: Global,

@@ -193,89 +193,59 @@ fn plans_name_the_routines_of_the_whole_script(rt: HostRuntime) -> Result<(), Fa
 }
 
 #[test]
-fn lists_have_their_limits(rt: HostRuntime) -> Result<(), Fail> {
-    let alloc = rt.alloc();
-    let completions = (r#""completions":[]"#, "completions");
+fn completion_routines_have_their_limits(rt: HostRuntime) -> Result<(), Fail> {
     let watch = r#"["watch","continue","continue"]"#;
     let keeper = r#"["keeper","keep","keep"]"#;
-    list_has_line(&rt, alloc, completions, (watch, 255, watch), "read")?;
-    list_has_line(&rt, alloc, completions, (watch, 256, keeper), "read")?;
-    list_has_line(
-        &rt,
-        alloc,
-        completions,
-        (watch, 256, watch),
-        "S8 completions 256",
-    )?;
     let two = r#"["watch","continue","continue"],["free","keep","keep"]"#;
-    list_has_line(&rt, alloc, completions, (two, 256, keeper), "read")?;
-    list_has_line(
-        &rt,
-        alloc,
-        completions,
-        (two, 256, watch),
-        "S8 completions 512",
-    )?;
     let broken = r#"["watch","keep","continue"]"#;
-    list_has_line(
-        &rt,
-        alloc,
-        completions,
-        (watch, 256, broken),
-        "S5 completions 256",
-    )?;
-    list_has_line(
-        &rt,
-        alloc,
-        completions,
-        (watch, 256, "0"),
-        "S4 completions 256",
-    )?;
+    let old = (r#""completions":[]"#, "completions");
+    for (list, line) in [
+        ((watch, 255, watch), "read"),
+        ((watch, 256, keeper), "read"),
+        ((watch, 256, watch), "S8 completions 256"),
+        ((two, 256, keeper), "read"),
+        ((two, 256, watch), "S8 completions 512"),
+        ((watch, 256, broken), "S5 completions 256"),
+        ((watch, 256, "0"), "S4 completions 256"),
+    ] {
+        list_has_line(&rt, rt.alloc(), old, list, line)?;
+    }
+    Ok(())
+}
+
+#[test]
+fn cancels_and_dispatches_have_their_limits(rt: HostRuntime) -> Result<(), Fail> {
+    let leave = r#"["leave"]"#;
+    let skip = r#"["skip"]"#;
     let cancels = (r#""cancels":[]"#, "cancels");
-    list_has_line(
-        &rt,
-        alloc,
-        cancels,
-        (r#"["leave"]"#, 255, r#"["leave"]"#),
-        "read",
-    )?;
-    list_has_line(
-        &rt,
-        alloc,
-        cancels,
-        (r#"["leave"]"#, 256, r#"["leave"]"#),
-        "S8 cancels 256",
-    )?;
     let dispatches = (r#""dispatches":[["finish",0,5]]"#, "dispatches");
-    list_has_line(
-        &rt,
-        alloc,
-        dispatches,
-        (r#"["skip"]"#, 255, r#"["skip"]"#),
-        "read",
-    )?;
-    list_has_line(
-        &rt,
-        alloc,
-        dispatches,
-        (r#"["skip"]"#, 256, r#"["skip"]"#),
-        "S8 dispatches 256",
-    )?;
-    list_has_line(
-        &rt,
-        alloc,
-        dispatches,
-        (r#"["skip"]"#, 256, r#"["hold",0]"#),
-        "S6 dispatches 256",
-    )?;
+    for (old, list, line) in [
+        (cancels, (leave, 255, leave), "read"),
+        (cancels, (leave, 256, leave), "S8 cancels 256"),
+        (dispatches, (skip, 255, skip), "read"),
+        (dispatches, (skip, 256, skip), "S8 dispatches 256"),
+        (
+            dispatches,
+            (skip, 256, r#"["hold",0]"#),
+            "S6 dispatches 256",
+        ),
+    ] {
+        list_has_line(&rt, rt.alloc(), old, list, line)?;
+    }
+    Ok(())
+}
+
+#[test]
+fn drivers_have_their_limits(rt: HostRuntime) -> Result<(), Fail> {
     let drivers = (r#""drivers":[[[3,0]]]"#, "drivers");
-    list_has_line(&rt, alloc, drivers, ("[[3,0]]", 63, "[]"), "read")?;
-    list_has_line(&rt, alloc, drivers, ("[[3,0]]", 64, "[]"), "S8 drivers 64")?;
+    let table = "[[3,0]]";
+    list_has_line(&rt, rt.alloc(), drivers, (table, 63, "[]"), "read")?;
+    list_has_line(&rt, rt.alloc(), drivers, (table, 64, "[]"), "S8 drivers 64")?;
     list_has_line(
         &rt,
-        alloc,
+        rt.alloc(),
         drivers,
-        ("[[3,0]]", 64, "[[3,1]]"),
+        (table, 64, "[[3,1]]"),
         "S7 drivers 64",
     )
 }

@@ -2,8 +2,7 @@
 
 use super::*;
 use irp_types::{
-    CancelAnswer, CancelId, DeviceId, DispatchId, DriverId, IrpRef, LockNo, Party, Plan,
-    Replacement, RoutineId, Rule, Setting, Status,
+    CancelId, DeviceId, DriverId, IrpRef, LockNo, Party, RoutineId, Rule, Setting, Status,
 };
 
 /// The demonstration's steps.
@@ -410,105 +409,5 @@ fn the_first_label_too_many_may_stand_in_setup(rt: HostRuntime) -> Result<(), Fa
     let setup = format!(in alloc; "{setup}{{\"seat\":0,\"do\":\"free\",\"irp\":\"b\"}}")?;
     let told = line_with(alloc, setup.as_str(), "0")?;
     assert_eq!(rt; told.as_str(), "S8 setup 4096");
-    Ok(())
-}
-
-/// A script with something under each key.
-const WHOLE: &str =
-    r#"{"steps":[{"do":"look","irp":"b","seat":1},{"do":"allocate","size":2,"as":"c","seat":0},{"do":"free","irp":"a","seat":0},{"do":"drained","lock":1,"seat":63}],
- "setup":[{"do":"allocate","size":1,"as":"a","seat":0},{"do":"reuse","irp":"b","status":0,"seat":0},{"do":"free","irp":"a","seat":0}],
- "drivers":[[],[[4,1],[3,0]]],"dispatches":[["hold",1],["forward_pend",["change",0,9,"e"]]],
- "cancels":[["finish",6],["leave"]],"completions":[["change",["replace",0,7],"continue"],["keep_on_error","continue","keep"]],
- "locks":2,"seats":64,"form":1}"#;
-
-#[test]
-fn a_script_is_read_whole(rt: HostRuntime) -> Result<(), Fail> {
-    let script = read_script(rt.alloc(), WHOLE.as_bytes()).expect(&rt, "a script");
-    assert_eq!(rt;
-        (script.form, script.seats, script.locks),
-        (ScriptForm::One, 64, 2)
-    );
-    let replacement = Replacement {
-        status: Status::SUCCESS,
-        information: 7,
-    };
-    let completions = [
-        CompletionRoutine {
-            rule: Rule::Change,
-            on_ok: Behaviour::Replace(replacement),
-            on_err: Behaviour::Continue,
-        },
-        CompletionRoutine {
-            rule: Rule::KeepOnError,
-            on_ok: Behaviour::Continue,
-            on_err: Behaviour::Keep,
-        },
-    ];
-    assert_eq!(rt; script.completions.as_slice(), completions.as_slice());
-    let cancels = [CancelAnswer::Finish { information: 6 }, CancelAnswer::Leave];
-    assert_eq!(rt; script.cancels.as_slice(), cancels.as_slice());
-    let setting = Setting {
-        routine: RoutineId {
-            rule: Rule::Change,
-            no: 0,
-        },
-        context: 9,
-        on_success: false,
-        on_error: true,
-        on_cancel: false,
-    };
-    let dispatches = [
-        Plan::Hold {
-            cancel: Some(CancelId(1)),
-        },
-        Plan::ForwardPend { set: Some(setting) },
-    ];
-    assert_eq!(rt; script.dispatches.as_slice(), dispatches.as_slice());
-    Ok(())
-}
-
-#[test]
-fn drivers_steps_and_labels_are_read_whole(rt: HostRuntime) -> Result<(), Fail> {
-    let script = read_script(rt.alloc(), WHOLE.as_bytes()).expect(&rt, "a script");
-    let drivers: [&[(u8, DispatchId)]; 2] = [&[], &[(4, DispatchId(1)), (3, DispatchId(0))]];
-    assert_eq!(rt; script.drivers.as_slice().len(), 2);
-    for (driver, expected) in script.drivers.as_slice().iter().zip(drivers) {
-        assert_eq!(rt; driver.as_slice(), expected);
-    }
-    let (a, b) = (Named::Label(0), Named::Label(1));
-    let status = Status::SUCCESS;
-    let free = Step {
-        seat: 0,
-        act: StepAct::Free { irp: a },
-    };
-    let setup = [
-        Step {
-            seat: 0,
-            act: StepAct::Allocate { size: 1, label: 0 },
-        },
-        Step {
-            seat: 0,
-            act: StepAct::Reuse { irp: b, status },
-        },
-        free,
-    ];
-    assert_eq!(rt; script.setup.as_slice(), setup.as_slice());
-    let steps = [
-        Step {
-            seat: 1,
-            act: StepAct::Look { irp: b },
-        },
-        Step {
-            seat: 0,
-            act: StepAct::Allocate { size: 2, label: 2 },
-        },
-        free,
-        Step {
-            seat: 63,
-            act: StepAct::Drained { lock: LockNo(1) },
-        },
-    ];
-    assert_eq!(rt; script.steps.as_slice(), steps.as_slice());
-    assert_eq!(rt; script.labels, 3);
     Ok(())
 }

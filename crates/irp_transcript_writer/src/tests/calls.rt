@@ -10,7 +10,7 @@ fn call_is_written(alloc: Global, call: Call, text: &str) -> Result<bool, AllocE
 }
 
 #[test]
-fn calls_have_their_forms(rt: HostRuntime) -> Result<(), Fail> {
+fn calls_of_parties_have_their_forms(rt: HostRuntime) -> Result<(), Fail> {
     let complete = Call::Complete {
         party: Party::Device(DeviceId(2)),
         irp: IRP,
@@ -22,10 +22,6 @@ fn calls_have_their_forms(rt: HostRuntime) -> Result<(), Fail> {
         irp: IRP,
         setting: setting(true, false, true),
     };
-    let reuse = Call::Reuse {
-        irp: IRP,
-        status: Status::CANCELLED,
-    };
     for (call, text) in [
         (
             set_routine,
@@ -35,6 +31,19 @@ fn calls_have_their_forms(rt: HostRuntime) -> Result<(), Fail> {
             complete,
             r#"{"by":2,"do":"complete","information":18446744073709551615,"irp":[0,1],"status":3221225760}"#,
         ),
+    ] {
+        assert!(rt; call_is_written(rt.alloc(), call, text)?, "{text}");
+    }
+    Ok(())
+}
+
+#[test]
+fn calls_without_a_party_have_their_forms(rt: HostRuntime) -> Result<(), Fail> {
+    let reuse = Call::Reuse {
+        irp: IRP,
+        status: Status::CANCELLED,
+    };
+    for (call, text) in [
         (Call::Look { irp: IRP }, r#"{"do":"look","irp":[0,1]}"#),
         (Call::Free { irp: IRP }, r#"{"do":"free","irp":[0,1]}"#),
         (Call::Cancel { irp: IRP }, r#"{"do":"cancel","irp":[0,1]}"#),
