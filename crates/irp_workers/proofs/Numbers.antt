@@ -1,25 +1,22 @@
--- Counts of numbers, while seats are handed round one by one.
-use Rattle.std.proofs.Common.{◌≡◌, ℕ, zero, suc, ◌+◌, ◌<◌, List, [], ◌∷◌, ◌++◌, length, map, set, get_or, refl, sym, ap, ◌∙◌, arith}
-use Rattle.std.proofs.lemmas.List.{map_push, map-append}
+-- Counts of what is handed round: seats one by one, and workers all together.
+use Rattle.std.proofs.Common.{◌≡◌, All, ℕ, zero, suc, ◌+◌, ◌<◌, ◌≤◌, Bool, true, false, cond, ◌||◌, List, [], ◌∷◌, ◌++◌, length, map, set, get_or, refl, sym, subst, ap, ◌∙◌, arith, inl, inr}
+use Rattle.std.proofs.lemmas.List.{map_push, get_or-set_same, get_or-set_other}
+use Rattle.std.proofs.lemmas.Bool.Decides.{eqb_tells}
+use Rattle.std.proofs.lemmas.List.Elements.{All-push}
 use Rattle.std.proofs.lemmas.List.Sums.{sum_by-append, sum_by-cons, sum_by-set}
 use Rattle.std.specs.Prelude.{IfOk, Result, Ok, Err, sum_by}
-use Rattle.irp_workers.specs.Numbers.{how_often}
+use Rattle.std.specs.List.{count_by, list_any}
 
--- one seat more
-pub often_on : {S : Type 0} (f : S → ℕ) (number : ℕ) (front : List S) (last : S)
-    → how_often number (map f (front ++ last ∷ [])) ≡ how_often number (map f front) + how_often number (f last ∷ [])
-often_on f number front last = ap (how_often number) (map_push f front last) ∙ sum_by-append _ (map f front) (f last ∷ [])
+-- one more behind
+pub count_push : {S T : Type 0} (f : S → T) (test : T → Bool) (all front : List S) (last : S) → all ≡ front ++ last ∷ []
+    → count_by test (map f all) ≡ count_by test (map f front) + count_by test (f last ∷ [])
+count_push f test all front last is =
+    ap (λ list. count_by test (map f list)) is ∙ ap (count_by test) (map_push f front last) ∙ sum_by-append _ (map f front) (f last ∷ [])
 
--- the same of a list that is known to be these
-pub often_of : {S : Type 0} (f : S → ℕ) (number : ℕ) (all front : List S) (last : S) → all ≡ front ++ last ∷ []
-    → how_often number (map f all) ≡ how_often number (map f front) + how_often number (f last ∷ [])
-often_of f number all front last is = ap (λ list. how_often number (map f list)) is ∙ often_on f number front last
-
--- two lists together
-pub often_both : {S : Type 0} (f : S → ℕ) (number : ℕ) (all front back : List S) → all ≡ front ++ back
-    → how_often number (map f all) ≡ how_often number (map f front) + how_often number (map f back)
-often_both f number all front back is =
-    ap (λ list. how_often number (map f list)) is ∙ ap (how_often number) (map-append f front back) ∙ sum_by-append _ (map f front) (map f back)
+-- a count of what some tell is a count of them
+pub count_map : {S T : Type 0} (f : S → T) (test : T → Bool) (xs : List S) → count_by test (map f xs) ≡ count_by (λ x. test (f x)) xs
+count_map f test [] = refl
+count_map f test (x ∷ xs) = sum_by-cons _ (f x) (map f xs) ∙ ap (λ n. cond (test (f x)) 1 0 + n) (count_map f test xs) ∙ sym (sum_by-cons _ x xs)
 
 -- an item that tells the same in the place of one leaves what all tell
 pub map_set_same : {A B : Type 0} (f : A → B) (xs : List A) (i : ℕ) (v d : A) → f v ≡ f (get_or xs i d) → i < length xs → map f (set xs i v) ≡ map f xs
@@ -40,10 +37,10 @@ sum_same f g (x ∷ xs) (y ∷ ys) len same =
     let right : sum_by f (x ∷ xs) ≡ f x + sum_by f xs = sum_by-cons f x xs in
     omega (arith, first, rest, left, right)
 
--- no seat has a number where there is none
-pub often_none : {S : Type 0} (f : S → ℕ) (number : ℕ) (xs : List S) → length xs ≡ 0 → how_often number (map f xs) ≡ 0
-often_none f number [] is = refl
-often_none f number (x ∷ xs) is = absurd (omega arith)
+-- none is counted where there is none
+pub count_none : {S T : Type 0} (f : S → T) (test : T → Bool) (xs : List S) → length xs ≡ 0 → count_by test (map f xs) ≡ 0
+count_none f test [] is = refl
+count_none f test (x ∷ xs) is = absurd (omega arith)
 
 pub sum_none : {S : Type 0} (f : S → ℕ) (xs : List S) → length xs ≡ 0 → sum_by f xs ≡ 0
 sum_none f [] is = refl
@@ -61,3 +58,78 @@ dealt f all i new old left fewer total one is within more taken so_far =
 pub if_ok_on : {T E : Type 0} (result : Result T E) {P Q : T → Type 0} → ((value : T) → P value → Q value) → IfOk result P → IfOk result Q
 if_ok_on (Ok value) step holds = step value holds
 if_ok_on (Err fault) step holds = holds
+
+-- what follows of each answer by two facts follows where there is one
+pub if_ok_both : {T E : Type 0} (result : Result T E) {P Q R : T → Type 0} → ((value : T) → P value → Q value → R value) → IfOk result P → IfOk result Q → IfOk result R
+if_ok_both (Ok value) step holds also = step value holds also
+if_ok_both (Err fault) step holds also = holds
+
+-- what a function gives of so many numbers from one on, together
+abbrev pub sum_from : (ℕ → ℕ) → ℕ → ℕ → ℕ
+sum_from g a zero = 0
+sum_from g a (suc n) = g a + sum_from g (suc a) n
+
+-- a list of which each item tells at most what the function gives of its place
+pub sum_at_most : {A : Type 0} (f : A → ℕ) (g : ℕ → ℕ) (a : ℕ) (xs : List A) → ((i : ℕ) (d : A) → i < length xs → f (get_or xs i d) ≤ g (a + i))
+    → sum_by f xs ≤ sum_from g a (length xs)
+sum_at_most f g a [] each = omega arith
+sum_at_most f g a (x ∷ xs) each =
+    let first : f x ≤ g (a + 0) = each 0 x (omega arith) in
+    let none : a + 0 ≡ a = omega arith in
+    let here : g (a + 0) ≡ g a = ap g none in
+    let rest : sum_by f xs ≤ sum_from g (suc a) (length xs) = sum_at_most f g (suc a) xs (λ i d lt. let next : a + suc i ≡ suc a + i = omega arith in subst (λ k. f (get_or xs i d) ≤ g k) next (each (suc i) d (omega arith))) in
+    let left : sum_by f (x ∷ xs) ≡ f x + sum_by f xs = sum_by-cons f x xs in
+    omega (arith, first, here, rest, left)
+
+-- and one of which each tells just that
+pub sum_at : {A : Type 0} (f : A → ℕ) (g : ℕ → ℕ) (a : ℕ) (xs : List A) → ((i : ℕ) (d : A) → i < length xs → f (get_or xs i d) ≡ g (a + i))
+    → sum_by f xs ≡ sum_from g a (length xs)
+sum_at f g a [] each = refl
+sum_at f g a (x ∷ xs) each =
+    let first : f x ≡ g (a + 0) = each 0 x (omega arith) in
+    let none : a + 0 ≡ a = omega arith in
+    let here : g (a + 0) ≡ g a = ap g none in
+    let rest : sum_by f xs ≡ sum_from g (suc a) (length xs) = sum_at f g (suc a) xs (λ i d lt. let next : a + suc i ≡ suc a + i = omega arith in subst (λ k. f (get_or xs i d) ≡ g k) next (each (suc i) d (omega arith))) in
+    let left : sum_by f (x ∷ xs) ≡ f x + sum_by f xs = sum_by-cons f x xs in
+    omega (arith, first, here, rest, left)
+
+-- two functions together
+pub sum_from_both : (g h f : ℕ → ℕ) → ((k : ℕ) → f k ≡ g k + h k) → (a n : ℕ) → sum_from f a n ≡ sum_from g a n + sum_from h a n
+sum_from_both g h f both a zero = refl
+sum_from_both g h f both a (suc n) =
+    let rest : sum_from f (suc a) n ≡ sum_from g (suc a) n + sum_from h (suc a) n = sum_from_both g h f both (suc a) n in
+    let here : f a ≡ g a + h a = both a in
+    omega (arith, rest, here)
+
+pub sum_from_none : (g : ℕ → ℕ) (a n : ℕ) → ((k : ℕ) → a ≤ k → g k ≡ 0) → sum_from g a n ≡ 0
+sum_from_none g a zero none = refl
+sum_from_none g a (suc n) none =
+    let rest : sum_from g (suc a) n ≡ 0 = sum_from_none g (suc a) n (λ k le. none k (omega arith)) in
+    let here : g a ≡ 0 = none a (omega arith) in
+    omega (arith, rest, here)
+
+-- what holds of each item and of a new one holds of each where the new one is put
+pub each_set : {A : Type 0} (P : ℕ → A → Type 0) (n : ℕ) (xs : List A) (i : ℕ) (v : A) → i < length xs
+    → ((k : ℕ) (d : A) → k < n → P k (get_or xs k d)) → P i v → (k : ℕ) (d : A) → k < n → P k (get_or (set xs i v) k d)
+each_set P n xs i v within each here k d lt = elim (eqb_tells k i) as (λ _. P k (get_or (set xs i v) k d)) [
+  | inl is ↦ subst (λ j. P j (get_or (set xs i v) j d)) (sym is.1) (subst (P i) (sym (get_or-set_same xs i v d within)) here)
+  | inr other ↦ subst (P k) (sym (get_or-set_other xs i k v d other.1)) (each k d lt)
+]
+
+or_left : (a b : Bool) → (a || b) ≡ false → a ≡ false
+or_left true b is = is
+or_left false b is = refl
+
+or_right : (a b : Bool) → (a || b) ≡ false → b ≡ false
+or_right true b is = (cc)
+or_right false b is = is
+
+-- where none passes, no item does
+pub none_of : {A : Type 0} (p : A → Bool) (xs : List A) → list_any p xs ≡ false → (k : ℕ) (d : A) → k < length xs → p (get_or xs k d) ≡ false
+none_of p [] none k d lt = absurd (omega arith)
+none_of p (x ∷ xs) none zero d lt = or_left (p x) (list_any p xs) none
+none_of p (x ∷ xs) none (suc k) d lt = none_of p xs (or_right (p x) (list_any p xs) none) k d (omega arith)
+
+-- what holds of each and of one behind them holds of each of all
+pub all_push : {A : Type 0} (P : A → Type 0) (all front : List A) (last : A) → all ≡ front ++ last ∷ [] → All P front → P last → All P all
+all_push P all front last is each here = subst (All P) (sym is) (All-push P front last each here)

@@ -1,4 +1,6 @@
 pub mod Behaviours
 pub mod Deeds
+pub mod Labels
 pub mod Numbers
+pub mod Pairs
 pub mod Words

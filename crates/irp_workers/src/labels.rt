@@ -1,5 +1,10 @@
 //! The labels of a script while it runs.
 
+ghost use Rattle.std.specs.Prelude.{◌≡◌};
+ghost use Rattle.irp_types.specs.declared.names.IrpRef.{IrpRef};
+ghost use Rattle.irp_script_reader.specs.declared.act.Named.TheVariants.{Irp as by_reference};
+ghost use Rattle.irp_workers.specs.Labels.{label_of};
+
 use irp_script_reader::{Named, StepAct};
 use irp_types::{IrpRef, Reply};
 use std::alloc::{AllocError, Global};
@@ -19,7 +24,9 @@ pub struct Labels {
 
 /// The label that an act binds where it succeeds: an allocation binds its label, and a reuse the label that named its
 /// packet.
-fn label_of(act: StepAct) -> Option<usize> {
+fn label_of(act: StepAct) -> Option<usize>
+    ensures { result ≡ label_of act }
+{
     match act {
         StepAct::Allocate { label, .. } => Some(label),
         StepAct::Reuse {
@@ -43,8 +50,10 @@ impl Labels {
         })
     }
 
-    /// The packet that is named so.
-    pub fn packet(&self, rt: &impl Wait, named: Named) -> IrpRef {
+    /// The packet that is named so. One that is named by a reference is that packet.
+    pub fn packet(&self, rt: &impl Wait, named: Named) -> IrpRef
+        ensures { (irp : IrpRef) → named ≡ by_reference irp → result ≡ irp }
+    {
         match named {
             Named::Irp(irp) => irp,
             Named::Label(label) => match self.packets.lock(rt).get(label) {

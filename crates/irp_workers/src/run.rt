@@ -1,9 +1,12 @@
 //! Running a script.
 
-ghost use Rattle.std.specs.Prelude.{◌≡◌, ◌<◌, ℕ, All, IfOk, map, slice_index_or, sum_by, vec_len};
+ghost use Rattle.std.specs.Prelude.{◌≡◌, ◌<◌, ◌%◌, ℕ, Bool, false, [], All, IfOk, map, slice_index_or, sum_by, vec_len};
+ghost use Rattle.std.specs.List.{count_by, list_any};
+ghost use Rattle.irp_shared.specs.declared.word_line.WordLine.{WordLine};
 ghost use Rattle.irp_remove.specs.Pairing.{IsSeatOf};
-ghost use Rattle.irp_workers.specs.Numbers.{AreSame, how_often};
-ghost use Rattle.irp_workers.specs.Words.{AreInOrder};
+ghost use Rattle.irp_workers.specs.Numbers.{AreSame, EachAsOften, NoneMoreOften};
+ghost use Rattle.irp_workers.specs.Pairs.{Pair, pair_of, pairs_of};
+ghost use Rattle.irp_workers.specs.Words.{AreInOrder, Ran, lock_steps, told_by};
 
 use crate::gate::{AlwaysOpen, Gate};
 use crate::labels::Labels;
@@ -23,7 +26,7 @@ use std::thread::Threads;
 /// What became of a script's steps (this project's own call).
 #[derive(Drop)]
 pub struct Worked<'a, L: Session> {
-    /// All seats that were handed in, each once.
+    /// All seats that were handed in, each once and with its own remove seat.
     pub seats: Vec<ScriptSeat<'a, L>>,
     /// The word lines of the steps on remove locks, by rising seat and then by rising step.
     pub words: Vec<WordLine>,
@@ -45,7 +48,8 @@ pub fn script_seats<'a, L: Session>(
 ) -> Result<Vec<ScriptSeat<'a, L>>, AllocError>
     requires locks { All (IsSeatOf locks.now) removes.items }
     requires both { vec_len seats ≡ vec_len removes }
-    ensures { IfOk result (λ pairs. AreSame (map (λ seat. seat.number) seats.items) (map (λ own. own.seat.number) pairs.items)) }
+    ensures seats { IfOk result (λ pairs. AreSame (map (λ seat. seat.number) seats.items) (map (λ own. own.seat.number) pairs.items)) }
+    ensures pairs { IfOk result (λ pairs. EachAsOften (pairs_of seats.items removes.items) (map (λ own. pair_of own.seat own.remove) pairs.items)) }
 {
     let mut pairs = Vec::new(alloc);
     while let Some(seat) = seats.pop() {
@@ -62,7 +66,8 @@ pub fn script_seats<'a, L: Session>(
 fn idle<'a, L: Session>(alloc: Global, workers: u32) -> Result<Vec<Worker<'a, L>>, AllocError>
     requires { 0 < workers }
     ensures len { IfOk result (λ all. vec_len all ≡ workers) }
-    ensures seats { IfOk result (λ all. (number : ℕ) → sum_by (λ worker. how_often number (map (λ own. own.seat.number) worker.seats.items)) all.items ≡ 0) }
+    ensures ready { IfOk result (λ all. (k : ℕ) (one : _) → k < workers → ((slice_index_or all.items k one).number ≡ k) × ((slice_index_or all.items k one).workers ≡ workers) × ((slice_index_or all.items k one).words.items ≡ []) × ((slice_index_or all.items k one).stopped ≡ false) × ((slice_index_or all.items k one).seats.items ≡ [])) }
+    ensures seats { IfOk result (λ all. (test : Pair → Bool) → sum_by (λ worker. count_by test (map (λ own. pair_of own.seat own.remove) worker.seats.items)) all.items ≡ 0) }
 {
     let mut all = Vec::with_capacity(alloc, workers as usize)?;
     for number in 0..workers {
@@ -78,7 +83,9 @@ fn deal<'a, L: Session>(
     mut seats: Vec<ScriptSeat<'a, L>>,
 ) -> Result<Vec<Worker<'a, L>>, AllocError>
     requires { 0 < workers }
-    ensures { IfOk result (λ all. (number : ℕ) → sum_by (λ worker. how_often number (map (λ own. own.seat.number) worker.seats.items)) all.items ≡ how_often number (map (λ own. own.seat.number) seats.entry.items)) }
+    ensures len { IfOk result (λ all. vec_len all ≡ workers) }
+    ensures ready { IfOk result (λ all. (k : ℕ) (one : _) → k < workers → ((slice_index_or all.items k one).number ≡ k) × ((slice_index_or all.items k one).workers ≡ workers) × ((slice_index_or all.items k one).words.items ≡ []) × ((slice_index_or all.items k one).stopped ≡ false) × All (λ own. own.seat.number % workers ≡ k) (slice_index_or all.items k one).seats.items) }
+    ensures seats { IfOk result (λ all. (test : Pair → Bool) → sum_by (λ worker. count_by test (map (λ own. pair_of own.seat own.remove) worker.seats.items)) all.items ≡ count_by test (map (λ own. pair_of own.seat own.remove) seats.entry.items)) }
 {
     let mut all = idle(alloc, workers)?;
     while let Some(seat) = seats.pop() {
@@ -98,7 +105,8 @@ fn run_all<'a, A: Ask + Send, L: Session + Send + Sync, G: Gate + Sync, R: Threa
     workers: Vec<Worker<'a, L>>,
 ) -> Result<Vec<Worker<'a, L>>, AllocError>
     ensures len { IfOk result (λ done. vec_len done ≡ vec_len workers.entry) }
-    ensures back { IfOk result (λ done. (k : ℕ) (one : _) (other : _) → k < vec_len workers.entry → map (λ own. own.seat.number) (slice_index_or done.items k one).seats.items ≡ map (λ own. own.seat.number) (slice_index_or workers.entry.items k other).seats.items) }
+    ensures back { IfOk result (λ done. (k : ℕ) (one : _) (other : _) → k < vec_len workers.entry → map (λ own. pair_of own.seat own.remove) (slice_index_or done.items k one).seats.items ≡ map (λ own. pair_of own.seat own.remove) (slice_index_or workers.entry.items k other).seats.items) }
+    ensures ran { IfOk result (λ done. (k : ℕ) (one : _) (other : _) → k < vec_len workers.entry → Ran (slice_index_or workers.entry.items k other).number (slice_index_or workers.entry.items k other).workers steps.now (map told_by (slice_index_or workers.entry.items k other).words.items) (slice_index_or done.items k one).words.items (slice_index_or done.items k one).stopped) }
 {
     thread::map_vec(rt, workers, &|worker| worker.run(rt, place, gate, steps))
 }
@@ -109,7 +117,9 @@ fn gather<'a, L: Session>(
     mut workers: Vec<Worker<'a, L>>,
 ) -> Result<Worked<'a, L>, AllocError>
     ensures words { IfOk result (λ worked. AreInOrder worked.words.items) }
-    ensures seats { IfOk result (λ worked. (number : ℕ) → how_often number (map (λ own. own.seat.number) worked.seats.items) ≡ sum_by (λ worker. how_often number (map (λ own. own.seat.number) worker.seats.items)) workers.entry.items) }
+    ensures lines { IfOk result (λ worked. (test : WordLine → Bool) → count_by test worked.words.items ≡ sum_by (λ worker. count_by test worker.words.items) workers.entry.items) }
+    ensures stopped { IfOk result (λ worked. worked.stopped ≡ list_any (λ worker. worker.stopped) workers.entry.items) }
+    ensures seats { IfOk result (λ worked. (test : Pair → Bool) → count_by test (map (λ own. pair_of own.seat own.remove) worked.seats.items) ≡ sum_by (λ worker. count_by test (map (λ own. pair_of own.seat own.remove) worker.seats.items)) workers.entry.items) }
 {
     let mut seats = Vec::new(alloc);
     let mut words = Vec::new(alloc);
@@ -136,6 +146,9 @@ fn gather<'a, L: Session>(
 /// of the script's `steps` by its seat and its place, before and after it, outside the session's lock. A step of the setup
 /// on a remove lock, which no script that was read has, has no word line (this project's own format, docs/FORMATS.md).
 ///
+/// Each word line has the seat, the place and the act of one of the script's `steps` on remove locks. No such step has two
+/// lines, and where nothing stopped, each has its line.
+///
 /// # Errors
 ///
 /// `AllocError` where a growth was refused, which may come after steps were run. The seats are gone then.
@@ -157,6 +170,9 @@ pub fn run_workers<
     requires { 0 < workers }
     ensures words { IfOk result (λ worked. AreInOrder worked.words.items) }
     ensures seats { IfOk result (λ worked. AreSame (map (λ own. own.seat.number) seats.entry.items) (map (λ own. own.seat.number) worked.seats.items)) }
+    ensures pairs { IfOk result (λ worked. EachAsOften (map (λ own. pair_of own.seat own.remove) seats.entry.items) (map (λ own. pair_of own.seat own.remove) worked.seats.items)) }
+    ensures told { IfOk result (λ worked. NoneMoreOften (lock_steps script.now.steps) (map told_by worked.words.items)) }
+    ensures all_told { IfOk result (λ worked. worked.stopped ≡ false → EachAsOften (lock_steps script.now.steps) (map told_by worked.words.items)) }
 {
     let labels = Labels::new(alloc, script.labels)?;
     let place = Workplace { shared, labels };

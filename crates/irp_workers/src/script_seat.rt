@@ -1,7 +1,11 @@
 //! A seat of a script.
 
-ghost use Rattle.std.specs.Prelude.{◌≡◌};
+ghost use Rattle.std.specs.Prelude.{◌≡◌, ◌++◌, map, MatchOption};
+ghost use Rattle.std.specs.Option.{option_to_list};
+ghost use Rattle.irp_remove.specs.Calls.{IsSameSeat};
 ghost use Rattle.irp_remove.specs.Pairing.{IsSeatOf};
+ghost use Rattle.irp_workers.specs.Pairs.{pair_of};
+ghost use Rattle.irp_workers.specs.Words.{lock_step_of, told_by};
 
 use crate::deed::{call_of, lock_act_of, named_by};
 use crate::labels::UNBOUND;
@@ -27,7 +31,8 @@ impl<'a, L: Session> ScriptSeat<'a, L> {
     /// A seat of these two, on condition that the remove seat was opened with these locks.
     pub fn new(locks: &'a Locks, seat: Seat<L>, remove: RemoveSeat) -> ScriptSeat<'a, L>
         requires { IsSeatOf locks.now remove }
-        ensures { result.seat ≡ seat }
+        ensures seat { result.seat ≡ seat }
+        ensures remove { result.remove ≡ remove }
     {
         ScriptSeat {
             locks,
@@ -36,9 +41,11 @@ impl<'a, L: Session> ScriptSeat<'a, L> {
         }
     }
 
-    /// The two apart.
+    /// The two apart: the seat in which it makes calls, and the remove seat, which fits the locks.
     pub fn into_pair(self) -> (Seat<L>, RemoveSeat)
-        ensures { result.0 ≡ self.entry.seat }
+        ensures seat { result.0 ≡ self.entry.seat }
+        ensures remove { result.1 ≡ self.entry.remove }
+        ensures fits { IsSeatOf self.entry.locks.now result.1 }
     {
         (self.seat, self.remove)
     }
@@ -54,6 +61,7 @@ impl<'a, L: Session> ScriptSeat<'a, L> {
     /// None where the step has no call, or it wasn't recorded.
     fn call<A: Ask>(&mut self, rt: &impl Wait, place: &Workplace<A, L>, step: Step) -> Option<()>
         ensures number { self.new.seat.number ≡ self.old.seat.number }
+        ensures remove { self.new.remove ≡ self.old.remove }
     {
         let irp = match named_by(step.act) {
             Some(named) => place.labels.packet(rt, named),
@@ -68,6 +76,7 @@ impl<'a, L: Session> ScriptSeat<'a, L> {
 
     fn acquire(&mut self, lock: LockNo, tag: u32) -> WordReply
         ensures seat { self.new.seat ≡ self.old.seat }
+        ensures remove { IsSameSeat self.old.remove self.new.remove }
     {
         match self.locks.acquire(&mut self.remove, lock, tag) {
             Ok(()) => WordReply::Acquired,
@@ -79,6 +88,7 @@ impl<'a, L: Session> ScriptSeat<'a, L> {
 
     fn release(&mut self, lock: LockNo, tag: u32) -> WordReply
         ensures seat { self.new.seat ≡ self.old.seat }
+        ensures remove { IsSameSeat self.old.remove self.new.remove }
     {
         match self.locks.release(&mut self.remove, lock, tag) {
             Ok(()) => WordReply::Done,
@@ -89,6 +99,7 @@ impl<'a, L: Session> ScriptSeat<'a, L> {
 
     fn begin_remove(&mut self, lock: LockNo, tag: u32) -> WordReply
         ensures seat { self.new.seat ≡ self.old.seat }
+        ensures remove { IsSameSeat self.old.remove self.new.remove }
     {
         match self.locks.begin_remove(&mut self.remove, lock, tag) {
             Ok(()) => WordReply::Done,
@@ -100,6 +111,7 @@ impl<'a, L: Session> ScriptSeat<'a, L> {
 
     fn drained(&mut self, lock: LockNo) -> WordReply
         ensures seat { self.new.seat ≡ self.old.seat }
+        ensures remove { IsSameSeat self.old.remove self.new.remove }
     {
         match self.locks.drained(&mut self.remove, lock) {
             Ok(()) => WordReply::Yes,
@@ -111,6 +123,7 @@ impl<'a, L: Session> ScriptSeat<'a, L> {
     /// Acts on a remove lock, and answers what a word line tells of it.
     fn act(&mut self, act: Act) -> WordReply
         ensures seat { self.new.seat ≡ self.old.seat }
+        ensures remove { IsSameSeat self.old.remove self.new.remove }
     {
         match act {
             Act::Acquire { lock, tag } => self.acquire(lock, tag),
@@ -121,7 +134,7 @@ impl<'a, L: Session> ScriptSeat<'a, L> {
     }
 
     /// Makes a step, which has this place: a call, or an act on a remove lock, of which it adds a word line. None where the
-    /// call wasn't recorded, or there was no memory for the line, and then nothing was done.
+    /// call wasn't recorded, or there was no memory for the line, and then nothing was done. It stays the same pair.
     pub fn step<A: Ask>(
         &mut self,
         rt: &impl Wait,
@@ -130,7 +143,9 @@ impl<'a, L: Session> ScriptSeat<'a, L> {
         step: Step,
         words: &mut Vec<WordLine>,
     ) -> Option<()>
-        ensures number { self.new.seat.number ≡ self.old.seat.number }
+        ensures pair { pair_of self.new.seat self.new.remove ≡ pair_of self.old.seat self.old.remove }
+        ensures words { MatchOption result (words.new.items ≡ words.old.items)
+            (λ _. map told_by words.new.items ≡ map told_by words.old.items ++ option_to_list (lock_step_of index step)) }
     {
         let Some(act) = lock_act_of(step.act) else {
             return self.call(rt, place, step);

@@ -1,5 +1,6 @@
 //! Scripts run by workers.
 mod meeting;
+mod working;
 
 ghost use Rattle.std.specs.Prelude.{◌≡◌, ◌<◌, IfOk};
 
@@ -54,10 +55,39 @@ const SEND: StepAct = StepAct::CallDriver {
 
 const LOOK: StepAct = StepAct::Look { irp: LABEL };
 
+const COMPLETE: StepAct = StepAct::Complete {
+    party: Party::Device(DEVICE),
+    irp: Named::Irp(IRP),
+    status: Status::SUCCESS,
+    information: 0,
+};
+
+const REUSE: StepAct = StepAct::Reuse {
+    irp: LABEL,
+    status: Status::UNSUCCESSFUL,
+};
+
+/// What a look at the packet tells that was used anew with an error.
+const USED_ANEW: Seen = Seen {
+    owner: Owner::Originator,
+    current: 2,
+    status: Status::UNSUCCESSFUL,
+    information: 0,
+    cancel: false,
+    cancel_routine: None,
+    pending_returned: false,
+    marked: false,
+};
+
 const FINISH: Plan = Plan::Finish {
     status: Status::SUCCESS,
     information: 5,
 };
+
+/// An acquisition of the lock with this tag.
+fn acquire(tag: u32) -> StepAct {
+    StepAct::Acquire { lock: LOCK, tag }
+}
 
 /// The steps of these seats, in order.
 fn by(alloc: Global, steps: &[(u32, StepAct)]) -> Result<Row<Step>, AllocError> {
@@ -154,6 +184,27 @@ fn session<
     })
 }
 
+/// What so many workers make of a script whose reads are finished at once, with every step let through.
+fn worked<R: Threads + Wait + Sync>(
+    rt: &R,
+    alloc: Global,
+    script: &Script,
+    workers: u32,
+) -> Result<Made, Fail>
+    requires { 0 < workers }
+{
+    let ask = plans_reads(alloc, FINISH)?;
+    session::<AnswerTable, Brand, AlwaysOpen, R>(
+        rt,
+        alloc,
+        Blank::new(u64::from(script.seats)),
+        ask,
+        script,
+        &AlwaysOpen,
+        workers,
+    )
+}
+
 /// The seats and the replies of the transcript's entries are these.
 fn has_replies(rt: &impl Abort, made: &Made, expected: &[(u32, Reply)]) {
     assert_eq!(rt; made.transcript.entries().len(), expected.len());
@@ -166,46 +217,17 @@ fn has_replies(rt: &impl Abort, made: &Made, expected: &[(u32, Reply)]) {
 #[test]
 fn one_device_finishes_one_packet(rt: HostRuntime) -> Result<(), Fail> {
     let alloc = rt.alloc();
-    let complete = StepAct::Complete {
-        party: Party::Device(DEVICE),
-        irp: Named::Irp(IRP),
-        status: Status::SUCCESS,
-        information: 0,
-    };
-    let reuse = StepAct::Reuse {
-        irp: LABEL,
-        status: Status::UNSUCCESSFUL,
-    };
     let steps = [
         (0, LOOK),
         (0, ALLOCATE),
         (0, FILL),
         (0, SEND),
-        (0, reuse),
-        (0, complete),
+        (0, REUSE),
+        (0, COMPLETE),
         (0, LOOK),
     ];
     let script = script(alloc, 1, &[(0, CREATE)], &steps)?;
-    let ask = plans_reads(alloc, FINISH)?;
-    let made = session::<AnswerTable, Brand, AlwaysOpen, HostRuntime>(
-        &rt,
-        alloc,
-        Blank::new(1),
-        ask,
-        &script,
-        &AlwaysOpen,
-        1,
-    )?;
-    let seen = Seen {
-        owner: Owner::Originator,
-        current: 2,
-        status: Status::UNSUCCESSFUL,
-        information: 0,
-        cancel: false,
-        cancel_routine: None,
-        pending_returned: false,
-        marked: false,
-    };
+    let made = worked(&rt, alloc, &script, 1)?;
     let again = IrpRef { slot: 0, use_no: 2 };
     let expected = [
         (0, Reply::Device(DEVICE)),
@@ -215,7 +237,7 @@ fn one_device_finishes_one_packet(rt: HostRuntime) -> Result<(), Fail> {
         (0, Reply::Status(Status::SUCCESS)),
         (0, Reply::Irp(again)),
         (0, Reply::Refused(Refusal::Stale)),
-        (0, Reply::Seen(seen)),
+        (0, Reply::Seen(USED_ANEW)),
     ];
     has_replies(&rt, &made, &expected);
     assert!(rt; !made.stopped);
@@ -232,64 +254,21 @@ fn word(seat: u32, step: u32, act: Act, reply: WordReply) -> WordLine {
     }
 }
 
-#[test]
-fn a_device_goes_once_its_lock_is_drained(rt: HostRuntime) -> Result<(), Fail> {
-    let alloc = rt.alloc();
-    let steps = [
-        (0, CREATE),
-        (0, StepAct::Acquire { lock: LOCK, tag: 1 }),
-        (1, StepAct::Acquire { lock: LOCK, tag: 2 }),
-        (0, StepAct::BeginRemove { lock: LOCK, tag: 1 }),
-        (1, StepAct::Acquire { lock: LOCK, tag: 3 }),
-        (0, StepAct::Drained { lock: LOCK }),
-        (1, StepAct::Release { lock: LOCK, tag: 2 }),
-        (0, StepAct::Drained { lock: LOCK }),
-        (1, DELETE),
-        (0, DELETE),
-    ];
-    let script = script(alloc, 2, &[], &steps)?;
-    let ask = plans_reads(alloc, FINISH)?;
-    let made = session::<AnswerTable, Brand, AlwaysOpen, HostRuntime>(
-        &rt,
-        alloc,
-        Blank::new(2),
-        ask,
-        &script,
-        &AlwaysOpen,
-        1,
-    )?;
-    let expected = [
-        (0, Reply::Device(DEVICE)),
-        (1, Reply::Refused(Refusal::NotDrained)),
-        (0, Reply::Done),
-    ];
-    has_replies(&rt, &made, &expected);
-    let words = [
-        word(
-            0,
-            1,
-            Act::Acquire { lock: LOCK, tag: 1 },
-            WordReply::Acquired,
-        ),
+/// The word lines of two seats of which one removes the lock and the other still holds it.
+fn drained_words() -> [WordLine; 7] {
+    let (acquire, busy) = (WordReply::Acquired, WordReply::Busy { word: 3 });
+    let ask = Act::Drained { lock: LOCK };
+    [
+        word(0, 1, Act::Acquire { lock: LOCK, tag: 1 }, acquire),
         word(
             0,
             3,
             Act::BeginRemove { lock: LOCK, tag: 1 },
             WordReply::Done,
         ),
-        word(
-            0,
-            5,
-            Act::Drained { lock: LOCK },
-            WordReply::Busy { word: 3 },
-        ),
-        word(0, 7, Act::Drained { lock: LOCK }, WordReply::Yes),
-        word(
-            1,
-            2,
-            Act::Acquire { lock: LOCK, tag: 2 },
-            WordReply::Acquired,
-        ),
+        word(0, 5, ask, busy),
+        word(0, 7, ask, WordReply::Yes),
+        word(1, 2, Act::Acquire { lock: LOCK, tag: 2 }, acquire),
         word(
             1,
             4,
@@ -297,8 +276,33 @@ fn a_device_goes_once_its_lock_is_drained(rt: HostRuntime) -> Result<(), Fail> {
             WordReply::DeletePending,
         ),
         word(1, 6, Act::Release { lock: LOCK, tag: 2 }, WordReply::Done),
+    ]
+}
+
+#[test]
+fn a_device_goes_once_its_lock_is_drained(rt: HostRuntime) -> Result<(), Fail> {
+    let alloc = rt.alloc();
+    let steps = [
+        (0, CREATE),
+        (0, acquire(1)),
+        (1, acquire(2)),
+        (0, StepAct::BeginRemove { lock: LOCK, tag: 1 }),
+        (1, acquire(3)),
+        (0, StepAct::Drained { lock: LOCK }),
+        (1, StepAct::Release { lock: LOCK, tag: 2 }),
+        (0, StepAct::Drained { lock: LOCK }),
+        (1, DELETE),
+        (0, DELETE),
     ];
-    assert!(rt; made.words.as_slice() == words.as_slice());
+    let script = script(alloc, 2, &[], &steps)?;
+    let made = worked(&rt, alloc, &script, 1)?;
+    let expected = [
+        (0, Reply::Device(DEVICE)),
+        (1, Reply::Refused(Refusal::NotDrained)),
+        (0, Reply::Done),
+    ];
+    has_replies(&rt, &made, &expected);
+    assert!(rt; made.words.as_slice() == drained_words().as_slice());
     assert!(rt; !made.stopped);
     Ok(())
 }

@@ -1,6 +1,9 @@
 //! Workers.
 
-ghost use Rattle.std.specs.Prelude.{◌≡◌, ◌<◌, map, vec_len, IfSome};
+ghost use Rattle.std.specs.Prelude.{◌≡◌, ◌<◌, ◌%◌, ◌==◌, ◌++◌, [], true, false, map, vec_len, IfSome, MatchOption};
+ghost use Rattle.std.specs.Option.{option_to_list};
+ghost use Rattle.irp_workers.specs.Pairs.{pair_of};
+ghost use Rattle.irp_workers.specs.Words.{Ran, lock_step_of, own_steps, told_by};
 
 use crate::gate::Gate;
 use crate::script_seat::ScriptSeat;
@@ -32,7 +35,11 @@ impl<'a, L: Session> Worker<'a, L> {
         seats: Vec<ScriptSeat<'a, L>>,
     ) -> Worker<'a, L>
         requires { 0 < workers }
-        ensures { result.seats ≡ seats.entry }
+        ensures seats { result.seats ≡ seats.entry }
+        ensures number { result.number ≡ number }
+        ensures workers { result.workers ≡ workers }
+        ensures words { result.words.items ≡ [] }
+        ensures stopped { result.stopped ≡ false }
     {
         Worker {
             number,
@@ -63,7 +70,10 @@ impl<'a, L: Session> Worker<'a, L> {
         index: u32,
         step: Step,
     ) -> Option<()>
-        ensures seats { map (λ own. own.seat.number) self.new.seats.items ≡ map (λ own. own.seat.number) self.old.seats.items }
+        ensures seats { map (λ own. pair_of own.seat own.remove) self.new.seats.items ≡ map (λ own. pair_of own.seat own.remove) self.old.seats.items }
+        ensures same { (self.new.number ≡ self.old.number) × (self.new.workers ≡ self.old.workers) × (self.new.stopped ≡ self.old.stopped) }
+        ensures words { MatchOption result (self.new.words.items ≡ self.old.words.items)
+            (λ _. map told_by self.new.words.items ≡ map told_by self.old.words.items ++ option_to_list (lock_step_of index step)) }
     {
         let at = self.place_of(step.seat)?;
         let own = &mut self.seats[at];
@@ -79,7 +89,10 @@ impl<'a, L: Session> Worker<'a, L> {
         index: usize,
         step: Step,
     ) -> bool
-        ensures seats { map (λ own. own.seat.number) self.new.seats.items ≡ map (λ own. own.seat.number) self.old.seats.items }
+        ensures seats { map (λ own. pair_of own.seat own.remove) self.new.seats.items ≡ map (λ own. pair_of own.seat own.remove) self.old.seats.items }
+        ensures same { (self.new.number ≡ self.old.number) × (self.new.workers ≡ self.old.workers) × (self.new.stopped ≡ self.old.stopped) }
+        ensures made { result ≡ true → map told_by self.new.words.items ≡ map told_by self.old.words.items ++ option_to_list (lock_step_of index step) }
+        ensures left { result ≡ false → self.new.words.items ≡ self.old.words.items }
     {
         let Ok(index) = u32::try_from(index) else {
             return false;
@@ -91,11 +104,34 @@ impl<'a, L: Session> Worker<'a, L> {
     }
 
     /// Whether a step is one of its own seats'.
-    fn has(&self, step: Step) -> bool {
+    fn has(&self, step: Step) -> bool
+        ensures { result ≡ (step.seat % self.now.workers == self.now.number) }
+    {
         step.seat % self.workers == self.number
     }
 
-    /// Runs the steps of its own seats, in the order of the script, up to the first that isn't made. Its seats come back.
+    /// Makes a step, if it is one of its own. Whether it goes on.
+    fn turn<A: Ask, G: Gate>(
+        &mut self,
+        rt: &impl Wait,
+        place: &Workplace<A, L>,
+        gate: &G,
+        index: usize,
+        step: Step,
+    ) -> bool
+        ensures seats { map (λ own. pair_of own.seat own.remove) self.new.seats.items ≡ map (λ own. pair_of own.seat own.remove) self.old.seats.items }
+        ensures same { (self.new.number ≡ self.old.number) × (self.new.workers ≡ self.old.workers) × (self.new.stopped ≡ self.old.stopped) }
+        ensures made { result ≡ true → map told_by self.new.words.items ≡ map told_by self.old.words.items ++ own_steps self.old.number self.old.workers (option_to_list (lock_step_of index step)) }
+        ensures left { result ≡ false → self.new.words.items ≡ self.old.words.items }
+    {
+        if !self.has(step) {
+            return true;
+        }
+        self.pass(rt, place, gate, index, step)
+    }
+
+    /// Runs the steps of its own seats, in the order of the script, up to the first that isn't made. Its seats come back,
+    /// and its word lines tell of the steps on remove locks that it made.
     pub fn run<A: Ask, G: Gate>(
         mut self,
         rt: &impl Wait,
@@ -103,10 +139,11 @@ impl<'a, L: Session> Worker<'a, L> {
         gate: &G,
         steps: &[Step],
     ) -> Worker<'a, L>
-        ensures seats { map (λ own. own.seat.number) result.seats.items ≡ map (λ own. own.seat.number) self.entry.seats.items }
+        ensures seats { map (λ own. pair_of own.seat own.remove) result.seats.items ≡ map (λ own. pair_of own.seat own.remove) self.entry.seats.items }
+        ensures words { Ran self.entry.number self.entry.workers steps.now (map told_by self.entry.words.items) result.words.items result.stopped }
     {
         for (index, step) in steps.iter().enumerate() {
-            if self.has(*step) && !self.pass(rt, place, gate, index, *step) {
+            if !self.turn(rt, place, gate, index, *step) {
                 self.stopped = true;
                 return self;
             }

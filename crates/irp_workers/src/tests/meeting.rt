@@ -1,10 +1,9 @@
 //! Two calls at once: a gate that holds each seat's step until the other seat's step of the same place among its own has
 //! entered. It ends by itself: who waits does so for a number of turns.
 
-use super::{AlwaysOpen, CREATE, FINISH, plans_reads, script, session};
+use super::{ALLOCATE, CREATE, FINISH, plans_reads, script, session, worked};
 use crate::gate::Gate;
 use irp_routines::AnswerTable;
-use irp_script_reader::StepAct;
 use std::marker::Brand;
 use std::sync::atomic::{AtomicBool, AtomicU64, Ordering};
 use std::sync::ledger::Blank;
@@ -50,8 +49,6 @@ impl Gate for Meeting {
     }
 }
 
-const ALLOCATE: StepAct = StepAct::Allocate { size: 1, label: 0 };
-
 #[test]
 fn two_calls_at_once(rt: HostRuntime) -> Result<(), Fail> {
     let alloc = rt.alloc();
@@ -95,16 +92,7 @@ fn one_worker_keeps_the_scripts_order(rt: HostRuntime) -> Result<(), Fail> {
         (2, ALLOCATE),
     ];
     let script = script(alloc, 3, &[(1, CREATE)], &steps)?;
-    let ask = plans_reads(alloc, FINISH)?;
-    let made = session::<AnswerTable, Brand, AlwaysOpen, HostRuntime>(
-        &rt,
-        alloc,
-        Blank::new(3),
-        ask,
-        &script,
-        &AlwaysOpen,
-        1,
-    )?;
+    let made = worked(&rt, alloc, &script, 1)?;
     let seats = [1, 2, 0, 1, 0, 2];
     for (entry, seat) in made.transcript.entries().iter().zip(seats) {
         assert_eq!(rt; entry.seat, seat);

@@ -1,29 +1,37 @@
-use Rattle.std.proofs.Common.{◌≡◌, ◌+◌, ◌<◌, ◌%◌, ◌++◌, ◌∷◌, [], length, map, ap, rules, arith}
-use Rattle.irp_workers.specs.Numbers.{how_often}
-use Rattle.irp_workers.proofs.Numbers.{often_of, often_none, dealt}
+use Rattle.std.proofs.Common.{◌≡◌, ◌<◌, ◌%◌, ◌++◌, ◌∷◌, [], All, false, length, map, ap, sym, subst, rules, arith}
+use Rattle.std.specs.List.{count_by}
+use Rattle.irp_workers.specs.Pairs.{pair_of}
+use Rattle.irp_workers.proofs.Numbers.{all_push, count_push, count_none, dealt, each_set}
 use Rattle.irp_workers.proofs.run.deal.Goals as goal
 
 pub loop-seat-init : goal.loop-seat-init
-loop-seat-init g c = (
-  c.in_ok-all.ensures.len,
-  λ number. let none = c.in_ok-all.ensures.seats number in omega (arith, none),
-)
+loop-seat-init g c = record {
+  len = c.in_ok-all.ensures.len;
+  ready = λ k one lt. let new = c.in_ok-all.ensures.ready k one lt in (new.0, new.1, new.2, new.3, subst (All (λ own. own.seat.number % c.args.workers ≡ k)) (sym new.4) (λ i d within. absurd (omega arith)));
+  seats = λ test. let none = c.in_ok-all.ensures.seats test in omega (arith, none);
+}
 
 pub loop-seat-preserved : goal.loop-seat-preserved
 loop-seat-preserved g c =
-    let within : c.number.result % c.args.workers < length c.loop-seat.all.items = search rules in (
-      search rules,
-      λ number.
-          let taken = often_of (λ own. own.seat.number) number c.loop-seat.seats.items c.pop.new.self.items c.in-Some.seat c.in-Some.ensures.items in
-          let pushed : c.push_reserved.new.self.items ≡ c.index_mut-worker.result.now.seats.items ++ c.in-Some.seat ∷ [] = cc in
-          let more = often_of (λ own. own.seat.number) number c.push_reserved.new.self.items c.index_mut-worker.result.now.seats.items c.in-Some.seat pushed in
-          dealt (λ worker. how_often number (map (λ own. own.seat.number) worker.seats.items)) c.loop-seat.all.items (c.number.result % c.args.workers) _ c.index_mut-worker.result.now _ _ _ _ c.index_mut-worker.ensures.value within more taken (c.loop-seat.invariant.1 number),
-    )
+    let within : c.number.result % c.args.workers < length c.loop-seat.all.items = search rules in
+    let below : c.number.result % c.args.workers < c.args.workers = search rules in
+    let pushed : c.push_reserved.new.self.items ≡ c.index_mut-worker.result.now.seats.items ++ c.in-Some.seat ∷ [] = cc in
+    record {
+      len = search rules;
+      ready =
+          let was = subst (λ worker. (worker.number ≡ c.number.result % c.args.workers) × (worker.workers ≡ c.args.workers) × (worker.words.items ≡ []) × (worker.stopped ≡ false) × All (λ own. own.seat.number % c.args.workers ≡ c.number.result % c.args.workers) worker.seats.items) (sym c.index_mut-worker.ensures.value) (c.loop-seat.invariant.ready (c.number.result % c.args.workers) c.index_mut-worker.result.now below) in
+          each_set (λ k worker. (worker.number ≡ k) × (worker.workers ≡ c.args.workers) × (worker.words.items ≡ []) × (worker.stopped ≡ false) × All (λ own. own.seat.number % c.args.workers ≡ k) worker.seats.items) c.args.workers c.loop-seat.all.items (c.number.result % c.args.workers) _ within c.loop-seat.invariant.ready
+          (was.0, was.1, was.2, was.3, all_push (λ own. own.seat.number % c.args.workers ≡ c.number.result % c.args.workers) c.push_reserved.new.self.items c.index_mut-worker.result.now.seats.items c.in-Some.seat pushed was.4 (ap (λ n. n % c.args.workers) (sym c.number.ensures)));
+      seats = λ test.
+          let taken = count_push (λ own. pair_of own.seat own.remove) test c.loop-seat.seats.items c.pop.new.self.items c.in-Some.seat c.in-Some.ensures.items in
+          let more = count_push (λ own. pair_of own.seat own.remove) test c.push_reserved.new.self.items c.index_mut-worker.result.now.seats.items c.in-Some.seat pushed in
+          dealt (λ worker. count_by test (map (λ own. pair_of own.seat own.remove) worker.seats.items)) c.loop-seat.all.items (c.number.result % c.args.workers) _ c.index_mut-worker.result.now _ _ _ _ c.index_mut-worker.ensures.value within more taken (c.loop-seat.invariant.seats test);
+    }
 
-pub returns : goal.returns
-returns g c =
+pub returns-clause-seats : goal.returns-clause-seats
+returns-clause-seats g c =
     let empty : length c.loop-seat.seats.items ≡ 0 = search rules in
-    λ number.
-    let so_far = c.loop-seat.invariant.1 number in
-    let none = often_none (λ own. own.seat.number) number c.loop-seat.seats.items empty in
+    λ test.
+    let so_far = c.loop-seat.invariant.seats test in
+    let none = count_none (λ own. pair_of own.seat own.remove) test c.loop-seat.seats.items empty in
     omega (arith, so_far, none)

@@ -1,13 +1,17 @@
-use Rattle.std.proofs.Common.{◌≡◌, ◌<◌, All, map, vec_len, ℕ, ◌+◌, ◌≤◌}
-use Rattle.std.specs.Prelude.{vec_capacity, sum_by}
-use Rattle.irp_remove.specs.Pairing.{IsSeatOf}
-use Rattle.irp_workers.specs.Numbers.{how_often}
+use Rattle.std.proofs.Common.{◌≡◌, map, vec_len, ◌+◌, Bool, ◌||◌}
+use Rattle.std.specs.Prelude.{sum_by}
+use Rattle.std.specs.List.{count_by, list_any}
+use Rattle.irp_shared.specs.declared.word_line.WordLine.{WordLine}
+use Rattle.irp_workers.specs.Pairs.{Pair, pair_of}
 use Rattle.irp_workers.proofs.run.gather.Given as goal
 
--- the numbers of the seats of those left and of those gathered are the numbers of all
+-- what those left have and what is gathered is what all had
 abbrev pub invariant-loop-worker : goal.invariant-loop-worker
-invariant-loop-worker g l =
-    (number : ℕ) → how_often number (map (λ own. own.seat.number) l.seats.items) + sum_by (λ worker. how_often number (map (λ own. own.seat.number) worker.seats.items)) l.workers.items ≡ sum_by (λ worker. how_often number (map (λ own. own.seat.number) worker.seats.items)) l.fn.workers.items
+invariant-loop-worker g l = record {
+  lines : (test : WordLine → Bool) → count_by test l.words.items + sum_by (λ worker. count_by test worker.words.items) l.workers.items ≡ sum_by (λ worker. count_by test worker.words.items) l.fn.workers.items;
+  stopped : (list_any (λ worker. worker.stopped) l.workers.items || l.stopped) ≡ list_any (λ worker. worker.stopped) l.fn.workers.items;
+  seats : (test : Pair → Bool) → count_by test (map (λ own. pair_of own.seat own.remove) l.seats.items) + sum_by (λ worker. count_by test (map (λ own. pair_of own.seat own.remove) worker.seats.items)) l.workers.items ≡ sum_by (λ worker. count_by test (map (λ own. pair_of own.seat own.remove) worker.seats.items)) l.fn.workers.items;
+}
 
 abbrev pub decreases-loop-worker : goal.decreases-loop-worker
 decreases-loop-worker g l = vec_len l.workers

@@ -1,13 +1,59 @@
-use Rattle.std.proofs.Common.{◌≡◌, length, map, ap, ◌∙◌, rules, arith}
-use Rattle.irp_workers.specs.Numbers.{how_often}
-use Rattle.irp_workers.proofs.Numbers.{if_ok_on, sum_same}
+use Rattle.std.proofs.Common.{◌≡◌, ◌==◌, ◌<◌, length, map, ap, sym, ◌∙◌, rules, arith}
+use Rattle.std.specs.List.{count_by}
+use Rattle.irp_workers.specs.Pairs.{Pair, pair_of}
+use Rattle.irp_workers.specs.Words.{lock_steps, told_by}
+use Rattle.irp_workers.proofs.Numbers.{count_map, if_ok_on, if_ok_both, none_of, sum_same}
+use Rattle.irp_workers.proofs.Telling.{all_at_most, all_told, ran_from}
 use Rattle.irp_workers.proofs.run.run_workers.Goals as goal
+
+pub returns-clause-pairs : goal.returns-clause-pairs
+returns-clause-pairs g c =
+    let counted : length c.in_ok-done.done.items ≡ length c.in_ok-groups.groups.items = search rules in
+    if_ok_on c.gather.result (λ worked gathered test.
+    let ready = ap (count_by test) c.run-ready.ensures.seats in
+    let given = ap (λ seats. count_by test (map (λ own. pair_of own.seat own.remove) seats.items)) c.new-all.ensures.seats in
+    let back = sum_same (λ worker. count_by test (map (λ own. pair_of own.seat own.remove) worker.seats.items)) (λ worker. count_by test (map (λ own. pair_of own.seat own.remove) worker.seats.items)) c.in_ok-groups.groups.items c.in_ok-done.done.items counted (λ i d e lt. ap (count_by test) (c.in_ok-done.ensures.back i e d (search rules))) in
+    gathered test ∙ back ∙ c.in_ok-groups.ensures.seats test ∙ ready ∙ given) c.gather.ensures.seats
 
 pub returns-clause-seats : goal.returns-clause-seats
 returns-clause-seats g c =
-    let counted : length c.in_ok-done.done.items ≡ length c.in_ok-groups.groups.items = search rules in
-    if_ok_on c.gather.result (λ worked gathered number.
-    let ready = ap (how_often number) c.run-ready.ensures.seats in
-    let given = ap (λ seats. how_often number (map (λ own. own.seat.number) seats.items)) c.new-all.ensures in
-    let back = sum_same (λ worker. how_often number (map (λ own. own.seat.number) worker.seats.items)) (λ worker. how_often number (map (λ own. own.seat.number) worker.seats.items)) c.in_ok-groups.groups.items c.in_ok-done.done.items counted (λ i d e lt. ap (how_often number) (c.in_ok-done.ensures.back i e d (search rules))) in
-    gathered number ∙ back ∙ c.in_ok-groups.ensures number ∙ ready ∙ given) c.gather.ensures.seats
+    if_ok_on c.gather.result (λ worked same number.
+    count_map (λ own. own.seat.number) (λ each. each == number) worked.seats.items
+    ∙ sym (count_map (λ own. pair_of own.seat own.remove) (λ pair. pair.seat == number) worked.seats.items)
+    ∙ same (λ pair. pair.seat == number)
+    ∙ count_map (λ own. pair_of own.seat own.remove) (λ pair. pair.seat == number) c.args.seats.items
+    ∙ sym (count_map (λ own. own.seat.number) (λ each. each == number) c.args.seats.items)) (returns-clause-pairs g c)
+
+pub returns-clause-told : goal.returns-clause-told
+returns-clause-told g c =
+    let counted : length c.in_ok-done.done.items ≡ c.args.workers = search rules in
+    let some : 0 < c.args.workers = search rules in
+    if_ok_on c.gather.result (λ worked lines test.
+    let few = all_at_most (λ worker. worker.words.items) (λ worker. worker.stopped) c.in_ok-done.done.items c.args.workers c.as_slice-steps.result.now some counted
+    (λ k one lt. let start = c.in_ok-groups.ensures.ready k one lt in ran_from _ _ _ _ _ _ _ _ (c.in_ok-done.ensures.ran k one one (search rules)) start.0 start.1 start.2) test in
+    let told = count_map told_by test worked.words.items in
+    let all = lines (λ line. test (told_by line)) in
+    let steps = ap (λ list. count_by test (lock_steps list)) c.as_slice-steps.ensures in
+    omega (arith, few, told, all, steps)) c.gather.ensures.lines
+
+pub returns-clause-all_told : goal.returns-clause-all_told
+returns-clause-all_told g c =
+    let counted : length c.in_ok-done.done.items ≡ c.args.workers = search rules in
+    let some : 0 < c.args.workers = search rules in
+    if_ok_both c.gather.result (λ worked lines stopped going test.
+    count_map told_by test worked.words.items
+    ∙ lines (λ line. test (told_by line))
+    ∙ all_told (λ worker. worker.words.items) (λ worker. worker.stopped) c.in_ok-done.done.items c.args.workers c.as_slice-steps.result.now some counted
+    (λ k one lt. let start = c.in_ok-groups.ensures.ready k one lt in ran_from _ _ _ _ _ _ _ _ (c.in_ok-done.ensures.ran k one one (search rules)) start.0 start.1 start.2)
+    (none_of (λ worker. worker.stopped) c.in_ok-done.done.items (sym stopped ∙ going)) test
+    ∙ ap (λ list. count_by test (lock_steps list)) c.as_slice-steps.ensures) c.gather.ensures.lines c.gather.ensures.stopped
+
+pub returns-then-ready-clause-seats : goal.returns-then-ready-clause-seats
+returns-then-ready-clause-seats g c = λ number.
+    let ready = ap (count_by (λ (pair : Pair). pair.seat == number)) c.run-ready.ensures.seats in
+    let given = ap (λ seats. count_by (λ (pair : Pair). pair.seat == number) (map (λ own. pair_of own.seat own.remove) seats.items)) c.new-all.ensures.seats in
+    count_map (λ own. own.seat.number) (λ each. each == number) c.run-ready.result.seats.items
+    ∙ sym (count_map (λ own. pair_of own.seat own.remove) (λ pair. pair.seat == number) c.run-ready.result.seats.items)
+    ∙ ready ∙ given
+    ∙ count_map (λ own. pair_of own.seat own.remove) (λ pair. pair.seat == number) c.args.seats.items
+    ∙ sym (count_map (λ own. own.seat.number) (λ each. each == number) c.args.seats.items)

@@ -1,6 +1,14 @@
-use Rattle.std.proofs.Common.{◌≡◌, map}
+use Rattle.std.proofs.Common.{◌≡◌, ◌++◌, map, take}
+use Rattle.irp_workers.specs.Pairs.{pair_of}
+use Rattle.irp_workers.specs.Words.{lock_steps, own_steps, told_by}
 use Rattle.irp_workers.proofs.worker.Worker.run.Given as goal
 
--- the seats keep their numbers
+-- the pairs stay, and the lines tell of its own among the steps so far
 abbrev pub invariant-loop-index : goal.invariant-loop-index
-invariant-loop-index g l = map (λ own. own.seat.number) l.self.seats.items ≡ map (λ own. own.seat.number) l.fn.self.seats.items
+invariant-loop-index g l = record {
+  seats : map (λ own. pair_of own.seat own.remove) l.self.seats.items ≡ map (λ own. pair_of own.seat own.remove) l.fn.self.seats.items;
+  number : l.self.number ≡ l.fn.self.number;
+  workers : l.self.workers ≡ l.fn.self.workers;
+  stopped : l.self.stopped ≡ l.fn.self.stopped;
+  told : map told_by l.self.words.items ≡ map told_by l.fn.self.words.items ++ own_steps l.fn.self.number l.fn.self.workers (lock_steps (take l.index l.steps));
+}

@@ -1,8 +1,9 @@
-use Rattle.std.proofs.Common.{◌≡◌, ◌<◌, length, ap, ◌∙◌, rules, arith}
+use Rattle.std.proofs.Common.{◌<◌, length, ap, ◌∙◌, rules}
+use Rattle.irp_workers.specs.Pairs.{pair_of}
 use Rattle.irp_workers.proofs.Numbers.{map_set_same}
 use Rattle.irp_workers.proofs.worker.Worker.step.Goals as goal
 
-pub returns : goal.returns
-returns g c =
+pub returns-clause-seats : goal.returns-clause-seats
+returns-clause-seats g c =
     let within : c.in_ok-at.at < length c.args.self.now.seats.items = search rules in
-    record { seats = map_set_same (λ own. own.seat.number) c.args.self.now.seats.items c.in_ok-at.at c.step.new.self c.index_mut-own.result.now (c.step.ensures.number ∙ ap (λ own. own.seat.number) c.index_mut-own.ensures.value) within }
+    map_set_same (λ own. pair_of own.seat own.remove) c.args.self.now.seats.items c.in_ok-at.at c.step.new.self c.index_mut-own.result.now (c.step.ensures.pair ∙ ap (λ own. pair_of own.seat own.remove) c.index_mut-own.ensures.value) within

@@ -1,4 +1,4 @@
-use Rattle.irp_workers.proofs.tests.one_device_finishes_one_packet.Given as goal
+use Rattle.irp_workers.proofs.tests.working.the_gate_is_told_before_and_after_each_step.Given as goal
 
 abbrev pub ghosts-session-L-Ledger : goal.ghosts-session-L-Ledger
 ghosts-session-L-Ledger g a = record { name = a.blank.name; parts = a.blank.parts }

@@ -1,4 +1,4 @@
-use Rattle.irp_workers.proofs.tests.a_device_goes_once_its_lock_is_drained.Given as goal
+use Rattle.irp_workers.proofs.tests.worked.Given as goal
 
 abbrev pub ghosts-session-L-Ledger : goal.ghosts-session-L-Ledger
 ghosts-session-L-Ledger g a = record { name = a.blank.name; parts = a.blank.parts }
