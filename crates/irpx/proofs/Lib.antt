@@ -1,3 +1,5 @@
+pub mod Adding
 pub mod CommandLine
 pub mod OneSeat
 pub mod Pieces
+pub mod Runs

@@ -10,7 +10,7 @@ use Rattle.irp_script.specs.Checked.{IsVerdictOn}
 use Rattle.irp_script.specs.declared.checker.Verdict.{Verdict}
 use Rattle.irp_script.specs.declared.checker.Verdict.TheVariants as verdict
 use Rattle.irpx.specs.declared.ending.Ending.{Ending}
-use Rattle.irpx.specs.declared.ending.Ending.TheVariants.{Done, RefusedLine, Illegal, NoMemory, OtherWords, Failed}
+use Rattle.irpx.specs.declared.ending.Ending.TheVariants.{Done, RefusedScript, RefusedLine, Illegal, ReceiptsDiffer, NoMemory, OtherWords, Failed}
 
 -- as many bytes as the text of a transcript may have that is checked
 abbrev pub most_bytes : ℕ
@@ -43,6 +43,8 @@ Unjudged text (RefusedLine line) = ReadsFrom no_lines 0 (Err (fault.Line line)) 
 Unjudged text NoMemory = Unit {0}
 Unjudged text Done = ⊥
 Unjudged text Illegal = ⊥
+Unjudged text ReceiptsDiffer = ⊥
+Unjudged text (RefusedScript refusal) = ⊥
 Unjudged text OtherWords = ⊥
 Unjudged text Failed = ⊥
 
@@ -52,6 +54,8 @@ Unread Failed = Unit {0}
 Unread NoMemory = Unit {0}
 Unread Done = ⊥
 Unread Illegal = ⊥
+Unread ReceiptsDiffer = ⊥
+Unread (RefusedScript refusal) = ⊥
 Unread OtherWords = ⊥
 Unread (RefusedLine line) = ⊥
 
@@ -63,6 +67,8 @@ Judged input (Err NoMemory) = Unit {0}
 Judged input (Err Failed) = Unit {0}
 Judged input (Err Done) = ⊥
 Judged input (Err Illegal) = ⊥
+Judged input (Err ReceiptsDiffer) = ⊥
+Judged input (Err (RefusedScript refusal)) = ⊥
 Judged input (Err OtherWords) = ⊥
 
 -- what went out and the count of failures where a verdict was told: its line, and else nothing, but where the output failed
@@ -72,6 +78,8 @@ Tells verdict old new before after Illegal = (ending_of verdict ≡ Illegal) × 
 Tells verdict old new before after NoMemory = Keeps old new × (after ≡ before)
 Tells verdict old new before after Failed = after ≡ risen before
 Tells verdict old new before after OtherWords = ⊥
+Tells verdict old new before after ReceiptsDiffer = ⊥
+Tells verdict old new before after (RefusedScript refusal) = ⊥
 Tells verdict old new before after (RefusedLine line) = ⊥
 
 -- what `check` did, by its ending. Done and Illegal: the input holds a transcript, whose verdict's line went out. A refused
@@ -84,3 +92,5 @@ Checks input old new before after (RefusedLine line) = Judged input (Err (Refuse
 Checks input old new before after NoMemory = Keeps old new × (after ≡ before)
 Checks input old new before after Failed = (after ≡ risen before) ⊎ (Keeps old new × (after ≡ before))
 Checks input old new before after OtherWords = ⊥
+Checks input old new before after ReceiptsDiffer = ⊥
+Checks input old new before after (RefusedScript refusal) = ⊥

@@ -1,14 +1,43 @@
 -- The command line that the program takes, as clap has it.
-use Rattle.std.specs.Prelude.{◌≡◌, ℕ, List, [], ◌∷◌, true, codes}
-use Rattle.clap.specs.Simple.{App, new_app, on_top, with_subcommand}
+use Rattle.std.specs.Prelude.{◌≡◌, ◌≤◌, ◌+◌, ◌-◌, ◌*◌, ◌&&◌, ℕ, List, [], ◌∷◌, Bool, true, codes, nat_le, Option, Some, None, if◌then◌else◌}
+use Rattle.clap.specs.Words.{Rule, new_rule}
+use Rattle.clap.specs.Simple.{App, new_app, on_top, with_rule, with_subcommand}
+use Rattle.clap.specs.declared.builder.ArgAction.TheVariants.{Set}
+use Rattle.irpx.specs.declared.orders.Order.{Order}
+use Rattle.irpx.specs.declared.orders.Order.TheVariants.{Demo, Run, Check}
 
--- the program, which needs a subcommand and has `demo` and `check`
+-- the option `--workers`, which takes a text
+abbrev pub workers_option : Rule
+workers_option = record (new_rule (codes "workers")) { long = Some (codes "workers"); action = Some Set }
+
+-- the program, which needs a subcommand and has `demo`, `run` with its option, and `check`
 abbrev pub command_line : App
 command_line =
     with_subcommand
+    (with_subcommand
     (with_subcommand (on_top (λ shape. record shape { subcommand_required = true }) (new_app (codes "irpx"))) (new_app (codes "demo")).top)
+    (with_rule (new_app (codes "run")) workers_option).top)
     (new_app (codes "check")).top
 
 -- the program's name, whatever it is, and this one word
 abbrev pub IsOneWord : List ℕ → List (List ℕ) → Type 0
 IsOneWord word words = (name : List ℕ) × (words ≡ name ∷ word ∷ [])
+
+abbrev pub is_digit : ℕ → Bool
+is_digit byte = nat_le 48 byte && nat_le byte 57
+
+-- as many workers as there may be, or none
+abbrev pub workers : ℕ → Option ℕ
+workers count = if nat_le 1 count && nat_le count 64 then Some count else None
+
+-- one or two decimal digits
+abbrev pub workers_in : List ℕ → Option ℕ
+workers_in (one ∷ []) = if is_digit one then workers (one - 48) else None
+workers_in (ten ∷ one ∷ []) = if is_digit ten && is_digit one then workers ((ten - 48) * 10 + (one - 48)) else None
+workers_in text = None
+
+-- a run has 1 to 64 workers
+abbrev pub IsOrder : Order → Type 0
+IsOrder Demo = Unit {0}
+IsOrder (Run workers) = (1 ≤ workers) × (workers ≤ 64)
+IsOrder Check = Unit {0}

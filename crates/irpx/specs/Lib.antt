@@ -2,3 +2,5 @@ pub mod Checking
 pub mod CommandLine
 pub mod Demo
 pub mod Ending
+pub mod Program
+pub mod Running

@@ -1,4 +1,4 @@
-//! The program: packets go through the manager, and the history is printed.
+//! The program: scripts are run, their histories are printed, and histories are judged.
 #![tactic(auto)]
 
 mod checking;
@@ -6,9 +6,14 @@ mod demo;
 mod ending;
 mod input;
 mod orders;
+mod running;
 #[cfg(test)]
 mod tests;
 mod words;
+
+ghost use Rattle.std.specs.Prelude.{IfOk};
+ghost use Rattle.irpx.specs.CommandLine.{IsOrder};
+ghost use Rattle.irpx.specs.Program.{Obeys};
 
 use crate::ending::Ending;
 use crate::orders::{Order, Unread};
@@ -18,8 +23,9 @@ use std::env;
 use std::io::{self, Read, Write};
 use std::process::ExitCode;
 use std::sync::Wait;
+use std::thread::Threads;
 
-/// The words that the program was given. None where they can't be had, which counts as other words.
+/// The words that the program was given. `Usage` where they can't be had, and `Memory` where memory was missing for them.
 fn words_of(rt: &HostRuntime) -> Result<Vec<String>, Unread> {
     let words = match env::args(rt) {
         Ok(words) => words,
@@ -30,21 +36,27 @@ fn words_of(rt: &HostRuntime) -> Result<Vec<String>, Unread> {
 }
 
 /// What the words ask for.
-fn order(rt: &HostRuntime) -> Result<Order, Unread> {
+fn order(rt: &HostRuntime) -> Result<Order, Unread>
+    ensures { IfOk result IsOrder }
+{
     let words = words_of(rt)?;
     words::order(rt.alloc(), words.as_slice())
 }
 
 /// Does what is asked for: reads from the input, and writes to the output.
-fn run<R: Read, O: Out>(
-    rt: &impl Wait,
+fn run<R: Read, O: Out, T: Threads + Wait + Sync>(
+    rt: &T,
     alloc: Global,
     input: &mut R,
     output: &mut O,
     order: Result<Order, Unread>,
-) -> Ending {
+) -> Ending
+    requires { IfOk order IsOrder }
+    ensures { Obeys order (R.remaining input.old) (O.gone output.old) (O.gone output.new) (O.failures output.old) (O.failures output.new) result }
+{
     match order {
         Ok(Order::Demo) => demo::demo(rt, alloc, output),
+        Ok(Order::Run { workers }) => running::run(rt, alloc, input, output, workers),
         Ok(Order::Check) => checking::check(alloc, input, output),
         Err(Unread::Usage) => Ending::OtherWords,
         Err(Unread::Memory) => Ending::NoMemory,

@@ -8,6 +8,8 @@ use thiserror::Error;
 pub enum Order {
     /// Run the built-in scenario and write its transcript.
     Demo,
+    /// Read a script, have so many workers run it, 1 to 64, and write the transcript.
+    Run { workers: u32 },
     /// Read a transcript and tell whether its history is legal.
     Check,
 }

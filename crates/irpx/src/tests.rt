@@ -1,6 +1,7 @@
 //! Worked examples of the demonstration. `docs/EXAMPLES.md` has them by name.
 
 mod checking;
+mod running;
 mod sharing;
 
 use crate::demo::demo;
@@ -41,6 +42,7 @@ fn endings_have_their_status_and_line(rt: HostRuntime) -> Result<(), Fail> {
         (Ending::Done, 0, ""),
         (refused, 1, "irpx: transcript refused: line 5"),
         (Ending::Illegal, 2, ""),
+        (Ending::ReceiptsDiffer, 2, "irpx: receipts differ"),
         (Ending::NoMemory, 3, "irpx: out of memory"),
         (
             Ending::OtherWords,

@@ -1,14 +1,14 @@
 //! What the command line asks for.
 
-ghost use Rattle.std.specs.Prelude.{◌≡◌, ◌↔◌, [], Some, codes, map, IfOk, MatchResult, OnOk};
+ghost use Rattle.std.specs.Prelude.{◌≡◌, ◌≤◌, ◌↔◌, ℕ, [], Some, codes, map, IfOk, MatchResult, OnOk};
 ghost use Rattle.clap.specs.Matches.{subcommand_name_of};
 ghost use Rattle.clap.specs.Values.{kind_of};
 ghost use Rattle.clap.specs.Words.{app_of, fault_of};
-ghost use Rattle.irpx.specs.CommandLine.{IsOneWord, command_line};
+ghost use Rattle.irpx.specs.CommandLine.{IsOneWord, IsOrder, command_line, workers_in};
 
 use crate::orders::{Order, Unread};
 use clap::error::ErrorKind;
-use clap::{ArgMatches, Command, Error};
+use clap::{Arg, ArgAction, ArgMatches, Command, Error};
 use std::alloc::{AllocError, Global};
 use std::convert::AsStr;
 
@@ -16,21 +16,60 @@ use std::convert::AsStr;
 fn command<'a>(alloc: Global) -> Result<Command<'a>, AllocError>
     ensures { IfOk result (λ command. app_of command ≡ command_line) }
 {
+    let workers = Arg::new(alloc, "workers")
+        .long("workers")
+        .action(ArgAction::Set);
+    let run = Command::new(alloc, "run").arg(workers)?;
     let command = Command::new(alloc, "irpx").subcommand_required(true);
     let command = command.subcommand(Command::new(alloc, "demo"))?;
+    let command = command.subcommand(run)?;
     command.subcommand(Command::new(alloc, "check"))
+}
+
+/// The number of workers that a text names: one or two decimal digits, 1 to 64.
+fn workers_in(text: &[u8]) -> Option<u32>
+    ensures { result ≡ workers_in text.now }
+{
+    let workers = match text {
+        [one] if one.is_ascii_digit() => u32::from(*one - b'0'),
+        [ten, one] if ten.is_ascii_digit() && one.is_ascii_digit() => {
+            u32::from(*ten - b'0') * 10 + u32::from(*one - b'0')
+        }
+        _ => return None,
+    };
+    if workers >= 1 && workers <= 64 {
+        Some(workers)
+    } else {
+        None
+    }
+}
+
+/// The order to run a script with the workers that the subcommand's matches name, or with one.
+fn run_of(matches: &ArgMatches<'_>) -> Result<Order, Unread>
+    ensures { MatchResult result (λ order. (workers : ℕ) × (order ≡ Order.Run workers) × (1 ≤ workers) × (workers ≤ 64)) (λ unread. unread ≡ Unread.Usage) }
+{
+    let Some(text) = matches.get_str("workers") else {
+        return Ok(Order::Run { workers: 1 });
+    };
+    match workers_in(text.as_bytes()) {
+        Some(workers) => Ok(Order::Run { workers }),
+        None => Err(Unread::Usage),
+    }
 }
 
 /// What clap's matches ask for.
 fn order_of(matches: &ArgMatches<'_>) -> Result<Order, Unread>
     ensures demo { (result ≡ Ok Order.Demo) ↔ (subcommand_name_of matches.now ≡ Some (codes "demo")) }
     ensures check { (result ≡ Ok Order.Check) ↔ (subcommand_name_of matches.now ≡ Some (codes "check")) }
+    ensures order { IfOk result IsOrder }
 {
-    let Some((name, _)) = matches.subcommand() else {
+    let Some((name, inner)) = matches.subcommand() else {
         return Err(Unread::Usage);
     };
     if name == "demo" {
         Ok(Order::Demo)
+    } else if name == "run" {
+        run_of(inner)
     } else if name == "check" {
         Ok(Order::Check)
     } else {
@@ -57,6 +96,7 @@ fn unread_of(error: &Error) -> Unread
 pub fn order<'a, S: AsStr>(alloc: Global, words: &'a [S]) -> Result<Order, Unread>
     // No order comes of words in which clap finds a fault.
     ensures ok { OnOk result (fault_of command_line (map S.text words.entry.now) ≡ []) }
+    ensures order { IfOk result IsOrder }
     ensures demo { IsOneWord (codes "demo") (map S.text words.entry.now) → MatchResult result (λ order. order ≡ Order.Demo) (λ unread. unread ≡ Unread.Memory) }
     ensures check { IsOneWord (codes "check") (map S.text words.entry.now) → MatchResult result (λ order. order ≡ Order.Check) (λ unread. unread ≡ Unread.Memory) }
 {
@@ -73,9 +113,25 @@ mod tests {
     use std::test::Fail;
 
     #[test]
-    fn the_words_that_are_orders(rt: HostRuntime) {
+    fn the_words_that_are_orders(rt: HostRuntime) -> Result<(), Fail> {
         assert_eq!(rt; order(rt.alloc(), &["irpx", "demo"]), Ok(Order::Demo));
         assert_eq!(rt; order(rt.alloc(), &["irpx", "check"]), Ok(Order::Check));
+        assert_eq!(rt;
+            order(rt.alloc(), &["irpx", "run"]),
+            Ok(Order::Run { workers: 1 })
+        );
+        assert_eq!(rt;
+            order(rt.alloc(), &["irpx", "run", "--workers=5"]),
+            Ok(Order::Run { workers: 5 })
+        );
+        for (number, workers) in [("1", 1), ("01", 1), ("9", 9), ("64", 64)] {
+            assert_eq!(rt;
+                order(rt.alloc(), &["irpx", "run", "--workers", number]),
+                Ok(Order::Run { workers }),
+                "{number}"
+            );
+        }
+        Ok(())
     }
 
     #[test]
@@ -91,7 +147,14 @@ mod tests {
             order(rt.alloc(), &["irpx", "check", "demo"]),
             Err(Unread::Usage)
         );
-        for word in ["help", "--help", "-h", "run", "checks", "dem", "Demo", ""] {
+        for number in ["0", "00", "65", "005", "100", "x", "+1", ""] {
+            assert_eq!(rt;
+                order(rt.alloc(), &["irpx", "run", "--workers", number]),
+                Err(Unread::Usage),
+                "{number}"
+            );
+        }
+        for word in ["help", "--help", "-h", "ru", "checks", "dem", "Demo", ""] {
             assert_eq!(rt;
                 order(rt.alloc(), &["irpx", word]),
                 Err(Unread::Usage),

@@ -1,0 +1,49 @@
+-- One routine, one dispatch more is added, and at the end the store has the tables of the script but for the drivers.
+use Rattle.std.proofs.Common.{◌≡◌, List, ap, subst, ◌∙◌}
+use Rattle.irp_types.specs.State.{Tables}
+use Rattle.irp_types.specs.declared.answer.CancelAnswer.{CancelAnswer}
+use Rattle.irp_types.specs.declared.answer.Plan.{Plan}
+use Rattle.irp_types.specs.declared.answer.Plan.TheVariants as plan
+use Rattle.irp_routines.specs.Tables.{no_tables, with_cancel, with_dispatch, with_routine}
+use Rattle.irp_script_reader.specs.declared.script.CompletionRoutine.{CompletionRoutine}
+use Rattle.irp_workers.specs.Behaviours.{cancel_rule_of}
+use Rattle.irpx.specs.Running.{AfterScript, and_cancels, and_dispatches, and_drivers, and_routines}
+use Rattle.irpx.proofs.Adding.{added, all_added, cancels_grow, dispatches_grow, routines_grow}
+use Rattle.irpx.proofs.running.run_script.Goals as goal
+
+pub loop-routine-preserved : goal.loop-routine-preserved
+loop-routine-preserved g c =
+    added (λ (routines : List CompletionRoutine). and_routines routines no_tables) (λ (routine : CompletionRoutine) (tables : Tables). with_routine tables routine.rule)
+    (routines_grow no_tables) c.as_slice-routines.result.now c.loop-routine.routine-index _ c.loop-routine-test.true
+    c.loop-routine.store.tables c.add.new.self.tables c.loop-routine.invariant
+    (c.in-Ok.ensures.added.1 ∙ ap (with_routine c.loop-routine.store.tables) c.new-in-loop-routine.ensures)
+
+pub loop-answer-preserved : goal.loop-answer-preserved
+loop-answer-preserved g c =
+    added (λ (answers : List CancelAnswer). and_cancels answers c.loop-routine.store.tables) (λ (answer : CancelAnswer) (tables : Tables). with_cancel tables (cancel_rule_of answer))
+    (cancels_grow c.loop-routine.store.tables) c.as_slice-answers.result.now c.loop-answer.answer-index _ c.loop-answer-test.true
+    c.loop-answer.store.tables c.add_cancel.new.self.tables c.loop-answer.invariant
+    (c.in-Ok-add_cancel.ensures.added.1 ∙ ap (with_cancel c.loop-answer.store.tables) (c.new-routine.ensures ∙ c.cancel_rule.ensures))
+
+pub loop-plan-preserved : goal.loop-plan-preserved
+loop-plan-preserved g c =
+    let start : Tables = c.loop-answer.store.tables in
+    added (λ (plans : List Plan). and_dispatches plans start) (λ (each : Plan) (tables : Tables). with_dispatch tables start.counts)
+    (dispatches_grow start) c.as_slice-plans.result.now c.loop-plan.plan-index plan.Skip c.loop-plan-test.true
+    c.loop-plan.store.tables c.add_dispatch.new.self.tables c.loop-plan.invariant
+    (c.in-Ok-add_dispatch.ensures.added.1 ∙ ap (with_dispatch c.loop-plan.store.tables) (c.new-in-loop-plan-2.ensures ∙ (c.counts-known.ensures ∙ ap (λ (tables : Tables). tables.counts) c.tables.ensures)))
+
+pub returns : goal.returns
+returns g c =
+    let routines : c.loop-routine.store.tables ≡ and_routines c.args.script.now.completions no_tables =
+    all_added (λ (routines : List CompletionRoutine). and_routines routines no_tables) c.as_slice-routines.result.now c.loop-routine.routine-index c.loop-routine-test.false c.loop-routine.store.tables c.loop-routine.invariant
+    ∙ ap (λ (routines : List CompletionRoutine). and_routines routines no_tables) c.as_slice-routines.ensures in
+    let cancels : c.loop-answer.store.tables ≡ and_cancels c.args.script.now.cancels c.loop-routine.store.tables =
+    all_added (λ (answers : List CancelAnswer). and_cancels answers c.loop-routine.store.tables) c.as_slice-answers.result.now c.loop-answer.answer-index c.loop-answer-test.false c.loop-answer.store.tables c.loop-answer.invariant
+    ∙ ap (λ (answers : List CancelAnswer). and_cancels answers c.loop-routine.store.tables) c.as_slice-answers.ensures in
+    let dispatches : c.loop-plan.store.tables ≡ and_dispatches c.args.script.now.dispatches c.loop-answer.store.tables =
+    all_added (λ (plans : List Plan). and_dispatches plans c.loop-answer.store.tables) c.as_slice-plans.result.now c.loop-plan.plan-index c.loop-plan-test.false c.loop-plan.store.tables c.loop-plan.invariant
+    ∙ ap (λ (plans : List Plan). and_dispatches plans c.loop-answer.store.tables) c.as_slice-plans.ensures in
+    subst (λ (tables : Tables). AfterScript c.args.script.now (and_drivers c.args.script.now.drivers tables) (g.O.Out.gone c.args.output.now) (g.O.Out.gone c.with_dispatches.new.output) (g.O.Out.failures c.args.output.now) (g.O.Out.failures c.with_dispatches.new.output) c.with_dispatches.result)
+    (dispatches ∙ ap (and_dispatches c.args.script.now.dispatches) (cancels ∙ ap (and_cancels c.args.script.now.cancels) routines))
+    c.with_dispatches.ensures
