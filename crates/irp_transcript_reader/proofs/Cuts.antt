@@ -1,9 +1,16 @@
 -- The lines of a text, and what becomes of it where one more line is taken or refused.
-use Rattle.std.proofs.Common.{◌≡◌, ◌≢◌, ℕ, zero, suc, ◌+◌, ◌-◌, ◌<◌, List, [], ◌∷◌, length, length-drop, take, drop, get_or, Result, Ok, Err, refl, ap, arith}
+use Rattle.std.proofs.Common.{◌≡◌, ◌≢◌, ℕ, zero, suc, ◌+◌, ◌-◌, ◌<◌, List, [], ◌∷◌, ◌≤◌, length, length-drop, take, drop, get_or, Some, Result, Ok, Err, refl, sym, subst, ap, ◌∙◌, arith}
+use Rattle.std.specs.Prelude.{IsUtf8}
 use Rattle.std.proofs.Math.Seq.{take-length}
 use Rattle.std.proofs.lemmas.Bool.{ne_eqb, eq-eqb}
+use Rattle.std.proofs.lemmas.Option.{same_Some}
+use Rattle.serde_json.specs.Data.{Data}
+use Rattle.serde_json.specs.Read.{read}
+use Rattle.irp_forms.proofs.Texts.{some_text}
+use Rattle.irp_forms.specs.declared.unread.Unread.{Unread}
+use Rattle.irp_forms.specs.declared.unread.Unread.TheVariants as unread
 use Rattle.irp_shared.specs.Transcripts.{TranscriptValue}
-use Rattle.irp_transcript_reader.specs.Reading.{cut, onto, ReadsFrom, Takes, Refuses}
+use Rattle.irp_transcript_reader.specs.Reading.{cut, most_bytes, onto, IsNext, ReadsFrom, Takes, TakesLine, TakesMemory, TakesValue, Refuses}
 use Rattle.irp_transcript_reader.specs.declared.read_fault.ReadFault.{ReadFault}
 use Rattle.irp_transcript_reader.specs.declared.read_fault.ReadFault.TheVariants.{Line, NoMemory}
 
@@ -40,12 +47,17 @@ pub reads_on : (before between : TranscriptValue) (count : ℕ) (answer : Result
     → Takes before line between → ReadsFrom between (count + 1) answer (others, rest) → ReadsFrom before count answer (line ∷ others, rest)
 reads_on before between count (Ok transcript) line others rest taken reads = (reads.0, (between, taken, reads.1))
 reads_on before between count (Err (Line number)) line others rest taken reads = (suc reads.0, omega (arith, reads.1), (between, taken, reads.2))
-reads_on before between count (Err NoMemory) line others rest taken reads = tt
+reads_on before between count (Err NoMemory) line others rest taken reads = (suc reads.0, (between, taken, reads.1))
 
 -- the next line is refused
 pub reads_no_more : (before : TranscriptValue) (count : ℕ) (line : List ℕ) (others : List (List ℕ)) (rest : List ℕ)
     → Refuses before line → ReadsFrom before count (Err (Line (count + 1))) (line ∷ others, rest)
 reads_no_more before count line others rest refused = (0, omega arith, refused)
+
+-- memory runs out at the next line
+pub reads_less : (before : TranscriptValue) (count : ℕ) (line : List ℕ) (others : List (List ℕ)) (rest : List ℕ)
+    → TakesMemory line → ReadsFrom before count (Err NoMemory) (line ∷ others, rest)
+reads_less before count line others rest taking = (0, taking)
 
 -- the last line has no newline
 pub reads_cut : (before : TranscriptValue) (count : ℕ) (rest : List ℕ) → 0 < length rest → ReadsFrom before count (Err (Line (count + 1))) ([], rest)
@@ -55,3 +67,11 @@ reads_cut before count rest some = (0, omega arith, (refl, some))
 pub reads_end : (before : TranscriptValue) (count : ℕ) (rest : List ℕ) → length rest ≡ 0 → ReadsFrom before count (Ok before) (cut rest)
 reads_end before count [] none = (refl, refl)
 reads_end before count (byte ∷ rest) none = absurd (omega (arith, none))
+
+-- what the value of a line gives is what the line gives
+pub line_gives : (answer : Result (Unit {0}) Unread) (before after : TranscriptValue) (line : List ℕ) (form : Data) → length line ≤ most_bytes → IsUtf8 line → read line ≡ Some form
+    → TakesValue answer before form after → TakesLine answer before line after
+line_gives (Ok done) before after line form few utf8 is next = (form, (few, utf8, is), next)
+line_gives (Err unread.Form) before after line form few utf8 is none =
+    λ other taken. none other (subst (λ (given : Data). IsNext before given other) (same_Some taken.0 form (sym taken.1.2 ∙ is)) taken.2)
+line_gives (Err unread.NoMemory) before after line form few utf8 is next = (some_text line form is, few)

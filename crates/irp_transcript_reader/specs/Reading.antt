@@ -104,12 +104,23 @@ RefusedAt place before ([], rest) = (place ≡ 0) × (0 < length rest)
 RefusedAt zero before (line ∷ others, rest) = Refuses before line
 RefusedAt (suc place) before (line ∷ others, rest) = (between : TranscriptValue) × Takes before line between × RefusedAt place between (others, rest)
 
+-- a line that memory may run out for: it isn't empty and isn't too long
+abbrev pub TakesMemory : List ℕ → Type 0
+TakesMemory line = (0 < length line) × (length line ≤ most_bytes)
+
+-- memory may run out at this line, counted from 0: it has its newline, and all lines before it are taken
+abbrev pub RunsOutAt : ℕ → TranscriptValue → List (List ℕ) → Type 0
+RunsOutAt place before [] = ⊥
+RunsOutAt zero before (line ∷ others) = TakesMemory line
+RunsOutAt (suc place) before (line ∷ others) = (between : TranscriptValue) × Takes before line between × RunsOutAt place between others
+
 -- what is read from the rest, after so many lines that made this transcript: the transcript of all lines, where each is
--- taken and has its newline; or the number, from 1, of the first line that isn't taken
+-- taken and has its newline; or the number, from 1, of the first line that isn't taken; or that memory ran out at a line
+-- behind lines that are taken
 abbrev pub ReadsFrom : TranscriptValue → ℕ → Result TranscriptValue ReadFault → List (List ℕ) × List ℕ → Type 0
 ReadsFrom before count (Ok transcript) text = (text.1 ≡ []) × TakesAll before text.0 transcript
 ReadsFrom before count (Err (faults.Line line)) text = (place : ℕ) × (line ≡ count + place + 1) × RefusedAt place before text
-ReadsFrom before count (Err faults.NoMemory) text = Unit {0}
+ReadsFrom before count (Err faults.NoMemory) text = (place : ℕ) × RunsOutAt place before text.0
 
 -- ---- what is read so far
 
@@ -138,4 +149,4 @@ GivesLine (Err NoMemory) made after = Unit {0}
 abbrev pub TakesLine : Result (Unit {0}) Unread → TranscriptValue → List ℕ → TranscriptValue → Type 0
 TakesLine (Ok done) before line after = Takes before line after
 TakesLine (Err Form) before line after = Refuses before line
-TakesLine (Err NoMemory) before line after = Unit {0}
+TakesLine (Err NoMemory) before line after = TakesMemory line

@@ -39,6 +39,10 @@ fn recorded_at(value: &Value) -> Option<Recorded>
 }
 
 /// An entry: what was asked, the call, the entry's number, the reply and the seat.
+///
+/// # Errors
+///
+/// `Unread::Form` where the value is no entry; `Unread::NoMemory` where memory runs out.
 #[tactic(auto, unfolding(crate::specs::Lines::entry_at))]
 pub fn entry_at(alloc: Global, value: &Value) -> Result<Entry, Unread>
     ensures { Gives result (entry_at (view value.now)) }

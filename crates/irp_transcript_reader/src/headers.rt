@@ -74,7 +74,11 @@ fn has_header_keys(value: &Value) -> bool
     )
 }
 
-/// A header, which counts its cancel routines by their list.
+/// A header, which counts its cancel routines by their list. Whether the formats accept it is not asked.
+///
+/// # Errors
+///
+/// `Unread::Form` where the value is no header; `Unread::NoMemory` where memory runs out.
 #[tactic(auto, unfolding(crate::specs::Lines::header_at))]
 pub fn header_at(alloc: Global, value: &Value) -> Result<Header, Unread>
     ensures { Gives result (header_at (view value.now)) }

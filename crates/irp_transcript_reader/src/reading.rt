@@ -143,6 +143,12 @@ impl Reading {
     }
 
     /// Takes the next line, without its newline. After an error it is of no use.
+    ///
+    /// # Errors
+    ///
+    /// `Unread::Form` where the line is refused; `Unread::NoMemory` where memory ran out, for a line that isn't empty and
+    /// isn't too long.
+    #[tactic(auto, using(crate::proofs::Cuts::line_gives))]
     pub fn take_line(&mut self, alloc: Global, line: &[u8]) -> Result<(), Unread>
         ensures { TakesLine result (so_far self.old) line.now (so_far self.new) }
     {

@@ -1,9 +1,9 @@
 -- Each line is taken, or refused, or cut, and the last leaves nothing.
 use Rattle.std.proofs.Common.{◌≡◌, ℕ, ◌+◌, ◌<◌, Err, Ok, sym, subst, arith, length}
 use Rattle.irp_shared.specs.Transcripts.{TranscriptValue}
-use Rattle.irp_transcript_reader.specs.Reading.{ReadsFrom, so_far}
-use Rattle.irp_transcript_reader.specs.declared.read_fault.ReadFault.TheVariants.{Line}
-use Rattle.irp_transcript_reader.proofs.Cuts.{reads_on, reads_no_more, reads_cut, reads_end}
+use Rattle.irp_transcript_reader.specs.Reading.{ReadsFrom, cut, so_far}
+use Rattle.irp_transcript_reader.specs.declared.read_fault.ReadFault.TheVariants.{Line, NoMemory}
+use Rattle.irp_transcript_reader.proofs.Cuts.{reads_on, reads_no_more, reads_less, reads_cut, reads_end}
 use Rattle.irp_transcript_reader.proofs.Kept.{kept}
 use Rattle.irp_transcript_reader.proofs.read.read_transcript.Goals as goal
 
@@ -22,6 +22,14 @@ returns-in-Err-Form c =
     let refused = rw c.in-Err-Form.field-0-is at c.in-Err-Form.ensures in
     c.loop-rest.invariant.leads (Err (Line (count + 1)))
     (subst (λ text. ReadsFrom before count (Err (Line (count + 1))) text) (sym c.in-Some.ensures.whole) (reads_no_more before count c.in-Some.line.now _ _ refused))
+
+pub returns-in-Err-NoMemory : goal.returns-in-Err-NoMemory
+returns-in-Err-NoMemory c =
+    let before : TranscriptValue = so_far c.loop-rest.reading in
+    let count : ℕ = c.loop-rest.lines in
+    let taking = rw c.in-Err-NoMemory.field-0-is at c.in-Err-NoMemory.ensures in
+    c.loop-rest.invariant.leads (Err NoMemory)
+    (subst (λ text. ReadsFrom before count (Err NoMemory) text) (sym c.in-Some.ensures.whole) (reads_less before count c.in-Some.line.now (cut c.in-Some.more.now).0 (cut c.in-Some.more.now).1 taking))
 
 pub loop-rest-preserved : goal.loop-rest-preserved
 loop-rest-preserved c =
