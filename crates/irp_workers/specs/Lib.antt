@@ -1,3 +1,4 @@
+pub mod Acts
 pub mod Behaviours
 pub mod Deeds
 pub mod Labels

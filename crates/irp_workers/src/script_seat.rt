@@ -3,7 +3,8 @@
 ghost use Rattle.std.specs.Prelude.{◌≡◌, ◌++◌, map, MatchOption};
 ghost use Rattle.std.specs.Option.{option_to_list};
 ghost use Rattle.irp_remove.specs.Calls.{IsSameSeat};
-ghost use Rattle.irp_remove.specs.Pairing.{IsSeatOf};
+ghost use Rattle.irp_remove.specs.Pairing.{IsSeatOf, lock_count};
+ghost use Rattle.irp_workers.specs.Acts.{Acts};
 ghost use Rattle.irp_workers.specs.Pairs.{pair_of};
 ghost use Rattle.irp_workers.specs.Words.{lock_step_of, told_by};
 
@@ -77,6 +78,7 @@ impl<'a, L: Session> ScriptSeat<'a, L> {
     fn acquire(&mut self, lock: LockNo, tag: u32) -> WordReply
         ensures seat { self.new.seat ≡ self.old.seat }
         ensures remove { IsSameSeat self.old.remove self.new.remove }
+        ensures acts { Acts (lock_count self.old.locks.now) (Act.Acquire lock tag) self.old.remove self.new.remove result }
     {
         match self.locks.acquire(&mut self.remove, lock, tag) {
             Ok(()) => WordReply::Acquired,
@@ -89,6 +91,7 @@ impl<'a, L: Session> ScriptSeat<'a, L> {
     fn release(&mut self, lock: LockNo, tag: u32) -> WordReply
         ensures seat { self.new.seat ≡ self.old.seat }
         ensures remove { IsSameSeat self.old.remove self.new.remove }
+        ensures acts { Acts (lock_count self.old.locks.now) (Act.Release lock tag) self.old.remove self.new.remove result }
     {
         match self.locks.release(&mut self.remove, lock, tag) {
             Ok(()) => WordReply::Done,
@@ -100,6 +103,7 @@ impl<'a, L: Session> ScriptSeat<'a, L> {
     fn begin_remove(&mut self, lock: LockNo, tag: u32) -> WordReply
         ensures seat { self.new.seat ≡ self.old.seat }
         ensures remove { IsSameSeat self.old.remove self.new.remove }
+        ensures acts { Acts (lock_count self.old.locks.now) (Act.BeginRemove lock tag) self.old.remove self.new.remove result }
     {
         match self.locks.begin_remove(&mut self.remove, lock, tag) {
             Ok(()) => WordReply::Done,
@@ -112,6 +116,7 @@ impl<'a, L: Session> ScriptSeat<'a, L> {
     fn drained(&mut self, lock: LockNo) -> WordReply
         ensures seat { self.new.seat ≡ self.old.seat }
         ensures remove { IsSameSeat self.old.remove self.new.remove }
+        ensures acts { Acts (lock_count self.old.locks.now) (Act.Drained lock) self.old.remove self.new.remove result }
     {
         match self.locks.drained(&mut self.remove, lock) {
             Ok(()) => WordReply::Yes,
@@ -120,10 +125,11 @@ impl<'a, L: Session> ScriptSeat<'a, L> {
         }
     }
 
-    /// Acts on a remove lock, and answers what a word line tells of it.
+    /// Acts on a remove lock once, and answers what a word line tells of it: what the lock answered.
     fn act(&mut self, act: Act) -> WordReply
         ensures seat { self.new.seat ≡ self.old.seat }
         ensures remove { IsSameSeat self.old.remove self.new.remove }
+        ensures acts { Acts (lock_count self.old.locks.now) act self.old.remove self.new.remove result }
     {
         match act {
             Act::Acquire { lock, tag } => self.acquire(lock, tag),
