@@ -1,5 +1,6 @@
 pub mod Acts
 pub mod Behaviours
+pub mod Calling
 pub mod Deeds
 pub mod Labels
 pub mod Numbers

@@ -3,15 +3,17 @@
 ghost use Rattle.std.specs.Prelude.{◌≡◌};
 ghost use Rattle.irp_types.specs.declared.names.IrpRef.{IrpRef};
 ghost use Rattle.irp_script_reader.specs.declared.act.Named.TheVariants.{Irp as by_reference};
+ghost use Rattle.irp_workers.specs.Deeds.{named_by};
 ghost use Rattle.irp_workers.specs.Labels.{label_of};
 
+use crate::deed::named_by;
 use irp_script_reader::{Named, StepAct};
 use irp_types::{IrpRef, Reply};
 use std::alloc::{AllocError, Global};
 use std::sync::{Mutex, Wait};
 
 /// What a label stands for that isn't bound: a reference that is never live (this project's own format, docs/FORMATS.md).
-pub const UNBOUND: IrpRef = IrpRef {
+const UNBOUND: IrpRef = IrpRef {
     slot: 0xFFFF_FFFF,
     use_no: 0,
 };
@@ -51,7 +53,7 @@ impl Labels {
     }
 
     /// The packet that is named so. One that is named by a reference is that packet.
-    pub fn packet(&self, rt: &impl Wait, named: Named) -> IrpRef
+    fn packet(&self, rt: &impl Wait, named: Named) -> IrpRef
         ensures { (irp : IrpRef) → named ≡ by_reference irp → result ≡ irp }
     {
         match named {
@@ -60,6 +62,17 @@ impl Labels {
                 Some(irp) => *irp,
                 None => UNBOUND,
             },
+        }
+    }
+
+    /// The packet that an act names. One that it names by a reference is that packet, and an act that names none has a packet
+    /// that is never live.
+    pub fn packet_of(&self, rt: &impl Wait, act: StepAct) -> IrpRef
+        ensures { (irp : IrpRef) → named_by act ≡ Some (by_reference irp) → result ≡ irp }
+    {
+        match named_by(act) {
+            Some(named) => self.packet(rt, named),
+            None => UNBOUND,
         }
     }
 

@@ -4,12 +4,13 @@ ghost use Rattle.std.specs.Prelude.{◌≡◌, ◌++◌, map, MatchOption};
 ghost use Rattle.std.specs.Option.{option_to_list};
 ghost use Rattle.irp_remove.specs.Calls.{IsSameSeat};
 ghost use Rattle.irp_remove.specs.Pairing.{IsSeatOf, lock_count};
+ghost use Rattle.irp_shared.specs.Sharing.{IsAsBefore};
 ghost use Rattle.irp_workers.specs.Acts.{Acts};
+ghost use Rattle.irp_workers.specs.Calling.{CallsFor};
 ghost use Rattle.irp_workers.specs.Pairs.{pair_of};
 ghost use Rattle.irp_workers.specs.Words.{lock_step_of, told_by};
 
-use crate::deed::{call_of, lock_act_of, named_by};
-use crate::labels::UNBOUND;
+use crate::deed::{call_of, lock_act_of};
 use crate::workplace::Workplace;
 use irp_remove::{AcquireRefusal, BeginRefusal, DrainRefusal, Locks, ReleaseRefusal, RemoveSeat};
 use irp_routines::Ask;
@@ -58,21 +59,23 @@ impl<'a, L: Session> ScriptSeat<'a, L> {
         self.seat.number()
     }
 
-    /// Makes the call of a step, with what the remove seat knows of the locks, and binds the label that the step binds.
-    /// None where the step has no call, or it wasn't recorded.
+    /// Makes the call of a step once, with what the remove seat knows of the locks, and binds the label that the step binds.
+    /// None where the step has no call, or it wasn't recorded, and then the seat says what it said.
     fn call<A: Ask>(&mut self, rt: &impl Wait, place: &Workplace<A, L>, step: Step) -> Option<()>
         ensures number { self.new.seat.number ≡ self.old.seat.number }
         ensures remove { self.new.remove ≡ self.old.remove }
+        ensures called { MatchOption result (IsAsBefore self.old.seat self.new.seat) (λ _. CallsFor step.act self.old.remove self.old.seat self.new.seat) }
     {
-        let irp = match named_by(step.act) {
-            Some(named) => place.labels.packet(rt, named),
-            None => UNBOUND,
-        };
+        let irp = place.labels.packet_of(rt, step.act);
         let call = call_of(step.act, irp)?;
         let seat = &mut self.seat;
-        let receipt = place.shared.call(rt, seat, call, &self.remove).ok()?;
-        place.labels.learn(rt, step.act, receipt.reply());
-        Some(())
+        match place.shared.call(rt, seat, call, &self.remove) {
+            Ok(receipt) => {
+                place.labels.learn(rt, step.act, receipt.reply());
+                Some(())
+            }
+            Err(_) => None,
+        }
     }
 
     fn acquire(&mut self, lock: LockNo, tag: u32) -> WordReply
