@@ -142,8 +142,8 @@ impl<'a, L: Session> ScriptSeat<'a, L> {
         }
     }
 
-    /// Makes a step, which has this place: a call, or an act on a remove lock, of which it adds a word line. None where the
-    /// call wasn't recorded, or there was no memory for the line, and then nothing was done. It stays the same pair.
+    /// Makes a step of its own, which has this place: a call, or an act on a remove lock, of which it adds a word line. None
+    /// where the call wasn't recorded, or there was no memory for the line, and then nothing was done. It stays the same pair.
     pub fn step<A: Ask>(
         &mut self,
         rt: &impl Wait,
@@ -152,6 +152,7 @@ impl<'a, L: Session> ScriptSeat<'a, L> {
         step: Step,
         words: &mut Vec<WordLine>,
     ) -> Option<()>
+        requires { step.seat ≡ self.old.seat.number }
         ensures pair { pair_of self.new.seat self.new.remove ≡ pair_of self.old.seat self.old.remove }
         ensures words { MatchOption result (words.new.items ≡ words.old.items)
             (λ _. map told_by words.new.items ≡ map told_by words.old.items ++ option_to_list (lock_step_of index step)) }

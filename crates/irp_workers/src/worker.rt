@@ -1,6 +1,6 @@
 //! Workers.
 
-ghost use Rattle.std.specs.Prelude.{◌≡◌, ◌<◌, ◌%◌, ◌==◌, ◌++◌, [], true, false, map, vec_len, IfSome, MatchOption};
+ghost use Rattle.std.specs.Prelude.{◌≡◌, ◌<◌, ◌%◌, ◌==◌, ◌++◌, [], true, false, map, slice_get, vec_len, Contains, IfNone, IfSome, MatchOption, Some};
 ghost use Rattle.std.specs.Option.{option_to_list};
 ghost use Rattle.irp_workers.specs.Pairs.{pair_of};
 ghost use Rattle.irp_workers.specs.Words.{Ran, lock_step_of, own_steps, told_by};
@@ -50,9 +50,11 @@ impl<'a, L: Session> Worker<'a, L> {
         }
     }
 
-    /// The place among its seats of the one with this number.
+    /// The place among its seats of the first one with this number. None where there is none.
     fn place_of(&self, number: u32) -> Option<usize>
-        ensures { IfSome result (λ place. place < vec_len self.now.seats) }
+        ensures place { IfSome result (λ place. place < vec_len self.now.seats) }
+        ensures some { IfSome result (λ place. slice_get (map (λ own. own.seat.number) self.now.seats.items) place ≡ Some number) }
+        ensures none { IfNone result (¬ Contains (map (λ own. own.seat.number) self.now.seats.items) number) }
     {
         for (place, seat) in self.seats.iter().enumerate() {
             if seat.number() == number {
