@@ -1,3 +1,4 @@
+pub mod Making
 pub mod Numbers
 pub mod Pairs
 pub mod Places

@@ -3,6 +3,7 @@ pub mod Behaviours
 pub mod Calling
 pub mod Deeds
 pub mod Labels
+pub mod Made
 pub mod Numbers
 pub mod Pairs
 pub mod Words

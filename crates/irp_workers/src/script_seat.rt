@@ -1,12 +1,13 @@
 //! A seat of a script.
 
-ghost use Rattle.std.specs.Prelude.{◌≡◌, ◌++◌, map, MatchOption};
+ghost use Rattle.std.specs.Prelude.{◌≡◌, ◌++◌, ◌∷◌, [], map, MatchOption};
 ghost use Rattle.std.specs.Option.{option_to_list};
 ghost use Rattle.irp_remove.specs.Calls.{IsSameSeat};
 ghost use Rattle.irp_remove.specs.Pairing.{IsSeatOf, lock_count};
 ghost use Rattle.irp_shared.specs.Sharing.{IsAsBefore};
 ghost use Rattle.irp_workers.specs.Acts.{Acts};
 ghost use Rattle.irp_workers.specs.Calling.{CallsFor};
+ghost use Rattle.irp_workers.specs.Made.{once_made, seat_calls};
 ghost use Rattle.irp_workers.specs.Pairs.{pair_of};
 ghost use Rattle.irp_workers.specs.Words.{lock_step_of, told_by};
 
@@ -156,6 +157,8 @@ impl<'a, L: Session> ScriptSeat<'a, L> {
         ensures pair { pair_of self.new.seat self.new.remove ≡ pair_of self.old.seat self.old.remove }
         ensures words { MatchOption result (words.new.items ≡ words.old.items)
             (λ _. map told_by words.new.items ≡ map told_by words.old.items ++ option_to_list (lock_step_of index step)) }
+        ensures calls { MatchOption result (seat_calls self.new.seat self.new.remove ≡ seat_calls self.old.seat self.old.remove)
+            (λ _. seat_calls self.new.seat self.new.remove ≡ once_made (step ∷ []) (seat_calls self.old.seat self.old.remove)) }
     {
         let Some(act) = lock_act_of(step.act) else {
             return self.call(rt, place, step);

@@ -1,7 +1,8 @@
 //! Workers.
 
-ghost use Rattle.std.specs.Prelude.{◌≡◌, ◌<◌, ◌%◌, ◌==◌, ◌++◌, [], true, false, map, slice_get, vec_len, Contains, IfNone, IfSome, MatchOption, Some};
+ghost use Rattle.std.specs.Prelude.{◌≡◌, ◌<◌, ◌%◌, ◌==◌, ◌++◌, ◌∷◌, [], true, false, map, slice_get, vec_len, Contains, IfNone, IfSome, MatchOption, Some};
 ghost use Rattle.std.specs.Option.{option_to_list};
+ghost use Rattle.irp_workers.specs.Made.{MadeCalls, NoneTwice, once_made, own_among, seat_calls};
 ghost use Rattle.irp_workers.specs.Pairs.{pair_of};
 ghost use Rattle.irp_workers.specs.Words.{Ran, lock_step_of, own_steps, told_by};
 
@@ -76,13 +77,16 @@ impl<'a, L: Session> Worker<'a, L> {
         ensures same { (self.new.number ≡ self.old.number) × (self.new.workers ≡ self.old.workers) × (self.new.stopped ≡ self.old.stopped) }
         ensures words { MatchOption result (self.new.words.items ≡ self.old.words.items)
             (λ _. map told_by self.new.words.items ≡ map told_by self.old.words.items ++ option_to_list (lock_step_of index step)) }
+        ensures called { MatchOption result (map (λ own. seat_calls own.seat own.remove) self.new.seats.items ≡ map (λ own. seat_calls own.seat own.remove) self.old.seats.items)
+            (λ _. NoneTwice (map (λ own. pair_of own.seat own.remove) self.old.seats.items)
+            → map (λ own. seat_calls own.seat own.remove) self.new.seats.items ≡ map (once_made (step ∷ [])) (map (λ own. seat_calls own.seat own.remove) self.old.seats.items)) }
     {
         let at = self.place_of(step.seat)?;
         let own = &mut self.seats[at];
         own.step(rt, place, index, step, &mut self.words)
     }
 
-    /// Makes a step between the calls of the gate. Whether it was made.
+    /// Makes a step between the calls of the gate. None where it wasn't made.
     fn pass<A: Ask, G: Gate>(
         &mut self,
         rt: &impl Wait,
@@ -90,19 +94,22 @@ impl<'a, L: Session> Worker<'a, L> {
         gate: &G,
         index: usize,
         step: Step,
-    ) -> bool
+    ) -> Option<()>
         ensures seats { map (λ own. pair_of own.seat own.remove) self.new.seats.items ≡ map (λ own. pair_of own.seat own.remove) self.old.seats.items }
         ensures same { (self.new.number ≡ self.old.number) × (self.new.workers ≡ self.old.workers) × (self.new.stopped ≡ self.old.stopped) }
-        ensures made { result ≡ true → map told_by self.new.words.items ≡ map told_by self.old.words.items ++ option_to_list (lock_step_of index step) }
-        ensures left { result ≡ false → self.new.words.items ≡ self.old.words.items }
+        ensures words { MatchOption result (self.new.words.items ≡ self.old.words.items)
+            (λ _. map told_by self.new.words.items ≡ map told_by self.old.words.items ++ option_to_list (lock_step_of index step)) }
+        ensures called { MatchOption result (map (λ own. seat_calls own.seat own.remove) self.new.seats.items ≡ map (λ own. seat_calls own.seat own.remove) self.old.seats.items)
+            (λ _. NoneTwice (map (λ own. pair_of own.seat own.remove) self.old.seats.items)
+            → map (λ own. seat_calls own.seat own.remove) self.new.seats.items ≡ map (once_made (step ∷ [])) (map (λ own. seat_calls own.seat own.remove) self.old.seats.items)) }
     {
         let Ok(index) = u32::try_from(index) else {
-            return false;
+            return None;
         };
         gate.enter(step.seat, index);
         let made = self.step(rt, place, index, step);
         gate.answered(step.seat, index);
-        made.is_some()
+        made
     }
 
     /// Whether a step is one of its own seats'.
@@ -125,15 +132,19 @@ impl<'a, L: Session> Worker<'a, L> {
         ensures same { (self.new.number ≡ self.old.number) × (self.new.workers ≡ self.old.workers) × (self.new.stopped ≡ self.old.stopped) }
         ensures made { result ≡ true → map told_by self.new.words.items ≡ map told_by self.old.words.items ++ own_steps self.old.number self.old.workers (option_to_list (lock_step_of index step)) }
         ensures left { result ≡ false → self.new.words.items ≡ self.old.words.items }
+        ensures called { result ≡ true → NoneTwice (map (λ own. pair_of own.seat own.remove) self.old.seats.items)
+            → map (λ own. seat_calls own.seat own.remove) self.new.seats.items ≡ map (once_made (own_among self.old.number self.old.workers (step ∷ []))) (map (λ own. seat_calls own.seat own.remove) self.old.seats.items) }
+        ensures kept { result ≡ false → map (λ own. seat_calls own.seat own.remove) self.new.seats.items ≡ map (λ own. seat_calls own.seat own.remove) self.old.seats.items }
     {
         if !self.has(step) {
             return true;
         }
-        self.pass(rt, place, gate, index, step)
+        self.pass(rt, place, gate, index, step).is_some()
     }
 
     /// Runs the steps of its own seats, in the order of the script, up to the first that isn't made. Its seats come back,
-    /// and its word lines tell of the steps on remove locks that it made.
+    /// and its word lines tell of the steps on remove locks that it made. Where no two of its seats have the same number,
+    /// each has made the calls of its own among these steps after those that it had made, in order, and no other.
     pub fn run<A: Ask, G: Gate>(
         mut self,
         rt: &impl Wait,
@@ -143,6 +154,8 @@ impl<'a, L: Session> Worker<'a, L> {
     ) -> Worker<'a, L>
         ensures seats { map (λ own. pair_of own.seat own.remove) result.seats.items ≡ map (λ own. pair_of own.seat own.remove) self.entry.seats.items }
         ensures words { Ran self.entry.number self.entry.workers steps.now (map told_by self.entry.words.items) result.words.items result.stopped }
+        ensures calls { NoneTwice (map (λ own. pair_of own.seat own.remove) self.entry.seats.items)
+            → MadeCalls self.entry.number self.entry.workers steps.now (map (λ own. seat_calls own.seat own.remove) self.entry.seats.items) (map (λ own. seat_calls own.seat own.remove) result.seats.items) result.stopped }
     {
         for (index, step) in steps.iter().enumerate() {
             if !self.turn(rt, place, gate, index, *step) {
