@@ -3,3 +3,4 @@ pub mod Numbers
 pub mod Pairs
 pub mod Places
 pub mod Telling
+pub mod Together

@@ -1,11 +1,12 @@
 //! Running a script.
 
-ghost use Rattle.std.specs.Prelude.{◌≡◌, ◌<◌, ◌%◌, ℕ, Bool, false, [], All, IfOk, map, slice_index_or, sum_by, vec_len};
+ghost use Rattle.std.specs.Prelude.{◌≡◌, ◌<◌, ◌%◌, ◌++◌, ℕ, Bool, false, [], All, IfOk, map, slice_index_or, sum_by, vec_len};
 ghost use Rattle.std.specs.List.{count_by, list_any};
 ghost use Rattle.irp_shared.specs.declared.word_line.WordLine.{WordLine};
 ghost use Rattle.irp_remove.specs.Pairing.{IsSeatOf};
+ghost use Rattle.irp_workers.specs.Made.{MadeCalls, NoneTwice, SeatCalls, once_made, seat_calls};
 ghost use Rattle.irp_workers.specs.Numbers.{AreSame, EachAsOften, NoneMoreOften};
-ghost use Rattle.irp_workers.specs.Pairs.{Pair, pair_of, pairs_of};
+ghost use Rattle.irp_workers.specs.Pairs.{pair_of, pairs_of};
 ghost use Rattle.irp_workers.specs.Words.{AreInOrder, Ran, lock_steps, told_by};
 
 use crate::gate::{AlwaysOpen, Gate};
@@ -67,7 +68,7 @@ fn idle<'a, L: Session>(alloc: Global, workers: u32) -> Result<Vec<Worker<'a, L>
     requires { 0 < workers }
     ensures len { IfOk result (λ all. vec_len all ≡ workers) }
     ensures ready { IfOk result (λ all. (k : ℕ) (one : _) → k < workers → ((slice_index_or all.items k one).number ≡ k) × ((slice_index_or all.items k one).workers ≡ workers) × ((slice_index_or all.items k one).words.items ≡ []) × ((slice_index_or all.items k one).stopped ≡ false) × ((slice_index_or all.items k one).seats.items ≡ [])) }
-    ensures seats { IfOk result (λ all. (test : Pair → Bool) → sum_by (λ worker. count_by test (map (λ own. pair_of own.seat own.remove) worker.seats.items)) all.items ≡ 0) }
+    ensures seats { IfOk result (λ all. (test : SeatCalls → Bool) → sum_by (λ worker. count_by test (map (λ own. seat_calls own.seat own.remove) worker.seats.items)) all.items ≡ 0) }
 {
     let mut all = Vec::with_capacity(alloc, workers as usize)?;
     for number in 0..workers {
@@ -85,7 +86,7 @@ fn deal<'a, L: Session>(
     requires { 0 < workers }
     ensures len { IfOk result (λ all. vec_len all ≡ workers) }
     ensures ready { IfOk result (λ all. (k : ℕ) (one : _) → k < workers → ((slice_index_or all.items k one).number ≡ k) × ((slice_index_or all.items k one).workers ≡ workers) × ((slice_index_or all.items k one).words.items ≡ []) × ((slice_index_or all.items k one).stopped ≡ false) × All (λ own. own.seat.number % workers ≡ k) (slice_index_or all.items k one).seats.items) }
-    ensures seats { IfOk result (λ all. (test : Pair → Bool) → sum_by (λ worker. count_by test (map (λ own. pair_of own.seat own.remove) worker.seats.items)) all.items ≡ count_by test (map (λ own. pair_of own.seat own.remove) seats.entry.items)) }
+    ensures seats { IfOk result (λ all. (test : SeatCalls → Bool) → sum_by (λ worker. count_by test (map (λ own. seat_calls own.seat own.remove) worker.seats.items)) all.items ≡ count_by test (map (λ own. seat_calls own.seat own.remove) seats.entry.items)) }
 {
     let mut all = idle(alloc, workers)?;
     while let Some(seat) = seats.pop() {
@@ -107,6 +108,7 @@ fn run_all<'a, A: Ask + Send, L: Session + Send + Sync, G: Gate + Sync, R: Threa
     ensures len { IfOk result (λ done. vec_len done ≡ vec_len workers.entry) }
     ensures back { IfOk result (λ done. (k : ℕ) (one : _) (other : _) → k < vec_len workers.entry → map (λ own. pair_of own.seat own.remove) (slice_index_or done.items k one).seats.items ≡ map (λ own. pair_of own.seat own.remove) (slice_index_or workers.entry.items k other).seats.items) }
     ensures ran { IfOk result (λ done. (k : ℕ) (one : _) (other : _) → k < vec_len workers.entry → Ran (slice_index_or workers.entry.items k other).number (slice_index_or workers.entry.items k other).workers steps.now (map told_by (slice_index_or workers.entry.items k other).words.items) (slice_index_or done.items k one).words.items (slice_index_or done.items k one).stopped) }
+    ensures called { IfOk result (λ done. (k : ℕ) (one : _) (other : _) → k < vec_len workers.entry → NoneTwice (map (λ own. pair_of own.seat own.remove) (slice_index_or workers.entry.items k other).seats.items) → MadeCalls (slice_index_or workers.entry.items k other).number (slice_index_or workers.entry.items k other).workers steps.now (map (λ own. seat_calls own.seat own.remove) (slice_index_or workers.entry.items k other).seats.items) (map (λ own. seat_calls own.seat own.remove) (slice_index_or done.items k one).seats.items) (slice_index_or done.items k one).stopped) }
 {
     thread::map_vec(rt, workers, &|worker| worker.run(rt, place, gate, steps))
 }
@@ -119,7 +121,7 @@ fn gather<'a, L: Session>(
     ensures words { IfOk result (λ worked. AreInOrder worked.words.items) }
     ensures lines { IfOk result (λ worked. (test : WordLine → Bool) → count_by test worked.words.items ≡ sum_by (λ worker. count_by test worker.words.items) workers.entry.items) }
     ensures stopped { IfOk result (λ worked. worked.stopped ≡ list_any (λ worker. worker.stopped) workers.entry.items) }
-    ensures seats { IfOk result (λ worked. (test : Pair → Bool) → count_by test (map (λ own. pair_of own.seat own.remove) worked.seats.items) ≡ sum_by (λ worker. count_by test (map (λ own. pair_of own.seat own.remove) worker.seats.items)) workers.entry.items) }
+    ensures seats { IfOk result (λ worked. (test : SeatCalls → Bool) → count_by test (map (λ own. seat_calls own.seat own.remove) worked.seats.items) ≡ sum_by (λ worker. count_by test (map (λ own. seat_calls own.seat own.remove) worker.seats.items)) workers.entry.items) }
 {
     let mut seats = Vec::new(alloc);
     let mut words = Vec::new(alloc);
@@ -149,6 +151,10 @@ fn gather<'a, L: Session>(
 /// Each word line has the seat, the place and the act of one of the script's `steps` on remove locks. No such step has two
 /// lines, and where nothing stopped, each has its line.
 ///
+/// Where nothing stopped, and no two seats have the same number, each seat has made, after the calls that it had made, those
+/// of its own steps of `setup` and then those of its own `steps`, in the order of the script, and no other. The clause
+/// compares calls but for the packets that they name.
+///
 /// # Errors
 ///
 /// `AllocError` where a growth was refused, which may come after steps were run. The seats are gone then.
@@ -173,6 +179,8 @@ pub fn run_workers<
     ensures pairs { IfOk result (λ worked. EachAsOften (map (λ own. pair_of own.seat own.remove) seats.entry.items) (map (λ own. pair_of own.seat own.remove) worked.seats.items)) }
     ensures told { IfOk result (λ worked. NoneMoreOften (lock_steps script.now.steps) (map told_by worked.words.items)) }
     ensures all_told { IfOk result (λ worked. worked.stopped ≡ false → EachAsOften (lock_steps script.now.steps) (map told_by worked.words.items)) }
+    ensures all_called { IfOk result (λ worked. worked.stopped ≡ false → NoneTwice (map (λ own. pair_of own.seat own.remove) seats.entry.items)
+        → EachAsOften (map (λ own. once_made (script.now.setup ++ script.now.steps) (seat_calls own.seat own.remove)) seats.entry.items) (map (λ own. seat_calls own.seat own.remove) worked.seats.items)) }
 {
     let labels = Labels::new(alloc, script.labels)?;
     let place = Workplace { shared, labels };

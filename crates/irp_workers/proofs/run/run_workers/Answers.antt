@@ -1,9 +1,11 @@
-use Rattle.std.proofs.Common.{◌≡◌, ◌==◌, ◌<◌, length, map, ap, sym, ◌∙◌, rules, arith}
+use Rattle.std.proofs.Common.{◌≡◌, ◌==◌, ◌<◌, ◌++◌, Bool, false, get_or, length, map, ap, sym, subst, ◌∙◌, rules, arith}
 use Rattle.std.specs.List.{count_by}
+use Rattle.irp_workers.specs.Made.{NoneTwice, SeatCalls, once_made, seat_calls}
 use Rattle.irp_workers.specs.Pairs.{Pair, pair_of}
 use Rattle.irp_workers.specs.Words.{lock_steps, told_by}
 use Rattle.irp_workers.proofs.Numbers.{count_map, if_ok_on, if_ok_both, none_of, sum_same}
 use Rattle.irp_workers.proofs.Telling.{all_at_most, all_told, ran_from}
+use Rattle.irp_workers.proofs.Together.{all_made, both_made, count_pairs, made_from, setup_made}
 use Rattle.irp_workers.proofs.run.run_workers.Goals as goal
 
 pub returns-clause-pairs : goal.returns-clause-pairs
@@ -12,8 +14,13 @@ returns-clause-pairs g c =
     if_ok_on c.gather.result (λ worked gathered test.
     let ready = ap (count_by test) c.run-ready.ensures.seats in
     let given = ap (λ seats. count_by test (map (λ own. pair_of own.seat own.remove) seats.items)) c.new-all.ensures.seats in
-    let back = sum_same (λ worker. count_by test (map (λ own. pair_of own.seat own.remove) worker.seats.items)) (λ worker. count_by test (map (λ own. pair_of own.seat own.remove) worker.seats.items)) c.in_ok-groups.groups.items c.in_ok-done.done.items counted (λ i d e lt. ap (count_by test) (c.in_ok-done.ensures.back i e d (search rules))) in
-    gathered test ∙ back ∙ c.in_ok-groups.ensures.seats test ∙ ready ∙ given) c.gather.ensures.seats
+    let on : SeatCalls → Bool = λ told. test told.pair in
+    let back = sum_same (λ worker. count_by on (map (λ own. seat_calls own.seat own.remove) worker.seats.items)) (λ worker. count_by on (map (λ own. seat_calls own.seat own.remove) worker.seats.items)) c.in_ok-groups.groups.items c.in_ok-done.done.items counted
+    (λ i d e lt. count_pairs (λ own. seat_calls own.seat own.remove) test (get_or c.in_ok-done.done.items i e).seats.items
+    ∙ ap (count_by test) (c.in_ok-done.ensures.back i e d (search rules))
+    ∙ sym (count_pairs (λ own. seat_calls own.seat own.remove) test (get_or c.in_ok-groups.groups.items i d).seats.items)) in
+    sym (count_pairs (λ own. seat_calls own.seat own.remove) test worked.seats.items) ∙ gathered on ∙ back ∙ c.in_ok-groups.ensures.seats on
+    ∙ count_pairs (λ own. seat_calls own.seat own.remove) test c.run-ready.result.seats.items ∙ ready ∙ given) c.gather.ensures.seats
 
 pub returns-clause-seats : goal.returns-clause-seats
 returns-clause-seats g c =
@@ -57,3 +64,27 @@ returns-then-ready-clause-seats g c = λ number.
     ∙ ready ∙ given
     ∙ count_map (λ own. pair_of own.seat own.remove) (λ pair. pair.seat == number) c.args.seats.items
     ∙ sym (count_map (λ own. own.seat.number) (λ each. each == number) c.args.seats.items)
+
+pub returns-clause-all_called : goal.returns-clause-all_called
+returns-clause-all_called g c =
+    let grouped : length c.in_ok-groups.groups.items ≡ c.args.workers = search rules in
+    let counted : length c.in_ok-done.done.items ≡ c.args.workers = search rules in
+    let passed : c.run-ready.result.stopped ≡ false = search rules in
+    if_ok_both c.gather.result (λ worked gathered stopped going once test.
+    let given = subst (λ seats. NoneTwice (map (λ own. pair_of own.seat own.remove) seats.items)) (sym c.new-all.ensures.seats) once in
+    let ready = subst NoneTwice (sym c.run-ready.ensures.seats) given in
+    let setup = setup_made (λ own. seat_calls own.seat own.remove) c.new-all.result.seats.items c.new-all.result.number c.new-all.result.workers c.as_slice.result.now _ _
+    (c.run-ready.ensures.calls given) passed c.new-all.ensures.number c.new-all.ensures.workers in
+    let steps = all_made (λ own. seat_calls own.seat own.remove) (λ worker. worker.seats.items) (λ worker. worker.stopped) c.run-ready.result.seats.items
+    c.in_ok-groups.groups.items c.in_ok-done.done.items c.args.workers c.as_slice-steps.result.now grouped counted ready c.in_ok-groups.ensures.seats
+    (λ k one lt. (c.in_ok-groups.ensures.ready k one lt).4)
+    (λ k one other lt apart. let start = c.in_ok-groups.ensures.ready k other lt in made_from _ _ _ _ _ _ _ _ (c.in_ok-done.ensures.called k one other (search rules) apart) start.0 start.1)
+    (none_of (λ worker. worker.stopped) c.in_ok-done.done.items (sym stopped ∙ going)) test in
+    gathered test
+    ∙ steps
+    ∙ ap (count_by (λ (told : SeatCalls). test (once_made c.as_slice-steps.result.now told))) setup
+    ∙ both_made (λ own. seat_calls own.seat own.remove) c.new-all.result.seats.items c.as_slice.result.now c.as_slice-steps.result.now test
+    ∙ ap (λ list. count_by test (map (λ own. once_made (list ++ c.as_slice-steps.result.now) (seat_calls own.seat own.remove)) c.new-all.result.seats.items)) c.as_slice.ensures
+    ∙ ap (λ list. count_by test (map (λ own. once_made (c.args.script.now.setup ++ list) (seat_calls own.seat own.remove)) c.new-all.result.seats.items)) c.as_slice-steps.ensures
+    ∙ ap (λ seats. count_by test (map (λ own. once_made (c.args.script.now.setup ++ c.args.script.now.steps) (seat_calls own.seat own.remove)) seats.items)) c.new-all.ensures.seats)
+    c.gather.ensures.seats c.gather.ensures.stopped
