@@ -10,7 +10,7 @@ use irp_routines::{AnswerTable, Ask};
 use irp_script_reader::{Named, Script, ScriptForm, Step, StepAct};
 use irp_shared::{Act, Session, Transcript, WordLine, WordReply, open};
 use irp_types::{
-    DeviceId, DriverId, IrpRef, Known, LockNo, Owner, Party, Plan, Refusal, Reply, Row, Seen,
+    Call, DeviceId, DriverId, IrpRef, Known, LockNo, Owner, Party, Plan, Refusal, Reply, Row, Seen,
     Status,
 };
 use std::alloc::{AllocError, Global};
@@ -240,6 +240,14 @@ fn one_device_finishes_one_packet(rt: HostRuntime) -> Result<(), Fail> {
         (0, Reply::Seen(USED_ANEW)),
     ];
     has_replies(&rt, &made, &expected);
+    let unbound = IrpRef {
+        slot: 4_294_967_295,
+        use_no: 0,
+    };
+    assert_eq!(rt;
+        made.transcript.entries().get(1).map(|entry| entry.call),
+        Some(Call::Look { irp: unbound })
+    );
     assert!(rt; !made.stopped);
     Ok(())
 }

@@ -57,6 +57,28 @@ fn a_stop_in_the_setup_stops_all(rt: HostRuntime) -> Result<(), Fail> {
 }
 
 #[test]
+fn the_setup_comes_before_all_workers(rt: HostRuntime) -> Result<(), Fail> {
+    let alloc = rt.alloc();
+    let mut setup = [(0, ALLOCATE); 40];
+    let mut seats = [0; 40];
+    for place in 0..40 {
+        if place % 2 == 1 {
+            setup[place] = (1, ALLOCATE);
+            seats[place] = 1;
+        }
+    }
+    let steps = [(0, LOOK), (1, LOOK), (0, LOOK), (1, LOOK)];
+    let script = script(alloc, 2, &setup, &steps)?;
+    let made = worked(&rt, alloc, &script, 2)?;
+    for (entry, seat) in made.transcript.entries().iter().zip(seats) {
+        assert_eq!(rt; entry.seat, seat);
+    }
+    assert_eq!(rt; made.transcript.entries().len(), 44);
+    assert!(rt; !made.stopped);
+    Ok(())
+}
+
+#[test]
 fn two_workers_have_the_even_and_the_odd_seats(rt: HostRuntime) -> Result<(), Fail> {
     let alloc = rt.alloc();
     let steps = [(3, ALLOCATE), (2, ALLOCATE), (1, ALLOCATE), (0, ALLOCATE)];
@@ -104,6 +126,30 @@ fn labels_are_shared_by_all_seats(rt: HostRuntime) -> Result<(), Fail> {
 }
 
 #[test]
+fn a_label_is_bound_anew(rt: HostRuntime) -> Result<(), Fail> {
+    let alloc = rt.alloc();
+    let first = Named::Irp(IRP);
+    let steps = [
+        (0, ALLOCATE),
+        (0, ALLOCATE),
+        (0, StepAct::Free { irp: LABEL }),
+        (0, StepAct::Free { irp: first }),
+        (0, LOOK),
+    ];
+    let script = script(alloc, 1, &[], &steps)?;
+    let made = worked(&rt, alloc, &script, 1)?;
+    let expected = [
+        (0, Reply::Irp(IRP)),
+        (0, Reply::Irp(IrpRef { slot: 1, use_no: 2 })),
+        (0, Reply::Done),
+        (0, Reply::Done),
+        (0, Reply::Refused(Refusal::NoIrp)),
+    ];
+    has_replies(&rt, &made, &expected);
+    Ok(())
+}
+
+#[test]
 fn refused_acts_have_word_lines(rt: HostRuntime) -> Result<(), Fail> {
     let alloc = rt.alloc();
     let none = LockNo(1);
@@ -134,6 +180,34 @@ fn refused_acts_have_word_lines(rt: HostRuntime) -> Result<(), Fail> {
     Ok(())
 }
 
+#[test]
+fn acts_on_what_is_not_held_have_word_lines(rt: HostRuntime) -> Result<(), Fail> {
+    let alloc = rt.alloc();
+    let none = LockNo(1);
+    let steps = [
+        (0, StepAct::Release { lock: none, tag: 1 }),
+        (0, StepAct::BeginRemove { lock: none, tag: 1 }),
+        (0, StepAct::BeginRemove { lock: LOCK, tag: 1 }),
+        (0, acquire(1)),
+        (1, StepAct::BeginRemove { lock: LOCK, tag: 1 }),
+    ];
+    let script = script(alloc, 2, &[], &steps)?;
+    let made = worked(&rt, alloc, &script, 1)?;
+    let (no_lock, not_held) = (WordReply::NoLock, WordReply::NotHeld);
+    let begin = Act::BeginRemove { lock: LOCK, tag: 1 };
+    let take = Act::Acquire { lock: LOCK, tag: 1 };
+    let words = [
+        word(0, 0, Act::Release { lock: none, tag: 1 }, no_lock),
+        word(0, 1, Act::BeginRemove { lock: none, tag: 1 }, no_lock),
+        word(0, 2, begin, not_held),
+        word(0, 3, take, WordReply::Acquired),
+        word(1, 4, begin, not_held),
+    ];
+    assert!(rt; made.words.as_slice() == words.as_slice());
+    assert!(rt; !made.stopped);
+    Ok(())
+}
+
 /// How many steps began and were answered, and whether one came at another time than in its turn.
 #[derive(Drop)]
 struct Turns {
@@ -142,11 +216,20 @@ struct Turns {
     astray: AtomicBool,
 }
 
+/// The seat of the step with this place: 2, then 0, then 1.
+fn seat_of(step: u32) -> u32 {
+    match step {
+        0 => 2,
+        1 => 0,
+        _ => 1,
+    }
+}
+
 impl Gate for Turns {
     fn enter(&self, seat: u32, step: u32) {
         let begun = self.begun.fetch_add(1, Ordering::SeqCst);
         let answered = self.answered.load(Ordering::SeqCst);
-        if seat != step || u64::from(step) != begun || begun != answered {
+        if seat != seat_of(step) || u64::from(step) != begun || begun != answered {
             self.astray.store(true, Ordering::SeqCst);
         }
     }
@@ -154,7 +237,8 @@ impl Gate for Turns {
     fn answered(&self, seat: u32, step: u32) {
         let answered = self.answered.fetch_add(1, Ordering::SeqCst);
         let begun = self.begun.load(Ordering::SeqCst);
-        if seat != step || u64::from(step) != answered || begun != answered.wrapping_add(1) {
+        let others = u64::from(step) != answered || begun != answered.wrapping_add(1);
+        if seat != seat_of(step) || others {
             self.astray.store(true, Ordering::SeqCst);
         }
     }
@@ -167,7 +251,7 @@ fn the_gate_is_told_before_and_after_each_step(rt: HostRuntime) -> Result<(), Fa
         alloc,
         3,
         &[(0, CREATE)],
-        &[(0, ALLOCATE), (1, acquire(1)), (2, LOOK)],
+        &[(2, ALLOCATE), (0, acquire(1)), (1, LOOK)],
     )?;
     let gate = Turns {
         begun: AtomicU64::new(0),
