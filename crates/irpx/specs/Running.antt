@@ -16,7 +16,8 @@ use Rattle.irp_script_reader.specs.declared.refusal.ScriptRefusal.{ScriptRefusal
 use Rattle.irp_script_reader.specs.declared.script.CompletionRoutine.{CompletionRoutine}
 use Rattle.irp_script_reader.specs.declared.script.Script.{Script}
 use Rattle.irp_workers.specs.Behaviours.{cancel_rule_of}
-use Rattle.irp_workers.specs.Words.{AreInOrder}
+use Rattle.irp_workers.specs.Numbers.{EachAsOften, NoneMoreOften}
+use Rattle.irp_workers.specs.Words.{AreInOrder, lock_steps, told_by}
 use Rattle.irp_transcript_writer.specs.Lines.{lines, text_of}
 use Rattle.irp_transcript_writer.specs.Out.{risen}
 use Rattle.irpx.specs.declared.ending.Ending.{Ending}
@@ -76,7 +77,8 @@ tables_of script =
 -- ---- the output
 
 -- a transcript of a run of the script with these tables: its header tells the script's seats and locks, and the tables, and
--- the formats accept it; its history is legal, and completes each use of a packet at most once; its word lines are in order
+-- the formats accept it; its history is legal, and completes each use of a packet at most once; its word lines are in order,
+-- and tell of no step on a remove lock more often than it stands in the script
 pub record IsRun (script : Script) (tables : Tables) (transcript : TranscriptValue) : Type 0 where
   pub header : Header
   pub told : transcript.header ≡ Some header
@@ -86,6 +88,11 @@ pub record IsRun (script : Script) (tables : Tables) (transcript : TranscriptVal
   pub legal : IsLegal (fixed_of header) transcript.entries
   pub once : CompletesOnce (fixed_of header) transcript.entries
   pub words : AreInOrder transcript.words
+  pub told_steps : NoneMoreOften (lock_steps script.steps) (map told_by transcript.words)
+
+-- the transcript's word lines tell of each step of the script on a remove lock, as often as it stands there
+abbrev pub TellsEach : Script → TranscriptValue → Type 0
+TellsEach script transcript = EachAsOften (lock_steps script.steps) (map told_by transcript.words)
 
 -- a beginning of the transcript's text went out, which may be the whole text
 pub record Starts (transcript : TranscriptValue) (old new : Option (List ℕ)) : Type 0 where
@@ -117,11 +124,12 @@ Unrun OtherWords = ⊥
 Unrun (RefusedScript refusal) = ⊥
 Unrun (RefusedLine line) = ⊥
 
--- what came of a script with these tables: no transcript, and nothing went out; or one, which was written
+-- what came of a script with these tables: no transcript, and nothing went out; or one, which was written, and which tells
+-- of each step on a remove lock where all was done
 abbrev pub AfterScript : Script → Tables → Option (List ℕ) → Option (List ℕ) → ℕ → ℕ → Ending → Type 0
 AfterScript script tables old new before after ending =
     (Unrun ending × Keeps old new × (after ≡ before))
-    ⊎ ((transcript : TranscriptValue) × IsRun script tables transcript × Writes transcript old new before after ending)
+    ⊎ ((transcript : TranscriptValue) × IsRun script tables transcript × Writes transcript old new before after ending × (ending ≡ Done → TellsEach script transcript))
 
 -- what `run` did: where there is no script nothing went out, and else the input holds the script that was run
 abbrev pub AfterRun : Option (List ℕ) → Option (List ℕ) → Option (List ℕ) → ℕ → ℕ → Ending → Type 0

@@ -7,6 +7,7 @@ ghost use Rattle.irpx.specs.Running.{
   AfterScript,
   Holds,
   IsRun,
+  TellsEach,
   Unrun,
   Unscripted,
   Writes,
@@ -95,6 +96,7 @@ fn session<L: Session + Send + Sync, T: Threads + Wait + Sync>(
     requires seats { (L.parts ≡ script.now.seats) × (L.seats ≡ script.now.seats) }
     requires fixed { L.fixed ≡ record { locks = script.now.locks; tables = store.tables } }
     ensures run { IfOk result (λ run. IsRun script.now store.tables run.transcript) }
+    ensures all_told { IfOk result (λ run. run.stopped ≡ false → TellsEach script.now run.transcript) }
     ensures unrun { IfErr result Unrun }
 {
     let Ok((shared, seats)) = open::<Store, L>(alloc, blank, store, script.locks, script.seats)

@@ -15,4 +15,4 @@ returns-clause-run g c =
     (ap (λ (this : TranscriptValue). this.entries) c.new-transcript.ensures ∙ sym (ap (λ (this : TranscriptValue). this.entries) c.into_parts-header.ensures))
     (ap (λ (this : TranscriptValue). this.words) c.new-transcript.ensures ∙ c.from_vec.ensures)
     c.requires.fixed c.requires.seats.1 (header_fits closed.header c.in-Some.header header c.is_one.ensures.accepted)
-    c.in-Ok-run_workers.ensures.words
+    c.in-Ok-run_workers.ensures.words c.in-Ok-run_workers.ensures.told
