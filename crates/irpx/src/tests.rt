@@ -10,7 +10,7 @@ use irp_transcript_writer::WriterOut;
 use std::test::Fail;
 
 /// The header and the four entries of the demonstration.
-const TRANSCRIPT: &str =
+pub(crate) const TRANSCRIPT: &str =
     r#"{"cancels":[],"completions":[0,0,0,0,0],"dispatches":[[0,0,0,0,0,0]],"drivers":[[[3,0]]],"form":1,"locks":1,"seats":1}
 {"asked":[],"call":{"do":"create_device","driver":0,"lock":0},"n":0,"reply":{"device":0},"seat":0}
 {"asked":[],"call":{"do":"allocate","size":1},"n":1,"reply":{"irp":[0,1]},"seat":0}
