@@ -1,7 +1,9 @@
 //! The word `run`: a script is read and run by workers, and the transcript is written.
 
 ghost use Rattle.std.specs.Prelude.{IfErr, IfOk, ◌≡◌, ◌<◌, false, true};
-ghost use Rattle.irp_types.specs.Rules.{is_allowed};
+ghost use Rattle.irp_types.specs.Rules.{is_allowed, is_plan_allowed};
+ghost use Rattle.irp_routines.specs.Guarded.{guarded_answer, guarded_plan};
+ghost use Rattle.irp_workers.specs.Behaviours.{answer_of, plan_of};
 ghost use Rattle.irpx.specs.Running.{
   AfterRun,
   AfterScript,
@@ -23,7 +25,7 @@ use irp_routines::{CancelRoutine, Dispatch, Routine, Store, guarded_answer, guar
 use irp_script_reader::{CompletionRoutine, Script, ScriptFault, read_script};
 use irp_shared::{Seat, Session, Transcript, TranscriptParts, open};
 use irp_transcript_writer::{Cause, Out, write_transcript};
-use irp_types::{Answer, Row, Shown};
+use irp_types::{Answer, Known, Plan, Row, Shown};
 use irp_workers::{
     AlwaysOpen, ScriptSeat, cancel_rule, run_workers, script_seats, table_answer, table_cancel,
     table_plan,
@@ -195,9 +197,19 @@ fn with_dispatches<O: Out, T: Threads + Wait + Sync>(
 /// What a completion routine of a script answers to what it is shown, where its rule allows that; it does in every script
 /// that was read.
 fn allowed_answer(routine: CompletionRoutine, shown: Shown) -> Answer
-    ensures { is_allowed routine.rule shown result ≡ true }
+    ensures answer { result ≡ guarded_answer routine.rule shown (answer_of routine shown) }
+    ensures allowed { is_allowed routine.rule shown result ≡ true }
 {
     guarded_answer(routine.rule, shown, table_answer(routine, shown))
+}
+
+/// What a dispatch of a script with this plan answers to what it is shown, where that is allowed to a dispatch that may name
+/// these routines; it is in every script that was read.
+fn planned_so(known: Known, plan: Plan, shown: Shown) -> Plan
+    ensures plan { result ≡ guarded_plan known shown (plan_of plan shown) }
+    ensures allowed { is_plan_allowed known shown result ≡ true }
+{
+    guarded_plan(known, shown, table_plan(plan, shown))
 }
 
 /// Has so many workers run the script with a store that behaves as it says, and writes the transcript. The error where a
@@ -233,7 +245,7 @@ fn run_script<O: Out, T: Threads + Wait + Sync>(
     let plans = script.dispatches.as_slice();
     for plan in plans {
         let plan = *plan;
-        let planned = move |shown: Shown| guarded_plan(known, shown, table_plan(plan, shown));
+        let planned = move |shown: Shown| planned_so(known, plan, shown);
         let planned = Box::new(alloc, planned)?;
         let Ok(_dispatch) = store.add_dispatch(Dispatch::new(known, planned)) else {
             return Err(AllocError);
