@@ -1,9 +1,9 @@
--- The words `NAME demo` and `NAME check` are taken, and stand for the subcommand of their name.
+-- The words `NAME demo`, `NAME check` and `NAME run` are taken, and stand for the subcommand of their name.
 use Rattle.std.proofs.Common.{◌≡◌, ℕ, List, [], ◌∷◌, Option, Some, None, Result, Ok, Err, OnOk, MatchResult, true, codes, option_map, refl, sym, subst, ap, ap₂, ◌∙◌}
 use Rattle.std.specs.Box.{box_value}
 use Rattle.clap.specs.Matches.{subcommand_name_of}
 use Rattle.clap.specs.Simple.{App, HasMatchesOf, subcommand_rows, subcommand_rows_of}
-use Rattle.clap.specs.Words.{fault_of, is_simple, is_simple_and_free, subcommand_of, takes}
+use Rattle.clap.specs.Words.{Row, fault_of, is_simple, is_simple_and_free, subcommand_of, takes}
 use Rattle.clap.specs.declared.parser.matches.ArgMatches.{ArgMatches}
 use Rattle.clap.specs.declared.parser.matches.ArgMatches.TheViews.{out-ArgMatches, out-SubCommand}
 use Rattle.clap.proofs.OnLiterals.{clap_on_literals}
@@ -25,6 +25,15 @@ check_is_met : (name : List ℕ) → option_map (λ found. found.0) (subcommand_
 unfolding clap_on_literals
 check_is_met name = refl
 
+run_is_taken : (name : List ℕ) → takes command_line (name ∷ codes "run" ∷ []) ≡ true
+unfolding clap_on_literals
+run_is_taken name = refl
+
+-- and nothing is found for the option
+run_is_met : (name : List ℕ) → subcommand_of command_line (name ∷ codes "run" ∷ []) ≡ Some (codes "run", [])
+unfolding clap_on_literals
+run_is_met name = refl
+
 command_line_is_simple : is_simple command_line ≡ true
 unfolding clap_on_literals
 command_line_is_simple = refl
@@ -44,6 +53,24 @@ named : (app : App) (matches : ArgMatches) (words line : List (List ℕ)) → ap
 named app matches words line app_is words_are has =
     sym (met_name matches)
     ∙ ap (option_map (λ found. found.0)) ((has (ap is_simple app_is ∙ command_line_is_simple)).1 ∙ ap₂ subcommand_of app_is words_are)
+
+-- what was found for it is what the words have
+with_rows : (app : App) (matches : ArgMatches) (words line : List (List ℕ)) → app ≡ command_line → words ≡ line → HasMatchesOf app words matches → option_map (λ found. found.1) (subcommand_rows_of matches) ≡ option_map (λ found. found.1) (subcommand_of command_line line)
+with_rows app matches words line app_is words_are has =
+    ap (option_map (λ found. found.1)) ((has (ap is_simple app_is ∙ command_line_is_simple)).1 ∙ ap₂ subcommand_of app_is words_are)
+
+-- clap's matches of words that name `run`, with these rows
+pub run_is_named : (app : App) (matches : ArgMatches) (words : List (List ℕ)) (rows : List Row) → app ≡ command_line → subcommand_of command_line words ≡ Some (codes "run", rows) → HasMatchesOf app words matches → subcommand_name_of matches ≡ Some (codes "run")
+run_is_named app matches words rows app_is met has =
+    named app matches words words app_is refl has ∙ ap (option_map (λ found. found.0)) met
+
+pub run_has_rows : (app : App) (matches : ArgMatches) (words : List (List ℕ)) (rows : List Row) → app ≡ command_line → subcommand_of command_line words ≡ Some (codes "run", rows) → HasMatchesOf app words matches → option_map (λ found. found.1) (subcommand_rows_of matches) ≡ Some rows
+run_has_rows app matches words rows app_is met has =
+    with_rows app matches words words app_is refl has ∙ ap (option_map (λ found. found.1)) met
+
+-- the words `NAME run` have no rows
+pub run_alone : (name : List ℕ) (words : List (List ℕ)) → words ≡ name ∷ codes "run" ∷ [] → subcommand_of command_line words ≡ Some (codes "run", [])
+run_alone name words words_are = ap (subcommand_of command_line) words_are ∙ run_is_met name
 
 -- clap's matches of `NAME demo` have the subcommand `demo`
 pub demo_is_named : (app : App) (matches : ArgMatches) (name : List ℕ) (words : List (List ℕ)) → app ≡ command_line → words ≡ name ∷ codes "demo" ∷ [] → HasMatchesOf app words matches → subcommand_name_of matches ≡ Some (codes "demo")
@@ -66,6 +93,10 @@ takes_demo app name words app_is words_are = ap₂ takes app_is words_are ∙ de
 -- clap takes `NAME check`
 pub takes_check : (app : App) (name : List ℕ) (words : List (List ℕ)) → app ≡ command_line → words ≡ name ∷ codes "check" ∷ [] → takes app words ≡ true
 takes_check app name words app_is words_are = ap₂ takes app_is words_are ∙ check_is_taken name
+
+-- clap takes `NAME run`
+pub takes_run : (app : App) (name : List ℕ) (words : List (List ℕ)) → app ≡ command_line → words ≡ name ∷ codes "run" ∷ [] → takes app words ≡ true
+takes_run app name words app_is words_are = ap₂ takes app_is words_are ∙ run_is_taken name
 
 pub on_ok : {T E P : Type 0} (result : Result T E) → P → OnOk result P
 on_ok (Ok value) holds = holds

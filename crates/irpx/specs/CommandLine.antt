@@ -1,10 +1,12 @@
 -- The command line that the program takes, as clap has it.
-use Rattle.std.specs.Prelude.{◌≡◌, ◌≤◌, ◌+◌, ◌-◌, ◌*◌, ◌&&◌, ℕ, List, [], ◌∷◌, Bool, true, codes, nat_le, Option, Some, None, if◌then◌else◌}
+use Rattle.std.specs.Prelude.{◌≡◌, ◌≤◌, ◌+◌, ◌-◌, ◌*◌, ◌&&◌, ℕ, List, [], ◌∷◌, Bool, true, codes, nat_le, Option, Some, None, Result, Ok, Err, if◌then◌else◌}
 use Rattle.clap.specs.Words.{Rule, new_rule}
 use Rattle.clap.specs.Simple.{App, new_app, on_top, with_rule, with_subcommand}
 use Rattle.clap.specs.declared.builder.ArgAction.TheVariants.{Set}
 use Rattle.irpx.specs.declared.orders.Order.{Order}
 use Rattle.irpx.specs.declared.orders.Order.TheVariants.{Demo, Run, Check}
+use Rattle.irpx.specs.declared.orders.Unread.{Unread}
+use Rattle.irpx.specs.declared.orders.Unread.TheVariants.{Usage}
 
 -- the option `--workers`, which takes a text
 abbrev pub workers_option : Rule
@@ -35,6 +37,16 @@ abbrev pub workers_in : List ℕ → Option ℕ
 workers_in (one ∷ []) = if is_digit one then workers (one - 48) else None
 workers_in (ten ∷ one ∷ []) = if is_digit ten && is_digit one then workers ((ten - 48) * 10 + (one - 48)) else None
 workers_in text = None
+
+-- the order to run a script with so many workers, where there may be so many
+abbrev pub run_with : Option ℕ → Result Order Unread
+run_with None = Err Usage
+run_with (Some workers) = Ok (Run workers)
+
+-- the order to run a script with the workers that a text names, or with one where there is no text
+abbrev pub run_in : Option (List ℕ) → Result Order Unread
+run_in None = Ok (Run 1)
+run_in (Some text) = run_with (workers_in text)
 
 -- a run has 1 to 64 workers
 abbrev pub IsOrder : Order → Type 0
