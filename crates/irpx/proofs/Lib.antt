@@ -3,3 +3,4 @@ pub mod CommandLine
 pub mod OneSeat
 pub mod Pieces
 pub mod Runs
+pub mod Telling

@@ -1,5 +1,5 @@
 -- What checking a transcript tells.
-use Rattle.std.specs.Prelude.{ℕ, ◌≡◌, ◌≤◌, ◌⊎◌, List, ◌∷◌, [], ◌++◌, length, codes, Option, IfSome, Result, Ok, Err}
+use Rattle.std.specs.Prelude.{ℕ, ◌≡◌, ◌<◌, ◌≤◌, ◌⊎◌, List, ◌∷◌, [], ◌++◌, length, codes, Option, IfSome, Result, Ok, Err}
 use Rattle.std.specs.Fmt.{decimal}
 use Rattle.std.specs.Io.KnownBytes.{Appends, Keeps}
 use Rattle.irp_shared.specs.Transcripts.{TranscriptValue, no_lines}
@@ -71,26 +71,37 @@ Judged input (Err ReceiptsDiffer) = ⊥
 Judged input (Err (RefusedScript refusal)) = ⊥
 Judged input (Err OtherWords) = ⊥
 
--- what went out and the count of failures where a verdict was told: its line, and else nothing, but where the output failed
+-- a beginning of the text went out, which isn't the whole text
+pub record Begins (text : List ℕ) (old new : Option (List ℕ)) : Type 0 where
+  pub front : List ℕ
+  pub rest : List ℕ
+  pub whole : text ≡ front ++ rest
+  pub short : 0 < length rest
+  pub gone : Appends old new front
+
+-- what went out and the count of failures where a verdict was told: its line; a beginning of it where the output failed; and
+-- else nothing
 abbrev pub Tells : Verdict → Option (List ℕ) → Option (List ℕ) → ℕ → ℕ → Ending → Type 0
 Tells verdict old new before after Done = (ending_of verdict ≡ Done) × Appends old new (verdict_line verdict) × (after ≡ before)
 Tells verdict old new before after Illegal = (ending_of verdict ≡ Illegal) × Appends old new (verdict_line verdict) × (after ≡ before)
 Tells verdict old new before after NoMemory = Keeps old new × (after ≡ before)
-Tells verdict old new before after Failed = after ≡ risen before
+Tells verdict old new before after Failed = Begins (verdict_line verdict) old new × (after ≡ risen before)
 Tells verdict old new before after OtherWords = ⊥
 Tells verdict old new before after ReceiptsDiffer = ⊥
 Tells verdict old new before after (RefusedScript refusal) = ⊥
 Tells verdict old new before after (RefusedLine line) = ⊥
 
 -- what `check` did, by its ending. Done and Illegal: the input holds a transcript, whose verdict's line went out. A refused
--- line: the input holds a text of which it is the first that is refused. But for these two and a failed output nothing
--- went out, and the count of failures rose only where the output failed.
+-- line: the input holds a text of which it is the first that is refused. Failed: the input holds a transcript, and a
+-- beginning of its verdict's line went out, or nothing was told. But for these nothing went out, and the count of failures
+-- rose only where the output failed.
 abbrev pub Checks : Option (List ℕ) → Option (List ℕ) → Option (List ℕ) → ℕ → ℕ → Ending → Type 0
 Checks input old new before after Done = (verdict : Verdict) × Judged input (Ok verdict) × Tells verdict old new before after Done
 Checks input old new before after Illegal = (verdict : Verdict) × Judged input (Ok verdict) × Tells verdict old new before after Illegal
 Checks input old new before after (RefusedLine line) = Judged input (Err (RefusedLine line)) × Keeps old new × (after ≡ before)
 Checks input old new before after NoMemory = Keeps old new × (after ≡ before)
-Checks input old new before after Failed = (after ≡ risen before) ⊎ (Keeps old new × (after ≡ before))
+Checks input old new before after Failed =
+    ((verdict : Verdict) × Judged input (Ok verdict) × Tells verdict old new before after Failed) ⊎ (Keeps old new × (after ≡ before))
 Checks input old new before after OtherWords = ⊥
 Checks input old new before after ReceiptsDiffer = ⊥
 Checks input old new before after (RefusedScript refusal) = ⊥

@@ -24,6 +24,13 @@ pub record AfterDemo (old new : Option (List ℕ)) (before after : ℕ) (ending 
 abbrev pub IsQuiet : Option (List ℕ) → Option (List ℕ) → ℕ → ℕ → Type 0
 IsQuiet old new before after = Keeps old new × (after ≡ before)
 
+-- nothing was read, but where the words ask for a script to be run or for a transcript to be checked
+abbrev pub ReadsFor : Result Order Unread → Option (List ℕ) → Option (List ℕ) → Type 0
+ReadsFor (Ok Demo) old new = new ≡ old
+ReadsFor (Ok (Run workers)) old new = Unit {0}
+ReadsFor (Ok Check) old new = Unit {0}
+ReadsFor (Err unread) old new = new ≡ old
+
 -- what was done, by what the words ask for
 abbrev pub Obeys : Result Order Unread → Option (List ℕ) → Option (List ℕ) → Option (List ℕ) → ℕ → ℕ → Ending → Type 0
 Obeys (Ok Demo) input old new before after ending = AfterDemo old new before after ending

@@ -1,7 +1,7 @@
 //! The word `check`: a transcript is read and judged, and the verdict is told.
 
 ghost use Rattle.std.specs.Prelude.{IfErr, IfOk, ◌≡◌};
-ghost use Rattle.irpx.specs.Checking.{Checks, IsInput, Judged, Judges, Tells, Unjudged, Unread, verdict_line};
+ghost use Rattle.irpx.specs.Checking.{Checks, IsInput, Judged, Judges, Tells, Unjudged, Unread, ending_of, verdict_line};
 
 use crate::ending::Ending;
 use crate::input::{InputFault, read_up_to};
@@ -61,6 +61,16 @@ fn line_of(alloc: Global, verdict: Verdict) -> Result<String, AllocError>
     }
 }
 
+/// The ending of a verdict that was told.
+fn ending_of(verdict: Verdict) -> Ending
+    ensures { result ≡ ending_of verdict }
+{
+    match verdict {
+        Verdict::Legal { .. } => Ending::Done,
+        Verdict::Illegal { .. } => Ending::Illegal,
+    }
+}
+
 /// Tells the output a verdict.
 fn tell<O: Out>(alloc: Global, output: &mut O, verdict: Verdict) -> Ending
     ensures { Tells verdict (O.gone output.old) (O.gone output.new) (O.failures output.old) (O.failures output.new) result }
@@ -68,12 +78,9 @@ fn tell<O: Out>(alloc: Global, output: &mut O, verdict: Verdict) -> Ending
     let Ok(line) = line_of(alloc, verdict) else {
         return Ending::NoMemory;
     };
-    if put_all(output, line.as_bytes()).is_err() {
-        return Ending::Failed;
-    }
-    match verdict {
-        Verdict::Legal { .. } => Ending::Done,
-        Verdict::Illegal { .. } => Ending::Illegal,
+    match put_all(output, line.as_bytes()) {
+        Ok(()) => ending_of(verdict),
+        Err(_) => Ending::Failed,
     }
 }
 

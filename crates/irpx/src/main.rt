@@ -13,7 +13,7 @@ mod words;
 
 ghost use Rattle.std.specs.Prelude.{IfOk};
 ghost use Rattle.irpx.specs.CommandLine.{IsOrder};
-ghost use Rattle.irpx.specs.Program.{Obeys};
+ghost use Rattle.irpx.specs.Program.{Obeys, ReadsFor};
 
 use crate::ending::Ending;
 use crate::orders::{Order, Unread};
@@ -43,7 +43,7 @@ fn order(rt: &HostRuntime) -> Result<Order, Unread>
     words::order(rt.alloc(), words.as_slice())
 }
 
-/// Does what is asked for: reads from the input, and writes to the output.
+/// Does what is asked for: reads from the input where a script or a transcript is asked for, and writes to the output.
 fn run<R: Read, O: Out, T: Threads + Wait + Sync>(
     rt: &T,
     alloc: Global,
@@ -52,7 +52,8 @@ fn run<R: Read, O: Out, T: Threads + Wait + Sync>(
     order: Result<Order, Unread>,
 ) -> Ending
     requires { IfOk order IsOrder }
-    ensures { Obeys order (R.remaining input.old) (O.gone output.old) (O.gone output.new) (O.failures output.old) (O.failures output.new) result }
+    ensures read { ReadsFor order (R.remaining input.old) (R.remaining input.new) }
+    ensures obeys { Obeys order (R.remaining input.old) (O.gone output.old) (O.gone output.new) (O.failures output.old) (O.failures output.new) result }
 {
     match order {
         Ok(Order::Demo) => demo::demo(rt, alloc, output),

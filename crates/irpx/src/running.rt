@@ -1,9 +1,10 @@
 //! The word `run`: a script is read and run by workers, and the transcript is written.
 
-ghost use Rattle.std.specs.Prelude.{IfErr, IfOk, ◌≡◌, ◌<◌, false, true};
+ghost use Rattle.std.specs.Prelude.{IfErr, IfOk, ◌≡◌, ◌<◌, false, map, true};
 ghost use Rattle.irp_types.specs.Rules.{is_allowed, is_plan_allowed};
 ghost use Rattle.irp_routines.specs.Guarded.{guarded_answer, guarded_plan};
 ghost use Rattle.irp_workers.specs.Behaviours.{answer_of, plan_of};
+ghost use Rattle.irp_workers.specs.Numbers.{EachAsOften};
 ghost use Rattle.irpx.specs.Running.{
   AfterRun,
   AfterScript,
@@ -71,15 +72,18 @@ fn script_of<R: Read>(alloc: Global, input: &mut R) -> Result<Script, Ending>
     }
 }
 
-/// The seats of the manager, of these seats.
+/// The seats of the manager, of these seats: each once, as it is. They come in some order.
 fn seats_of<L: Session>(
     alloc: Global,
     mut pairs: Vec<ScriptSeat<'_, L>>,
-) -> Result<Vec<Seat<L>>, AllocError> {
+) -> Result<Vec<Seat<L>>, AllocError>
+    ensures { IfOk result (λ seats. EachAsOften (map (λ own. own.seat) pairs.entry.items) seats.items) }
+{
     let mut seats = Vec::new(alloc);
     while let Some(pair) = pairs.pop() {
         let (seat, _remove) = pair.into_pair();
-        seats.push(seat)?;
+        seats.reserve(1)?;
+        seats.push_reserved(seat);
     }
     Ok(seats)
 }
