@@ -1,5 +1,6 @@
 //! Reading an input up to a limit.
 
+ghost use Rattle.std.specs.Io.KnownBytes.{Consumes};
 ghost use Rattle.std.specs.Prelude.{◌≡◌, ◌≤◌, take, vec_len, IfOk, IfSome};
 
 use std::alloc::Global;
@@ -17,8 +18,8 @@ pub enum InputFault {
     Memory,
 }
 
-/// The first bytes of the input, at most so many. Each turn takes a byte or is the last, and an interrupted read is a
-/// failed one (this project's own rule).
+/// The first bytes of the input, at most so many; no more are taken from it. Each turn takes a byte or is the last, and an
+/// interrupted read is a failed one (this project's own rule).
 pub fn read_up_to<R: Read>(
     alloc: Global,
     reader: &mut R,
@@ -26,6 +27,7 @@ pub fn read_up_to<R: Read>(
 ) -> Result<Vec<u8>, InputFault>
     ensures bound { IfOk result (λ read. vec_len read ≤ limit) }
     ensures bytes { IfOk result (λ read. IfSome (R.remaining reader.old) (λ input. read.items ≡ take limit input)) }
+    ensures took { IfOk result (λ read. Consumes (R.remaining reader.old) (R.remaining reader.new) read.items) }
 {
     let mut bytes = Vec::new(alloc);
     let mut buffer = [0u8; PIECE];

@@ -222,3 +222,32 @@ fn a_broken_input_ends_the_program(rt: HostRuntime) {
     assert_eq!(rt; ending, Ending::Failed);
     assert!(rt; printed.is_empty());
 }
+
+/// An input whose first read is interrupted, and which is at its end then.
+#[derive(Drop)]
+struct Interrupted {
+    was: bool,
+}
+
+impl Read for Interrupted {
+    fn read(&mut self, _buf: &mut [u8]) -> io::Result<usize> {
+        if self.was {
+            return Ok(0);
+        }
+        self.was = true;
+        Err(io::Error::from(io::ErrorKind::Interrupted))
+    }
+}
+
+#[test]
+fn an_interrupted_input_ends_the_program(rt: HostRuntime) {
+    let mut printed: Vec<u8> = Vec::new(rt.alloc());
+    let mut output = WriterOut::new(&mut printed);
+    let mut input = Interrupted { was: false };
+    let ending = run(&rt, rt.alloc(), &mut input, &mut output, 1);
+    assert_eq!(rt; ending, Ending::Failed);
+    let mut input = Interrupted { was: false };
+    let ending = check(rt.alloc(), &mut input, &mut output);
+    assert_eq!(rt; ending, Ending::Failed);
+    assert!(rt; printed.is_empty());
+}
