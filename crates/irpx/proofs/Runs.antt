@@ -1,5 +1,5 @@
 -- What closing a session gives is a transcript of a run, once the word lines are put in.
-use Rattle.std.proofs.Common.{◌≡◌, ℕ, List, [], map, Option, Some, IfSome, refl, sym, subst, ap, ◌∙◌}
+use Rattle.std.proofs.Common.{◌≡◌, ℕ, List, map, Option, Some, IfSome, sym, subst, ap, ◌∙◌}
 use Rattle.irp_types.specs.Histories.{IsLegal, CompletesOnce}
 use Rattle.irp_types.specs.State.{Fixed, Tables}
 use Rattle.irp_manager.specs.Seats.{Seated}

@@ -1,5 +1,5 @@
 -- What was read is the text that the script, or its refusal, is read from.
-use Rattle.std.proofs.Common.{◌≡◌, ℕ, List, Result, Ok, Err, sym, subst}
+use Rattle.std.proofs.Common.{ℕ, List, Err, sym, subst}
 use Rattle.irp_script_reader.specs.Scripts.{ReadsScript}
 use Rattle.irp_script_reader.specs.declared.refusal.ScriptFault.{ScriptFault}
 use Rattle.irpx.specs.Running.{IsRead}

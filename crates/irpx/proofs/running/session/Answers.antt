@@ -1,7 +1,6 @@
 -- The transcript that was closed, with the word lines put in.
-use Rattle.std.proofs.Common.{◌≡◌, List, Option, Some, sym, ap, ◌∙◌}
+use Rattle.std.proofs.Common.{◌≡◌, Some, sym, ap, ◌∙◌}
 use Rattle.irp_shared.specs.Transcripts.{TranscriptValue}
-use Rattle.irp_shared.specs.declared.header.Header.{Header}
 use Rattle.irpx.proofs.Runs.{closed_is_run, header_fits}
 use Rattle.irpx.proofs.running.session.Goals as goal
 

@@ -1,5 +1,5 @@
 -- One driver more is added, and at the end all of them.
-use Rattle.std.proofs.Common.{◌≡◌, ℕ, List, ap, ap₂, subst, ◌∙◌}
+use Rattle.std.proofs.Common.{ℕ, List, ap, ap₂, subst, ◌∙◌}
 use Rattle.irp_types.specs.declared.names.DispatchId.{DispatchId}
 use Rattle.irp_types.specs.State.{Entrance, Tables}
 use Rattle.irp_routines.specs.Tables.{by_major, with_driver}

@@ -1,5 +1,5 @@
 -- The text is the one that clap found for the option, if it found one.
-use Rattle.std.proofs.Common.{◌≡◌, ℕ, List, Option, Some, None, option_map, codes, sym, ap, ◌∙◌}
+use Rattle.std.proofs.Common.{◌≡◌, ℕ, List, Some, None, option_map, codes, sym, ap, ◌∙◌}
 use Rattle.std.specs.Borrow.{Bor}
 use Rattle.clap.specs.Matches.{found_of}
 use Rattle.clap.specs.Words.{first_of, rows_of}
