@@ -1,3 +1,4 @@
+pub mod Carried
 pub mod Making
 pub mod Numbers
 pub mod Pairs

@@ -14,3 +14,7 @@ pairs_push (one ∷ seats) (other ∷ removes) seat remove same = ap (λ rest. p
 pub pairs_none : (seats : List Seated) (removes : List Holder) → length seats ≡ 0 → pairs_of seats removes ≡ []
 pairs_none [] removes is = refl
 pairs_none (one ∷ seats) removes is = absurd (omega arith)
+
+pub nothing_left : {A : Type 0} (xs : List A) → length xs ≡ 0 → xs ≡ []
+nothing_left [] is = refl
+nothing_left (x ∷ xs) is = absurd (omega arith)

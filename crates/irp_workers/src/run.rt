@@ -51,6 +51,7 @@ pub fn script_seats<'a, L: Session>(
     requires both { vec_len seats ≡ vec_len removes }
     ensures seats { IfOk result (λ pairs. AreSame (map (λ seat. seat.number) seats.items) (map (λ own. own.seat.number) pairs.items)) }
     ensures pairs { IfOk result (λ pairs. EachAsOften (pairs_of seats.items removes.items) (map (λ own. pair_of own.seat own.remove) pairs.items)) }
+    ensures whole { IfOk result (λ pairs. EachAsOften seats.items (map (λ own. own.seat) pairs.items)) }
 {
     let mut pairs = Vec::new(alloc);
     while let Some(seat) = seats.pop() {

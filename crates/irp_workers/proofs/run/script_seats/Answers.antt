@@ -6,7 +6,7 @@ use Rattle.irp_remove.specs.Pairing.{IsSeatOf}
 use Rattle.irp_workers.specs.Numbers.{how_often}
 use Rattle.irp_workers.specs.Pairs.{pair_of, pairs_of}
 use Rattle.irp_workers.proofs.Numbers.{count_push, count_none}
-use Rattle.irp_workers.proofs.Pairs.{pairs_push, pairs_none}
+use Rattle.irp_workers.proofs.Pairs.{pairs_push, pairs_none, nothing_left}
 use Rattle.irp_workers.proofs.run.script_seats.Goals as goal
 
 pub loop-seat-preserved : goal.loop-seat-preserved
@@ -33,6 +33,13 @@ loop-seat-preserved g c =
           let more = count_push (λ own. pair_of own.seat own.remove) test c.push_reserved.new.self.items c.loop-seat.pairs.items c.new.result pushed in
           let same = ap (λ seat. count_by test (pair_of seat c.new.result.remove ∷ [])) c.new.ensures.seat ∙ ap (λ remove. count_by test (pair_of c.in-Some.seat remove ∷ [])) c.new.ensures.remove in
           omega (arith, so_far, taken, more, same);
+      whole = λ test.
+          let so_far = c.loop-seat.invariant.whole test in
+          let taken : count_by test c.loop-seat.seats.items ≡ count_by test c.pop.new.self.items + count_by test (c.in-Some.seat ∷ []) =
+          ap (count_by test) c.in-Some.ensures.items ∙ sum_by-append _ c.pop.new.self.items (c.in-Some.seat ∷ []) in
+          let more = count_push (λ own. own.seat) test c.push_reserved.new.self.items c.loop-seat.pairs.items c.new.result pushed in
+          let same = ap (λ seat. count_by test (seat ∷ [])) c.new.ensures.seat in
+          omega (arith, so_far, taken, more, same);
     }
 
 pub returns-clause-seats : goal.returns-clause-seats
@@ -49,4 +56,12 @@ returns-clause-pairs g c =
     λ test.
     let so_far = c.loop-seat.invariant.pairs test in
     let none = ap (count_by test) (pairs_none c.loop-seat.seats.items c.loop-seat.removes.items empty) in
+    omega (arith, so_far, none)
+
+pub returns-clause-whole : goal.returns-clause-whole
+returns-clause-whole g c =
+    let empty : length c.loop-seat.seats.items ≡ 0 = search rules in
+    λ test.
+    let so_far = c.loop-seat.invariant.whole test in
+    let none = ap (count_by test) (nothing_left c.loop-seat.seats.items empty) in
     omega (arith, so_far, none)
