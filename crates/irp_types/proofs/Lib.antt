@@ -11,4 +11,4 @@ mod SettledDescent
 mod SettledSteps
 mod SettledStates
 mod Examples
-mod Deciding
+pub mod Deciding

@@ -1,10 +1,11 @@
 -- What running a script leaves and writes.
-use Rattle.std.specs.Prelude.{ℕ, ◌≡◌, ◌+◌, ◌⊎◌, List, ◌++◌, length, map, take, Option, Some, IfSome, Result, Ok, Err}
+use Rattle.std.specs.Prelude.{ℕ, ◌≡◌, ◌<◌, ◌+◌, ◌⊎◌, List, ◌++◌, length, map, take, Option, Some, IfSome, Result, Ok, Err}
 use Rattle.std.specs.Io.KnownBytes.{Appends, Keeps}
-use Rattle.irp_types.specs.Histories.{IsLegal, CompletesOnce}
+use Rattle.irp_types.specs.Histories.{IsLegal, CompletesOnce, own_entries}
 use Rattle.irp_types.specs.State.{Tables, Entrance}
 use Rattle.irp_types.specs.declared.answer.CancelAnswer.{CancelAnswer}
 use Rattle.irp_types.specs.declared.answer.Plan.{Plan}
+use Rattle.irp_types.specs.declared.entry.Entry.{Entry}
 use Rattle.irp_routines.specs.Tables.{by_major, no_tables}
 use Rattle.irp_shared.specs.Headers.{fixed_of, IsHeader}
 use Rattle.irp_shared.specs.Transcripts.{TranscriptValue}
@@ -16,6 +17,7 @@ use Rattle.irp_script_reader.specs.declared.refusal.ScriptRefusal.{ScriptRefusal
 use Rattle.irp_script_reader.specs.declared.script.CompletionRoutine.{CompletionRoutine}
 use Rattle.irp_script_reader.specs.declared.script.Script.{Script}
 use Rattle.irp_workers.specs.Behaviours.{cancel_rule_of}
+use Rattle.irp_workers.specs.Made.{calls_of, nameless}
 use Rattle.irp_workers.specs.Numbers.{EachAsOften, NoneMoreOften}
 use Rattle.irp_workers.specs.Words.{AreInOrder, lock_steps, told_by}
 use Rattle.irp_transcript_writer.specs.Lines.{lines, text_of}
@@ -94,6 +96,12 @@ pub record IsRun (script : Script) (tables : Tables) (transcript : TranscriptVal
 abbrev pub TellsEach : Script → TranscriptValue → Type 0
 TellsEach script transcript = EachAsOften (lock_steps script.steps) (map told_by transcript.words)
 
+-- the calls of each seat's entries are those of its own steps, the setup's and then the others, in order: each once and no
+-- other, but for the packets that they name
+abbrev pub MakesEach : Script → TranscriptValue → Type 0
+MakesEach script transcript =
+    (seat : ℕ) → seat < script.seats → map (λ (entry : Entry). nameless entry.call) (own_entries transcript.entries seat) ≡ calls_of seat (script.setup ++ script.steps)
+
 -- a beginning of the transcript's text went out, which may be the whole text
 pub record Starts (transcript : TranscriptValue) (old new : Option (List ℕ)) : Type 0 where
   pub front : List ℕ
@@ -125,11 +133,11 @@ Unrun (RefusedScript refusal) = ⊥
 Unrun (RefusedLine line) = ⊥
 
 -- what came of a script with these tables: no transcript, and nothing went out; or one, which was written, and which tells
--- of each step on a remove lock where all was done
+-- of each step on a remove lock, and of each seat's steps that are calls, where all was done
 abbrev pub AfterScript : Script → Tables → Option (List ℕ) → Option (List ℕ) → ℕ → ℕ → Ending → Type 0
 AfterScript script tables old new before after ending =
     (Unrun ending × Keeps old new × (after ≡ before))
-    ⊎ ((transcript : TranscriptValue) × IsRun script tables transcript × Writes transcript old new before after ending × (ending ≡ Done → TellsEach script transcript))
+    ⊎ ((transcript : TranscriptValue) × IsRun script tables transcript × Writes transcript old new before after ending × (ending ≡ Done → TellsEach script transcript × MakesEach script transcript))
 
 -- what `run` did: where there is no script nothing went out, and else the input holds the script that was run
 abbrev pub AfterRun : Option (List ℕ) → Option (List ℕ) → Option (List ℕ) → ℕ → ℕ → Ending → Type 0

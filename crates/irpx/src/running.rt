@@ -10,6 +10,7 @@ ghost use Rattle.irpx.specs.Running.{
   AfterScript,
   Holds,
   IsRun,
+  MakesEach,
   TellsEach,
   Unrun,
   Unscripted,
@@ -103,6 +104,7 @@ fn session<L: Session + Send + Sync, T: Threads + Wait + Sync>(
     requires fixed { L.fixed ≡ record { locks = script.now.locks; tables = store.tables } }
     ensures run { IfOk result (λ run. IsRun script.now store.tables run.transcript) }
     ensures all_told { IfOk result (λ run. run.stopped ≡ false → TellsEach script.now run.transcript) }
+    ensures all_made { IfOk result (λ run. run.stopped ≡ false → MakesEach script.now run.transcript) }
     ensures unrun { IfErr result Unrun }
 {
     let Ok((shared, seats)) = open::<Store, L>(alloc, blank, store, script.locks, script.seats)
