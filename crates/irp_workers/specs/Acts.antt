@@ -1,5 +1,5 @@
 -- What acts on remove locks do to a remove seat, by what they were answered.
-use Rattle.std.specs.Prelude.{ℕ}
+use Rattle.std.specs.Prelude.{ℕ, ◌≡◌, Option, Some, None, List, [], ◌∷◌, ◌++◌}
 use Rattle.irp_remove.specs.Calls.{Acquired, AcquireRefused, Released, ReleaseRefused, Begun, BeginRefused, Looked, DrainRefused}
 use Rattle.irp_remove.specs.Seats.{Holder}
 use Rattle.irp_remove.specs.declared.refusal.AcquireRefusal.TheVariants as acquire
@@ -8,6 +8,7 @@ use Rattle.irp_remove.specs.declared.refusal.BeginRefusal.TheVariants as begin
 use Rattle.irp_remove.specs.declared.refusal.DrainRefusal.TheVariants as drain
 use Rattle.irp_shared.specs.declared.word_line.Act.{Act}
 use Rattle.irp_shared.specs.declared.word_line.Act.TheVariants.{Acquire, Release, BeginRemove, Drained}
+use Rattle.irp_shared.specs.declared.word_line.WordLine.{WordLine}
 use Rattle.irp_shared.specs.declared.word_line.WordReply.{WordReply}
 use Rattle.irp_shared.specs.declared.word_line.WordReply.TheVariants as answered
 
@@ -47,3 +48,14 @@ Acts count (Acquire lock tag) before after reply = AcquireActs count lock.0 tag 
 Acts count (Release lock tag) before after reply = ReleaseActs count lock.0 tag before after reply
 Acts count (BeginRemove lock tag) before after reply = BeginActs count lock.0 tag before after reply
 Acts count (Drained lock) before after reply = DrainActs count lock.0 before after reply
+
+-- an act did that, and the lines have one more, of this seat and this place, which tells what it was answered
+pub record TellsAct (count seat place : ℕ) (act : Act) (before after : Holder) (lines longer : List WordLine) : Type 0 where
+  pub reply : WordReply
+  pub did : Acts count act before after reply
+  pub told : longer ≡ lines ++ record { seat = seat; step = place; act = act; reply = reply } ∷ []
+
+-- the same of a step that may have no act on a remove lock: then the remove seat and the lines stay
+abbrev pub ActsFor : ℕ → ℕ → ℕ → Option Act → Holder → Holder → List WordLine → List WordLine → Type 0
+ActsFor count seat place None before after lines longer = (after ≡ before) × (longer ≡ lines)
+ActsFor count seat place (Some act) before after lines longer = TellsAct count seat place act before after lines longer

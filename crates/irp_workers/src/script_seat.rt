@@ -5,8 +5,9 @@ ghost use Rattle.std.specs.Option.{option_to_list};
 ghost use Rattle.irp_remove.specs.Calls.{IsSameSeat};
 ghost use Rattle.irp_remove.specs.Pairing.{IsSeatOf, lock_count};
 ghost use Rattle.irp_shared.specs.Sharing.{IsAsBefore};
-ghost use Rattle.irp_workers.specs.Acts.{Acts};
+ghost use Rattle.irp_workers.specs.Acts.{Acts, ActsFor};
 ghost use Rattle.irp_workers.specs.Calling.{CallsFor};
+ghost use Rattle.irp_workers.specs.Deeds.{lock_act_of};
 ghost use Rattle.irp_workers.specs.Made.{once_made, seat_calls};
 ghost use Rattle.irp_workers.specs.Pairs.{pair_of};
 ghost use Rattle.irp_workers.specs.Words.{lock_step_of, told_by};
@@ -159,6 +160,8 @@ impl<'a, L: Session> ScriptSeat<'a, L> {
             (λ _. map told_by words.new.items ≡ map told_by words.old.items ++ option_to_list (lock_step_of index step)) }
         ensures calls { MatchOption result (seat_calls self.new.seat self.new.remove ≡ seat_calls self.old.seat self.old.remove)
             (λ _. seat_calls self.new.seat self.new.remove ≡ once_made (step ∷ []) (seat_calls self.old.seat self.old.remove)) }
+        ensures acts { MatchOption result (self.new.remove ≡ self.old.remove)
+            (λ _. ActsFor (lock_count self.old.locks.now) step.seat index (lock_act_of step.act) self.old.remove self.new.remove words.old.items words.new.items) }
     {
         let Some(act) = lock_act_of(step.act) else {
             return self.call(rt, place, step);
