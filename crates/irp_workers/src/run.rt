@@ -3,7 +3,7 @@
 ghost use Rattle.std.specs.Prelude.{◌≡◌, ◌<◌, ◌%◌, ◌++◌, ℕ, Bool, false, [], All, IfOk, map, slice_index_or, sum_by, vec_len};
 ghost use Rattle.std.specs.List.{count_by, list_any};
 ghost use Rattle.irp_shared.specs.declared.word_line.WordLine.{WordLine};
-ghost use Rattle.irp_remove.specs.Pairing.{IsSeatOf};
+ghost use Rattle.irp_remove.specs.Pairing.{IsSeatOf, lock_count};
 ghost use Rattle.irp_workers.specs.Made.{MadeCalls, NoneTwice, SeatCalls, once_made, seat_calls};
 ghost use Rattle.irp_workers.specs.Numbers.{AreSame, EachAsOften, NoneMoreOften};
 ghost use Rattle.irp_workers.specs.Pairs.{pair_of, pairs_of};
@@ -36,7 +36,8 @@ pub struct Worked<'a, L: Session> {
 }
 
 /// The seats of a script: each seat with the remove seat of the same place, on condition that the remove seats were opened
-/// with these locks, and that there are as many of them. They come in some order.
+/// with these locks, that there are as many of them, and that there are as many locks as the session has. They come in some
+/// order.
 ///
 /// # Errors
 ///
@@ -48,6 +49,7 @@ pub fn script_seats<'a, L: Session>(
     mut removes: Vec<RemoveSeat>,
 ) -> Result<Vec<ScriptSeat<'a, L>>, AllocError>
     requires locks { All (IsSeatOf locks.now) removes.items }
+    requires count { lock_count locks.now ≡ L.fixed.locks }
     requires both { vec_len seats ≡ vec_len removes }
     ensures seats { IfOk result (λ pairs. AreSame (map (λ seat. seat.number) seats.items) (map (λ own. own.seat.number) pairs.items)) }
     ensures pairs { IfOk result (λ pairs. EachAsOften (pairs_of seats.items removes.items) (map (λ own. pair_of own.seat own.remove) pairs.items)) }

@@ -22,19 +22,23 @@ use irp_types::LockNo;
 use std::sync::Wait;
 
 /// A seat of a script: the one in which it makes calls of the manager, and the remove seat of the same place, at the locks
-/// that this was opened with. What it knows of the locks is what its own remove seat knows.
+/// that this was opened with, which are as many as the session has. What it knows of the locks is what its own remove seat
+/// knows.
 #[derive(Drop)]
 pub struct ScriptSeat<'a, L: Session> {
     locks: &'a Locks,
     seat: Seat<L>,
     remove: RemoveSeat,
     ghost fits: { IsSeatOf locks.now remove },
+    ghost count: { lock_count locks.now ≡ L.fixed.locks },
 }
 
 impl<'a, L: Session> ScriptSeat<'a, L> {
-    /// A seat of these two, on condition that the remove seat was opened with these locks.
+    /// A seat of these two, on condition that the remove seat was opened with these locks, and that there are as many of
+    /// them as the session has.
     pub fn new(locks: &'a Locks, seat: Seat<L>, remove: RemoveSeat) -> ScriptSeat<'a, L>
-        requires { IsSeatOf locks.now remove }
+        requires fits { IsSeatOf locks.now remove }
+        requires count { lock_count locks.now ≡ L.fixed.locks }
         ensures seat { result.seat ≡ seat }
         ensures remove { result.remove ≡ remove }
     {
