@@ -82,14 +82,3 @@ pub fn check_figures<R: Wait + Clock + AllocGlobal>(
         times,
     })
 }
-
-#[cfg(test)]
-mod tests {
-    use super::*;
-
-    #[test]
-    fn transcripts_are_judged(rt: HostRuntime) {
-        assert!(rt; check_figures(&rt, Load::Refused, 11).is_ok());
-        assert!(rt; check_figures(&rt, Load::Sent, 20).is_ok());
-    }
-}

@@ -187,25 +187,3 @@ pub fn send_figures<R: Wait + Clock + AllocGlobal>(
         recorded: least_times(rt, Way::Recorded, devices)?,
     })
 }
-
-#[cfg(test)]
-mod tests {
-    use super::*;
-
-    #[test]
-    fn packets_are_sent_through_devices(rt: HostRuntime) {
-        assert!(rt; times(&rt, Way::Alone, 1, 3).is_ok());
-        assert!(rt; times(&rt, Way::Alone, 16, 3).is_ok());
-        assert!(rt; times(&rt, Way::Recorded, 1, 3).is_ok());
-        assert!(rt; times(&rt, Way::Recorded, 16, 3).is_ok());
-    }
-
-    #[test]
-    fn no_stack_has_seventeen_devices(rt: HostRuntime) {
-        assert_eq!(rt; times(&rt, Way::Alone, 17, 3).err(), Some(Fault::Refused));
-        assert_eq!(rt;
-            times(&rt, Way::Recorded, 17, 3).err(),
-            Some(Fault::Refused)
-        );
-    }
-}

@@ -68,25 +68,3 @@ impl Ending {
         }
     }
 }
-
-#[cfg(test)]
-mod tests {
-    use super::*;
-
-    #[test]
-    fn endings_have_their_status_and_line(rt: HostRuntime) {
-        assert_eq!(rt; Ending::Done.status(), 0);
-        assert_eq!(rt; Ending::NotLegal.status(), 2);
-        assert_eq!(rt; Ending::NoMemory.status(), 3);
-        assert_eq!(rt; Ending::OtherWords.status(), 4);
-        assert_eq!(rt; Ending::Failed.status(), 5);
-        assert_eq!(rt; Ending::Done.line(), "");
-        assert_eq!(rt; Ending::NoMemory.line(), "irp_bench: out of memory");
-        let usage = "irp_bench: usage: irp_bench [locks|calls|write|read|check]";
-        assert_eq!(rt; Ending::OtherWords.line(), usage);
-        let illegal = "irp_bench: a transcript was not judged legal";
-        assert_eq!(rt; Ending::NotLegal.line(), illegal);
-        let failed = "irp_bench: the clock, the output or a call failed";
-        assert_eq!(rt; Ending::Failed.line(), failed);
-    }
-}

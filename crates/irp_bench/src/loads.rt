@@ -36,30 +36,3 @@ pub fn bare_pairs(word: &AtomicU64, count: u32) {
         word.fetch_sub(2, Ordering::SeqCst);
     }
 }
-
-#[cfg(test)]
-mod tests {
-    use super::*;
-    use irp_remove::open;
-    use std::test::Fail;
-
-    #[test]
-    fn pairs_are_made_until_the_lock_is_removed(rt: HostRuntime) -> Result<(), Fail> {
-        let (locks, mut seats) = open(rt.alloc(), 1, 1)?;
-        let Some(mut seat) = seats.pop() else {
-            return Err(Fail::from("a seat was asked for"));
-        };
-        assert_eq!(rt; reference_pairs(&locks, &mut seat, 1000), 1000);
-        assert_eq!(rt; locks.acquire(&mut seat, LOCK, 1), Ok(()));
-        assert_eq!(rt; locks.begin_remove(&mut seat, LOCK, 1), Ok(()));
-        assert_eq!(rt; reference_pairs(&locks, &mut seat, 1000), 0);
-        Ok(())
-    }
-
-    #[test]
-    fn bare_pairs_leave_the_word_as_it_was(rt: HostRuntime) {
-        let word = AtomicU64::new(5);
-        bare_pairs(&word, 1000);
-        assert_eq!(rt; word.load(Ordering::SeqCst), 5);
-    }
-}

@@ -95,13 +95,3 @@ pub fn read_figures<R: Clock + AllocGlobal>(rt: &R, entries: u32) -> Result<Text
         times,
     })
 }
-
-#[cfg(test)]
-mod tests {
-    use super::*;
-
-    #[test]
-    fn transcripts_are_read(rt: HostRuntime) {
-        assert!(rt; read_figures(&rt, 12).is_ok());
-    }
-}

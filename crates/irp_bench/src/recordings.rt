@@ -167,29 +167,3 @@ pub fn transcript<R: Wait + AllocGlobal>(
         Load::Sent => sent_transcript(rt, count),
     }
 }
-
-#[cfg(test)]
-mod tests {
-    use super::*;
-    use irp_types::{Asked, Reply};
-    use std::test::Fail;
-
-    #[test]
-    fn packets_pass_four_devices(rt: HostRuntime) -> Result<(), Fail> {
-        // Seven calls build the stack; then a packet is allocated, filled, sent and given back, and one look is refused.
-        let made = transcript(&rt, Load::Sent, 12)?;
-        let sent = &made.entries()[9];
-        assert!(rt; matches!(sent.reply, Reply::Status(_)));
-        let asked = sent.asked.as_slice();
-        assert_eq!(rt; asked.len(), 7);
-        assert!(rt; matches!(asked[3], Asked::Dispatch { .. }));
-        assert!(rt; matches!(asked[4], Asked::Completion { .. }));
-        Ok(())
-    }
-
-    #[test]
-    fn a_stack_takes_seven_calls(rt: HostRuntime) {
-        assert!(rt; transcript(&rt, Load::Sent, 7).is_ok());
-        assert_eq!(rt; transcript(&rt, Load::Sent, 6).err(), Some(Fault::Refused));
-    }
-}

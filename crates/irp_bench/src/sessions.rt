@@ -103,14 +103,3 @@ pub fn call_figures<R: Threads + Wait + Sync + Clock + AllocGlobal>(
         taken,
     })
 }
-
-#[cfg(test)]
-mod tests {
-    use super::*;
-
-    #[test]
-    fn rounds_are_made_in_each_thread(rt: HostRuntime) {
-        assert!(rt; round_time(&rt, rt.alloc(), 1, 20).is_ok());
-        assert!(rt; round_time(&rt, rt.alloc(), 4, 5).is_ok());
-    }
-}

@@ -129,13 +129,3 @@ pub fn write_figures<R: Clock + AllocGlobal>(rt: &R, entries: u32) -> Result<Tex
         times,
     })
 }
-
-#[cfg(test)]
-mod tests {
-    use super::*;
-
-    #[test]
-    fn transcripts_are_written(rt: HostRuntime) {
-        assert!(rt; write_figures(&rt, 12).is_ok());
-    }
-}

@@ -4,6 +4,3 @@
 mod packet;
 
 pub use packet::Packet;
-
-#[cfg(test)]
-mod tests;

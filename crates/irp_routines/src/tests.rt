@@ -7,7 +7,6 @@ ghost use Rattle.irp_types.specs.State.{no_routines};
 ghost use Rattle.irp_types.specs.declared.routine.Known.{Known};
 ghost use Rattle.irp_types.specs.declared.routine.Rule.TheVariants.{Watch, Change, Keeper, Free};
 
-mod copies;
 mod tables;
 
 use super::*;
@@ -185,22 +184,6 @@ fn cancel_answer_of<A: Ask>(ask: &A, id: CancelId, shown: Shown) -> Option<Cance
     None
 }
 
-/// Which routines a dispatch may name, where it is there.
-fn known_to<A: Ask>(ask: &A, id: DispatchId) -> Option<Known> {
-    if id.0 < ask.dispatches() {
-        return Some(ask.known_of(id));
-    }
-    None
-}
-
-/// The rule of a cancel routine, where it is there.
-fn cancel_rule_of<A: Ask>(ask: &A, id: CancelId) -> Option<CancelRule> {
-    if id.0 < ask.counts().cancel {
-        return Some(ask.cancel_rule(id));
-    }
-    None
-}
-
 /// A driver with these pairs is refused for this reason, and they are handed back.
 fn is_refused(
     rt: &impl Abort,
@@ -370,65 +353,5 @@ fn a_packet_is_held_and_cancelled(rt: HostRuntime) -> Result<(), Fail> {
     assert_eq!(rt; plan_of(&store, holds, SHOWN), Some(held));
     let planned = plan_of(&store, holds, LAST);
     assert_eq!(rt; planned, Some(with_word(Status::CANCELLED)));
-    Ok(())
-}
-
-#[test]
-fn a_driver_keeps_its_dispatches_by_rising_major(rt: HostRuntime) -> Result<(), Fail> {
-    let alloc = rt.alloc();
-    let mut store = Store::new(alloc);
-    for _ in 0..2 {
-        let run: DispatchClosure = Box::new(alloc, |shown: Shown| skipping(shown))?;
-        reason_of(store.add_dispatch(Dispatch::new(Known::NONE, run)))?;
-    }
-    let pairs = [(14, DispatchId(1)), (3, DispatchId(0))].to_vec(alloc)?;
-    let driver = reason_of(store.add_driver(pairs))?;
-    assert_eq!(rt; driver, DriverId(0));
-    assert_eq!(rt; store.dispatch_of(driver, 3), Some(DispatchId(0)));
-    assert_eq!(rt; store.dispatch_of(driver, 14), Some(DispatchId(1)));
-    assert_eq!(rt; store.dispatch_of(driver, 4), None);
-    assert_eq!(rt; store.dispatch_of(DriverId(1), 3), None);
-    let drivers = store.tables().drivers();
-    assert_eq!(rt; drivers.len(), 1);
-    let rising = [(3, DispatchId(0)), (14, DispatchId(1))];
-    assert_eq!(rt; drivers[0].as_slice(), rising.as_slice());
-    Ok(())
-}
-
-#[test]
-fn a_store_tells_what_it_has(rt: HostRuntime) -> Result<(), Fail> {
-    let alloc = rt.alloc();
-    let mut store = Store::new(alloc);
-    let run: CompletionClosure = Box::new(alloc, |shown: Shown| keeping(shown))?;
-    reason_of(store.add(Routine::new(Rule::Keeper, run)))?;
-    let run: CancelClosure = Box::new(alloc, |_: Shown| CancelAnswer::Leave)?;
-    let routine = CancelRoutine::new(CancelRule::MustLeave, run);
-    assert_eq!(rt; routine.rule(), CancelRule::MustLeave);
-    assert_eq!(rt; reason_of(store.add_cancel(routine)), Ok(CancelId(0)));
-    let known = Known {
-        keeper: 1,
-        cancel: 1,
-        ..Known::NONE
-    };
-    let run: DispatchClosure = Box::new(alloc, |shown: Shown| skipping(shown))?;
-    reason_of(store.add_dispatch(Dispatch::new(known, run)))?;
-    reason_of(store.add_driver([(0, DispatchId(0))].to_vec(alloc)?))?;
-    assert_eq!(rt; store.counts(), known);
-    assert_eq!(rt; (store.drivers(), store.dispatches()), (1, 1));
-    assert_eq!(rt; known_to(&store, DispatchId(0)), Some(known));
-    assert_eq!(rt;
-        cancel_rule_of(&store, CancelId(0)),
-        Some(CancelRule::MustLeave)
-    );
-    let copy = store.tables().copied()?;
-    assert_eq!(rt; copy.counts(), known);
-    assert_eq!(rt; copy.drivers().len(), 1);
-    assert_eq!(rt;
-        copy.drivers()[0].as_slice(),
-        [(0, DispatchId(0))].as_slice()
-    );
-    assert_eq!(rt; copy.dispatches(), [known].as_slice());
-    assert_eq!(rt; copy.cancel_rules(), [CancelRule::MustLeave].as_slice());
-    assert_eq!(rt; copy.dispatch_of(DriverId(0), 0), Some(DispatchId(0)));
     Ok(())
 }

@@ -4,7 +4,5 @@
 mod checker;
 mod recorded_answers;
 mod replaying;
-#[cfg(test)]
-mod tests;
 
 pub use checker::{Verdict, check};

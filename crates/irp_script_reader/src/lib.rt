@@ -11,8 +11,6 @@ mod refusal;
 mod routines;
 mod script;
 mod taking;
-#[cfg(test)]
-mod tests;
 
 pub use act::{Named, Step, StepAct};
 pub use read::read_script;

@@ -5,6 +5,3 @@ mod device;
 mod stacks;
 
 pub use stacks::{Facts, NotCreated, Stacks};
-
-#[cfg(test)]
-mod tests;

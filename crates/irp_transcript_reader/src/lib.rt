@@ -10,8 +10,6 @@ mod read_fault;
 mod reading;
 mod refusals;
 mod replies;
-#[cfg(test)]
-mod tests;
 mod word_lines;
 
 pub use read::read_transcript;

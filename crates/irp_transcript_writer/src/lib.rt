@@ -7,8 +7,6 @@ mod lines;
 mod names;
 mod out;
 mod parts;
-#[cfg(test)]
-mod tests;
 mod word_lines;
 mod write;
 mod writer_out;

@@ -45,16 +45,6 @@ fn on_error(rule: Rule) -> Option<Setting> {
     })
 }
 
-/// A setting with all three flags.
-fn always(rule: Rule) -> Option<Setting> {
-    Some(Setting {
-        on_success: true,
-        on_error: true,
-        on_cancel: true,
-        ..setting(rule)
-    })
-}
-
 const FAILED: Replacement = Replacement {
     status: Status::UNSUCCESSFUL,
     information: 0,

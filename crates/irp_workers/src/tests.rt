@@ -25,8 +25,6 @@ const READ: u8 = 0x03;
 
 const LOCK: LockNo = LockNo(0);
 
-const DEVICE: DeviceId = DeviceId(0);
-
 const LABEL: Named = Named::Label(0);
 
 const IRP: IrpRef = IrpRef { slot: 0, use_no: 1 };
@@ -36,48 +34,9 @@ const CREATE: StepAct = StepAct::CreateDevice {
     lock: LOCK,
 };
 
-const DELETE: StepAct = StepAct::Delete { device: DEVICE };
-
 const ALLOCATE: StepAct = StepAct::Allocate { size: 1, label: 0 };
 
-const FILL: StepAct = StepAct::SetNext {
-    party: Party::Originator,
-    irp: LABEL,
-    major: READ,
-    word: 7,
-};
-
-const SEND: StepAct = StepAct::CallDriver {
-    party: Party::Originator,
-    irp: LABEL,
-    target: DEVICE,
-};
-
 const LOOK: StepAct = StepAct::Look { irp: LABEL };
-
-const COMPLETE: StepAct = StepAct::Complete {
-    party: Party::Device(DEVICE),
-    irp: Named::Irp(IRP),
-    status: Status::SUCCESS,
-    information: 0,
-};
-
-const REUSE: StepAct = StepAct::Reuse {
-    irp: LABEL,
-    status: Status::UNSUCCESSFUL,
-};
-
-/// What a look at the packet tells that was used anew with an error.
-const USED_ANEW: Seen = Seen {
-    owner: Owner::Originator,
-    current: 2,
-    status: Status::UNSUCCESSFUL,
-    information: 0,
-    cancel: false,
-    cancel_routine: None,
-    pending_returned: false,
-    marked: false,
-};
 
 const FINISH: Plan = Plan::Finish {
     status: Status::SUCCESS,
@@ -214,44 +173,6 @@ fn has_replies(rt: &impl Abort, made: &Made, expected: &[(u32, Reply)]) {
     }
 }
 
-#[test]
-fn one_device_finishes_one_packet(rt: HostRuntime) -> Result<(), Fail> {
-    let alloc = rt.alloc();
-    let steps = [
-        (0, LOOK),
-        (0, ALLOCATE),
-        (0, FILL),
-        (0, SEND),
-        (0, REUSE),
-        (0, COMPLETE),
-        (0, LOOK),
-    ];
-    let script = script(alloc, 1, &[(0, CREATE)], &steps)?;
-    let made = worked(&rt, alloc, &script, 1)?;
-    let again = IrpRef { slot: 0, use_no: 2 };
-    let expected = [
-        (0, Reply::Device(DEVICE)),
-        (0, Reply::Refused(Refusal::NoIrp)),
-        (0, Reply::Irp(IRP)),
-        (0, Reply::Done),
-        (0, Reply::Status(Status::SUCCESS)),
-        (0, Reply::Irp(again)),
-        (0, Reply::Refused(Refusal::Stale)),
-        (0, Reply::Seen(USED_ANEW)),
-    ];
-    has_replies(&rt, &made, &expected);
-    let unbound = IrpRef {
-        slot: 4_294_967_295,
-        use_no: 0,
-    };
-    assert_eq!(rt;
-        made.transcript.entries().get(1).map(|entry| entry.call),
-        Some(Call::Look { irp: unbound })
-    );
-    assert!(rt; !made.stopped);
-    Ok(())
-}
-
 /// A word line of this step.
 fn word(seat: u32, step: u32, act: Act, reply: WordReply) -> WordLine {
     WordLine {
@@ -260,57 +181,4 @@ fn word(seat: u32, step: u32, act: Act, reply: WordReply) -> WordLine {
         act,
         reply,
     }
-}
-
-/// The word lines of two seats of which one removes the lock and the other still holds it.
-fn drained_words() -> [WordLine; 7] {
-    let (acquire, busy) = (WordReply::Acquired, WordReply::Busy { word: 3 });
-    let ask = Act::Drained { lock: LOCK };
-    [
-        word(0, 1, Act::Acquire { lock: LOCK, tag: 1 }, acquire),
-        word(
-            0,
-            3,
-            Act::BeginRemove { lock: LOCK, tag: 1 },
-            WordReply::Done,
-        ),
-        word(0, 5, ask, busy),
-        word(0, 7, ask, WordReply::Yes),
-        word(1, 2, Act::Acquire { lock: LOCK, tag: 2 }, acquire),
-        word(
-            1,
-            4,
-            Act::Acquire { lock: LOCK, tag: 3 },
-            WordReply::DeletePending,
-        ),
-        word(1, 6, Act::Release { lock: LOCK, tag: 2 }, WordReply::Done),
-    ]
-}
-
-#[test]
-fn a_device_goes_once_its_lock_is_drained(rt: HostRuntime) -> Result<(), Fail> {
-    let alloc = rt.alloc();
-    let steps = [
-        (0, CREATE),
-        (0, acquire(1)),
-        (1, acquire(2)),
-        (0, StepAct::BeginRemove { lock: LOCK, tag: 1 }),
-        (1, acquire(3)),
-        (0, StepAct::Drained { lock: LOCK }),
-        (1, StepAct::Release { lock: LOCK, tag: 2 }),
-        (0, StepAct::Drained { lock: LOCK }),
-        (1, DELETE),
-        (0, DELETE),
-    ];
-    let script = script(alloc, 2, &[], &steps)?;
-    let made = worked(&rt, alloc, &script, 1)?;
-    let expected = [
-        (0, Reply::Device(DEVICE)),
-        (1, Reply::Refused(Refusal::NotDrained)),
-        (0, Reply::Done),
-    ];
-    has_replies(&rt, &made, &expected);
-    assert!(rt; made.words.as_slice() == drained_words().as_slice());
-    assert!(rt; !made.stopped);
-    Ok(())
 }

@@ -33,22 +33,6 @@ fn counts_from_1_to_64_are_opened(rt: HostRuntime) {
 }
 
 #[test]
-fn seats_are_numbered_in_their_order(rt: HostRuntime) -> Result<(), Fail> {
-    let (locks, seats) = open(rt.alloc(), 64, 64)?;
-    let mut expected = 0u32;
-    for mut seat in seats {
-        assert_eq!(rt; seat.number(), expected);
-        assert!(rt; !seat.knows(LockNo(0)));
-        expected = expected.wrapping_add(1);
-    }
-    assert_eq!(rt; expected, 64);
-    table_keeps_rule();
-    word_counts_references();
-    drained_for_good();
-    Ok(())
-}
-
-#[test]
 fn the_first_and_the_last_lock_are_free_at_opening(rt: HostRuntime) -> Result<(), Fail> {
     let (locks, mut seats) = open(rt.alloc(), 64, 2)?;
     let second = seats.pop();
@@ -76,17 +60,4 @@ fn the_first_and_the_last_lock_are_free_at_opening(rt: HostRuntime) -> Result<()
     let past = locks.acquire(&mut second, LockNo(64), 3);
     assert_eq!(rt; past, Err(AcquireRefusal::NoLock));
     Ok(())
-}
-
-/// With `rt try --test --fail-alloc N` one of the allocations fails.
-#[test]
-fn an_opening_that_gets_no_memory_can_be_made_again(rt: HostRuntime) {
-    for _ in 0..8 {
-        let mut opened = open(rt.alloc(), 3, 9);
-        if let Err(refusal) = &opened {
-            assert_eq!(rt; *refusal, OpenRefusal::Memory);
-            opened = open(rt.alloc(), 3, 9);
-        }
-        assert!(rt; opened.is_ok());
-    }
 }

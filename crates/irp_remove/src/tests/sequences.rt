@@ -25,45 +25,6 @@ fn fill(locks: &Locks, mut seat: RemoveSeat) -> (RemoveSeat, u32)
 }
 
 #[test]
-fn a_lock_is_removed_and_drained(rt: HostRuntime) -> Result<(), Fail> {
-    let Opened {
-        locks,
-        mut first,
-        mut second,
-    } = one_lock_two_seats(rt.alloc())?;
-    assert_eq!(rt; locks.acquire(&mut first, LOCK, 1), Ok(()));
-    assert_eq!(rt; locks.acquire(&mut second, LOCK, 2), Ok(()));
-    assert_eq!(rt; locks.begin_remove(&mut first, LOCK, 1), Ok(()));
-    let pending = locks.acquire(&mut second, LOCK, 3);
-    assert_eq!(rt; pending, Err(AcquireRefusal::DeletePending));
-    assert_eq!(rt; locks.drained(&mut first, LOCK), Err(DrainRefusal::Busy(3)));
-    assert!(rt; !first.knows(LOCK));
-    assert_eq!(rt; locks.release(&mut second, LOCK, 2), Ok(()));
-    assert_eq!(rt; locks.drained(&mut first, LOCK), Ok(()));
-    assert!(rt; first.knows(LOCK));
-    assert!(rt; !second.knows(LOCK));
-    Ok(())
-}
-
-#[test]
-fn a_second_removal_keeps_its_reference(rt: HostRuntime) -> Result<(), Fail> {
-    let Opened {
-        locks,
-        mut first,
-        mut second,
-    } = one_lock_two_seats(rt.alloc())?;
-    assert_eq!(rt; locks.acquire(&mut first, LOCK, 1), Ok(()));
-    assert_eq!(rt; locks.acquire(&mut second, LOCK, 2), Ok(()));
-    assert_eq!(rt; locks.begin_remove(&mut first, LOCK, 1), Ok(()));
-    let late = locks.begin_remove(&mut second, LOCK, 2);
-    assert_eq!(rt; late, Err(BeginRefusal::AlreadyRemoving));
-    assert_eq!(rt; locks.drained(&mut first, LOCK), Err(DrainRefusal::Busy(3)));
-    assert_eq!(rt; locks.release(&mut second, LOCK, 2), Ok(()));
-    assert_eq!(rt; locks.drained(&mut second, LOCK), Ok(()));
-    Ok(())
-}
-
-#[test]
 fn a_tag_is_held_as_often_as_it_was_acquired(rt: HostRuntime) -> Result<(), Fail> {
     let Opened {
         locks,
@@ -115,28 +76,6 @@ fn a_removal_needs_a_reference_also_after_another(rt: HostRuntime) -> Result<(),
     assert_eq!(rt; not_held, Err(BeginRefusal::NotHeld));
     let pending = locks.acquire(&mut first, LOCK, 1);
     assert_eq!(rt; pending, Err(AcquireRefusal::DeletePending));
-    Ok(())
-}
-
-#[test]
-fn a_lock_that_there_is_not_is_refused_first(rt: HostRuntime) -> Result<(), Fail> {
-    let Opened {
-        locks,
-        mut first,
-        mut second,
-    } = one_lock_two_seats(rt.alloc())?;
-    let none = LockNo(1);
-    let acquired = locks.acquire(&mut first, none, 1);
-    assert_eq!(rt; acquired, Err(AcquireRefusal::NoLock));
-    let released = locks.release(&mut first, none, 1);
-    assert_eq!(rt; released, Err(ReleaseRefusal::NoLock));
-    let begun = locks.begin_remove(&mut first, none, 1);
-    assert_eq!(rt; begun, Err(BeginRefusal::NoLock));
-    assert_eq!(rt; locks.drained(&mut first, none), Err(DrainRefusal::NoLock));
-    let handed = locks.hand(&mut first, &mut second, none, 1);
-    assert_eq!(rt; handed, Err(HandRefusal::NoLock));
-    assert!(rt; !first.knows(none));
-    assert!(rt; !first.knows(LockNo(4_294_967_295)));
     Ok(())
 }
 

@@ -16,38 +16,6 @@ const KEEPER: Known = Known {
     ..Known::NONE
 };
 
-/// A plan that finishes a packet with its word as information.
-fn finishing(shown: Shown) -> Plan
-    ensures { (known : Known) → is_plan_allowed known shown result ≡ true }
-{
-    Plan::Finish {
-        status: Status::SUCCESS,
-        information: shown.word,
-    }
-}
-
-#[test]
-fn a_store_is_sent_a_packet(rt: HostRuntime) -> Result<(), Fail> {
-    let alloc = rt.alloc();
-    let mut store = Store::new(alloc);
-    let run: DispatchClosure = Box::new(alloc, |shown: Shown| finishing(shown))?;
-    let added = store.add_dispatch(Dispatch::new(Known::NONE, run));
-    assert!(rt; added.is_ok());
-    let added = store.add_driver([(READ, DispatchId(0))].to_vec(alloc)?);
-    assert!(rt; added.is_ok());
-    let stacks = stack_of(alloc, 1)?;
-    let mut packet = prepared(alloc, 1, READ, None)?;
-    let asked = [planned(0, 1, finish(Status::SUCCESS, WORD))];
-    let bottom = DeviceId(0);
-    let sent = send_asking(&rt, alloc, &mut packet, &stacks, &store, bottom, &asked)?;
-    assert_eq!(rt;
-        (sent.status, sent.ending),
-        (Status::SUCCESS, Ending::Ended)
-    );
-    assert_eq!(rt; seen(&packet), ended(2, Status::SUCCESS, WORD));
-    Ok(())
-}
-
 const KEEPS: Setting = Setting {
     routine: RoutineId {
         rule: Rule::Keeper,

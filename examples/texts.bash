@@ -1,0 +1,137 @@
+# Texts that are read, cut, refused or changed: sourced by check_all, whose functions it uses.
+
+# Runs the script in the file $2, and checks what is told of it, $3: `taken`, or its first fault.
+told_of_script() {
+    run run <"$2"
+    if [ "$3" = taken ]; then
+        ended "$1" 0 ''
+    else
+        left "$1" 1 /dev/null "irpx: script refused: $3"
+    fi
+}
+
+# Checks the transcript in the file $2, and what is told of it, $3: `line K`, `legal K` or `illegal I`.
+told_of_transcript() {
+    case $3 in
+    line*)
+        run check <"$2"
+        left "$1" 1 /dev/null "irpx: transcript refused: $3"
+        ;;
+    legal*) judged "$1" "$2" "$3" 0 ;;
+    illegal*) judged "$1" "$2" "$3" 2 ;;
+    esac
+}
+
+while IFS= read -r wanted; do
+    case $wanted in '#'*) continue ;; esac
+    IFS= read -r text
+    printf '%s' "$text" >"$kept/text"
+    told_of_script "script $text" "$kept/text" "$wanted"
+done <refused/scripts.txt
+
+while IFS= read -r wanted; do
+    case $wanted in '#'*) continue ;; esac
+    : >"$kept/text"
+    while IFS= read -r line && [ "$line" != end ]; do printf '%s\n' "$line" >>"$kept/text"; done
+    told_of_transcript "transcript $(tail -n 1 "$kept/text" | cut -c 1-200)" "$kept/text" "$wanted"
+done <refused/transcripts.txt
+
+# The script of one device and one packet, without spaces.
+demo=$(tr -d '\n ' <one_device_finishes_one_packet.script)
+
+# Runs that script with the text $1, which stands in it once, changed to $2. What is told is $3.
+changed_script() {
+    printf '%s' "${demo/"$1"/"$2"}" >"$kept/text"
+    told_of_script "script with ${2:0:80}" "$kept/text" "$3"
+}
+
+# The script with a list under the key $1 of $3 times the item $2 and then $4; it had $5. What is told is $6.
+long_list() {
+    local items
+    items=$(printf "$2,%.0s" $(seq "$3"))
+    changed_script "$5" "\"$1\":[$items$4]" "$6"
+}
+
+watch='["watch","continue","continue"]'
+keeper='["keeper","keep","keep"]'
+two="$watch,[\"free\",\"keep\",\"keep\"]"
+none='"completions":[]'
+long_list completions "$watch" 255 "$watch" "$none" taken
+long_list completions "$watch" 256 "$keeper" "$none" taken
+long_list completions "$watch" 256 "$watch" "$none" 'S8 completions 256'
+long_list completions "$two" 256 "$keeper" "$none" taken
+long_list completions "$two" 256 "$watch" "$none" 'S8 completions 512'
+long_list completions "$watch" 256 '["watch","keep","continue"]' "$none" 'S5 completions 256'
+long_list completions "$watch" 256 0 "$none" 'S4 completions 256'
+long_list cancels '["leave"]' 255 '["leave"]' '"cancels":[]' taken
+long_list cancels '["leave"]' 256 '["leave"]' '"cancels":[]' 'S8 cancels 256'
+plan='"dispatches":[["finish",0,5]]'
+long_list dispatches '["skip"]' 255 '["skip"]' "$plan" taken
+long_list dispatches '["skip"]' 256 '["skip"]' "$plan" 'S8 dispatches 256'
+long_list dispatches '["skip"]' 256 '["hold",0]' "$plan" 'S6 dispatches 256'
+table='"drivers":[[[3,0]]]'
+long_list drivers '[[3,0]]' 63 '[]' "$table" taken
+long_list drivers '[[3,0]]' 64 '[]' "$table" 'S8 drivers 64'
+long_list drivers '[[3,0]]' 64 '[[3,1]]' "$table" 'S7 drivers 64'
+
+# A script names at most 4,096 labels, those of setup among them.
+setup=$(printf '{"seat":0,"do":"look","irp":"a%d"},' $(seq 4095))
+look='{"seat":0,"do":"look","irp":"last"}'
+changed_script '"setup":[]' "\"setup\":[$setup{\"seat\":0,\"do\":\"look\",\"irp\":\"a\"}]" taken
+changed_script '"setup":[]' "\"setup\":[$setup$look]" 'S8 steps 1'
+changed_script '"setup":[]' "\"setup\":[$setup$look,{\"seat\":0,\"do\":\"free\",\"irp\":\"b\"}]" 'S8 setup 4096'
+
+# Texts at the limit of 1,048,576 bytes, deep ones, and bytes that are no text.
+spaces() { head -c "$1" /dev/zero | tr '\0' ' '; }
+spaces 1048576 >"$kept/text"
+told_of_script '1,048,576 spaces' "$kept/text" S2
+spaces 1048577 >"$kept/text"
+told_of_script '1,048,577 spaces' "$kept/text" S1
+{ printf '%s' "$demo" && spaces $((1048576 - ${#demo})); } >"$kept/text"
+told_of_script 'a script of 1,048,576 bytes' "$kept/text" taken
+printf ' ' >>"$kept/text"
+told_of_script 'a script of 1,048,577 bytes' "$kept/text" S1
+for case in 127:S3 128:S2; do
+    { printf '[%.0s' $(seq "${case%:*}") && printf ']%.0s' $(seq "${case%:*}"); } >"$kept/text"
+    told_of_script "lists ${case%:*} deep" "$kept/text" "${case#*:}"
+done
+printf '"\377"' >"$kept/text"
+told_of_script 'bytes that are no text' "$kept/text" S2
+
+# Each beginning of a script is no JSON. Each beginning of a transcript ends with a line that is cut, or is legal.
+printf '%s' "$demo" >"$kept/whole"
+for ((end = 0; end < ${#demo}; end++)); do
+    head -c "$end" "$kept/whole" >"$kept/text"
+    told_of_script "the first $end bytes of a script" "$kept/text" S2
+done
+whole=one_device_finishes_one_packet.transcript
+for ((end = 0; end <= $(wc -c <"$whole"); end++)); do
+    head -c "$end" "$whole" >"$kept/text"
+    lines=$(wc -l <"$kept/text")
+    wanted="line $((lines + 1))"
+    if [ -z "$(tail -c 1 "$kept/text")" ]; then wanted="legal $((lines > 0 ? lines - 1 : 0))"; fi
+    told_of_transcript "the first $end bytes of a transcript" "$kept/text" "$wanted"
+done
+
+# A line of 65,536 bytes is read, and no longer one.
+for case in '65536:legal 0' '65537:line 1'; do
+    header=$(head -n 1 "$whole")
+    { printf '%s' "$header" && spaces $((${case%%:*} - ${#header})) && echo; } >"$kept/text"
+    told_of_transcript "a line of ${case%%:*} bytes" "$kept/text" "${case#*:}"
+done
+
+# Transcripts changed in one thing: the file, what sed does to it, and what is told.
+while IFS='|' read -r file change wanted; do
+    sed "$change" "$file.transcript" >"$kept/text"
+    told_of_transcript "$file changed by $change" "$kept/text" "$wanted"
+done <<'END'
+one_device_finishes_one_packet|s/"reply":{"status":0}/"reply":{"status":259}/|illegal 3
+one_device_finishes_one_packet|s/"n":1,/"n":7,/|illegal 1
+one_device_finishes_one_packet|s/"irp":\[0,1\]/"irp":[5,1]/g;s/"shown":\[0,0,1/"shown":[0,5,1/|legal 4
+one_device_finishes_one_packet|s/"reply":{"irp":\[0,1\]}/"reply":{"irp":[0,2]}/|illegal 1
+one_device_finishes_one_packet|s/"shown":\[0,0,1,3,1,7/"shown":[0,0,1,3,1,8/|illegal 3
+one_device_finishes_one_packet|s/"asked":\[{.*}\],"call"/"asked":[],"call"/|illegal 3
+a_remove_lock_is_drained|s/"drained":true/"drained":false/|illegal 2
+a_remove_lock_is_drained|s/"drained":false/"drained":true/|illegal 1
+one_device_finishes_one_packet|s/"do":"create_device"/"do":"create"/|line 2
+END
