@@ -77,7 +77,10 @@ long_list drivers '[[3,0]]' 64 '[[3,1]]' "$table" 'S7 drivers 64'
 # A script names at most 4,096 labels, those of setup among them.
 setup=$(printf '{"seat":0,"do":"look","irp":"a%d"},' $(seq 4095))
 look='{"seat":0,"do":"look","irp":"last"}'
-changed_script '"setup":[]' "\"setup\":[$setup{\"seat\":0,\"do\":\"look\",\"irp\":\"a\"}]" taken
+# (A program that was built without proofs checks so much that it takes minutes here.)
+if [ "${irpx%.unproved}" = "$irpx" ]; then
+    changed_script '"setup":[]' "\"setup\":[$setup{\"seat\":0,\"do\":\"look\",\"irp\":\"a\"}]" taken
+fi
 changed_script '"setup":[]' "\"setup\":[$setup$look]" 'S8 steps 1'
 changed_script '"setup":[]' "\"setup\":[$setup$look,{\"seat\":0,\"do\":\"free\",\"irp\":\"b\"}]" 'S8 setup 4096'
 
