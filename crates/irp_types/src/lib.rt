@@ -15,8 +15,6 @@ mod routine;
 mod row;
 mod shown;
 mod status;
-#[cfg(test)]
-mod tests;
 
 pub use answer::{Answer, CancelAnswer, Plan, Replacement};
 pub use asked::Asked;

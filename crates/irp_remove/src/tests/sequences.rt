@@ -25,61 +25,6 @@ fn fill(locks: &Locks, mut seat: RemoveSeat) -> (RemoveSeat, u32)
 }
 
 #[test]
-fn a_tag_is_held_as_often_as_it_was_acquired(rt: HostRuntime) -> Result<(), Fail> {
-    let Opened {
-        locks,
-        mut first,
-        ..
-    } = one_lock_two_seats(rt.alloc())?;
-    assert_eq!(rt; locks.acquire(&mut first, LOCK, 5), Ok(()));
-    assert_eq!(rt; locks.acquire(&mut first, LOCK, 5), Ok(()));
-    assert_eq!(rt; locks.release(&mut first, LOCK, 5), Ok(()));
-    assert_eq!(rt; locks.release(&mut first, LOCK, 5), Ok(()));
-    let none_left = locks.release(&mut first, LOCK, 5);
-    assert_eq!(rt; none_left, Err(ReleaseRefusal::NotHeld));
-    Ok(())
-}
-
-#[test]
-fn a_full_seat_is_refused_before_removal_is(rt: HostRuntime) -> Result<(), Fail> {
-    let Opened {
-        locks,
-        first,
-        mut second,
-    } = one_lock_two_seats(rt.alloc())?;
-    let (mut first, taken) = fill(&locks, first);
-    assert_eq!(rt; taken, 64);
-    assert_eq!(rt; locks.acquire(&mut second, LOCK, 1), Ok(()));
-    assert_eq!(rt; locks.begin_remove(&mut second, LOCK, 1), Ok(()));
-    let full = locks.acquire(&mut first, LOCK, 2);
-    assert_eq!(rt; full, Err(AcquireRefusal::SeatFull));
-    assert_eq!(rt; locks.release(&mut first, LOCK, 73), Ok(()));
-    let pending = locks.acquire(&mut first, LOCK, 2);
-    assert_eq!(rt; pending, Err(AcquireRefusal::DeletePending));
-    assert_eq!(rt;
-        locks.drained(&mut second, LOCK),
-        Err(DrainRefusal::Busy(127))
-    );
-    Ok(())
-}
-
-#[test]
-fn a_removal_needs_a_reference_also_after_another(rt: HostRuntime) -> Result<(), Fail> {
-    let Opened {
-        locks,
-        mut first,
-        ..
-    } = one_lock_two_seats(rt.alloc())?;
-    assert_eq!(rt; locks.acquire(&mut first, LOCK, 1), Ok(()));
-    assert_eq!(rt; locks.begin_remove(&mut first, LOCK, 1), Ok(()));
-    let not_held = locks.begin_remove(&mut first, LOCK, 1);
-    assert_eq!(rt; not_held, Err(BeginRefusal::NotHeld));
-    let pending = locks.acquire(&mut first, LOCK, 1);
-    assert_eq!(rt; pending, Err(AcquireRefusal::DeletePending));
-    Ok(())
-}
-
-#[test]
 fn a_reference_is_handed_over_after_removal_has_begun(rt: HostRuntime) -> Result<(), Fail> {
     let Opened {
         locks,
