@@ -39,11 +39,6 @@ impl Place {
         Place { number, seen: 0 }
     }
 
-    /// It has seen this many entries.
-    pub fn saw(&mut self, length: u64) {
-        self.seen = length;
-    }
-
     /// Records a call, which it has then seen.
     pub fn record<A: Ask, N: DrainNote>(
         &mut self,
