@@ -15,8 +15,6 @@ mod packets;
 mod receipt;
 mod seat;
 mod sequential;
-#[cfg(test)]
-mod tests;
 
 pub use book::{Book, Recorded};
 pub use held_to_tables::HeldToTables;

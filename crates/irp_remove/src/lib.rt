@@ -12,8 +12,6 @@ mod reference;
 mod refusal;
 mod seat;
 mod table;
-#[cfg(test)]
-mod tests;
 mod views;
 
 pub use laws::{drained_for_good, table_keeps_rule, word_counts_references};

@@ -13,8 +13,6 @@ mod guard;
 mod not_added;
 mod routine;
 mod store;
-#[cfg(test)]
-mod tests;
 mod told;
 
 pub use answer_table::AnswerTable;

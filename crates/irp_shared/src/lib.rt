@@ -8,8 +8,6 @@ mod mismatch;
 mod open_refused;
 mod session;
 mod shared;
-#[cfg(test)]
-mod tests;
 mod transcript;
 mod word_line;
 

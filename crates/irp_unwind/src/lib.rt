@@ -7,8 +7,6 @@ mod descent;
 mod device;
 mod ending;
 mod laws;
-#[cfg(test)]
-mod tests;
 mod turn;
 mod unwinding;
 

@@ -7,8 +7,6 @@ mod gate;
 mod labels;
 mod run;
 mod script_seat;
-#[cfg(test)]
-mod tests;
 mod words;
 mod worker;
 mod workplace;

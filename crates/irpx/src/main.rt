@@ -7,8 +7,6 @@ mod ending;
 mod input;
 mod orders;
 mod running;
-#[cfg(test)]
-mod tests;
 mod words;
 
 ghost use Rattle.std.specs.Prelude.{IfOk};

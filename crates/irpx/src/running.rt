@@ -285,31 +285,3 @@ pub fn run<R: Read, O: Out, T: Threads + Wait + Sync>(
         Err(_) => Ending::NoMemory,
     }
 }
-
-#[cfg(test)]
-mod tests {
-    use super::*;
-    use crate::tests::TRANSCRIPT;
-    use irp_transcript_reader::read_transcript;
-    use irp_transcript_writer::WriterOut;
-    use std::test::Fail;
-
-    #[test]
-    fn a_run_that_stopped_is_written_whole(rt: HostRuntime) -> Result<(), Fail> {
-        let alloc = rt.alloc();
-        for (stopped, expected) in [(false, Ending::Done), (true, Ending::NoMemory)] {
-            let Ok(transcript) = read_transcript(alloc, TRANSCRIPT.as_bytes()) else {
-                return Err(Fail::from("a transcript"));
-            };
-            let run = Finished {
-                transcript,
-                stopped,
-            };
-            let mut printed: Vec<u8> = Vec::new(alloc);
-            let ending = wrote(alloc, &mut WriterOut::new(&mut printed), &run);
-            assert_eq!(rt; ending, expected);
-            assert_eq!(rt; printed.as_slice(), TRANSCRIPT.as_bytes());
-        }
-        Ok(())
-    }
-}

@@ -111,9 +111,3 @@ pub fn order<'a, S: AsStr>(alloc: Global, words: &'a [S]) -> Result<Order, Unrea
         Err(error) => Err(unread_of(&error)),
     }
 }
-
-#[cfg(test)]
-mod tests {
-    use super::*;
-    use std::test::Fail;
-}

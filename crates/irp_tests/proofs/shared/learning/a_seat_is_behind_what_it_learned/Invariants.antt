@@ -1,0 +1,13 @@
+use Rattle.irp_tests.proofs.shared.learning.a_seat_is_behind_what_it_learned.Given as goal
+
+abbrev pub ghosts-third_receipt-L-Ledger : goal.ghosts-third_receipt-L-Ledger
+ghosts-third_receipt-L-Ledger g a = record { name = a.blank.name; parts = a.blank.parts }
+
+abbrev pub ghosts-third_receipt-L-Session : goal.ghosts-third_receipt-L-Session
+ghosts-third_receipt-L-Session g a = record { seats = a.seats; fixed = record { locks = a.locks; tables = a.table.tables } }
+
+abbrev pub ghosts-behind-L-Ledger : goal.ghosts-behind-L-Ledger
+ghosts-behind-L-Ledger g a = record { name = a.blank.name; parts = a.blank.parts }
+
+abbrev pub ghosts-behind-L-Session : goal.ghosts-behind-L-Session
+ghosts-behind-L-Session g a = record { seats = a.seats; fixed = record { locks = a.locks; tables = a.table.tables } }

@@ -1,0 +1,18 @@
+//! Tests of the libraries by their public calls: what neither a clause nor an example can say. They stand in a crate of
+//! their own, so that each library is proved once.
+#![tactic(auto)]
+
+#[cfg(test)]
+mod manager;
+#[cfg(test)]
+mod remove;
+#[cfg(test)]
+mod routines;
+#[cfg(test)]
+mod shared;
+#[cfg(test)]
+mod sharing;
+#[cfg(test)]
+mod unwind;
+#[cfg(test)]
+mod workers;

@@ -1,0 +1,102 @@
+//! Two calls at once: a gate that holds each seat's step until the other seat's step of the same place among its own has
+//! entered. It ends by itself: who waits does so for a number of turns.
+
+use super::{ALLOCATE, CREATE, FINISH, plans_reads, script, session, worked};
+use irp_routines::AnswerTable;
+use irp_workers::Gate;
+use std::marker::Brand;
+use std::sync::atomic::{AtomicBool, AtomicU64, Ordering};
+use std::sync::ledger::Blank;
+use std::test::Fail;
+
+/// How many turns of a loop one seat waits for the other.
+const TURNS: u32 = 100_000_000;
+
+/// How many steps each seat has entered, and whether a seat has waited in vain.
+#[derive(Drop)]
+struct Meeting {
+    first: AtomicU64,
+    second: AtomicU64,
+    late: AtomicBool,
+}
+
+/// Waits until this count has come so far. Whether it has, within the turns.
+fn waits(count: &AtomicU64, until: u64) -> bool {
+    for _ in 0..TURNS {
+        if count.load(Ordering::SeqCst) >= until {
+            return true;
+        }
+    }
+    false
+}
+
+impl Gate for Meeting {
+    fn enter(&self, seat: u32, step: u32) {
+        let _ = step;
+        let (own, other) = if seat == 0 {
+            (&self.first, &self.second)
+        } else {
+            (&self.second, &self.first)
+        };
+        let before = own.fetch_add(1, Ordering::SeqCst);
+        if !self.late.load(Ordering::SeqCst) && !waits(other, before.saturating_add(1)) {
+            self.late.store(true, Ordering::SeqCst);
+        }
+    }
+
+    fn answered(&self, seat: u32, step: u32) {
+        let _ = (seat, step);
+    }
+}
+
+#[test]
+fn two_calls_at_once(rt: HostRuntime) -> Result<(), Fail> {
+    let alloc = rt.alloc();
+    let mut steps = [(0, ALLOCATE); 20];
+    for place in 10..20 {
+        steps[place] = (1, ALLOCATE);
+    }
+    let script = script(alloc, 2, &[(0, CREATE)], &steps)?;
+    let ask = plans_reads(alloc, FINISH)?;
+    let gate = Meeting {
+        first: AtomicU64::new(0),
+        second: AtomicU64::new(0),
+        late: AtomicBool::new(false),
+    };
+    let made = session::<AnswerTable, Brand, Meeting, HostRuntime>(
+        &rt,
+        alloc,
+        Blank::new(2),
+        ask,
+        &script,
+        &gate,
+        2,
+    )?;
+    assert!(rt;
+        !gate.late.load(Ordering::SeqCst),
+        "each waited for the other in time"
+    );
+    assert_eq!(rt; made.transcript.entries().len(), 21);
+    assert!(rt; !made.stopped);
+    Ok(())
+}
+
+#[test]
+fn one_worker_keeps_the_scripts_order(rt: HostRuntime) -> Result<(), Fail> {
+    let alloc = rt.alloc();
+    let steps = [
+        (2, ALLOCATE),
+        (0, ALLOCATE),
+        (1, ALLOCATE),
+        (0, ALLOCATE),
+        (2, ALLOCATE),
+    ];
+    let script = script(alloc, 3, &[(1, CREATE)], &steps)?;
+    let made = worked(&rt, alloc, &script, 1)?;
+    let seats = [1, 2, 0, 1, 0, 2];
+    for (entry, seat) in made.transcript.entries().iter().zip(seats) {
+        assert_eq!(rt; entry.seat, seat);
+    }
+    assert_eq!(rt; made.transcript.entries().len(), 6);
+    Ok(())
+}
