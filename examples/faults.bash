@@ -40,3 +40,15 @@ refused_one_by_one() {
     left "$1, all its requests for memory granted" 0 "$3" ''
     meets "$1: $number requests for memory" [ "$number" -gt 10 ]
 }
+
+if [ "${irpx%.unproved}" = "$irpx" ] && cc -shared -fPIC -o "$kept/faults.so" faults.c; then
+    script=a_remove_lock_is_drained.script
+    refused_one_by_one run "$script" "${script%.script}.transcript"
+    meets 'some runs stop within a step' [ "$stops" -gt 0 ]
+    echo "legal $(grep -c '"n":' "${script%.script}.transcript")" >"$kept/legal"
+    refused_one_by_one check "${script%.script}.transcript" "$kept/legal"
+    for word in run check; do
+        faulted INTERRUPT=1 -- "$word" <one_device_finishes_one_packet.script
+        left "$word with an interrupted read" 5 /dev/null "$failed"
+    done
+fi

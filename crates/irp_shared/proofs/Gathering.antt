@@ -1,11 +1,11 @@
 -- Seats that are taken off the end of a list one by one.
-use Rattle.std.proofs.Common.{◌≡◌, ℕ, ◌+◌, List, [], ◌∷◌, ◌++◌, length, sym, ap, ◌∙◌, zero, suc, arith}
+use Rattle.std.proofs.Common.{◌≡◌, ℕ, ◌+◌, List, [], ◌∷◌, ◌++◌, length, ap, ◌∙◌, arith}
 use Rattle.std.specs.Prelude.{All, IfNone, Option, Some, None, slice_get, sum_by}
 use Rattle.std.proofs.lemmas.List.Elements.{All-append, All-cons, All-nil, All-same}
 use Rattle.std.proofs.lemmas.List.Sums.{sum_by-append}
 use Rattle.irp_types.specs.declared.entry.Entry.{Entry}
 use Rattle.irp_manager.specs.Seats.{Seated}
-use Rattle.irp_shared.specs.Closing.{count_of, IsKept, IsOther, Kept, Differs}
+use Rattle.irp_shared.specs.Closing.{count_of, IsKept}
 use Rattle.irp_types.proofs.LongerLists.{get_last, get_front}
 
 -- where no difference was found and the one taken off is kept, all are kept if those left are

@@ -4,3 +4,4 @@ mod Rising
 mod Appended
 mod Gathering
 mod Opened
+mod OwnPlaces

@@ -1,6 +1,6 @@
 -- Seats by their numbers.
-use Rattle.std.proofs.Common.{◌≡◌, ℕ, ◌+◌, ◌<◌, zero, suc, ◌⊎◌, refl, List, [], ◌∷◌, ◌++◌, length, sym, ap, ◌∙◌, subst, inl, inr, arith, length-append}
-use Rattle.std.specs.Prelude.{slice_get, Some}
+use Rattle.std.proofs.Common.{◌≡◌, ℕ, ◌+◌, List, [], ◌∷◌, ◌++◌, length, sym, ap, ◌∙◌, subst, inl, inr, length-append}
+use Rattle.std.specs.Prelude.{slice_get}
 use Rattle.irp_types.proofs.LongerLists.{front_or_last}
 use Rattle.irp_manager.specs.Seats.{Seated}
 use Rattle.irp_shared.specs.Opening.{IsNew, AreNew}

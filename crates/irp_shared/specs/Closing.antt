@@ -1,5 +1,5 @@
 -- What closing a session compares, and what it gives.
-use Rattle.std.specs.Prelude.{ℕ, ◌≡◌, ◌<◌, ◌==◌, true, List, [], length, All, Option, Some, None, IfSome, slice_get, sum_by}
+use Rattle.std.specs.Prelude.{ℕ, ◌≡◌, ◌<◌, ◌==◌, true, List, [], length, All, Option, Some, slice_get, sum_by}
 use Rattle.std.specs.List.{list_any}
 use Rattle.std.specs.Option.{option_and_then}
 use Rattle.irp_types.specs.State.{Fixed}
@@ -31,6 +31,10 @@ entry_at history place = option_and_then (slice_get history) place
 abbrev pub IsOther : List Entry → Option Entry → Option ℕ → Type 0
 IsOther history kept place = kept ≡ entry_at history place → ⊥
 
+-- what the history has at this place (none where there is no place) is the entry at this index among a seat's own
+abbrev pub StandsThere : List Entry → ℕ → ℕ → Option ℕ → Type 0
+StandsThere history seat index place = entry_at history place ≡ slice_get (own_entries history seat) index
+
 -- one of the seats has this number, and kept this at this index
 pub record Kept (seats : List Seated) (number index : ℕ) (kept : Option Entry) : Type 0 where
   pub place : ℕ
@@ -39,9 +43,10 @@ pub record Kept (seats : List Seated) (number index : ℕ) (kept : Option Entry)
   pub numbered : seat.number ≡ number
   pub kept_there : kept ≡ slice_get seat.entries index
 
--- one of the seats kept this at this index, and what the history has there is another
+-- one of the seats kept this at this index, and what the history has of it there is another
 abbrev pub Differs : List Seated → List Entry → ℕ → ℕ → Option Entry → Option ℕ → Type 0
-Differs seats history number index kept place = Kept seats number index kept × IsOther history kept place
+Differs seats history number index kept place =
+    Kept seats number index kept × IsOther history kept place × StandsThere history number index place
 
 -- closing gives a transcript: its header tells what the session had fixed and how many seats it had, its history is legal
 -- and completes each use at most once, each seat kept the history's entries of its own, and the counts add up

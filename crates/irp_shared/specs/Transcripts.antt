@@ -1,5 +1,5 @@
 -- Transcripts as contracts see them.
-use Rattle.std.specs.Prelude.{◌≡◌, List, [], Option, Some, None, IfSome}
+use Rattle.std.specs.Prelude.{◌≡◌, List, [], Option, None, IfSome}
 use Rattle.irp_types.specs.declared.entry.Entry.{Entry}
 use Rattle.irp_shared.specs.Headers.{IsHeader}
 use Rattle.irp_shared.specs.declared.header.Header.{Header}

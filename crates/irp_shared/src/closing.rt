@@ -3,7 +3,7 @@
 ghost use Rattle.std.specs.Prelude.{◌≡◌, ◌≤◌, ◌<◌, ◌+◌, [], ℕ, List, length, true, false, All, IfNone, IfSome, sum_by, vec_len, slice_get, ◌==◌};
 ghost use Rattle.std.specs.List.{list_any};
 ghost use Rattle.irp_types.specs.Histories.{own_entries};
-ghost use Rattle.irp_shared.specs.Closing.{AllHere, count_of, IsKept, IsOther, Differs};
+ghost use Rattle.irp_shared.specs.Closing.{AllHere, count_of, IsKept, IsOther, Differs, StandsThere};
 
 use irp_manager::Seat;
 use irp_types::Entry;
@@ -54,6 +54,7 @@ pub fn are_all<L: Ledger>(seats: &[Seat<L>], expected: u32) -> bool
 pub fn first_parting(entries: &[Entry], history: &[Entry], seat: u32) -> Option<Parting>
     ensures same { IfNone result (own_entries history.now seat ≡ entries.now) }
     ensures other { IfSome result (λ parting. IsOther history.now (slice_get entries.now parting.index) parting.place) }
+    ensures place { IfSome result (λ parting. StandsThere history.now seat parting.index parting.place) }
 {
     let mut index = 0;
     for place in 0..history.len() {
@@ -89,6 +90,7 @@ fn compare<L: Ledger>(all: &mut Share<L>, seat: Seat<L>, history: &[Entry]) -> O
     ensures amount { all.new.amount ≡ all.old.amount + length seat.entries }
     ensures same { IfNone result (IsKept history.now seat) }
     ensures differs { IfSome result (λ difference. (difference.seat ≡ seat.number) × (difference.kept ≡ slice_get seat.entries difference.index) × IsOther history.now difference.kept difference.place) }
+    ensures place { IfSome result (λ difference. StandsThere history.now difference.seat difference.index difference.place) }
 {
     let (number, entries, share) = seat.into_parts();
     all.merge(share);

@@ -7,6 +7,7 @@ mod gate;
 mod labels;
 mod run;
 mod script_seat;
+mod start_line;
 mod words;
 mod worker;
 mod workplace;

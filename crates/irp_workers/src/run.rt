@@ -12,6 +12,7 @@ ghost use Rattle.irp_workers.specs.Words.{AreInOrder, Ran, lock_steps, told_by};
 use crate::gate::{AlwaysOpen, Gate};
 use crate::labels::Labels;
 use crate::script_seat::ScriptSeat;
+use crate::start_line::StartLine;
 use crate::words::put_in_order;
 use crate::worker::Worker;
 use crate::workplace::Workplace;
@@ -100,7 +101,7 @@ fn deal<'a, L: Session>(
     Ok(all)
 }
 
-/// Each worker runs in a thread of its own, and comes back with its seats.
+/// Each worker runs in a thread of its own, and comes back with its seats. They start together.
 fn run_all<'a, A: Ask + Send, L: Session + Send + Sync, G: Gate + Sync, R: Threads + Wait + Sync>(
     rt: &R,
     place: &Workplace<A, L>,
@@ -113,7 +114,7 @@ fn run_all<'a, A: Ask + Send, L: Session + Send + Sync, G: Gate + Sync, R: Threa
     ensures ran { IfOk result (λ done. (k : ℕ) (one : _) (other : _) → k < vec_len workers.entry → Ran (slice_index_or workers.entry.items k other).number (slice_index_or workers.entry.items k other).workers steps.now (map told_by (slice_index_or workers.entry.items k other).words.items) (slice_index_or done.items k one).words.items (slice_index_or done.items k one).stopped) }
     ensures called { IfOk result (λ done. (k : ℕ) (one : _) (other : _) → k < vec_len workers.entry → NoneTwice (map (λ own. pair_of own.seat own.remove) (slice_index_or workers.entry.items k other).seats.items) → MadeCalls (slice_index_or workers.entry.items k other).number (slice_index_or workers.entry.items k other).workers steps.now (map (λ own. seat_calls own.seat own.remove) (slice_index_or workers.entry.items k other).seats.items) (map (λ own. seat_calls own.seat own.remove) (slice_index_or done.items k one).seats.items) (slice_index_or done.items k one).stopped) }
 {
-    thread::map_vec(rt, workers, &|worker| worker.run(rt, place, gate, steps))
+    thread::map_vec(rt, workers, &|worker| worker.start(rt, place, gate, steps))
 }
 
 /// What the workers did, together.
@@ -143,8 +144,9 @@ fn gather<'a, L: Session>(
 }
 
 /// Runs a script: its setup in order, on this thread, and then so many workers in threads of their own, of which worker w
-/// runs, in the order of the script, the steps whose seat's number leaves w when divided by their number. With one worker
-/// all steps are run in the order of the script.
+/// runs, in the order of the script, the steps whose seat's number leaves w when divided by their number. The workers start
+/// together, once the setup is done: each waits for the others for a bounded time. With one worker all steps are run in the
+/// order of the script.
 ///
 /// Labels are shared by all seats: one that isn't bound yet stands for a packet that is never live. A step whose seat isn't
 /// there, and one whose call isn't recorded, stops its worker; in the setup, nothing more is run. The gate is told of each
@@ -186,7 +188,11 @@ pub fn run_workers<
         → EachAsOften (map (λ own. once_made (script.now.setup ++ script.now.steps) (seat_calls own.seat own.remove)) seats.entry.items) (map (λ own. seat_calls own.seat own.remove) worked.seats.items)) }
 {
     let labels = Labels::new(alloc, script.labels)?;
-    let place = Workplace { shared, labels };
+    let place = Workplace {
+        shared,
+        labels,
+        line: StartLine::new(workers),
+    };
     let all = Worker::new(alloc, 0, 1, seats);
     let ready = all.run(rt, &place, &AlwaysOpen, script.setup.as_slice());
     if ready.stopped {

@@ -165,4 +165,21 @@ impl<'a, L: Session> Worker<'a, L> {
         }
         self
     }
+
+    /// Runs its steps as `run` does, once all workers are at the line.
+    pub fn start<A: Ask, G: Gate>(
+        self,
+        rt: &impl Wait,
+        place: &Workplace<A, L>,
+        gate: &G,
+        steps: &[Step],
+    ) -> Worker<'a, L>
+        ensures seats { map (λ own. pair_of own.seat own.remove) result.seats.items ≡ map (λ own. pair_of own.seat own.remove) self.entry.seats.items }
+        ensures words { Ran self.entry.number self.entry.workers steps.now (map told_by self.entry.words.items) result.words.items result.stopped }
+        ensures calls { NoneTwice (map (λ own. pair_of own.seat own.remove) self.entry.seats.items)
+            → MadeCalls self.entry.number self.entry.workers steps.now (map (λ own. seat_calls own.seat own.remove) self.entry.seats.items) (map (λ own. seat_calls own.seat own.remove) result.seats.items) result.stopped }
+    {
+        place.line.wait();
+        self.run(rt, place, gate, steps)
+    }
 }

@@ -1,6 +1,4 @@
-use Rattle.std.proofs.Common.{rules, arith, ◌≡◌, ℕ, ◌+◌, length, sym, ◌∙◌}
-use Rattle.std.specs.Prelude.{sum_by}
-use Rattle.irp_shared.specs.Closing.{count_of}
+use Rattle.std.proofs.Common.{rules, arith, length, sym}
 use Rattle.irp_shared.proofs.Gathering.{if_none_on, all_on, counts_left, stand_on, stood_last}
 use Rattle.irp_shared.proofs.closing.gather.Goals as goal
 
@@ -20,7 +18,7 @@ loop-seat-preserved-in-Some-compare g c =
       search rules,
       omega (arith, counts, sums, amount),
       tt,
-      (record { place = length fewer; seat = c.in-Some.seat; given = old.4 (length fewer) c.in-Some.seat (stood_last left fewer c.in-Some.seat taken); numbered = sym differs.0; kept_there = differs.1 }, differs.2),
+      (record { place = length fewer; seat = c.in-Some.seat; given = old.4 (length fewer) c.in-Some.seat (stood_last left fewer c.in-Some.seat taken); numbered = sym differs.0; kept_there = differs.1 }, differs.2, c.in-Some-compare.ensures.place),
       λ place seat at. old.4 place seat (stand_on left fewer c.in-Some.seat taken place seat at),
     )
 

@@ -1,5 +1,5 @@
 -- The majors before this place rise.
-use Rattle.std.proofs.Common.{ℕ, ◌≤◌, ◌<◌, ◌+◌, map}
+use Rattle.std.proofs.Common.{ℕ, ◌<◌, ◌+◌, map}
 use Rattle.std.specs.Prelude.{slice_index}
 use Rattle.irp_types.specs.State.{Entrance}
 use Rattle.irp_shared.proofs.header.is_rising.Given as goal

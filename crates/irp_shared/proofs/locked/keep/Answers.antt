@@ -1,9 +1,6 @@
-use Rattle.std.proofs.Common.{rules, arith, ◌≡◌, ℕ, ◌+◌, ◌++◌, ◌∷◌, [], length, Err, sym, ap, ◌∙◌, subst}
+use Rattle.std.proofs.Common.{rules, arith, ◌≡◌, length, ap, ◌∙◌}
 use Rattle.irp_types.specs.declared.entry.Entry.{Entry}
 use Rattle.irp_manager.specs.Booked.{Receipted}
-use Rattle.irp_manager.specs.Cores.{most_asked}
-use Rattle.irp_manager.specs.declared.not_recorded.NotRecorded.TheVariants.{Behind}
-use Rattle.irp_shared.specs.Sharing.{CalledIn, Keeps}
 use Rattle.irp_shared.proofs.Appended.{stands_last}
 use Rattle.irp_shared.proofs.locked.keep.Given.{Over}
 use Rattle.irp_shared.proofs.locked.keep.Goals as goal

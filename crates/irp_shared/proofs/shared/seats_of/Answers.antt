@@ -1,5 +1,4 @@
-use Rattle.std.proofs.Common.{◌≡◌, ℕ, ◌+◌, length, sym, subst, ◌∙◌, rules, arith}
-use Rattle.irp_manager.specs.Seats.{Seated}
+use Rattle.std.proofs.Common.{ℕ, ◌+◌, length, sym, subst, ◌∙◌, rules}
 use Rattle.irp_shared.specs.Opening.{IsNew, AreNew}
 use Rattle.irp_shared.proofs.Opened.{are_new_more}
 use Rattle.irp_shared.proofs.shared.seats_of.Goals as goal

@@ -1,5 +1,5 @@
 -- The drivers are so where each is, and the first that isn't stops the test.
-use Rattle.std.proofs.Common.{◌≡◌, ◌∙◌, sym, refl, subst, true}
+use Rattle.std.proofs.Common.{◌∙◌, sym, refl, subst}
 use Rattle.irp_types.specs.State.{IsDriver}
 use Rattle.irp_shared.specs.Headers.{fixed_of}
 use Rattle.irp_shared.proofs.Each.{no_truth, each_more, each_fails, each_done}

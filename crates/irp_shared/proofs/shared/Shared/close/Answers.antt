@@ -1,13 +1,10 @@
-use Rattle.std.proofs.Common.{rules, arith, ◌≡◌, ℕ, List, length, sym, ap, ◌∙◌, subst, refl, true}
+use Rattle.std.proofs.Common.{rules, ◌≡◌, ℕ, List, length, sym, ap, ◌∙◌, subst, refl, true}
 use Rattle.std.specs.Prelude.{sum_by, vec_len, All, IfNone, Some}
 use Rattle.irp_types.specs.declared.entry.Entry.{Entry}
 use Rattle.irp_types.specs.State.{Fixed}
 use Rattle.irp_types.specs.Histories.{IsLegal}
 use Rattle.irp_manager.specs.Seats.{Seated}
-use Rattle.irp_shared.specs.Headers.{fixed_of}
-use Rattle.irp_shared.specs.Transcripts.{TranscriptValue}
 use Rattle.irp_shared.specs.Closing.{AllHere, Closes, IsKept, count_of}
-use Rattle.irp_shared.proofs.shared.Shared.close.Given.{Over}
 use Rattle.irp_shared.proofs.shared.Shared.close.Goals as goal
 
 pub returns-clause-closes : goal.returns-clause-closes
