@@ -15,25 +15,33 @@ faulted() {
     status=$?
 }
 
-# Whether the last run's output is a beginning of the file $1.
-begins() {
-    cmp -s -n "$(stat -c %s "$kept/output")" "$kept/output" "$1"
+# Whether each line of the last run's output stands in the file $1 too.
+stands_in() {
+    ! grep -Fxvq -f "$1" "$kept/output"
+}
+
+# Checks a run of `run` whose output is whole lines: it stopped within a step, and what it printed is a legal transcript.
+stopped() {
+    cp "$kept/output" "$kept/stopped"
+    run check <"$kept/stopped"
+    meets "$1: legal" grep -q '^legal ' "$kept/output"
+    stops=$((stops + 1))
 }
 
 # Refuses each request for memory of the word $1 over the input $2, whose whole output is the file $3, one request a run.
-# Each refused run ends with status 3 and prints a beginning of the output. Sets `stops` to the number of runs that were
-# refused within a step and printed the transcript of what was done, which is legal.
+# A refused run ends with status 3, and prints nothing that the whole output hasn't; or it could do without, and ends as
+# ever. Sets `stops` to the number of runs that stopped within a step.
 refused_one_by_one() {
-    local number=1
+    local number=1 name
     stops=0
     while faulted REFUSE="$number" -- "$1" <"$2" && [ -e "$kept/refused_one" ]; do
-        ended "$1, request $number for memory refused" 3 'irpx: out of memory'
-        meets "$1, request $number for memory refused: a beginning" begins "$3"
-        if [ "$1" = run ] && [ -s "$kept/output" ] && [ -z "$(tail -c 1 "$kept/output")" ]; then
-            cp "$kept/output" "$kept/stopped"
-            run check <"$kept/stopped"
-            meets "request $number for memory refused: legal" grep -q '^legal ' "$kept/output"
-            stops=$((stops + 1))
+        name="$1, request $number for memory refused"
+        if [ "$status" -eq 0 ]; then
+            left "$name" 0 "$3" ''
+        else
+            ended "$name" 3 'irpx: out of memory'
+            meets "$name: standard output" stands_in "$3"
+            [ "$1" = check ] || [ ! -s "$kept/output" ] || [ -n "$(tail -c 1 "$kept/output")" ] || stopped "$name"
         fi
         number=$((number + 1))
     done
