@@ -1,5 +1,5 @@
 -- The calls of the manager that steps make.
-use Rattle.std.specs.Prelude.{◌≡◌, Bool, Some}
+use Rattle.std.specs.Prelude.{◌≡◌, Bool, Option, Some, None}
 use Rattle.irp_types.specs.declared.names.IrpRef.{IrpRef}
 use Rattle.irp_types.specs.declared.names.LockNo.{LockNo}
 use Rattle.irp_types.specs.declared.call.Call.{Call}
@@ -10,6 +10,7 @@ use Rattle.irp_remove.specs.Seats.{Holder}
 use Rattle.irp_script_reader.specs.declared.act.Named.TheVariants.{Irp}
 use Rattle.irp_script_reader.specs.declared.act.StepAct.{StepAct}
 use Rattle.irp_shared.specs.Sharing.{Called}
+use Rattle.irp_shared.specs.declared.word_line.Act.{Act}
 use Rattle.irp_workers.specs.Deeds.{call_of, named_by}
 
 -- which locks a remove seat found drained
@@ -28,3 +29,8 @@ pub record CallsFor (act : StepAct) (remove : Holder) (before after : Seated) : 
   pub receipt : Receipted
   pub of_act : Makes act call
   pub recorded : Called before call (found_drained remove) receipt after
+
+-- the same of a step that may have an act on a remove lock: then it makes no call
+abbrev pub CallsUnlessActs : Option Act → StepAct → Holder → Seated → Seated → Type 0
+CallsUnlessActs None act remove before after = CallsFor act remove before after
+CallsUnlessActs (Some acted) act remove before after = after ≡ before

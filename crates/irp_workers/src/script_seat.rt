@@ -6,7 +6,7 @@ ghost use Rattle.irp_remove.specs.Calls.{IsSameSeat};
 ghost use Rattle.irp_remove.specs.Pairing.{IsSeatOf, lock_count};
 ghost use Rattle.irp_shared.specs.Sharing.{IsAsBefore};
 ghost use Rattle.irp_workers.specs.Acts.{Acts, ActsFor};
-ghost use Rattle.irp_workers.specs.Calling.{CallsFor};
+ghost use Rattle.irp_workers.specs.Calling.{CallsFor, CallsUnlessActs};
 ghost use Rattle.irp_workers.specs.Deeds.{lock_act_of};
 ghost use Rattle.irp_workers.specs.Made.{once_made, seat_calls};
 ghost use Rattle.irp_workers.specs.Pairs.{pair_of};
@@ -148,8 +148,9 @@ impl<'a, L: Session> ScriptSeat<'a, L> {
         }
     }
 
-    /// Makes a step of its own, which has this place: a call, or an act on a remove lock, of which it adds a word line. None
-    /// where the call wasn't recorded, or there was no memory for the line, and then nothing was done. It stays the same pair.
+    /// Makes a step of its own, which has this place: a call, with what its own remove seat knows of the locks, or an act on
+    /// a remove lock, of which it adds a word line. None where the call wasn't recorded, or there was no memory for the line,
+    /// and then nothing was done. It stays the same pair.
     pub fn step<A: Ask>(
         &mut self,
         rt: &impl Wait,
@@ -164,6 +165,8 @@ impl<'a, L: Session> ScriptSeat<'a, L> {
             (λ _. map told_by words.new.items ≡ map told_by words.old.items ++ option_to_list (lock_step_of index step)) }
         ensures calls { MatchOption result (seat_calls self.new.seat self.new.remove ≡ seat_calls self.old.seat self.old.remove)
             (λ _. seat_calls self.new.seat self.new.remove ≡ once_made (step ∷ []) (seat_calls self.old.seat self.old.remove)) }
+        ensures called { MatchOption result (IsAsBefore self.old.seat self.new.seat)
+            (λ _. CallsUnlessActs (lock_act_of step.act) step.act self.old.remove self.old.seat self.new.seat) }
         ensures acts { MatchOption result (self.new.remove ≡ self.old.remove)
             (λ _. ActsFor (lock_count self.old.locks.now) step.seat index (lock_act_of step.act) self.old.remove self.new.remove words.old.items words.new.items) }
     {
