@@ -13,6 +13,4 @@ mod shared;
 #[cfg(test)]
 mod sharing;
 #[cfg(test)]
-mod unwind;
-#[cfg(test)]
 mod workers;

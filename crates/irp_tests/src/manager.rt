@@ -44,11 +44,11 @@ const fn fill(irp: IrpRef, major: u8) -> Call {
     }
 }
 
-const fn send(target: DeviceId) -> Call {
+const fn send(irp: IrpRef) -> Call {
     Call::CallDriver {
         party: ORIGINATOR,
-        irp: IRP,
-        target,
+        irp,
+        target: DEVICE,
     }
 }
 
@@ -72,10 +72,10 @@ const SHOWN: Shown = Shown {
 };
 
 /// What the one dispatch is shown of a read, and what it plans.
-fn asked_of(plan: Plan) -> Asked {
+fn asked_of(irp: IrpRef, plan: Plan) -> Asked {
     Asked::Dispatch {
         id: DispatchId(0),
-        shown: SHOWN,
+        shown: Shown { irp, ..SHOWN },
         plan,
     }
 }

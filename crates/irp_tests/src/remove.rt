@@ -1,5 +1,4 @@
-//! Worked sequences of calls, whose answers were written down before the code, and each public function once.
-mod opening;
+//! Worked sequences of calls on remove locks, whose answers were written down before the code.
 mod sequences;
 mod threads;
 

@@ -13,7 +13,9 @@ use std::process::Abort;
 
 const CANCELLED: Status = Status(3221225760);
 
-const CANCEL: Call = Call::Cancel { irp: IRP };
+const fn cancel(irp: IrpRef) -> Call {
+    Call::Cancel { irp }
+}
 
 const ONE_CANCEL: Known = Known {
     cancel: 1,
@@ -35,6 +37,20 @@ const ON_CANCEL: Setting = Setting {
     on_error: false,
     on_cancel: true,
 };
+
+/// The second packet's Watch, which a cancellation doesn't ask.
+const ON_SUCCESS: Setting = Setting {
+    routine: RoutineId {
+        rule: Rule::Watch,
+        no: 1,
+    },
+    on_success: true,
+    on_cancel: false,
+    ..ON_CANCEL
+};
+
+/// A second packet.
+const SECOND: IrpRef = IrpRef { slot: 1, use_no: 2 };
 
 /// Holds with the cancel routine, where the packet isn't cancelled yet.
 fn counted_hold(count: &AtomicU32, shown: Shown) -> Plan
@@ -65,42 +81,51 @@ fn counted_cancel(count: &AtomicU32) -> CancelAnswer
     CancelAnswer::Finish { information: 0 }
 }
 
-/// What a cancellation asks: the cancel routine, and then the Watch.
-fn asked_by_cancel() -> [Asked; 2] {
-    let shown = Shown {
-        cancel: true,
-        ..SHOWN
-    };
-    let finish = Asked::Cancel {
+/// The cancel routine, as a cancellation of this packet asks it.
+fn asked_by_cancel(irp: IrpRef) -> Asked {
+    Asked::Cancel {
         id: CancelId(0),
-        shown,
+        shown: Shown {
+            irp,
+            cancel: true,
+            ..SHOWN
+        },
         answer: CancelAnswer::Finish { information: 0 },
-    };
-    let watched = Asked::Completion {
+    }
+}
+
+/// The Watch, as a cancellation of the first packet asks it.
+fn asked_on_cancel() -> Asked {
+    Asked::Completion {
         id: ON_CANCEL.routine,
         shown: Shown {
             device: None,
             status: CANCELLED,
             pending_returned: true,
             context: 9,
-            ..shown
+            cancel: true,
+            ..SHOWN
         },
         answer: Answer {
             keep: false,
             mark: false,
             replacement: None,
         },
-    };
-    [finish, watched]
+    }
 }
 
-/// A packet is sent, and cancelled; both are tried again and refused.
-fn send_and_cancel<A: Ask>(rt: &impl Abort, alloc: Global, book: &mut Book<A>) -> Result<(), Fail> {
-    let set = Call::SetRoutine {
+/// The originator sets a completion routine.
+const fn set(irp: IrpRef, setting: Setting) -> Call {
+    Call::SetRoutine {
         party: ORIGINATOR,
-        irp: IRP,
-        setting: ON_CANCEL,
-    };
+        irp,
+        setting,
+    }
+}
+
+/// A packet is sent, and cancelled; both are tried again and refused. A second packet, whose Watch is for a success alone,
+/// is sent and cancelled.
+fn send_and_cancel<A: Ask>(rt: &impl Abort, alloc: Global, book: &mut Book<A>) -> Result<(), Fail> {
     let over = Reply::Seen(Seen {
         owner: Owner::Ended,
         current: 2,
@@ -111,18 +136,25 @@ fn send_and_cancel<A: Ask>(rt: &impl Abort, alloc: Global, book: &mut Book<A>) -
         pending_returned: true,
         marked: false,
     });
-    let held = [asked_of(HOLDS_CANCELLABLE)];
-    let cancelled = asked_by_cancel();
-    let steps: [(Call, Reply, &[Asked]); 9] = [
+    let held = [asked_of(IRP, HOLDS_CANCELLABLE)];
+    let cancelled = [asked_by_cancel(IRP), asked_on_cancel()];
+    let second_held = [asked_of(SECOND, HOLDS_CANCELLABLE)];
+    let second_cancelled = [asked_by_cancel(SECOND)];
+    let steps: [(Call, Reply, &[Asked]); 14] = [
         (CREATE, Reply::Device(DEVICE), &[]),
         (ALLOCATE, Reply::Irp(IRP), &[]),
         (fill(IRP, READ), Reply::Done, &[]),
-        (set, Reply::Done, &[]),
-        (send(DEVICE), Reply::Status(Status(259)), &held),
-        (send(DEVICE), refused(Refusal::NotOwner), &[]),
-        (CANCEL, Reply::Cancelled(true), &cancelled),
-        (CANCEL, refused(Refusal::Ended), &[]),
+        (set(IRP, ON_CANCEL), Reply::Done, &[]),
+        (send(IRP), Reply::Status(Status(259)), &held),
+        (send(IRP), refused(Refusal::NotOwner), &[]),
+        (cancel(IRP), Reply::Cancelled(true), &cancelled),
+        (cancel(IRP), refused(Refusal::Ended), &[]),
         (LOOK, over, &[]),
+        (ALLOCATE, Reply::Irp(SECOND), &[]),
+        (fill(SECOND, READ), Reply::Done, &[]),
+        (set(SECOND, ON_SUCCESS), Reply::Done, &[]),
+        (send(SECOND), Reply::Status(Status(259)), &second_held),
+        (cancel(SECOND), Reply::Cancelled(true), &second_cancelled),
     ];
     let mut place_of_calls = Place::new(0);
     for place in 0..steps.len() {
@@ -141,23 +173,28 @@ fn closures_are_asked_once_through_a_book(rt: HostRuntime) -> Result<(), Fail> {
     let plans = Arc::new(alloc, AtomicU32::new(0))?;
     let cancels = Arc::new(alloc, AtomicU32::new(0))?;
     let watches = Arc::new(alloc, AtomicU32::new(0))?;
+    let unmet = Arc::new(alloc, AtomicU32::new(0))?;
     let mut store = Store::new(alloc);
     let own = watches.clone()?;
     let run: CompletionClosure = Box::new(alloc, move |shown: Shown| counted_watch(&own, shown))?;
     let watch = store.add(Routine::new(Rule::Watch, run));
+    let own = unmet.clone()?;
+    let run: CompletionClosure = Box::new(alloc, move |shown: Shown| counted_watch(&own, shown))?;
+    let other = store.add(Routine::new(Rule::Watch, run));
     let own = cancels.clone()?;
     let run: CancelClosure = Box::new(alloc, move |_shown: Shown| counted_cancel(&own))?;
     let cancel = store.add_cancel(CancelRoutine::new(CancelRule::MustFinish, run));
     let own = plans.clone()?;
     let run: DispatchClosure = Box::new(alloc, move |shown: Shown| counted_hold(&own, shown))?;
     let plan = store.add_dispatch(Dispatch::new(ONE_CANCEL, run));
-    assert!(rt; watch.is_ok() && cancel.is_ok() && plan.is_ok());
+    assert!(rt; watch.is_ok() && other.is_ok() && cancel.is_ok() && plan.is_ok());
     let driver = store.add_driver([(READ, DispatchId(0))].to_vec(alloc)?);
     assert!(rt; driver.is_ok());
     let mut book = Book::new(Manager::new(alloc, store, 1))?;
     send_and_cancel(&rt, alloc, &mut book)?;
-    assert_eq!(rt; plans.load(Ordering::SeqCst), 1);
-    assert_eq!(rt; cancels.load(Ordering::SeqCst), 1);
-    assert_eq!(rt; watches.load(Ordering::SeqCst), 1);
+    let counts = [&plans, &cancels, &watches, &unmet];
+    for (count, wanted) in counts.iter().zip([2, 2, 1, 0]) {
+        assert_eq!(rt; count.load(Ordering::SeqCst), wanted);
+    }
     Ok(())
 }

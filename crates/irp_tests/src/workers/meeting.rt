@@ -1,7 +1,7 @@
 //! Two calls at once: a gate that holds each seat's step until the other seat's step of the same place among its own has
 //! entered. It ends by itself: who waits does so for a number of turns.
 
-use super::{ALLOCATE, CREATE, FINISH, plans_reads, script, session, worked};
+use super::{ALLOCATE, CREATE, FINISH, plans_reads, script, session};
 use irp_routines::AnswerTable;
 use irp_workers::Gate;
 use std::marker::Brand;
@@ -78,25 +78,5 @@ fn two_calls_at_once(rt: HostRuntime) -> Result<(), Fail> {
     );
     assert_eq!(rt; made.transcript.entries().len(), 21);
     assert!(rt; !made.stopped);
-    Ok(())
-}
-
-#[test]
-fn one_worker_keeps_the_scripts_order(rt: HostRuntime) -> Result<(), Fail> {
-    let alloc = rt.alloc();
-    let steps = [
-        (2, ALLOCATE),
-        (0, ALLOCATE),
-        (1, ALLOCATE),
-        (0, ALLOCATE),
-        (2, ALLOCATE),
-    ];
-    let script = script(alloc, 3, &[(1, CREATE)], &steps)?;
-    let made = worked(&rt, alloc, &script, 1)?;
-    let seats = [1, 2, 0, 1, 0, 2];
-    for (entry, seat) in made.transcript.entries().iter().zip(seats) {
-        assert_eq!(rt; entry.seat, seat);
-    }
-    assert_eq!(rt; made.transcript.entries().len(), 6);
     Ok(())
 }

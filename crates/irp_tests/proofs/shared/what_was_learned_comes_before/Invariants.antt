@@ -1,4 +1,4 @@
-use Rattle.irp_tests.proofs.shared.learning.what_was_learned_comes_before.Given as goal
+use Rattle.irp_tests.proofs.shared.what_was_learned_comes_before.Given as goal
 
 abbrev pub ghosts-learned_elsewhere-L-Ledger : goal.ghosts-learned_elsewhere-L-Ledger
 ghosts-learned_elsewhere-L-Ledger g a = record { name = a.blank.name; parts = a.blank.parts }

@@ -1,4 +1,4 @@
-use Rattle.irp_tests.proofs.shared.learning.a_seat_is_behind_what_it_learned.Given as goal
+use Rattle.irp_tests.proofs.shared.a_seat_is_behind_what_it_learned.Given as goal
 
 abbrev pub ghosts-third_receipt-L-Ledger : goal.ghosts-third_receipt-L-Ledger
 ghosts-third_receipt-L-Ledger g a = record { name = a.blank.name; parts = a.blank.parts }
