@@ -1,4 +1,1 @@
-pub mod CommandLine
-pub mod Ending
 pub mod Makes
-pub mod Texts

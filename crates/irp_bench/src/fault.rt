@@ -1,88 +1,71 @@
-//! Why nothing was timed.
+//! Why the program ends before all is timed.
 
 use irp_transcript_reader::ReadFault;
-use irp_transcript_writer::{Cause, WriteFault};
 use std::alloc::AllocError;
 use std::io;
-use thiserror::Error;
 
-/// Why a load was not timed.
-#[derive(Clone, Copy, Debug, PartialEq, Eq, Error)]
+/// Why the program ends before all is timed (this project's own command line, README.md).
+#[derive(Clone, Copy)]
 pub enum Fault {
-    /// Memory ran out.
-    #[error("memory ran out")]
-    Memory,
-    /// The clock could not be read, or standard error could not be written.
-    #[error("the clock or the output failed")]
-    Io,
-    /// A call was answered otherwise than it should be, so the time is not that of all calls.
-    #[error("a call was answered otherwise")]
-    Refused,
     /// A transcript was not judged legal.
-    #[error("a transcript was not judged legal")]
     NotLegal,
+    /// Memory ran out.
+    Memory,
+    /// The words are none that the program takes; a request for help is one of these.
+    Usage,
+    /// The clock or standard error failed, a call was answered otherwise than it should be, or a text was not what it should be.
+    Failed,
+}
+
+impl Fault {
+    /// The exit status.
+    pub fn status(self) -> u8 {
+        match self {
+            Fault::NotLegal => 2,
+            Fault::Memory => 3,
+            Fault::Usage => 4,
+            Fault::Failed => 5,
+        }
+    }
+
+    /// The line for standard error, behind the program's name.
+    pub fn line(self) -> &'static str {
+        match self {
+            Fault::NotLegal => "a transcript was not judged legal",
+            Fault::Memory => "out of memory",
+            Fault::Usage => "usage: irp_bench [locks|calls|write|read|check]",
+            Fault::Failed => "the clock, the output or a call failed",
+        }
+    }
 }
 
 impl From<AllocError> for Fault {
-    ghost use Rattle.std.specs.Prelude.{◌≡◌};
-    ghost use Rattle.irp_bench.specs.declared.fault.Fault.TheVariants.{Memory};
-
-    ghost from_gives = { λ _ fault. fault ≡ Memory };
-
     fn from(_error: AllocError) -> Fault {
         Fault::Memory
     }
 }
 
 impl From<io::Error> for Fault {
-    ghost use Rattle.std.specs.Prelude.{◌≡◌};
-    ghost use Rattle.irp_bench.specs.declared.fault.Fault.TheVariants.{Io};
-
-    ghost from_gives = { λ _ fault. fault ≡ Io };
-
     fn from(_error: io::Error) -> Fault {
-        Fault::Io
-    }
-}
-
-impl From<WriteFault> for Fault {
-    ghost use Rattle.std.specs.Prelude.{◌≡◌};
-    ghost use Rattle.irp_bench.specs.Ending.{fault_of};
-
-    ghost from_gives = { λ write fault. fault ≡ fault_of write.cause };
-
-    fn from(write: WriteFault) -> Fault {
-        match write.cause {
-            Cause::Io => Fault::Io,
-            Cause::Memory => Fault::Memory,
-        }
+        Fault::Failed
     }
 }
 
 impl From<ReadFault> for Fault {
-    ghost use Rattle.std.specs.Prelude.{◌≡◌};
-    ghost use Rattle.irp_bench.specs.Ending.{fault_of_read};
-
-    ghost from_gives = { λ read fault. fault ≡ fault_of_read read };
-
-    fn from(read: ReadFault) -> Fault {
-        match read {
-            ReadFault::Line(_) => Fault::Refused,
+    fn from(fault: ReadFault) -> Fault {
+        match fault {
+            ReadFault::Line(_) => Fault::Failed,
             ReadFault::NoMemory => Fault::Memory,
         }
     }
 }
 
 impl From<serde_json::Error> for Fault {
-    ghost use Rattle.std.specs.Prelude.{⊤};
-
-    ghost from_gives = { λ _ _. ⊤ };
-
     fn from(error: serde_json::Error) -> Fault {
         if error.is_memory() {
             Fault::Memory
         } else {
-            Fault::Refused
+            Fault::Failed
         }
     }
 }

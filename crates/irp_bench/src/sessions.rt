@@ -1,13 +1,19 @@
-//! How long recorded calls take, in one thread and in more.
+//! Packets by the manager alone, and in a session, where each call is recorded.
 
-ghost use Rattle.std.specs.Prelude.{◌≡◌, ◌<◌, ◌≤◌, IfOk};
+ghost use Rattle.std.specs.Prelude.{◌≡◌, ◌<◌, ◌≤◌, true, IfOk};
+ghost use Rattle.irp_types.specs.Rules.{is_allowed, is_plan_allowed};
+ghost use Rattle.irp_types.specs.State.{no_routines};
+ghost use Rattle.irp_types.specs.declared.routine.Rule.TheVariants.{Watch};
+ghost use Rattle.irp_bench.specs.Makes.{MakesPacket, Repeats};
 
-use crate::caller::Recorder;
+use crate::caller::{Caller, Recorder};
+use crate::done::Done;
 use crate::fault::Fault;
-use crate::figures::CallFigures;
-use crate::packets::rounds;
-use irp_routines::{AnswerTable, Ask};
-use irp_shared::{Seat, Session, Shared, open};
+use crate::packets::{Packet, READ, repeat, set_up};
+use irp_manager::Manager;
+use irp_routines::{Ask, Dispatch, Routine, Store};
+use irp_shared::{Seat, Session, Shared, Transcript, open};
+use irp_types::{Answer, Known, Plan, RoutineId, Rule, Setting, Shown, Status};
 use std::alloc::Global;
 use std::marker::Brand;
 use std::rt::Clock;
@@ -16,90 +22,220 @@ use std::sync::ledger::Blank;
 use std::thread::{self, Threads};
 use std::time::{Duration, Instant};
 
-/// How many rounds of four calls are made in one session, by all seats together. A history has at most 1,000,000 entries.
-const ROUNDS: u32 = 50_000;
+/// The routines that the dispatch may name: one of rule Watch.
+const KNOWN: Known = Known {
+    watch: 1,
+    ..Known::NONE
+};
 
-/// How many sessions there are. The least time counts, since what else runs on the machine only adds to it.
-const SESSIONS: u32 = 5;
+/// The routine of rule Watch, on success, on error and on cancel.
+const SETTING: Setting = Setting {
+    routine: RoutineId {
+        rule: Rule::Watch,
+        no: 0,
+    },
+    context: 0,
+    on_success: true,
+    on_error: true,
+    on_cancel: true,
+};
 
-/// Makes so many rounds in a seat, or stops at the first that is answered otherwise than it should be. The seat.
-fn made<A: Ask, L: Session, R: Wait>(
+/// What is done, and what is there before.
+#[derive(Clone, Copy)]
+pub struct Work {
+    /// What is done with each packet.
+    pub packet: Packet,
+    /// With how many packets, by each caller.
+    pub count: u32,
+    /// How many devices stand in the stack.
+    pub devices: u32,
+    /// How many packets are live all the time.
+    pub live: u32,
+    /// In how many seats of a session, each in a thread of its own; none: by the manager alone.
+    pub seats: Option<u32>,
+}
+
+/// How long the work took, and the transcript where it was recorded.
+#[derive(Drop)]
+pub struct Outcome {
+    /// How long it took. What is there before is not in the time, nor is the closing of the session.
+    pub taken: Duration,
+    /// The transcript of the session.
+    pub transcript: Option<Transcript>,
+}
+
+/// What the dispatch plans: it passes the packet down with the completion routine where a device stands below, and else
+/// finishes it with success.
+fn forwards(shown: Shown) -> Plan
+    ensures { is_plan_allowed (record no_routines { watch = 1 }) shown result ≡ true }
+{
+    if shown.has_lower {
+        Plan::Forward { set: Some(SETTING) }
+    } else {
+        Plan::Finish {
+            status: Status::SUCCESS,
+            information: 5,
+        }
+    }
+}
+
+/// What the completion routine answers: it continues, and replaces nothing.
+fn watches(shown: Shown) -> Answer
+    ensures { is_allowed Watch shown result ≡ true }
+{
+    Answer {
+        keep: false,
+        mark: Rule::right_mark(shown, false),
+        replacement: None,
+    }
+}
+
+/// Does the work with this caller, and answers how long it took.
+fn timed<C: Caller, R: Clock>(rt: &R, caller: &mut C, work: Work) -> Result<Duration, Fault>
+    requires { C.is_ready caller.old }
+    ensures { IfOk result (λ _. Repeats (MakesPacket C.makes work.packet) work.count caller.old caller.new) }
+{
+    let start = Instant::now(rt)?;
+    repeat(caller, work.packet, work.count)?;
+    Ok(start.elapsed(rt)?)
+}
+
+/// Does the work by the manager alone.
+fn alone<A: Ask + Drop, R: Clock>(
+    rt: &R,
+    alloc: Global,
+    ask: A,
+    work: Work,
+) -> Result<Outcome, Fault> {
+    let mut manager = Manager::new(alloc, ask, 1);
+    set_up(&mut manager, work.devices, work.live)?;
+    Ok(Outcome {
+        taken: timed(rt, &mut manager, work)?,
+        transcript: None,
+    })
+}
+
+/// Makes calls in a seat, and gives it back.
+fn in_seat<A: Ask, L: Session, R: Wait>(
     rt: &R,
     shared: &Shared<A, L>,
     seat: Seat<L>,
-    count: u32,
-) -> Seat<L> {
-    let mut caller = Recorder::new(rt, shared, seat);
-    let _all = rounds(&mut caller, count);
-    caller.into_seat()
+    work: Work,
+    is_first: bool,
+) -> Result<Seat<L>, Fault> {
+    let mut caller = Recorder { rt, shared, seat };
+    if is_first {
+        set_up(&mut caller, work.devices, work.live)?;
+    } else {
+        repeat(&mut caller, work.packet, work.count)?;
+    }
+    let Recorder {
+        rt: _,
+        shared: _,
+        seat,
+    } = caller;
+    Ok(seat)
 }
 
-/// How long so many seats take for this many rounds each, every seat in a thread of its own. To open the session and to
-/// close it is not in the time.
-fn session<A: Ask + Send + Drop, L: Session + Send + Sync, R: Threads + Wait + Sync + Clock>(
+/// Does the work in a session of so many seats, each in a thread of its own.
+fn recorded<A: Ask + Send + Drop, L: Session + Send + Sync, R: Threads + Wait + Sync + Clock>(
     rt: &R,
     alloc: Global,
     blank: Blank,
     ask: A,
     locks: u32,
     seats: u32,
-    count: u32,
-) -> Result<Duration, Fault>
+    work: Work,
+) -> Result<Outcome, Fault>
     requires blank { (blank.name ≡ L.name) × (blank.parts ≡ L.parts) }
     requires seats { (L.parts ≡ seats) × (L.seats ≡ seats) }
     requires fixed { L.fixed ≡ record { locks = locks; tables = A.tables ask } }
-    requires few { (0 < seats) × (seats ≤ 64) }
 {
-    // The counts are good, so only want of memory is left.
-    let Ok((shared, places)) = open::<A, L>(alloc, blank, ask, locks, seats) else {
+    let Ok((shared, mut places)) = open::<A, L>(alloc, blank, ask, locks, seats) else {
         return Err(Fault::Memory);
     };
     let lent = &shared;
+    if let Some(seat) = places.pop() {
+        if places.push(in_seat(rt, lent, seat, work, true)?).is_err() {
+            return Err(Fault::Memory);
+        }
+    }
     let start = Instant::now(rt)?;
-    let done = thread::map_vec(rt, places, &|seat| made(rt, lent, seat, count))?;
+    let made = thread::map_vec(rt, places, &|seat| in_seat(rt, lent, seat, work, false))?;
     let taken = start.elapsed(rt)?;
-    let Ok(transcript) = shared.close(done) else {
-        return Err(Fault::Refused);
-    };
-    let entries = transcript.entries().len() as u64;
-    if entries == 4 * u64::from(seats) * u64::from(count) {
-        Ok(taken)
-    } else {
-        Err(Fault::Refused)
+    let mut done = Vec::new(alloc);
+    for seat in made {
+        if done.push(seat?).is_err() {
+            return Err(Fault::Memory);
+        }
+    }
+    match shared.close(done) {
+        Ok(transcript) => Ok(Outcome {
+            taken,
+            transcript: Some(transcript),
+        }),
+        Err(_) => Err(Fault::Failed),
     }
 }
 
-/// How long so many threads take for this many rounds each, on one manager with one remove lock. The calls ask no
-/// closure, so none is there.
-fn round_time<R: Threads + Wait + Sync + Clock>(
+/// Does the work with this store.
+fn with_store<R: Threads + Wait + Sync + Clock>(
     rt: &R,
     alloc: Global,
-    threads: u32,
-    count: u32,
-) -> Result<Duration, Fault>
-    requires { (0 < threads) × (threads ≤ 64) }
-{
-    let blank = Blank::new(u64::from(threads));
-    let table = AnswerTable::new(alloc);
-    session::<AnswerTable, Brand, R>(rt, alloc, blank, table, 1, threads, count)
+    store: Store,
+    work: Work,
+) -> Result<Outcome, Fault> {
+    match work.seats {
+        None => alone(rt, alloc, store, work),
+        Some(seats) => {
+            let blank = Blank::new(u64::from(seats));
+            recorded::<Store, Brand, R>(rt, alloc, blank, store, 1, seats, work)
+        }
+    }
 }
 
-/// The figures for so many threads, which share the rounds: the least time of some sessions.
-pub fn call_figures<R: Threads + Wait + Sync + Clock + AllocGlobal>(
+/// Does the work, with one driver, whose reads each device passes down with a completion routine of rule Watch, and the
+/// lowest finishes.
+pub fn do_work<R: Threads + Wait + Sync + Clock + AllocGlobal>(
     rt: &R,
-    threads: u32,
-) -> Result<CallFigures, Fault>
-    requires { (0 < threads) × (threads ≤ 64) }
-    ensures { IfOk result (λ figures. figures.threads ≡ threads) }
-{
-    let rounds = ROUNDS / threads;
-    let mut taken = Duration::MAX;
-    for _ in 0..SESSIONS {
-        taken = taken.min(round_time(rt, rt.alloc(), threads, rounds)?);
+    work: Work,
+) -> Result<Outcome, Fault> {
+    let alloc = rt.alloc();
+    let Ok(watch) = Box::new(alloc, |shown: Shown| watches(shown)) else {
+        return Err(Fault::Memory);
+    };
+    let Ok(forward) = Box::new(alloc, |shown: Shown| forwards(shown)) else {
+        return Err(Fault::Memory);
+    };
+    let mut store = Store::new(alloc);
+    if store.add(Routine::new(Rule::Watch, watch)).is_err() {
+        return Err(Fault::Memory);
     }
-    Ok(CallFigures {
-        threads,
-        rounds,
-        taken,
-    })
+    let Ok(reads) = store.add_dispatch(Dispatch::new(KNOWN, forward)) else {
+        return Err(Fault::Memory);
+    };
+    if store.add_driver([(READ, reads)].to_vec(alloc)?).is_err() {
+        return Err(Fault::Memory);
+    }
+    with_store(rt, alloc, store, work)
+}
+
+/// How many packets are timed, by each caller. A history has at most 1,000,000 entries.
+const PACKETS: u32 = 20_000;
+
+/// Times what is done with packets, in a stack of so many devices.
+pub fn packets<R: Threads + Wait + Sync + Clock + AllocGlobal>(
+    rt: &R,
+    packet: Packet,
+    devices: u32,
+    seats: Option<u32>,
+) -> Result<Done, Fault> {
+    let work = Work {
+        packet,
+        count: PACKETS,
+        devices,
+        live: 1,
+        seats,
+    };
+    Ok(Done::new(PACKETS, 0, do_work(rt, work)?.taken))
 }

@@ -1,37 +1,232 @@
-//! Transcripts as texts in memory.
+//! Transcripts of sessions: their texts, written and read, also by `serde_json` alone, and their judging.
 
-ghost use Rattle.std.specs.Prelude.{◌≡◌, [], IfOk, IfSome};
+ghost use Rattle.std.specs.Prelude.{◌≡◌, Ok, Some, length, IfOk};
+ghost use Rattle.irp_script.specs.Checked.{IsVerdictOn};
+ghost use Rattle.irp_script.specs.declared.checker.Verdict.TheVariants.{Legal};
 ghost use Rattle.irp_transcript_writer.specs.Lines.{lines, text_of};
-ghost use Rattle.irp_bench.specs.Texts.{HasTaken};
+ghost use Rattle.irp_bench.specs.Makes.{IsReadAs};
 
-use crate::counter::Counter;
+use crate::done::Done;
 use crate::fault::Fault;
+use crate::packets::Packet;
+use crate::sessions::{Work, do_work};
+use irp_script::{Verdict, check};
 use irp_shared::Transcript;
-use irp_transcript_writer::write_transcript;
-use std::alloc::Global;
+use irp_transcript_reader::read_transcript;
+use irp_transcript_writer::{Failed, Out, write_transcript};
+use irp_types::DeviceId;
+use serde_json::Value;
+use std::alloc::{AllocError, Global};
+use std::rt::Clock;
+use std::sync::Wait;
+use std::thread::Threads;
+use std::time::Instant;
 
-/// Writes a transcript to this counter, which has taken nothing so far, and gives the counter back.
-///
-/// # Errors
-///
-/// `Memory` where memory ran out; `Io` where the counter could not keep the text.
-pub fn written(alloc: Global, counter: Counter, transcript: &Transcript) -> Result<Counter, Fault>
-    requires { IfSome counter.kept (λ kept. kept.items ≡ []) }
-    ensures { IfOk result (λ after. IfSome counter.kept (λ _. HasTaken after (text_of (lines transcript.now)))) }
-{
-    let mut counter = counter;
-    write_transcript(alloc, &mut counter, transcript)?;
-    Ok(counter)
+/// How many lines' values are written by `serde_json` alone.
+const LINES: usize = 10_000;
+
+/// How many devices stand in the stack that packets are sent through.
+const DEVICES: u32 = 4;
+
+/// How many calls come first: four devices are created, three attached, and a packet is allocated that stays.
+const FIRST_CALLS: u32 = 8;
+
+/// What is done with a transcript or its text.
+#[derive(Clone, Copy)]
+pub enum Task {
+    /// The transcript is written.
+    Write,
+    /// The values of the text's first lines are written by `serde_json` alone.
+    WriteValues,
+    /// The text is read as a transcript.
+    Read,
+    /// The values of the text's lines are read by `serde_json` alone, and dropped.
+    ReadValues,
+    /// The transcript is judged.
+    Judge,
 }
 
-/// The text of a transcript.
+/// A transcript and its text.
+#[derive(Drop)]
+pub struct Sample {
+    entries: u32,
+    transcript: Transcript,
+    text: Vec<u8>,
+}
+
+/// A text in memory, and how often it could not grow.
+#[derive(Drop)]
+struct TextOut {
+    bytes: Vec<u8>,
+    failures: u64,
+}
+
+/// A put fails only where memory runs out.
+impl Out for TextOut {
+    ghost gone = { λ text. Some text.bytes.items };
+
+    ghost failures = { λ text. text.failures };
+
+    fn put(&mut self, piece: &[u8]) -> Result<usize, Failed> {
+        if self.bytes.extend_from_slice(piece).is_err() {
+            self.failures = self.failures.wrapping_add(1);
+            return Err(Failed);
+        }
+        Ok(piece.len())
+    }
+}
+
+/// The text of a transcript, with room for so many bytes from the beginning.
+fn text(alloc: Global, transcript: &Transcript, room: usize) -> Result<Vec<u8>, Fault>
+    ensures { IfOk result (λ text. text.items ≡ text_of (lines transcript.now)) }
+{
+    let mut text = TextOut {
+        bytes: Vec::with_capacity(alloc, room)?,
+        failures: 0,
+    };
+    if write_transcript(alloc, &mut text, transcript).is_err() {
+        return Err(Fault::Memory);
+    }
+    let TextOut { bytes, failures: _ } = text;
+    Ok(bytes)
+}
+
+/// A transcript of so many entries, and its text: in a session of one seat, packets are sent through four devices.
 ///
 /// # Errors
 ///
-/// `Memory` or `Io` where memory ran out.
-pub fn text(alloc: Global, transcript: &Transcript) -> Result<Vec<u8>, Fault>
-    ensures { IfOk result (λ text. text.items ≡ text_of (lines transcript.now)) }
+/// `Memory` where memory ran out, and `Failed` where a call was answered otherwise than it should be, or the number of
+/// entries can't be had: it is a multiple of four, and at most 1,000,000.
+pub fn record_sample<R: Threads + Wait + Sync + Clock + AllocGlobal>(
+    rt: &R,
+    entries: u32,
+) -> Result<Sample, Fault>
+    ensures entries { IfOk result (λ sample. (sample.entries ≡ entries) × (length sample.transcript.entries ≡ entries)) }
+    ensures text { IfOk result (λ sample. sample.text.items ≡ text_of (lines sample.transcript)) }
 {
-    let counter = written(alloc, Counter::keeping(alloc), transcript)?;
-    counter.into_kept().ok_or(Fault::Refused)
+    let work = Work {
+        packet: Packet::Sent(DeviceId(DEVICES - 1)),
+        count: entries.saturating_sub(FIRST_CALLS) / 4,
+        devices: DEVICES,
+        live: 1,
+        seats: Some(1),
+    };
+    let Some(transcript) = do_work(rt, work)?.transcript else {
+        return Err(Fault::Failed);
+    };
+    if transcript.entries().len() != entries as usize {
+        return Err(Fault::Failed);
+    }
+    let text = text(rt.alloc(), &transcript, 0)?;
+    Ok(Sample {
+        entries,
+        transcript,
+        text,
+    })
+}
+
+/// Writes the transcript.
+fn write<R: Clock>(rt: &R, alloc: Global, sample: &Sample) -> Result<Done, Fault>
+    ensures { IfOk result (λ done. done.bytes ≡ length (text_of (lines sample.now.transcript))) }
+{
+    let start = Instant::now(rt)?;
+    let text = text(alloc, &sample.transcript, sample.text.len())?;
+    let taken = start.elapsed(rt)?;
+    Ok(Done::new(sample.entries, text.len() as u64, taken))
+}
+
+/// Writes each value's compact text, and counts the bytes with a newline behind each.
+fn write_lines(alloc: Global, values: &[Value]) -> Result<u64, AllocError> {
+    let mut bytes: u64 = 0;
+    for value in values {
+        let line = value.to_vec(alloc)?;
+        bytes = bytes.saturating_add(line.len() as u64).saturating_add(1);
+    }
+    Ok(bytes)
+}
+
+/// Writes the values of the text's first lines by `serde_json` alone. To read them is not in the time.
+fn write_values<R: Clock>(rt: &R, alloc: Global, sample: &Sample) -> Result<Done, Fault> {
+    let mut values = Vec::new(alloc);
+    let mut expected: u64 = 0;
+    for line in sample.text.split_inclusive(|&byte| byte == b'\n') {
+        if values.len() == LINES {
+            break;
+        }
+        serde_json::push(&mut values, Value::from_slice(alloc, line)?)?;
+        expected = expected.saturating_add(line.len() as u64);
+    }
+    let start = Instant::now(rt)?;
+    let bytes = write_lines(alloc, values.as_slice())?;
+    let taken = start.elapsed(rt)?;
+    if bytes != expected {
+        return Err(Fault::Failed);
+    }
+    Ok(Done::new(LINES as u32, bytes, taken))
+}
+
+/// Reads the text as a transcript. To drop the transcript is not in the time.
+fn read<R: Clock>(rt: &R, alloc: Global, sample: &Sample) -> Result<Done, Fault>
+    ensures { IfOk result (λ _. IsReadAs sample.now.text.items sample.now.entries) }
+{
+    let text = sample.text.as_slice();
+    let start = Instant::now(rt)?;
+    let transcript = read_transcript(alloc, text)?;
+    let taken = start.elapsed(rt)?;
+    if transcript.entries().len() != sample.entries as usize {
+        return Err(Fault::Failed);
+    }
+    Ok(Done::new(sample.entries, text.len() as u64, taken))
+}
+
+/// Reads the value of each line, drops it, and counts the lines.
+fn read_lines(alloc: Global, text: &[u8]) -> Result<u64, Fault> {
+    let mut lines: u64 = 0;
+    for line in text.split_inclusive(|&byte| byte == b'\n') {
+        let _value = Value::from_slice(alloc, line)?;
+        lines = lines.saturating_add(1);
+    }
+    Ok(lines)
+}
+
+/// Reads the values of the text's lines by `serde_json` alone: the header's, and those of the entries.
+fn read_values<R: Clock>(rt: &R, alloc: Global, sample: &Sample) -> Result<Done, Fault> {
+    let text = sample.text.as_slice();
+    let start = Instant::now(rt)?;
+    let lines = read_lines(alloc, text)?;
+    let taken = start.elapsed(rt)?;
+    if lines != u64::from(sample.entries) + 1 {
+        return Err(Fault::Failed);
+    }
+    Ok(Done::new(sample.entries, text.len() as u64, taken))
+}
+
+/// Judges the transcript. There is no time unless it is legal, with all of its entries.
+fn judge<R: Clock>(rt: &R, alloc: Global, sample: &Sample) -> Result<Done, Fault>
+    ensures { IfOk result (λ _. IsVerdictOn sample.now.transcript (Legal sample.now.entries)) }
+{
+    let start = Instant::now(rt)?;
+    let verdict = check(alloc, &sample.transcript)?;
+    let taken = start.elapsed(rt)?;
+    let entries = u64::from(sample.entries);
+    if verdict != (Verdict::Legal { entries }) {
+        return Err(Fault::NotLegal);
+    }
+    Ok(Done::new(sample.entries, sample.text.len() as u64, taken))
+}
+
+/// Does this with the sample.
+pub fn perform<R: Clock>(
+    rt: &R,
+    alloc: Global,
+    task: Task,
+    sample: &Sample,
+) -> Result<Done, Fault> {
+    match task {
+        Task::Write => write(rt, alloc, sample),
+        Task::WriteValues => write_values(rt, alloc, sample),
+        Task::Read => read(rt, alloc, sample),
+        Task::ReadValues => read_values(rt, alloc, sample),
+        Task::Judge => judge(rt, alloc, sample),
+    }
 }

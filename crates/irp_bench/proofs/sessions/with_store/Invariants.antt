@@ -1,4 +1,4 @@
-use Rattle.irp_bench.proofs.descents.times_of.Given as goal
+use Rattle.irp_bench.proofs.sessions.with_store.Given as goal
 
 abbrev pub ghosts-recorded-L-Ledger : goal.ghosts-recorded-L-Ledger
 ghosts-recorded-L-Ledger g a = record { name = a.blank.name; parts = a.blank.parts }
