@@ -5,7 +5,7 @@ ghost use Rattle.irp_types.specs.Standing.{StandingFacts};
 ghost use Rattle.irp_types.specs.declared.asked.Asked.{Asked};
 ghost use Rattle.irp_types.specs.declared.call.Call.{Call};
 ghost use Rattle.irp_types.specs.declared.reply.Reply.{Reply};
-ghost use Rattle.irp_manager.specs.Keeps.{listed};
+ghost use Rattle.irp_manager.specs.Keeps.{slabbed};
 ghost use Rattle.irp_manager.specs.Cores.{state_of, Stepped};
 ghost use Rattle.irp_bench.specs.Makes.{Keeps};
 
@@ -33,9 +33,9 @@ pub trait Caller {
 
 /// The manager alone: each call is one of its steps.
 impl<A: Ask> Caller for Manager<A> {
-    ghost is_ready = { λ manager. StandingFacts (A.tables manager.ask).counts (state_of listed manager.core) };
+    ghost is_ready = { λ manager. StandingFacts (A.tables manager.ask).counts (state_of slabbed manager.core) };
 
-    ghost makes = { λ old call reply new. (drained : Bool) × (asked : List Asked) × Stepped listed (A.tables old.ask) drained old.core call asked reply new.core };
+    ghost makes = { λ old call reply new. (drained : Bool) × (asked : List Asked) × Stepped slabbed (A.tables old.ask) drained old.core call asked reply new.core };
 
     fn reply_to(&mut self, call: Call) -> Result<Reply, Fault> {
         let applied = self.apply(call, &KnowsNothing)?;

@@ -1,5 +1,5 @@
--- Lemmas on the map of a list of slots.
-use Rattle.std.proofs.Common.{◌≡◌, ℕ, ◌+◌, ◌<◌, ◌≤◌, suc, zero, cond, List, [], ◌∷◌, ◌++◌, length, Option, Some, None, is_some, refl, sym, ◌∙◌, ap, subst, arith, inl, inr, set, add-one}
+-- Lemmas on the map of a list of places.
+use Rattle.std.proofs.Common.{◌≡◌, ℕ, ◌+◌, ◌<◌, ◌≤◌, suc, zero, cond, List, [], ◌∷◌, length, Option, Some, None, is_some, refl, sym, ◌∙◌, ap, subst, arith, inl, inr, set, add-one}
 use Rattle.std.proofs.lemmas.List.{get_or-set_same, get_or-set_other}
 use Rattle.std.proofs.lemmas.Bool.{cases_eq, cases_lt}
 use Rattle.std.specs.Ordering.{nat_cmp}
@@ -7,7 +7,7 @@ use Rattle.std.specs.Cmp.{nat_cmp_total}
 use Rattle.std.specs.FinMap as fin
 use Rattle.irp_types.specs.State.{LivePacket}
 use Rattle.irp_manager.specs.Slots.{Slots, place_at, put_if, kept, live_of}
-use Rattle.irp_manager.proofs.Maps.{get_inserted, get_kept, get_removed, get_left, same, remove_absent}
+use Rattle.irp_manager.proofs.Maps.{get_inserted, get_kept, same}
 
 get-put_other : (m : Slots) (k : ℕ) (o : Option LivePacket) (q : ℕ) → (q ≡ k → ⊥) → fin.get (put_if m k o) q ≡ fin.get m q
 get-put_other m k None q h = refl
@@ -41,34 +41,12 @@ get-live xs q =
       | inr h ↦ get-above xs (length xs) q h ∙ sym (past xs q h)
     ]
 
-pub get-live_past : (xs : List (Option LivePacket)) (q : ℕ) → length xs ≤ q → fin.get (live_of xs) q ≡ None
-get-live_past xs q h = get-live xs q ∙ past xs q h
-
 pub live-put : (xs : List (Option LivePacket)) (i : ℕ) (l : LivePacket) → i < length xs → live_of (set xs i (Some l)) ≡ fin.insert (live_of xs) i l
 live-put xs i l h = same _ _ (λ q.
     get-live (set xs i (Some l)) q ∙ elim (cases_eq q i) as (λ _. place_at (set xs i (Some l)) q ≡ fin.get (fin.insert (live_of xs) i l) q) [
       | inl e ↦ subst (λ q. place_at (set xs i (Some l)) q ≡ fin.get (fin.insert (live_of xs) i l) q) (sym e) (get_or-set_same xs i (Some l) None h ∙ sym (get_inserted (live_of xs) i l))
       | inr d ↦ get_or-set_other xs i q (Some l) None d ∙ sym (get-live xs q) ∙ sym (get_kept (live_of xs) i l q d)
     ])
-
-pub live-take : (xs : List (Option LivePacket)) (i : ℕ) → i < length xs → live_of (set xs i None) ≡ fin.remove (live_of xs) i
-live-take xs i h = same _ _ (λ q.
-    get-live (set xs i None) q ∙ elim (cases_eq q i) as (λ _. place_at (set xs i None) q ≡ fin.get (fin.remove (live_of xs) i) q) [
-      | inl e ↦ subst (λ q. place_at (set xs i None) q ≡ fin.get (fin.remove (live_of xs) i) q) (sym e) (get_or-set_same xs i None None h ∙ sym (get_removed (live_of xs) i))
-      | inr d ↦ get_or-set_other xs i q None None d ∙ sym (get-live xs q) ∙ sym (get_left (live_of xs) i q d)
-    ])
-
-pub live-absent : (xs : List (Option LivePacket)) (i : ℕ) → length xs ≤ i → live_of xs ≡ fin.remove (live_of xs) i
-live-absent xs i h = remove_absent (live_of xs) i (get-live_past xs i h)
-
-more : (xs : List (Option LivePacket)) (q : ℕ) → place_at (xs ++ None ∷ []) q ≡ place_at xs q
-more [] zero = refl
-more [] (suc q) = refl
-more (x ∷ xs) zero = refl
-more (x ∷ xs) (suc q) = more xs q
-
-pub live-more : (xs : List (Option LivePacket)) → live_of (xs ++ None ∷ []) ≡ live_of xs
-live-more xs = same _ _ (λ q. get-live (xs ++ None ∷ []) q ∙ more xs q ∙ sym (get-live xs q))
 
 len-put : (m : Slots) (k : ℕ) (o : Option LivePacket) → fin.get m k ≡ None → fin.len (put_if m k o) ≡ (cond (is_some o) (fin.len m + 1) (fin.len m))
 len-put m k None e = refl
@@ -79,5 +57,3 @@ len-kept xs n = rw add-one (len-put (kept xs n) n (place_at xs n) (get-above xs 
 
 pub len-none : (xs : List (Option LivePacket)) → fin.len (kept xs 0) ≡ 0
 len-none xs = fin.len-empty nat_cmp LivePacket
-
-pub ruleset keep_rules = (get-live, get-live_past, live-put, live-take, live-absent, live-more, len-kept, len-none)

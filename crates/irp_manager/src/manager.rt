@@ -6,27 +6,27 @@ ghost use Rattle.irp_types.specs.State.{opening_state};
 ghost use Rattle.irp_types.specs.Standing.{StandingFacts};
 ghost use Rattle.irp_routines.specs.Answers.{AreAnswered};
 ghost use Rattle.irp_manager.specs.Notes.{known_by};
-ghost use Rattle.irp_manager.specs.Keeps.{listed, IsLowest};
+ghost use Rattle.irp_manager.specs.Keeps.{slabbed, IsNext};
 ghost use Rattle.irp_manager.specs.Cores.{state_of, most_asked, Stepped, SenderStays, SlotGranted};
 
-use crate::list_keep::ListKeep;
 use crate::note::DrainNote;
 use crate::sequential::{Applied, Core};
+use crate::slab_keep::SlabKeep;
 use irp_routines::Ask;
 use irp_types::Call;
 use std::alloc::{AllocError, Global};
 
-/// The sequential manager and whom it asks. It wishes for no slot, and keeps its packets in a list (this project's own
+/// The sequential manager and whom it asks. It wishes for no slot, and keeps its packets in a slab (this project's own
 /// rule).
 #[derive(Drop)]
 pub struct Manager<A> {
     ask: A,
-    core: Core<ListKeep>,
+    core: Core<SlabKeep>,
 }
 
 impl<A> Manager<A> {
     /// Whom it asks, and its state.
-    pub(super) fn into_parts(self) -> (A, Core<ListKeep>)
+    pub(super) fn into_parts(self) -> (A, Core<SlabKeep>)
         ensures { (result.0 ≡ self.ask) × (result.1 ≡ self.core) }
     {
         (self.ask, self.core)
@@ -37,34 +37,34 @@ impl<A: Ask> Manager<A> {
     /// A manager without packets and devices, that asks so, with this many remove locks. It takes no memory.
     pub fn new(alloc: Global, ask: A, locks: u32) -> Manager<A>
         ensures ask { result.ask ≡ ask }
-        ensures state { state_of listed result.core ≡ opening_state }
-        ensures stands { StandingFacts (A.tables ask).counts (state_of listed result.core) }
+        ensures state { state_of slabbed result.core ≡ opening_state }
+        ensures stands { StandingFacts (A.tables ask).counts (state_of slabbed result.core) }
         ensures locks { result.core.locks ≡ locks }
     {
         Manager {
             ask,
-            core: Core::new(alloc, ListKeep::new(alloc), locks),
+            core: Core::new(alloc, SlabKeep::new(alloc), locks),
         }
     }
 
     /// Makes one call, in one step of the sequential manager, on condition that the standing facts hold; they hold after
-    /// it too. A new packet gets the lowest slot that isn't live.
+    /// it too. A new packet gets the slot that was given back last, or else the first that was never given out.
     ///
     /// # Errors
     ///
     /// `AllocError` where a growth was refused. The state stays as it was.
     pub fn apply<N: DrainNote>(&mut self, call: Call, note: &N) -> Result<Applied, AllocError>
-        requires stands { StandingFacts (A.tables self.old.ask).counts (state_of listed self.old.core) }
+        requires stands { StandingFacts (A.tables self.old.ask).counts (state_of slabbed self.old.core) }
         ensures ask { self.new.ask ≡ self.old.ask }
-        ensures stepped { IfOk result (λ applied. Stepped listed (A.tables self.old.ask) applied.drained self.old.core call applied.asked.items applied.reply self.new.core) }
-        ensures stands { StandingFacts (A.tables self.old.ask).counts (state_of listed self.new.core) }
+        ensures stepped { IfOk result (λ applied. Stepped slabbed (A.tables self.old.ask) applied.drained self.old.core call applied.asked.items applied.reply self.new.core) }
+        ensures stands { StandingFacts (A.tables self.old.ask).counts (state_of slabbed self.new.core) }
         ensures may { IfOk result (λ applied. AreAnswered (A.may_plan self.old.ask) (A.may_answer self.old.ask) (A.may_cancel self.old.ask) applied.asked.items) }
         ensures few { IfOk result (λ applied. length applied.asked.items ≤ most_asked call) }
-        ensures stays { IfOk result (λ applied. SenderStays listed self.old.core call applied.reply self.new.core) }
-        ensures lowest { IfOk result (λ applied. SlotGranted (λ keep wish slot. IsLowest keep slot) self.old.core None call applied.reply) }
-        ensures lock { IfOk result (λ applied. applied.lock ≡ lock_of (state_of listed self.old.core) call) }
+        ensures stays { IfOk result (λ applied. SenderStays slabbed self.old.core call applied.reply self.new.core) }
+        ensures next { IfOk result (λ applied. SlotGranted (λ keep wish slot. IsNext keep slot) self.old.core None call applied.reply) }
+        ensures lock { IfOk result (λ applied. applied.lock ≡ lock_of (state_of slabbed self.old.core) call) }
         ensures drained { IfOk result (λ applied. applied.drained ≡ known_by (N.knows_drained note.now) applied.lock) }
-        ensures err { OnErr result (state_of listed self.new.core ≡ state_of listed self.old.core) }
+        ensures err { OnErr result (state_of slabbed self.new.core ≡ state_of slabbed self.old.core) }
         ensures locks { self.new.core.locks ≡ self.old.core.locks }
     {
         self.core.apply(&self.ask, call, note, None)
