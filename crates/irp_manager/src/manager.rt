@@ -12,7 +12,7 @@ ghost use Rattle.irp_manager.specs.Cores.{state_of, most_asked, Stepped, SenderS
 use crate::note::DrainNote;
 use crate::sequential::{Applied, Core};
 use crate::slab_keep::SlabKeep;
-use irp_routines::Ask;
+use irp_routines::{Ask, FixedTables};
 use irp_types::Call;
 use std::alloc::{AllocError, Global};
 
@@ -34,6 +34,13 @@ impl<A> Manager<A> {
 }
 
 impl<A: Ask> Manager<A> {
+    /// A copy of the tables of whom it asks. The error where a growth was refused.
+    pub(super) fn copied_tables(&self) -> Result<FixedTables, AllocError>
+        ensures { IfOk result (λ tables. tables ≡ A.tables self.now.ask) }
+    {
+        FixedTables::told_by(self.core.alloc(), &self.ask)
+    }
+
     /// A manager without packets and devices, that asks so, with this many remove locks. It takes no memory.
     pub fn new(alloc: Global, ask: A, locks: u32) -> Manager<A>
         ensures ask { result.ask ≡ ask }

@@ -1,6 +1,6 @@
 //! Who makes calls.
 
-ghost use Rattle.std.specs.Prelude.{◌≡◌, ◌<◌, ◌+◌, ◌++◌, ◌∷◌, [], length, OnOk, if◌then◌else◌, nat_lt};
+ghost use Rattle.std.specs.Prelude.{◌≡◌, ◌<◌, ◌+◌, ◌++◌, ◌∷◌, [], length, OnErr, OnOk, if◌then◌else◌, nat_lt};
 
 use irp_types::Entry;
 use std::alloc::{AllocError, Global};
@@ -74,13 +74,21 @@ impl<L: Ledger> Seat<L> {
         self.entries.len()
     }
 
+    /// The seat's share of the ledger: one part, whose amount is the number of the seat's entries.
+    pub fn share(&self) -> &Share<L>
+        ensures { (result.now.parts ≡ 1) × (result.now.amount ≡ length self.now.entries) }
+    {
+        &self.share
+    }
+
     /// Makes room for one more entry.
     ///
     /// # Errors
     ///
-    /// `AllocError` where a growth was refused. Either way the seat says what it said.
+    /// `AllocError` where a growth was refused, and then the seat is as it was. Either way it says what it said.
     pub fn room(&mut self) -> Result<(), AllocError>
         ensures ok { OnOk result (0 < self.new.room) }
+        ensures err { OnErr result (self.new ≡ self.old) }
         ensures same { (self.new.number ≡ self.old.number) × (self.new.seen ≡ self.old.seen) × (self.new.entries ≡ self.old.entries) }
     {
         self.entries.reserve(1)

@@ -190,7 +190,9 @@ fn closures_are_asked_once_through_a_book(rt: HostRuntime) -> Result<(), Fail> {
     assert!(rt; watch.is_ok() && other.is_ok() && cancel.is_ok() && plan.is_ok());
     let driver = store.add_driver([(READ, DispatchId(0))].to_vec(alloc)?);
     assert!(rt; driver.is_ok());
-    let mut book = Book::new(Manager::new(alloc, store, 1))?;
+    let Ok(mut book) = Book::new(Manager::new(alloc, store, 1)) else {
+        return Err(Fail::from("a book"));
+    };
     send_and_cancel(&rt, alloc, &mut book)?;
     let counts = [&plans, &cancels, &watches, &unmet];
     for (count, wanted) in counts.iter().zip([2, 2, 1, 0]) {
