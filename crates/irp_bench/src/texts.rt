@@ -159,7 +159,7 @@ fn write_values<R: Clock>(rt: &R, alloc: Global, sample: &Sample) -> Result<Done
     let start = Instant::now(rt)?;
     let bytes = write_lines(alloc, values.as_slice())?;
     let taken = start.elapsed(rt)?;
-    if bytes != expected {
+    if bytes != expected || values.len() != LINES {
         return Err(Fault::Failed);
     }
     Ok(Done::new(LINES as u32, bytes, taken))
