@@ -1,6 +1,6 @@
 //! Who makes the calls that are timed.
 
-ghost use Rattle.std.specs.Prelude.{◌≡◌, Bool, List, IfOk};
+ghost use Rattle.std.specs.Prelude.{Bool, List, IfOk};
 ghost use Rattle.irp_types.specs.Standing.{StandingFacts};
 ghost use Rattle.irp_types.specs.declared.asked.Asked.{Asked};
 ghost use Rattle.irp_types.specs.declared.call.Call.{Call};
