@@ -13,28 +13,18 @@ pub enum Fault {
     Memory,
     /// The words are none that the program takes; a request for help is one of these.
     Usage,
-    /// The clock or standard error failed, a call was answered otherwise than it should be, or a text was not what it should be.
+    /// The clock or standard error failed, or a call or a text was not what it should be.
     Failed,
 }
 
 impl Fault {
-    /// The exit status.
-    pub fn status(self) -> u8 {
+    /// The exit status, and the line for standard error, behind the program's name.
+    pub fn told(self) -> (u8, &'static str) {
         match self {
-            Fault::NotLegal => 2,
-            Fault::Memory => 3,
-            Fault::Usage => 4,
-            Fault::Failed => 5,
-        }
-    }
-
-    /// The line for standard error, behind the program's name.
-    pub fn line(self) -> &'static str {
-        match self {
-            Fault::NotLegal => "a transcript was not judged legal",
-            Fault::Memory => "out of memory",
-            Fault::Usage => "usage: irp_bench [locks|calls|write|read|check]",
-            Fault::Failed => "the clock, the output or a call failed",
+            Fault::NotLegal => (2, "a transcript was not judged legal"),
+            Fault::Memory => (3, "out of memory"),
+            Fault::Usage => (4, "usage: irp_bench [locks|calls|write|read|check]"),
+            Fault::Failed => (5, "the clock, the output or a call failed"),
         }
     }
 }

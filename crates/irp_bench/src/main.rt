@@ -39,8 +39,9 @@ fn main(rt: HostRuntime) -> ExitCode {
     let Err(fault) = run(&rt) else {
         return ExitCode::SUCCESS;
     };
-    match eprintln!(&rt; "irp_bench: {}", fault.line()) {
-        Ok(()) => ExitCode::from(fault.status()),
-        Err(_) => ExitCode::from(Fault::Failed.status()),
+    let (status, line) = fault.told();
+    match eprintln!(&rt; "irp_bench: {line}") {
+        Ok(()) => ExitCode::from(status),
+        Err(_) => ExitCode::from(Fault::Failed.told().0),
     }
 }

@@ -1,19 +1,19 @@
 //! Packets by the manager alone, and in a session, where each call is recorded.
 
-ghost use Rattle.std.specs.Prelude.{◌≡◌, ◌<◌, ◌≤◌, true, IfOk};
+ghost use Rattle.std.specs.Prelude.{◌≡◌, ⊤, true, IfOk};
 ghost use Rattle.irp_types.specs.Rules.{is_allowed, is_plan_allowed};
 ghost use Rattle.irp_types.specs.State.{no_routines};
 ghost use Rattle.irp_types.specs.declared.routine.Rule.TheVariants.{Watch};
-ghost use Rattle.irp_bench.specs.Makes.{MakesPacket, Repeats};
+ghost use Rattle.irp_bench.specs.Makes.{Keeps, MakesPacket, Repeats};
 
-use crate::caller::{Caller, Recorder};
+use crate::caller::Caller;
 use crate::done::Done;
 use crate::fault::Fault;
 use crate::packets::{Packet, READ, repeat, set_up};
-use irp_manager::Manager;
+use irp_manager::{KnowsNothing, Manager, NotRecorded};
 use irp_routines::{Ask, Dispatch, Routine, Store};
 use irp_shared::{Seat, Session, Shared, Transcript, open};
-use irp_types::{Answer, Known, Plan, RoutineId, Rule, Setting, Shown, Status};
+use irp_types::{Answer, Call, Known, Plan, Reply, RoutineId, Rule, Setting, Shown, Status};
 use std::alloc::Global;
 use std::marker::Brand;
 use std::rt::Clock;
@@ -62,6 +62,32 @@ pub struct Outcome {
     pub taken: Duration,
     /// The transcript of the session.
     pub transcript: Option<Transcript>,
+}
+
+/// A seat, whose calls of a shared book are recorded.
+#[derive(Drop)]
+struct Recorder<'a, R, A, L: Session> {
+    rt: &'a R,
+    shared: &'a Shared<A, L>,
+    seat: Seat<L>,
+}
+
+/// Each call is recorded, and the seat keeps its entry.
+impl<R: Wait, A: Ask, L: Session> Caller for Recorder<'_, R, A, L> {
+    ghost is_ready = { λ _. ⊤ };
+
+    ghost makes = { λ old call reply new. Keeps old.seat call reply new.seat };
+
+    fn reply_to(&mut self, call: Call) -> Result<Reply, Fault> {
+        let made = self
+            .shared
+            .call(self.rt, &mut self.seat, call, &KnowsNothing);
+        match made {
+            Ok(receipt) => Ok(receipt.reply()),
+            Err(NotRecorded::Memory) => Err(Fault::Memory),
+            Err(_) => Err(Fault::Failed),
+        }
+    }
 }
 
 /// What the dispatch plans: it passes the packet down with the completion routine where a device stands below, and else

@@ -14,41 +14,28 @@ use std::thread::Threads;
 /// How often each load is timed. The least time counts, since what else runs on the machine only adds to it.
 const ROUNDS: u32 = 5;
 
-/// What is timed, for a number: of threads, of devices or of entries.
+/// What is timed, for a number: of threads, of devices or of entries. The names in the table tell what each is.
 #[derive(Clone, Copy)]
 enum Load {
-    /// Pairs of acquire and release on one remove lock, in threads.
     Lock,
-    /// Pairs of fetch-add and fetch-sub on one word, in threads.
     Word,
-    /// Rounds of four calls by the manager alone.
     Rounds,
-    /// Recorded rounds of four calls, in threads.
     RecordedRounds,
-    /// Packets that are not sent.
     Unsent,
-    /// Packets that are sent through devices.
     Sent,
-    /// The same, recorded.
     RecordedUnsent,
-    /// The same, recorded.
     RecordedSent,
-    /// Something with a transcript of so many entries, or its text.
     Text(Task),
 }
 
-/// What is timed, and what beside it.
+/// What a word asks for: a load, with its name, and another that is timed beside it, for each of some numbers.
 #[derive(Clone, Copy)]
 struct Row {
-    /// The word that asks for it.
     word: &'static str,
-    /// What is timed.
+    name: &'static str,
     load: Load,
-    /// What is timed by turns with it.
+    beside_name: &'static str,
     beside: Load,
-    /// What there are so many of.
-    unit: &'static str,
-    /// How many.
     numbers: &'static [u32],
 }
 
@@ -56,72 +43,61 @@ struct Row {
 const TABLE: [Row; 7] = [
     Row {
         word: "locks",
+        name: "acquire and release, threads",
         load: Load::Lock,
+        beside_name: "fetch-add and fetch-sub",
         beside: Load::Word,
-        unit: "threads",
         numbers: &[1, 4],
     },
     Row {
         word: "calls",
+        name: "four recorded calls, threads",
         load: Load::RecordedRounds,
+        beside_name: "four calls by the manager alone",
         beside: Load::Rounds,
-        unit: "threads",
         numbers: &[1, 4],
     },
     Row {
         word: "calls",
+        name: "a packet sent, devices",
         load: Load::Sent,
+        beside_name: "not sent",
         beside: Load::Unsent,
-        unit: "devices",
         numbers: &[1, 4, 16],
     },
     Row {
         word: "calls",
+        name: "a packet sent, recorded, devices",
         load: Load::RecordedSent,
+        beside_name: "recorded, not sent",
         beside: Load::RecordedUnsent,
-        unit: "devices",
         numbers: &[1, 4, 16],
     },
     Row {
         word: "write",
+        name: "write_transcript, entries",
         load: Load::Text(Task::Write),
+        beside_name: "serde_json alone",
         beside: Load::Text(Task::WriteValues),
-        unit: "entries",
         numbers: &[100_000, 1_000_000],
     },
     Row {
         word: "read",
+        name: "read_transcript, entries",
         load: Load::Text(Task::Read),
+        beside_name: "serde_json alone",
         beside: Load::Text(Task::ReadValues),
-        unit: "entries",
         numbers: &[100_000, 1_000_000],
     },
     Row {
         word: "check",
+        name: "check, entries",
         load: Load::Text(Task::Judge),
+        beside_name: "read_transcript",
         beside: Load::Text(Task::Read),
-        unit: "entries",
         numbers: &[10_000, 100_000, 1_000_000],
     },
 ];
-
-/// The load's name.
-fn name(load: Load) -> &'static str {
-    match load {
-        Load::Lock => "acquire and release",
-        Load::Word => "fetch-add and fetch-sub",
-        Load::Rounds => "four calls by the manager alone",
-        Load::RecordedRounds => "four recorded calls",
-        Load::Unsent => "not sent",
-        Load::Sent => "a packet sent",
-        Load::RecordedUnsent => "recorded, not sent",
-        Load::RecordedSent => "a packet sent, recorded",
-        Load::Text(Task::Write) => "write_transcript",
-        Load::Text(Task::Read) => "read_transcript",
-        Load::Text(Task::WriteValues | Task::ReadValues) => "serde_json alone",
-        Load::Text(Task::Judge) => "check",
-    }
-}
 
 /// Runs a load once.
 fn run<R: Threads + Wait + Sync + Clock + AllocGlobal>(
@@ -171,15 +147,11 @@ fn time_row<R: Threads + Wait + Sync + Clock + Eprint + AllocGlobal>(
     rt: &R,
     row: Row,
 ) -> Result<(), Fault> {
-    let load = name(row.load);
-    let beside = name(row.beside);
-    let unit = row.unit;
+    let (name, beside) = (row.name, row.beside_name);
     for &number in row.numbers {
         let (first, second) = least(rt, row, number)?;
         let ratio = first.nanoseconds() / second.nanoseconds();
-        eprintln!(rt;
-            "irp_bench: {load}, {unit} {number}: {first}; {beside}: {second}; ratio {ratio:.2}"
-        )?;
+        eprintln!(rt; "irp_bench: {name} {number}: {first}; {beside}: {second}; ratio {ratio:.2}")?;
     }
     Ok(())
 }

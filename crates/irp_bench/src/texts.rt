@@ -1,6 +1,6 @@
 //! Transcripts of sessions: their texts, written and read, also by `serde_json` alone, and their judging.
 
-ghost use Rattle.std.specs.Prelude.{◌≡◌, Ok, Some, length, IfOk};
+ghost use Rattle.std.specs.Prelude.{◌≡◌, Some, length, IfOk};
 ghost use Rattle.irp_script.specs.Checked.{IsVerdictOn};
 ghost use Rattle.irp_script.specs.declared.checker.Verdict.TheVariants.{Legal};
 ghost use Rattle.irp_transcript_writer.specs.Lines.{lines, text_of};
@@ -159,7 +159,7 @@ fn write_values<R: Clock>(rt: &R, alloc: Global, sample: &Sample) -> Result<Done
     let start = Instant::now(rt)?;
     let bytes = write_lines(alloc, values.as_slice())?;
     let taken = start.elapsed(rt)?;
-    if bytes != expected {
+    if bytes != expected || values.len() != LINES {
         return Err(Fault::Failed);
     }
     Ok(Done::new(LINES as u32, bytes, taken))
