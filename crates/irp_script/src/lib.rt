@@ -1,4 +1,5 @@
-//! Scripts and transcripts: whether a recorded history is one that the sequential manager could have made.
+//! Scripts and transcripts at work: the workers that run a script, and whether a recorded history is one that the
+//! sequential manager could have made.
 #![tactic(auto)]
 
 mod checker;
@@ -6,3 +7,7 @@ mod recorded_answers;
 mod replaying;
 
 pub use checker::{Verdict, check};
+pub use irp_workers::{
+    AlwaysOpen, Gate, ScriptSeat, Worked, cancel_rule, run_workers, script_seats, table_answer,
+    table_cancel, table_plan,
+};

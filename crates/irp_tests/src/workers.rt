@@ -5,10 +5,10 @@ mod working;
 ghost use Rattle.std.specs.Prelude.{◌<◌, ◌≡◌, IfOk};
 
 use irp_routines::{AnswerTable, Ask};
-use irp_script_reader::{Named, Script, ScriptForm, Step, StepAct};
+use irp_script::{AlwaysOpen, Gate, run_workers, script_seats};
 use irp_shared::{Act, Session, Transcript, WordLine, WordReply, open};
+use irp_text::{Named, Script, ScriptForm, Step, StepAct};
 use irp_types::{DeviceId, DriverId, IrpRef, Known, LockNo, Plan, Reply, Row, Status};
-use irp_workers::{AlwaysOpen, Gate, run_workers, script_seats};
 use std::alloc::{AllocError, Global};
 use std::marker::Brand;
 use std::process::Abort;

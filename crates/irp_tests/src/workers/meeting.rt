@@ -3,7 +3,7 @@
 
 use super::{ALLOCATE, CREATE, FINISH, plans_reads, script, session};
 use irp_routines::AnswerTable;
-use irp_workers::Gate;
+use irp_script::Gate;
 use std::marker::Brand;
 use std::sync::atomic::{AtomicBool, AtomicU64, Ordering};
 use std::sync::ledger::Blank;

@@ -5,9 +5,9 @@ use super::{
     worked,
 };
 use irp_routines::AnswerTable;
+use irp_script::Gate;
 use irp_shared::{Act, WordReply};
 use irp_types::{DeviceId, Reply};
-use irp_workers::Gate;
 use std::marker::Brand;
 use std::sync::atomic::{AtomicBool, AtomicU64, Ordering};
 use std::sync::ledger::Blank;

@@ -1,0 +1,9 @@
+//! The texts of scripts and transcripts, read and written: one door to the crates that have a form each.
+#![tactic(auto)]
+
+pub use irp_script_reader::{
+    Behaviour, CompletionRoutine, Fault, Named, Script, ScriptFault, ScriptForm, ScriptRefusal,
+    Section, Step, StepAct, read_script,
+};
+pub use irp_transcript_reader::{ReadFault, read_transcript};
+pub use irp_transcript_writer::{Cause, Failed, Out, WriteFault, WriterOut, write_transcript};
