@@ -101,7 +101,8 @@ pub fn record_sample<R: Threads + Wait + Sync + Clock + AllocGlobal>(
     rt: &R,
     entries: u32,
 ) -> Result<Sample, Fault>
-    ensures entries { IfOk result (λ sample. (sample.entries ≡ entries) × (length sample.transcript.entries ≡ entries)) }
+    ensures told { IfOk result (λ sample. sample.entries ≡ entries) }
+    ensures entries { IfOk result (λ sample. length sample.transcript.entries ≡ entries) }
     ensures text { IfOk result (λ sample. sample.text.items ≡ text_of (lines sample.transcript)) }
 {
     let work = Work {
