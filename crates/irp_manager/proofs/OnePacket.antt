@@ -1,10 +1,10 @@
--- A call on one live packet: it was taken out of its slot, went, and was put back.
-use Rattle.std.proofs.Common.{◌≡◌, ℕ, ◌<◌, ◌≤◌, Bool, false, not, ◌==◌, is_some, List, [], ◌∷◌, Option, Some, None, MatchOption, unwrap_or, refl, sym, ◌∙◌, ap, subst, inl, inr}
+-- A call on one live packet, which is changed in its slot.
+use Rattle.std.proofs.Common.{◌≡◌, ℕ, ◌<◌, ◌≤◌, false, not, ◌==◌, is_some, List, [], ◌∷◌, Option, Some, None, MatchOption, unwrap_or, refl, sym, ◌∙◌, ap, subst, inl, inr}
 use Rattle.std.proofs.lemmas.Bool.{cases_eq}
 use Rattle.std.proofs.lemmas.Option.{same_Some}
 use Rattle.std.specs.FinMap as fin
-use Rattle.irp_types.specs.Checks.{Check, or_else}
-use Rattle.irp_types.specs.Refusals.{has_ended, is_owner, party_refusal}
+use Rattle.irp_types.specs.Checks.{Check, first_failing, or_else}
+use Rattle.irp_types.specs.Refusals.{has_ended, is_owner, packet_refusal, party_refusal}
 use Rattle.irp_types.specs.declared.call.Party.{Party}
 use Rattle.irp_types.specs.declared.refusal.Refusal.TheVariants.{NoIrp, Stale, NotOwner, Ended as HasEnded}
 use Rattle.irp_types.specs.Packet.{PacketValue, new_packet}
@@ -20,24 +20,28 @@ use Rattle.irp_types.specs.declared.asked.Asked.{Asked}
 use Rattle.irp_types.specs.declared.reply.Reply.{Reply}
 use Rattle.irp_types.specs.declared.reply.Reply.TheVariants.{Refused}
 use Rattle.irp_manager.specs.Slots.{Slots}
-use Rattle.irp_manager.specs.Calls.{Goes}
+use Rattle.irp_manager.specs.Calls.{Goes, packet_refusal_in, party_refusal_in}
 use Rattle.irp_manager.proofs.Sound.{passed}
-use Rattle.irp_manager.proofs.Maps.{get_inserted, get_kept, put_back, insert_same}
+use Rattle.irp_manager.proofs.Maps.{get_inserted, get_kept, insert_same}
+
+-- what no slot has
+abbrev nothing : LivePacket
+nothing = record { packet = new_packet 1; use_no = 0 }
 
 -- the state once another packet was put into a slot
 abbrev pub putting : StateValue → ℕ → LivePacket → StateValue
 putting state slot live = record state { live = fin.insert state.live slot live }
 
 pub found : (state : StateValue) (slot : ℕ) (live : LivePacket) → live_at state slot ≡ Some live → packet_at state slot ≡ live
-found state slot live at = ap (λ given. unwrap_or given (record { packet = new_packet 1; use_no = 0 })) at
+found state slot live at = ap (λ given. unwrap_or given nothing) at
 
--- where a packet that was taken out and put back stands
+-- where a packet that was changed in its slot stands
 pub stays_on : (state : StateValue) (irp : IrpRef) (live new : LivePacket) (slots : Slots) (status : Status)
-    → live_at state irp.slot ≡ Some live → slots ≡ fin.insert (fin.remove state.live irp.slot) irp.slot new
+    → live_at state irp.slot ≡ Some live → slots ≡ fin.insert state.live irp.slot new
     → StaysUp live.packet new.packet status → StaysUp (packet_of state irp) (packet_of (record state { live = slots }) irp) status
 stays_on state irp live new slots status at put stays =
     let after = record state { live = slots } in
-    let here : live_at after irp.slot ≡ Some new = ap (λ given. fin.get given irp.slot) put ∙ get_inserted (fin.remove state.live irp.slot) irp.slot new in
+    let here : live_at after irp.slot ≡ Some new = ap (λ given. fin.get given irp.slot) put ∙ get_inserted state.live irp.slot new in
     subst (λ (given : LivePacket × LivePacket). StaysUp given.0.packet given.1.packet status)
     (λ i. (sym (found state irp.slot live at) i, sym (found after irp.slot new here) i)) stays
 
@@ -55,32 +59,52 @@ goes_here state slot (Some refusal) becomes live new asked reply at goes =
     let same : putting state slot live ≡ state = λ i. record state { live = insert_same state.live slot live at i } in
     (goes.0, goes.1, ap (putting state slot) goes.2 ∙ same)
 
--- the checks of the party passed, and the packet's own checks follow
-pub goes_on : (state : StateValue) (irp : IrpRef) (party : Option Refusal) (refusal : PacketValue → Option Refusal) (becomes : PacketValue → PacketValue → Type 0) (live new : LivePacket) (asked : List Asked) (reply : Reply) (slots : Slots)
-    → party ≡ None → live_at state irp.slot ≡ Some live → slots ≡ fin.insert (fin.remove state.live irp.slot) irp.slot new
-    → Goes (refusal live.packet) (becomes live.packet) live new asked reply
-    → GoesOn (or_else party (refusal (packet_of state irp))) (becomes (packet_of state irp)) state irp.slot asked reply (record state { live = slots })
-goes_on state irp party refusal becomes live new asked reply slots none at put goes =
+-- the checks of the reference come first, and the packet's own checks follow
+pub goes_on : (state : StateValue) (irp : IrpRef) (checks here : Option Refusal) (refusal : PacketValue → Option Refusal) (becomes : PacketValue → PacketValue → Type 0) (live new : LivePacket) (asked : List Asked) (reply : Reply) (slots : Slots)
+    → checks ≡ here → live_at state irp.slot ≡ Some live → slots ≡ fin.insert state.live irp.slot new
+    → Goes (or_else here (refusal live.packet)) (becomes live.packet) live new asked reply
+    → GoesOn (or_else checks (refusal (packet_of state irp))) (becomes (packet_of state irp)) state irp.slot asked reply (record state { live = slots })
+goes_on state irp checks here refusal becomes live new asked reply slots same at put goes =
     let is = found state irp.slot live at in
-    let after : putting state irp.slot new ≡ record state { live = slots } = λ i. record state { live = (sym (put_back state.live irp.slot new) ∙ sym put) i } in
+    let after : putting state irp.slot new ≡ record state { live = slots } = λ i. record state { live = sym put i } in
     subst (λ (given : Option Refusal × LivePacket × StateValue).
     MatchOption (or_else given.0 (refusal given.1.packet))
     ((packet : PacketValue) × becomes given.1.packet packet × (given.2 ≡ putting state irp.slot (record given.1 { packet = packet })))
     (λ refused. Unasked asked reply given.2 (Refused refused) state))
-    (λ i. (sym none i, sym is i, after i))
-    (goes_here state irp.slot (refusal live.packet) (becomes live.packet) live new asked reply at goes)
+    (λ i. (sym same i, sym is i, after i))
+    (goes_here state irp.slot (or_else here (refusal live.packet)) (becomes live.packet) live new asked reply at goes)
+
+-- the checks of a reference, where its slot has a packet
+pub packet_checked : (state : StateValue) (irp : IrpRef) (live : LivePacket) → live_at state irp.slot ≡ Some live → packet_refusal state irp ≡ packet_refusal_in (Some live) irp
+packet_checked state irp live at =
+    ap (λ (given : Option LivePacket). first_failing ((not (is_some given), NoIrp) ∷ (not ((unwrap_or given nothing).use_no == irp.use_no), Stale) ∷ [])) at
+
+-- the checks of a reference and a party, where the slot has a packet
+pub party_checked : (state : StateValue) (party : Party) (irp : IrpRef) (live : LivePacket) → live_at state irp.slot ≡ Some live → party_refusal state party irp ≡ party_refusal_in (Some live) party irp
+party_checked state party irp live at =
+    ap (λ (given : Option LivePacket).
+    let packet = unwrap_or given nothing in
+    first_failing (
+    (not (is_some given), NoIrp)
+    ∷ (not (packet.use_no == irp.use_no), Stale)
+    ∷ (has_ended packet.packet.owner, HasEnded)
+    ∷ (not (is_owner party packet.packet.owner), NotOwner) ∷ [])) at
+
+-- a call of a party on the packet of a slot
+pub party_goes_on : (state : StateValue) (party : Party) (irp : IrpRef) (refusal : PacketValue → Option Refusal) (becomes : PacketValue → PacketValue → Type 0) (live new : LivePacket) (asked : List Asked) (reply : Reply) (slots : Slots)
+    → live_at state irp.slot ≡ Some live → slots ≡ fin.insert state.live irp.slot new
+    → Goes (or_else (party_refusal_in (Some live) party irp) (refusal live.packet)) (becomes live.packet) live new asked reply
+    → GoesOn (or_else (party_refusal state party irp) (refusal (packet_of state irp))) (becomes (packet_of state irp)) state irp.slot asked reply (record state { live = slots })
+party_goes_on state party irp refusal becomes live new asked reply slots at put goes =
+    goes_on state irp (party_refusal state party irp) (party_refusal_in (Some live) party irp) refusal becomes live new asked reply slots (party_checked state party irp live at) at put goes
 
 -- the packet of a party that owns it has not ended
-pub not_ended : (state : StateValue) (party : Party) (irp : IrpRef) (live : LivePacket) → party_refusal state party irp ≡ None → live_at state irp.slot ≡ Some live → has_ended live.packet.owner ≡ false
-not_ended state party irp live none at =
-    let packet = packet_of state irp in
-    let owned : List Check = (not (is_owner party packet.owner), NotOwner) ∷ [] in
-    let used : List Check = (has_ended packet.owner, HasEnded) ∷ owned in
-    let is_stale : Bool = not ((packet_at state irp.slot).use_no == irp.use_no) in
-    let there = passed (not (is_some (live_at state irp.slot))) NoIrp ((is_stale, Stale) ∷ used) none in
-    let current = passed is_stale Stale used there.1 in
-    let unended = passed (has_ended packet.owner) HasEnded owned current.1 in
-    subst (λ (given : LivePacket). has_ended given.packet.owner ≡ false) (found state irp.slot live at) unended.0
+pub not_ended : (party : Party) (irp : IrpRef) (live : LivePacket) → party_refusal_in (Some live) party irp ≡ None → has_ended live.packet.owner ≡ false
+not_ended party irp live none =
+    let owned : List Check = (not (is_owner party live.packet.owner), NotOwner) ∷ [] in
+    let used : List Check = (has_ended live.packet.owner, HasEnded) ∷ owned in
+    let current = passed (not (live.use_no == irp.use_no)) Stale used none in
+    (passed (has_ended live.packet.owner) HasEnded owned current.1).0
 
 -- the use of a packet stays through a call
 same_use : (refusal : Option Refusal) (becomes : PacketValue → Type 0) (live new : LivePacket) (asked : List Asked) (reply : Reply) → Goes refusal becomes live new asked reply → new.use_no ≡ live.use_no
@@ -128,9 +152,9 @@ stands_put counts state slot live new at number_same sound stands =
 
 -- the standing facts, once a call on one packet went
 pub stands_on : (counts : Known) (state : StateValue) (slot : ℕ) (refusal : Option Refusal) (becomes : PacketValue → Type 0) (live new : LivePacket) (asked : List Asked) (reply : Reply) (slots : Slots)
-    → live_at state slot ≡ Some live → slots ≡ fin.insert (fin.remove state.live slot) slot new → Goes refusal becomes live new asked reply
+    → live_at state slot ≡ Some live → slots ≡ fin.insert state.live slot new → Goes refusal becomes live new asked reply
     → IsSound counts new.packet → StandingFacts counts state → StandingFacts counts (record state { live = slots })
 stands_on counts state slot refusal becomes live new asked reply slots at put goes sound stands =
-    let after : putting state slot new ≡ record state { live = slots } = λ i. record state { live = (sym (put_back state.live slot new) ∙ sym put) i } in
+    let after : putting state slot new ≡ record state { live = slots } = λ i. record state { live = sym put i } in
     subst (StandingFacts counts) after
     (stands_put counts state slot live new at (same_use refusal becomes live new asked reply goes) sound stands)

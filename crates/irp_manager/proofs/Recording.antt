@@ -8,7 +8,7 @@ use Rattle.irp_types.specs.State.{StateValue, LivePacket, Fixed, opening_state, 
 use Rattle.std.specs.Prelude.{MatchOption}
 use Rattle.irp_types.specs.Checks.{Check, first_failing}
 use Rattle.irp_types.specs.Stacks.{delete_checks}
-use Rattle.irp_types.specs.Refusals.{first_refusal, is_in_flight}
+use Rattle.irp_types.specs.Refusals.{is_in_flight}
 use Rattle.irp_types.specs.Steps.{Step, Effect, Unasked}
 use Rattle.irp_types.specs.Histories.{IsEntryAt, LeadsTo, IsLegal, HistoryGoesOn}
 use Rattle.irp_types.specs.declared.names.DeviceId.{DeviceId}

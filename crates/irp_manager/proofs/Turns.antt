@@ -22,7 +22,7 @@ use Rattle.irp_types.specs.declared.reply.Reply.{Reply}
 use Rattle.irp_types.specs.declared.reply.Reply.TheVariants.{Done, Previous, Refused}
 use Rattle.irp_manager.specs.Calls.{Goes, Fills, Copies, Leaves, Sets, Marks, Sends, Finishes, SetsCancel}
 use Rattle.irp_manager.proofs.OnePacket.{GoesOn}
-use Rattle.irp_manager.proofs.Sound.{sound_set_next, sound_copy, sound_skip, sound_set_routine, sound_mark, sound_set_cancel}
+use Rattle.irp_manager.proofs.Sound.{both_passed, sound_set_next, sound_copy, sound_skip, sound_set_routine, sound_mark, sound_set_cancel}
 
 -- an effect in place of another, where nothing was refused
 if_none : (refusal : Option Refusal) (one two : Type 0) (refused : Refusal → Type 0) → (one → two) → MatchOption refusal one refused → MatchOption refusal two refused
@@ -51,11 +51,12 @@ kept_by : (P : PacketValue → Type 0) (refusal : Option Refusal) (after : Packe
 kept_by P None after reply told live new goes made before = subst P (sym (goes.1.0) ∙ ap (λ (given : LivePacket). given.packet) (sym goes.2)) (made refl)
 kept_by P (Some refusal) after reply told live new goes made before = subst P (ap (λ (given : LivePacket). given.packet) (sym goes.2)) before
 
-pub filled_sound : (counts : Known) (major word : ℕ) (reply : Reply) (live new : LivePacket) → Goes (set_next_refusal live.packet major) (Fills major word [] reply live.packet) live new [] reply
+pub filled_sound : (counts : Known) (here : Option Refusal) (major word : ℕ) (reply : Reply) (live new : LivePacket)
+    → Goes (or_else here (set_next_refusal live.packet major)) (Fills major word [] reply live.packet) live new [] reply
     → IsSound counts live.packet → IsSound counts new.packet
-filled_sound counts major word reply live new goes sound =
-    kept_by (IsSound counts) (set_next_refusal live.packet major) (after_set_next live.packet major word) reply Done live new goes
-    (λ none. sound_set_next counts live.packet major word none sound) sound
+filled_sound counts here major word reply live new goes sound =
+    kept_by (IsSound counts) (or_else here (set_next_refusal live.packet major)) (after_set_next live.packet major word) reply Done live new goes
+    (λ none. sound_set_next counts live.packet major word (both_passed here (set_next_refusal live.packet major) none).1 sound) sound
 
 pub copied_step : (fixed : Fixed) (drained : Bool) (old : StateValue) (party : Party) (irp : IrpRef) (reply : Reply) (new : StateValue)
     → GoesOn (or_else (party_refusal old party irp) (copy_to_next_refusal (packet_of old irp))) (Copies [] reply (packet_of old irp)) old irp.slot [] reply new
@@ -63,10 +64,11 @@ pub copied_step : (fixed : Fixed) (drained : Bool) (old : StateValue) (party : P
 copied_step fixed drained old party irp reply new goes =
     quiet old irp.slot (or_else (party_refusal old party irp) (copy_to_next_refusal (packet_of old irp))) (after_copy (packet_of old irp) None) Done reply new goes
 
-pub copied_sound : (counts : Known) (reply : Reply) (live new : LivePacket) → Goes (copy_to_next_refusal live.packet) (Copies [] reply live.packet) live new [] reply
+pub copied_sound : (counts : Known) (here : Option Refusal) (reply : Reply) (live new : LivePacket)
+    → Goes (or_else here (copy_to_next_refusal live.packet)) (Copies [] reply live.packet) live new [] reply
     → IsSound counts live.packet → IsSound counts new.packet
-copied_sound counts reply live new goes sound =
-    kept_by (IsSound counts) (copy_to_next_refusal live.packet) (after_copy live.packet None) reply Done live new goes (λ none. sound_copy counts live.packet none sound) sound
+copied_sound counts here reply live new goes sound =
+    kept_by (IsSound counts) (or_else here (copy_to_next_refusal live.packet)) (after_copy live.packet None) reply Done live new goes (λ none. sound_copy counts live.packet (both_passed here (copy_to_next_refusal live.packet) none).1 sound) sound
 
 pub left_step : (fixed : Fixed) (drained : Bool) (old : StateValue) (party : Party) (irp : IrpRef) (reply : Reply) (new : StateValue)
     → GoesOn (or_else (party_refusal old party irp) (leave_refusal (packet_of old irp))) (Leaves [] reply (packet_of old irp)) old irp.slot [] reply new
@@ -74,10 +76,11 @@ pub left_step : (fixed : Fixed) (drained : Bool) (old : StateValue) (party : Par
 left_step fixed drained old party irp reply new goes =
     quiet old irp.slot (or_else (party_refusal old party irp) (leave_refusal (packet_of old irp))) (after_skip (packet_of old irp)) Done reply new goes
 
-pub left_sound : (counts : Known) (reply : Reply) (live new : LivePacket) → Goes (leave_refusal live.packet) (Leaves [] reply live.packet) live new [] reply
-    → has_ended live.packet.owner ≡ false → IsSound counts live.packet → IsSound counts new.packet
-left_sound counts reply live new goes used sound =
-    kept_by (IsSound counts) (leave_refusal live.packet) (after_skip live.packet) reply Done live new goes (λ none. sound_skip counts live.packet used none sound) sound
+pub left_sound : (counts : Known) (here : Option Refusal) (reply : Reply) (live new : LivePacket)
+    → Goes (or_else here (leave_refusal live.packet)) (Leaves [] reply live.packet) live new [] reply
+    → (here ≡ None → has_ended live.packet.owner ≡ false) → IsSound counts live.packet → IsSound counts new.packet
+left_sound counts here reply live new goes used sound =
+    kept_by (IsSound counts) (or_else here (leave_refusal live.packet)) (after_skip live.packet) reply Done live new goes (λ none. let passed = both_passed here (leave_refusal live.packet) none in sound_skip counts live.packet (used passed.0) passed.1 sound) sound
 
 pub marked_step : (fixed : Fixed) (drained : Bool) (old : StateValue) (party : Party) (irp : IrpRef) (reply : Reply) (new : StateValue)
     → GoesOn (or_else (party_refusal old party irp) (mark_pending_refusal (packet_of old irp))) (Marks [] reply (packet_of old irp)) old irp.slot [] reply new
@@ -85,10 +88,11 @@ pub marked_step : (fixed : Fixed) (drained : Bool) (old : StateValue) (party : P
 marked_step fixed drained old party irp reply new goes =
     quiet old irp.slot (or_else (party_refusal old party irp) (mark_pending_refusal (packet_of old irp))) (after_mark (packet_of old irp) (packet_of old irp).current) Done reply new goes
 
-pub marked_sound : (counts : Known) (reply : Reply) (live new : LivePacket) → Goes (mark_pending_refusal live.packet) (Marks [] reply live.packet) live new [] reply
+pub marked_sound : (counts : Known) (here : Option Refusal) (reply : Reply) (live new : LivePacket)
+    → Goes (or_else here (mark_pending_refusal live.packet)) (Marks [] reply live.packet) live new [] reply
     → IsSound counts live.packet → IsSound counts new.packet
-marked_sound counts reply live new goes sound =
-    kept_by (IsSound counts) (mark_pending_refusal live.packet) (after_mark live.packet live.packet.current) reply Done live new goes (λ none. sound_mark counts live.packet none sound) sound
+marked_sound counts here reply live new goes sound =
+    kept_by (IsSound counts) (or_else here (mark_pending_refusal live.packet)) (after_mark live.packet live.packet.current) reply Done live new goes (λ none. sound_mark counts live.packet (both_passed here (mark_pending_refusal live.packet) none).1 sound) sound
 
 pub cancel_step : (fixed : Fixed) (drained : Bool) (old : StateValue) (party : Party) (irp : IrpRef) (cancel : Option CancelId) (reply : Reply) (new : StateValue)
     → GoesOn (or_else (party_refusal old party irp) (cancel_refusal fixed.tables.counts (packet_of old irp) cancel)) (SetsCancel cancel [] reply (packet_of old irp)) old irp.slot [] reply new
@@ -97,11 +101,12 @@ cancel_step fixed drained old party irp cancel reply new goes =
     quiet old irp.slot (or_else (party_refusal old party irp) (cancel_refusal fixed.tables.counts (packet_of old irp) cancel)) (record (packet_of old irp) { cancel_routine = cancel })
     (Previous (packet_of old irp).cancel_routine) reply new goes
 
-pub cancel_sound : (counts : Known) (cancel : Option CancelId) (reply : Reply) (live new : LivePacket) → Goes (cancel_refusal counts live.packet cancel) (SetsCancel cancel [] reply live.packet) live new [] reply
-    → has_ended live.packet.owner ≡ false → IsSound counts live.packet → IsSound counts new.packet
-cancel_sound counts cancel reply live new goes used sound =
-    kept_by (IsSound counts) (cancel_refusal counts live.packet cancel) (record live.packet { cancel_routine = cancel }) reply (Previous live.packet.cancel_routine) live new goes
-    (λ none. sound_set_cancel counts live.packet cancel used none sound) sound
+pub cancel_sound : (counts : Known) (here : Option Refusal) (cancel : Option CancelId) (reply : Reply) (live new : LivePacket)
+    → Goes (or_else here (cancel_refusal counts live.packet cancel)) (SetsCancel cancel [] reply live.packet) live new [] reply
+    → (here ≡ None → has_ended live.packet.owner ≡ false) → IsSound counts live.packet → IsSound counts new.packet
+cancel_sound counts here cancel reply live new goes used sound =
+    kept_by (IsSound counts) (or_else here (cancel_refusal counts live.packet cancel)) (record live.packet { cancel_routine = cancel }) reply (Previous live.packet.cancel_routine) live new goes
+    (λ none. let passed = both_passed here (cancel_refusal counts live.packet cancel) none in sound_set_cancel counts live.packet cancel (used passed.0) passed.1 sound) sound
 
 pub set_step : (fixed : Fixed) (drained : Bool) (old : StateValue) (party : Party) (irp : IrpRef) (setting : Setting) (reply : Reply) (new : StateValue)
     → GoesOn (or_else (party_refusal old party irp) (routine_refusal fixed.tables.counts (packet_of old irp) setting)) (Sets setting [] reply (packet_of old irp)) old irp.slot [] reply new
@@ -109,11 +114,12 @@ pub set_step : (fixed : Fixed) (drained : Bool) (old : StateValue) (party : Part
 set_step fixed drained old party irp setting reply new goes =
     quiet old irp.slot (or_else (party_refusal old party irp) (routine_refusal fixed.tables.counts (packet_of old irp) setting)) (after_set_routine (packet_of old irp) setting) Done reply new goes
 
-pub set_sound : (counts : Known) (setting : Setting) (reply : Reply) (live new : LivePacket) → Goes (routine_refusal counts live.packet setting) (Sets setting [] reply live.packet) live new [] reply
-    → has_ended live.packet.owner ≡ false → IsSound counts live.packet → IsSound counts new.packet
-set_sound counts setting reply live new goes used sound =
-    kept_by (IsSound counts) (routine_refusal counts live.packet setting) (after_set_routine live.packet setting) reply Done live new goes
-    (λ none. sound_set_routine counts live.packet setting used none sound) sound
+pub set_sound : (counts : Known) (here : Option Refusal) (setting : Setting) (reply : Reply) (live new : LivePacket)
+    → Goes (or_else here (routine_refusal counts live.packet setting)) (Sets setting [] reply live.packet) live new [] reply
+    → (here ≡ None → has_ended live.packet.owner ≡ false) → IsSound counts live.packet → IsSound counts new.packet
+set_sound counts here setting reply live new goes used sound =
+    kept_by (IsSound counts) (or_else here (routine_refusal counts live.packet setting)) (after_set_routine live.packet setting) reply Done live new goes
+    (λ none. let passed = both_passed here (routine_refusal counts live.packet setting) none in sound_set_routine counts live.packet setting (used passed.0) passed.1 sound) sound
 
 pub sent_step : (fixed : Fixed) (drained : Bool) (old : StateValue) (party : Party) (irp : IrpRef) (target : DeviceId) (asked : List Asked) (reply : Reply) (new : StateValue)
     → GoesOn (or_else (party_refusal old party irp) (send_refusal old.devices party (packet_of old irp) target.0)) (Sends fixed.tables irp old.devices target.0 asked reply (packet_of old irp)) old irp.slot asked reply new

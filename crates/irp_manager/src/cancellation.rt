@@ -2,15 +2,16 @@
 
 ghost use Rattle.std.specs.Prelude.{◌≡◌, ◌+◌, ◌*◌, ◌≤◌, None, Some, [], ◌∷◌, vec_capacity, vec_len};
 ghost use Rattle.irp_types.specs.Limits.{most_locations};
-ghost use Rattle.irp_types.specs.Checks.{first_failing};
+ghost use Rattle.irp_types.specs.Checks.{first_failing, or_else};
 ghost use Rattle.irp_types.specs.Packet.{size_of};
 ghost use Rattle.irp_types.specs.Refusals.{ended_check};
 ghost use Rattle.irp_types.specs.Standing.{IsSound};
 ghost use Rattle.irp_types.specs.Steps.{owning_device, shown_to_cancel, Cancels};
 ghost use Rattle.irp_routines.specs.Answers.{AreAnswered};
-ghost use Rattle.irp_manager.specs.Calls.{Goes, Followed, IsCancelled};
+ghost use Rattle.irp_manager.specs.Calls.{packet_refusal_in, Goes, Followed, IsCancelled};
 
 use crate::keep::Live;
+use crate::packets::packet_refusal;
 use irp_packet::Packet;
 use irp_routines::Ask;
 use irp_types::{Asked, CancelAnswer, DeviceId, IrpRef, Owner, Refusal, Reply, Shown, Status};
@@ -105,17 +106,20 @@ fn cancel_packet<A: Ask>(packet: &mut Packet, irp: IrpRef, ask: &A, asked: &mut 
     Reply::Cancelled(true)
 }
 
-/// Cancels the packet. The room is for a question to its cancel routine, and to each location.
+/// Cancels the packet, where the reference names its use. The room is for a question to its cancel routine, and to each location.
 pub fn cancel<A: Ask>(live: &mut Live, irp: IrpRef, ask: &A, asked: &mut Vec<Asked>) -> Reply
     requires sound { IsSound (A.tables ask.now).counts live.old.packet }
     requires empty { asked.old.items ≡ [] }
     requires room { vec_len asked.old + 2 * most_locations ≤ vec_capacity asked.old }
     ensures capacity { vec_capacity asked.new ≡ vec_capacity asked.old }
-    ensures goes { Goes (first_failing (ended_check live.old.packet ∷ []))
+    ensures goes { Goes (or_else (packet_refusal_in (Some live.old) irp) (first_failing (ended_check live.old.packet ∷ [])))
         (IsCancelled (A.tables ask.now) irp asked.new.items result live.old.packet) live.old live.new asked.new.items result }
     ensures may { AreAnswered (A.may_plan ask.now) (A.may_answer ask.now) (A.may_cancel ask.now) asked.new.items }
     ensures sound { IsSound (A.tables ask.now).counts live.new.packet }
 {
+    if let Some(refusal) = packet_refusal(live, irp) {
+        return Reply::Refused(refusal);
+    }
     if let Some(refusal) = ended_refusal(&live.packet) {
         return Reply::Refused(refusal);
     }
