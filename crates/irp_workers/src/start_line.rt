@@ -9,8 +9,8 @@ const TURNS_TO_COME: u32 = 100_000;
 /// How many turns it then waits for those that came to see it. It keeps its processor.
 const TURNS_TO_START: u32 = 10_000;
 
-/// A line from which workers start together: each waits until all are there. So the steps of a short script mix, where else
-/// the first worker would be done before the second begins. Each waits for a bounded time, and then starts alone.
+/// A line from which workers start together: each waits until all are there, where else the first worker of a short script
+/// would be done before the second begins. Each waits for a bounded time, and then starts alone.
 #[derive(Drop)]
 pub struct StartLine {
     workers: u32,
