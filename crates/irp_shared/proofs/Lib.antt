@@ -1,6 +1,7 @@
 mod Each
 mod Accepted
 mod Rising
+mod SeatNumbers
 mod Appended
 mod Gathering
 mod Opened

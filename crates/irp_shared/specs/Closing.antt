@@ -48,8 +48,13 @@ abbrev pub Differs : List Seated → List Entry → ℕ → ℕ → Option Entry
 Differs seats history number index kept place =
     Kept seats number index kept × IsOther history kept place × StandsThere history number index place
 
+-- each entry is of a seat with a number below this one
+abbrev pub AreSeated : ℕ → List Entry → Type 0
+AreSeated seats history = All (λ (entry : Entry). entry.seat < seats) history
+
 -- closing gives a transcript: its header tells what the session had fixed and how many seats it had, its history is legal
--- and completes each use at most once, each seat kept the history's entries of its own, and the counts add up
+-- and completes each use at most once, each entry is of one of the seats, each seat kept the history's entries of its own,
+-- and the counts add up
 pub record Closes (fixed : Fixed) (expected : ℕ) (seats : List Seated) (transcript : TranscriptValue) : Type 0 where
   pub header : Header
   pub told : transcript.header ≡ Some header
@@ -59,5 +64,6 @@ pub record Closes (fixed : Fixed) (expected : ℕ) (seats : List Seated) (transc
   pub legal : IsLegal fixed transcript.entries
   pub once : CompletesOnce fixed transcript.entries
   pub all_here : AllHere seats expected
+  pub seated : AreSeated expected transcript.entries
   pub own : All (IsKept transcript.entries) seats
   pub counts : sum_by count_of seats ≡ length transcript.entries

@@ -3,7 +3,7 @@ use Rattle.std.proofs.Common.{◌≡◌, ℕ, List, map, Option, Some, IfSome, s
 use Rattle.irp_types.specs.Histories.{IsLegal, CompletesOnce}
 use Rattle.irp_types.specs.State.{Fixed, Tables}
 use Rattle.irp_manager.specs.Seats.{Seated}
-use Rattle.irp_shared.specs.Closing.{Closes}
+use Rattle.irp_shared.specs.Closing.{AreSeated, Closes}
 use Rattle.irp_shared.specs.Headers.{fixed_of, IsHeader}
 use Rattle.irp_shared.specs.Transcripts.{TranscriptValue}
 use Rattle.irp_shared.specs.declared.header.Header.{Header}
@@ -33,6 +33,7 @@ closed_is_run script tables fixed expected seats closed made header words closes
       fits = fits;
       legal = subst (λ this. IsLegal this made.entries) (sym of_header) (subst (λ history. IsLegal fixed history) (sym entries) closes.legal);
       once = subst (λ this. CompletesOnce this made.entries) (sym of_header) (subst (λ history. CompletesOnce fixed history) (sym entries) closes.once);
+      seated = subst (λ this. AreSeated this made.entries) seats_are (subst (λ history. AreSeated expected history) (sym entries) closes.seated);
       words = subst AreInOrder (sym lines) in_order;
       told_steps = subst (λ (all : List WordLine). NoneMoreOften (lock_steps script.steps) (map told_by all)) (sym lines) few;
     }

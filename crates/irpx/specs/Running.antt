@@ -8,6 +8,7 @@ use Rattle.irp_types.specs.declared.answer.Plan.{Plan}
 use Rattle.irp_types.specs.declared.entry.Entry.{Entry}
 use Rattle.irp_routines.specs.Tables.{by_major, no_tables}
 use Rattle.irp_shared.specs.Headers.{fixed_of, IsHeader}
+use Rattle.irp_shared.specs.Closing.{AreSeated}
 use Rattle.irp_shared.specs.Transcripts.{TranscriptValue}
 use Rattle.irp_shared.specs.declared.header.Header.{Header}
 use Rattle.irp_script_reader.specs.Scripts.{ReadsScript}
@@ -79,8 +80,8 @@ tables_of script =
 -- ---- the output
 
 -- a transcript of a run of the script with these tables: its header tells the script's seats and locks, and the tables, and
--- the formats accept it; its history is legal, and completes each use of a packet at most once; its word lines are in order,
--- and tell of no step on a remove lock more often than it stands in the script
+-- the formats accept it; its history is legal, completes each use of a packet at most once, and has entries of the script's
+-- seats alone; its word lines are in order, and tell of no step on a remove lock more often than it stands in the script
 pub record IsRun (script : Script) (tables : Tables) (transcript : TranscriptValue) : Type 0 where
   pub header : Header
   pub told : transcript.header ≡ Some header
@@ -89,6 +90,7 @@ pub record IsRun (script : Script) (tables : Tables) (transcript : TranscriptVal
   pub fits : IsHeader header
   pub legal : IsLegal (fixed_of header) transcript.entries
   pub once : CompletesOnce (fixed_of header) transcript.entries
+  pub seated : AreSeated script.seats transcript.entries
   pub words : AreInOrder transcript.words
   pub told_steps : NoneMoreOften (lock_steps script.steps) (map told_by transcript.words)
 

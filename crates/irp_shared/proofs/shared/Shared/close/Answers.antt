@@ -5,6 +5,7 @@ use Rattle.irp_types.specs.State.{Fixed}
 use Rattle.irp_types.specs.Histories.{IsLegal}
 use Rattle.irp_manager.specs.Seats.{Seated}
 use Rattle.irp_shared.specs.Closing.{AllHere, Closes, IsKept, count_of}
+use Rattle.irp_shared.proofs.SeatNumbers.{all_seated}
 use Rattle.irp_shared.proofs.shared.Shared.close.Goals as goal
 
 pub returns-clause-closes : goal.returns-clause-closes
@@ -32,6 +33,7 @@ returns-clause-closes g c =
       legal = legal;
       once = c.history_completes_once.ensures.legal fixed history legal;
       all_here = all_here;
+      seated = all_seated history g.L.Session.seats c.args.seats.items all_here own counts;
       own = own;
       counts = counts;
     }))
