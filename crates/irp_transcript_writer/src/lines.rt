@@ -2,6 +2,7 @@
 
 ghost use Rattle.std.specs.Prelude.{◌≡◌, IfOk};
 ghost use Rattle.serde_json.specs.View.{view};
+ghost use Rattle.irp_types.specs.declared.asked.Asked.TheVariants as asked;
 ghost use Rattle.irp_transcript_writer.specs.Lines.{asked_json, completions_json, entry_json, form_number, header_json, reply_json};
 ghost use Rattle.irp_transcript_writer.specs.Whole.{asked_whole, entry_whole, header_whole, reply_whole};
 
@@ -9,31 +10,63 @@ use crate::calls::form_of_call;
 use crate::form::ToJson;
 use crate::names::name_of_refusal;
 use irp_shared::{Form, Header};
-use irp_types::{Asked, Entry, Known, Reply};
+use irp_types::{
+    Answer, Asked, CancelAnswer, CancelId, DispatchId, Entry, Known, Plan, Reply, RoutineId, Shown,
+};
 use serde_json::{Value, json};
 use std::alloc::{AllocError, Global};
+
+/// The form of a question to a dispatch.
+fn form_of_dispatch(
+    alloc: Global,
+    id: DispatchId,
+    shown: Shown,
+    plan: Plan,
+) -> Result<Value, AllocError>
+    ensures { IfOk result (λ value. view value ≡ asked_json (asked.Dispatch id shown plan)) }
+{
+    let shown = shown.to_json(alloc)?;
+    let plan = plan.to_json(alloc)?;
+    json!(in alloc; {"dispatch": (id.0), "plan": plan, "shown": shown})
+}
+
+/// The form of a question to a completion routine.
+fn form_of_completion(
+    alloc: Global,
+    id: RoutineId,
+    shown: Shown,
+    answer: Answer,
+) -> Result<Value, AllocError>
+    ensures { IfOk result (λ value. view value ≡ asked_json (asked.Completion id shown answer)) }
+{
+    let id = id.to_json(alloc)?;
+    let shown = shown.to_json(alloc)?;
+    let answer = answer.to_json(alloc)?;
+    json!(in alloc; {"answer": answer, "completion": id, "shown": shown})
+}
+
+/// The form of a question to a cancel routine.
+fn form_of_cancel(
+    alloc: Global,
+    id: CancelId,
+    shown: Shown,
+    answer: CancelAnswer,
+) -> Result<Value, AllocError>
+    ensures { IfOk result (λ value. view value ≡ asked_json (asked.Cancel id shown answer)) }
+{
+    let shown = shown.to_json(alloc)?;
+    let answer = answer.to_json(alloc)?;
+    json!(in alloc; {"answer": answer, "cancel": (id.0), "shown": shown})
+}
 
 impl ToJson for Asked {
     ghost json = { asked_json };
 
     fn to_json(&self, alloc: Global) -> Result<Value, AllocError> {
         match *self {
-            Asked::Dispatch { id, shown, plan } => {
-                let shown = shown.to_json(alloc)?;
-                let plan = plan.to_json(alloc)?;
-                json!(in alloc; {"dispatch": (id.0), "plan": plan, "shown": shown})
-            }
-            Asked::Completion { id, shown, answer } => {
-                let id = id.to_json(alloc)?;
-                let shown = shown.to_json(alloc)?;
-                let answer = answer.to_json(alloc)?;
-                json!(in alloc; {"answer": answer, "completion": id, "shown": shown})
-            }
-            Asked::Cancel { id, shown, answer } => {
-                let shown = shown.to_json(alloc)?;
-                let answer = answer.to_json(alloc)?;
-                json!(in alloc; {"answer": answer, "cancel": (id.0), "shown": shown})
-            }
+            Asked::Dispatch { id, shown, plan } => form_of_dispatch(alloc, id, shown, plan),
+            Asked::Completion { id, shown, answer } => form_of_completion(alloc, id, shown, answer),
+            Asked::Cancel { id, shown, answer } => form_of_cancel(alloc, id, shown, answer),
         }
     }
 

@@ -1,7 +1,9 @@
 //! The small forms, of which questions, calls and replies are made.
 
-ghost use Rattle.std.specs.Prelude.{refl};
-ghost use Rattle.irp_transcript_writer.specs.Json.{or_null};
+ghost use Rattle.std.specs.Prelude.{◌≡◌, ◌∷◌, [], IfOk, refl};
+ghost use Rattle.serde_json.specs.Data.{string};
+ghost use Rattle.serde_json.specs.View.{view};
+ghost use Rattle.irp_transcript_writer.specs.Json.{list, or_null};
 ghost use Rattle.irp_transcript_writer.specs.Lines.{
   answer_json,
   cancel_answer_json,
@@ -180,6 +182,14 @@ impl ToJson for Setting {
     ghost whole = { λ _. refl };
 }
 
+/// A name, and the form of what it names.
+fn form_of_named<T: ToJson>(alloc: Global, name: &str, value: &T) -> Result<Value, AllocError>
+    ensures { IfOk result (λ form. view form ≡ list (string name.now ∷ T.json value.now ∷ [])) }
+{
+    let value = value.to_json(alloc)?;
+    json!(in alloc; [name, value])
+}
+
 impl ToJson for Plan {
     ghost json = { plan_json };
 
@@ -189,19 +199,10 @@ impl ToJson for Plan {
                 status,
                 information,
             } => json!(in alloc; ["finish", (status.0), information]),
-            Plan::Hold { cancel } => {
-                let cancel = cancel.to_json(alloc)?;
-                json!(in alloc; ["hold", cancel])
-            }
+            Plan::Hold { cancel } => form_of_named(alloc, "hold", &cancel),
             Plan::Skip => json!(in alloc; ["skip"]),
-            Plan::Forward { set } => {
-                let set = set.to_json(alloc)?;
-                json!(in alloc; ["forward", set])
-            }
-            Plan::ForwardPend { set } => {
-                let set = set.to_json(alloc)?;
-                json!(in alloc; ["forward_pend", set])
-            }
+            Plan::Forward { set } => form_of_named(alloc, "forward", &set),
+            Plan::ForwardPend { set } => form_of_named(alloc, "forward_pend", &set),
         }
     }
 

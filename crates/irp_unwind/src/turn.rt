@@ -100,7 +100,8 @@ pub(crate) fn consult<A: Ask>(
     ensures capacity { vec_capacity asked.new ≡ vec_capacity asked.old }
 {
     if let Some(setting) = packet.location_at(packet.current()).setting {
-        if meets_flags(setting, packet.cancel(), packet.status()) {
+        let status = packet.status();
+        if meets_flags(setting, packet.cancel(), status) {
             let shown = shown_now(packet, irp, setting);
             return ask_routine(ask, setting, shown, asked);
         }

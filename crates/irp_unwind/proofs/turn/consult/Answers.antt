@@ -1,4 +1,4 @@
-use Rattle.std.proofs.Common.{◌≡◌, true, sym, ◌∙◌, ap, refl, inr, Some}
+use Rattle.std.proofs.Common.{rules, ◌≡◌, true, sym, ◌∙◌, ap, refl, inr, Some}
 use Rattle.irp_types.specs.Packet.{location_at}
 use Rattle.irp_types.specs.declared.location.Location.{Location}
 use Rattle.irp_unwind.specs.Turns.{is_met, is_met_now}
@@ -9,8 +9,7 @@ returns-then-meets_flags-clause-consulted g c =
     let packet = c.args.packet.now in
     let location : c.location_at.result ≡ location_at packet packet.current = c.location_at.ensures ∙ ap (location_at packet) c.current.ensures.current in
     let here : (location_at packet packet.current).setting ≡ Some c.in-Some.setting = ap (λ (one : Location). one.setting) (sym location) ∙ c.in-Some.is in
-    let met : is_met_now packet ≡ true =
-    (λ i. is_met (here i) (sym c.cancel.ensures i) (sym c.status.ensures i)) ∙ sym c.meets_flags.ensures ∙ c.if-meets_flags.true in
+    let met : is_met_now packet ≡ true = ap (λ option. is_met option packet.cancel packet.status) here ∙ grind rules in
     inr (record {
       asking = record { id = c.in-Some.setting.routine; shown = c.shown_now-shown.result; answer = c.ask_routine.result };
       met = met;

@@ -1,4 +1,4 @@
-use Rattle.std.proofs.Common.{arith, ◌≡◌, ◌+◌, ◌-◌, ◌<◌, ◌≤◌, true, is_some, sym, ◌∙◌, ap, subst, vec_len, vec_capacity}
+use Rattle.std.proofs.Common.{rules, arith, ◌≡◌, ◌+◌, ◌-◌, ◌<◌, ◌≤◌, true, false, is_some, sym, ◌∙◌, ap, subst, vec_len, vec_capacity}
 use Rattle.irp_types.specs.Packet.{PacketValue, size_of}
 use Rattle.irp_types.specs.Unwinding.{device_above, owner_from}
 use Rattle.irp_types.specs.declared.location.Owner.{Owner}
@@ -24,8 +24,9 @@ returns-then-kept-clause-unwinds g t c =
     ] in
     let new : c.set_owner.new.self ≡ record (left_packet packet c.consult-answer.result) { owner = owner_from (device_above packet packet.current) } =
     c.set_owner.ensures ∙ (λ i. record (c.leave.ensures i) { owner = own i }) in
+    let keeps : c.consult-answer.result.keep ≡ true = grind rules in
     let all = finish_kept may c.args.irp packet c.args.asked.now.items c.consult-answer.new.asked.items c.consult-answer.result
-    c.requires.bare c.requires.placed c.consult-answer.ensures.consulted c.consult-answer.ensures.mark c.if-kept.true in
+    c.requires.bare c.requires.placed c.consult-answer.ensures.consulted c.consult-answer.ensures.mark keeps in
     subst (λ (both : PacketValue × Owner). Unwinds may c.args.irp packet both.0 c.args.asked.now.items c.consult-answer.new.asked.items (Kept both.1))
     (λ i. (sym new i, sym own i)) all
 
@@ -37,8 +38,9 @@ returns-then-number-size-clause-unwinds g t c =
     let top : packet.current ≡ size_of packet = omega (arith, c.current-number.ensures.current, c.size.ensures.size, c.if-number-size.true) in
     let new : c.set_owner-then-number-size.new.self ≡ record (left_packet packet c.consult-answer.result) { owner = OwnedByNobody } =
     c.set_owner-then-number-size.ensures ∙ (λ i. record (c.leave.ensures i) { owner = OwnedByNobody }) in
+    let goes_on : c.consult-answer.result.keep ≡ false = grind rules in
     let all = finish_top may c.args.irp packet c.args.asked.now.items c.consult-answer.new.asked.items c.consult-answer.result
-    c.requires.bare top c.consult-answer.ensures.consulted c.consult-answer.ensures.mark c.if-kept.false in
+    c.requires.bare top c.consult-answer.ensures.consulted c.consult-answer.ensures.mark goes_on in
     subst (λ value. Unwinds may c.args.irp packet value c.args.asked.now.items c.consult-answer.new.asked.items Ended) (sym new) all
 
 pub unwind_from-requires : goal.unwind_from-requires
@@ -48,7 +50,8 @@ unwind_from-requires g t c κs within =
     let size : size_of c.leave.new.packet ≡ size_of packet = ap (λ (value : PacketValue). size_of value) c.leave.ensures ∙ length_left packet c.consult-answer.result.mark in
     let below : packet.current < size_of packet = omega (arith, c.requires.placed, c.current-number.ensures.current, c.size.ensures.size, c.if-number-size.false) in
     let above : is_some (device_above packet packet.current) ≡ true = c.requires.devices.there (packet.current + 1) (omega arith) (omega arith) in
-    let mark = mark_on packet c.consult-answer.result c.consult-answer.ensures.mark c.if-kept.false above in
+    let goes_on : c.consult-answer.result.keep ≡ false = grind rules in
+    let mark = mark_on packet c.consult-answer.result c.consult-answer.ensures.mark goes_on above in
     let left = sym c.leave.ensures in
     let bare : IsBare c.leave.new.packet = subst IsBare left (bare_left packet c.consult-answer.result c.requires.bare c.requires.placed) in
     let devices : HasDevices c.leave.new.packet (c.leave.new.packet.current + 1) = subst (λ (value : PacketValue). HasDevices value (value.current + 1)) left (devices_left packet c.consult-answer.result c.requires.bare below mark c.requires.devices) in
@@ -69,5 +72,6 @@ returns-clause-unwinds g t c =
     let below : packet.current < size_of packet = omega (arith, c.requires.placed, c.current-number.ensures.current, c.size.ensures.size, c.if-number-size.false) in
     let unwound = subst (λ value. Unwinds may c.args.irp value c.unwind_from.new.packet c.consult-answer.new.asked.items c.unwind_from.new.asked.items c.unwind_from.result)
     c.leave.ensures c.unwind_from.ensures.unwinds in
+    let goes_on : c.consult-answer.result.keep ≡ false = grind rules in
     continues may c.args.irp packet c.args.asked.now.items c.consult-answer.new.asked.items c.unwind_from.new.asked.items c.consult-answer.result
-    c.unwind_from.new.packet c.unwind_from.result c.requires.bare c.requires.devices below c.consult-answer.ensures.consulted c.consult-answer.ensures.mark c.if-kept.false unwound
+    c.unwind_from.new.packet c.unwind_from.result c.requires.bare c.requires.devices below c.consult-answer.ensures.consulted c.consult-answer.ensures.mark goes_on unwound
