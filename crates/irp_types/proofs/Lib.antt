@@ -10,5 +10,6 @@ mod SettledFrames
 mod SettledDescent
 mod SettledSteps
 mod SettledStates
+mod Lent
 mod Examples
 pub mod Deciding

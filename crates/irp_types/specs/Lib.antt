@@ -13,3 +13,4 @@ pub mod Refusals
 pub mod Steps
 pub mod Histories
 pub mod Standing
+pub mod Lending

@@ -22,6 +22,7 @@ pub use call::{Call, Party};
 pub use entry::Entry;
 pub use laws::{
     entry_settles_next_state, history_completes_once, history_goes_on, history_settles_states,
+    standing_facts_stay,
 };
 pub use location::{Location, Owner, Preparation};
 pub use names::{CancelId, DeviceId, DispatchId, DriverId, IrpRef, LockNo};
