@@ -14,7 +14,7 @@ use Rattle.irp_slots.specs.declared.views.Asking.{Asking}
 use Rattle.irp_slots.specs.declared.views.View.{View}
 use Rattle.irp_slots.specs.declared.views.View.TheVariants.{Owner, Canceller}
 use Rattle.irp_slots.specs.declared.views.Parties.{Parties}
-use Rattle.irp_slots.specs.Core.{total, one_if, flag, times, times_of, is_begun, is_resting, owns, published, taken, resting, standing, flagged, ended, canceller_count, Kept, out_of, publishes, owner_published, checks, owner_checked, takes_back, owner_done, flags, slot_flagged, takes_out, slot_ended, owning_of}
+use Rattle.irp_slots.specs.Core.{total, one_if, flag, times, times_of, is_begun, is_resting, owns, published, taken, resting, standing, flagged, ended, canceller_count, Kept, out_of, publishes, owner_published, checks, owning_checked, owner_checked, takes_back, owner_done, flags, slot_flagged, takes_out, slot_ended, owning_of}
 use Rattle.atomic_table.proofs.Lists.{set_again}
 use Rattle.irp_slots.proofs.Totals.{one_if_le, total_set, same_total, part_of_total, rest_or_stand, published_view, alone}
 
@@ -408,7 +408,7 @@ check_allowed key slots id o m is posted inside s r _ at _ =
       tt,
       kept,
       (
-        ap (λ (z : View). (z, m.1)) (sym (ap (owner_checked x) is ∙ ap (λ (b : Bool). if b then Owner (record o { stage = Standing; stood = true }) else Owner o) (eq-eqb (x % 2) 0 clear))),
+        ap (λ (z : View). (z, m.1)) (sym (ap (owner_checked x) is ∙ ap (λ (b : Bool). Owner (owning_checked b o)) (eq-eqb (x % 2) 0 clear))),
         (key, s, id, r, omega arith, at, refl, kept),
       ),
     ))
@@ -421,7 +421,7 @@ check_allowed key slots id o m is posted inside s r _ at _ =
       tt,
       kept,
       (
-        ap (λ (z : View). (z, m.1)) (sym (ap (owner_checked x) is ∙ ap (λ (b : Bool). if b then Owner (record o { stage = Standing; stood = true }) else Owner o) (ne_eqb (x % 2) 0 set_already))),
+        ap (λ (z : View). (z, m.1)) (sym (ap (owner_checked x) is ∙ ap (λ (b : Bool). Owner (owning_checked b o)) (ne_eqb (x % 2) 0 set_already))),
         (key, s, id, r, omega arith, at, refl, kept),
       ),
     ))

@@ -7,6 +7,7 @@ use Rattle.irp_slots.specs.declared.views.Stage.TheVariants.{Idle, Standing, Don
 use Rattle.irp_slots.specs.declared.views.Owning.{Owning}
 use Rattle.irp_slots.specs.declared.views.Asking.{Asking}
 use Rattle.irp_slots.specs.declared.views.View.TheVariants.{Owner, Canceller}
+use Rattle.irp_slots.specs.declared.answers.Token.{Token}
 use Rattle.irp_slots.specs.declared.answers.Publication.{Publication}
 use Rattle.irp_slots.specs.declared.answers.Publication.TheVariants as publication
 use Rattle.irp_slots.specs.declared.answers.Withdrawal.{Withdrawal}
@@ -94,8 +95,8 @@ FlagSet slot before after =
     (word : ℕ) × IsEvent (flag_word slot) word (bit_or word 1) (Canceller before) (Canceller after)
 
 -- one step by a canceller: it swapped 0 into a slot, and this was in it
-abbrev pub TookOut : ℕ → ℕ → Asking → Asking → Type 0
-TookOut slot found before after = IsEvent (content_word slot) found 0 (Canceller before) (Canceller after)
+abbrev pub Emptied : ℕ → ℕ → Asking → Asking → Type 0
+Emptied slot found before after = IsEvent (content_word slot) found 0 (Canceller before) (Canceller after)
 
 -- the steps of publish, one behind the other
 abbrev pub PublishSteps : ℕ → Owning → Owning → Publication → Type 0
@@ -122,6 +123,32 @@ WithdrawSteps before after withdrawal.Lost = SwappedOut 0 before after
 abbrev pub RequestSteps : ℕ → Asking → Asking → Request → Type 0
 RequestSteps slot before after request.NoSlot = after ≡ before
 RequestSteps slot before after (request.Taken token) =
-    FlagSet slot before (asking_flagged slot before) × TookOut slot token.use_no (asking_flagged slot before) after
+    FlagSet slot before (asking_flagged slot before) × Emptied slot token.use_no (asking_flagged slot before) after
 RequestSteps slot before after request.Nothing =
-    FlagSet slot before (asking_flagged slot before) × TookOut slot 0 (asking_flagged slot before) after
+    FlagSet slot before (asking_flagged slot before) × Emptied slot 0 (asking_flagged slot before) after
+
+-- an owner has taken its use out of its slot
+abbrev pub TookBack : Token → Owning → Owning → Type 0
+TookBack token before after =
+    (0 < before.published) × (token.use_no ≡ before.published)
+    × (after ≡ record before { stage = Done; taken = before.published ∷ before.taken })
+    × SwappedOut token.use_no before after
+
+-- an owner has found nothing in its slot
+abbrev pub MissedIt : Owning → Owning → Type 0
+MissedIt before after = (after ≡ record before { stage = Done }) × SwappedOut 0 before after
+
+-- a canceller has taken a use out of a slot
+abbrev pub TookOut : ℕ → Token → Asking → Asking → Type 0
+TookOut slot token before after =
+    (0 < token.use_no)
+    × (after ≡ record before {
+      ended = slice_set before.ended slot true;
+      taken = (slot, token.use_no) ∷ before.taken;
+    })
+    × Emptied slot token.use_no before after
+
+-- a canceller has found nothing in a slot
+abbrev pub FoundNone : ℕ → Asking → Asking → Type 0
+FoundNone slot before after =
+    (after ≡ record before { ended = slice_set before.ended slot true }) × Emptied slot 0 before after

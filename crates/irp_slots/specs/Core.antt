@@ -228,10 +228,13 @@ owner_published number (Owner owning) = Owner (owning_published number owning)
 owner_published number (Canceller asking) = Canceller asking
 
 -- an owner has read the flag: it stands where the flag is clear
+abbrev pub owning_checked : Bool → Owning → Owning
+owning_checked clear owning = if clear then record owning { stage = Standing; stood = true } else owning
+
+-- the same, of a view
 abbrev pub owner_checked : ℕ → View → View
 owner_checked found (First owners_left cancellers_left) = First owners_left cancellers_left
-owner_checked found (Owner owning) =
-    if nat_eq (found % 2) 0 then Owner (record owning { stage = Standing; stood = true }) else Owner owning
+owner_checked found (Owner owning) = Owner (owning_checked (nat_eq (found % 2) 0) owning)
 owner_checked found (Canceller asking) = Canceller asking
 
 -- an owner has swapped 0 into the content, and has taken what came out

@@ -1,11 +1,13 @@
 //! The calls on cancel slots. Each makes three atomic steps at most.
-ghost use Rattle.std.specs.Prelude.{◌≡◌, ◌≤◌, true, false};
+ghost use Rattle.std.specs.Prelude.{◌≡◌, ◌<◌, ◌≤◌, true, false, IfSome, IfNone};
 ghost use mathlib.Core.Logic.{◌↔◌};
 ghost use Rattle.irp_slots.specs.declared.answers.Publication.TheVariants.{Used};
 ghost use Rattle.irp_slots.specs.declared.answers.Withdrawal.TheVariants.{NotStanding};
 ghost use Rattle.irp_slots.specs.declared.answers.Request.TheVariants.{NoSlot};
-ghost use Rattle.irp_slots.specs.Core.{is_begun, is_standing};
+ghost use Rattle.irp_slots.specs.declared.views.Stage.TheVariants.{Idle, Published};
+ghost use Rattle.irp_slots.specs.Core.{flag, is_begun, is_standing, owning_published, owning_checked, asking_flagged};
 ghost use Rattle.irp_slots.specs.Calls.{Publishes, PublishSteps, Withdraws, WithdrawSteps, Requests, RequestSteps};
+ghost use Rattle.irp_slots.specs.Calls.{SwappedIn, ReadFlag, TookBack, MissedIt, FlagSet, TookOut, FoundNone};
 ghost use Rattle.irp_slots.specs.Pairing.{IsOwnerOf, IsCancellerOf, slot_count};
 
 use crate::answers::{Publication, Request, Token, Withdrawal};
@@ -34,20 +36,14 @@ impl Slots {
         if owner.used {
             return Publication::Used;
         }
-        let words = &self.table.shared;
-        let slot = owner.slot;
-        words.swap::<Publish>(&mut owner.seat, 2 * slot + 1, irp.use_no);
-        owner.used = true;
-        let flag = words.load::<Check>(&mut owner.seat, 2 * slot);
-        if flag % 2 == 0 {
-            owner.stands = true;
+        self.swap_in(owner, irp.use_no);
+        if self.finds_flag_clear(owner) {
             return Publication::Standing;
         }
-        let found = words.swap::<TakeBack>(&mut owner.seat, 2 * slot + 1, 0);
-        if found == 0 {
-            return Publication::Lost;
+        match self.take_back(owner) {
+            Some(token) => Publication::Taken(token),
+            None => Publication::Lost,
         }
-        Publication::Taken(Token { use_no: found })
     }
 
     /// Takes the owner's use out of its slot: it swaps 0 in (WDK: "IoSetCancelRoutine" with NULL, before a packet is
@@ -66,13 +62,10 @@ impl Slots {
         if !owner.stands {
             return Withdrawal::NotStanding;
         }
-        let words = &self.table.shared;
-        let found = words.swap::<TakeBack>(&mut owner.seat, 2 * owner.slot + 1, 0);
-        owner.stands = false;
-        if found == 0 {
-            return Withdrawal::Lost;
+        match self.take_back(owner) {
+            Some(token) => Withdrawal::Taken(token),
+            None => Withdrawal::Lost,
         }
-        Withdrawal::Taken(Token { use_no: found })
     }
 
     /// Asks for what stands in a slot, for good: where its owner publishes later, it takes its use out again (WDK:
@@ -87,16 +80,89 @@ impl Slots {
         ensures reply { Requests (slot_count self.now) slot canceller.old canceller.new result }
         ensures steps { RequestSteps slot canceller.old.asking canceller.new.asking result }
     {
-        let content = 2 * (slot as usize) + 1;
-        if content >= self.table.word_count() {
+        if 2 * (slot as usize) + 1 >= self.table.word_count() {
             return Request::NoSlot;
         }
+        self.set_flag(canceller, slot);
+        match self.take_out(canceller, slot) {
+            Some(token) => Request::Taken(token),
+            None => Request::Nothing,
+        }
+    }
+
+    // Swaps an idle owner's use into its slot.
+    fn swap_in(&self, owner: &mut SlotOwner, use_no: u64)
+        requires of { IsOwnerOf self.now owner.old }
+        requires idle { owner.old.owning.stage ≡ Idle }
+        ensures table { owner.new.table ≡ owner.old.table }
+        ensures owning { owner.new.owning ≡ owning_published use_no owner.old.owning }
+        ensures step { SwappedIn use_no owner.old.owning owner.new.owning }
+    {
+        let words = &self.table.shared;
+        words.swap::<Publish>(&mut owner.seat, 2 * owner.slot + 1, use_no);
+        owner.used = true;
+    }
+
+    // Whether an owner that has published finds the flag of its slot clear: it stands then.
+    fn finds_flag_clear(&self, owner: &mut SlotOwner) -> bool
+        requires of { IsOwnerOf self.now owner.old }
+        requires published { owner.old.owning.stage ≡ Published }
+        ensures table { owner.new.table ≡ owner.old.table }
+        ensures owning { owner.new.owning ≡ owning_checked result owner.old.owning }
+        ensures clear { result ≡ true → ReadFlag 0 owner.old.owning owner.new.owning }
+        ensures set { result ≡ false → ReadFlag 1 owner.old.owning owner.new.owning }
+    {
+        let words = &self.table.shared;
+        let flag = words.load::<Check>(&mut owner.seat, 2 * owner.slot);
+        let clear = flag % 2 == 0;
+        owner.stands = clear;
+        clear
+    }
+
+    // Takes the use of an owner that has published out of its slot, if it still is there.
+    fn take_back(&self, owner: &mut SlotOwner) -> Option<Token>
+        requires of { IsOwnerOf self.now owner.old }
+        requires begun { is_begun owner.old.owning.stage ≡ true }
+        ensures table { owner.new.table ≡ owner.old.table }
+        ensures took { IfSome result (λ token. TookBack token owner.old.owning owner.new.owning) }
+        ensures missed { IfNone result (MissedIt owner.old.owning owner.new.owning) }
+    {
+        let words = &self.table.shared;
+        let found = words.swap::<TakeBack>(&mut owner.seat, 2 * owner.slot + 1, 0);
+        owner.stands = false;
+        if found == 0 {
+            return None;
+        }
+        Some(Token { use_no: found })
+    }
+
+    // Sets the flag of a slot.
+    fn set_flag(&self, canceller: &mut Canceller, slot: u32)
+        requires of { IsCancellerOf self.now canceller.old }
+        requires slot { slot < slot_count self.now }
+        ensures table { canceller.new.table ≡ canceller.old.table }
+        ensures asking { canceller.new.asking ≡ asking_flagged slot canceller.old.asking }
+        ensures set { flag canceller.new.asking.flagged slot ≡ true }
+        ensures step { FlagSet slot canceller.old.asking canceller.new.asking }
+    {
         let words = &self.table.shared;
         words.fetch_or::<SetFlag>(&mut canceller.seat, 2 * (slot as usize), 1);
-        let found = words.swap::<TakeOut>(&mut canceller.seat, content, 0);
+    }
+
+    // Takes out what is in a slot whose flag this canceller has set.
+    fn take_out(&self, canceller: &mut Canceller, slot: u32) -> Option<Token>
+        requires of { IsCancellerOf self.now canceller.old }
+        requires slot { slot < slot_count self.now }
+        requires flagged { flag canceller.old.asking.flagged slot ≡ true }
+        ensures table { canceller.new.table ≡ canceller.old.table }
+        ensures took { IfSome result (λ token. TookOut slot token canceller.old.asking canceller.new.asking) }
+        ensures missed { IfNone result (FoundNone slot canceller.old.asking canceller.new.asking) }
+    {
+        let words = &self.table.shared;
+        let found = words.swap::<TakeOut>(&mut canceller.seat, 2 * (slot as usize) + 1, 0);
         if found == 0 {
-            return Request::Nothing;
+            return None;
         }
-        Request::Taken(Token { use_no: found })
+        Some(Token { use_no: found })
     }
 }
