@@ -13,4 +13,6 @@ mod shared;
 #[cfg(test)]
 mod sharing;
 #[cfg(test)]
+mod slots;
+#[cfg(test)]
 mod workers;

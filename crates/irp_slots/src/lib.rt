@@ -1,0 +1,27 @@
+//! Cancel slots: a use of a packet that its owner publishes, and that exactly one party takes.
+//!
+//! Any number of threads may share the [`Slots`], each with the [`SlotOwner`]s and the [`Canceller`] that it was
+//! given. No call but `open` is given an allocator, and none is given a handle to wait with.
+#![tactic(auto)]
+
+mod answers;
+mod calls;
+mod canceller;
+mod laws;
+mod opening;
+mod owner;
+mod plays;
+mod table;
+mod views;
+
+pub use answers::{OpenRefusal, Publication, Request, Token, Withdrawal};
+pub use canceller::Canceller;
+pub use laws::{
+    empty_once_asked, flag_tells_of_a_request, lost_is_taken, resting_is_empty, table_keeps_rule,
+    taken_once,
+};
+pub use opening::open;
+pub use owner::SlotOwner;
+pub use plays::Published;
+pub use table::Slots;
+pub use views::{Asking, Owning, Parties, Stage, View};
