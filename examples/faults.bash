@@ -1,5 +1,5 @@
-# What the surroundings of the program do to it, texts that are cut, and texts made by chance. Part of check_all. The work is
-# that of the Python scripts `hostile` and `random_texts`, which load a small library before the program (faults.c).
+# What the surroundings of the program do to it, texts that are cut, and texts made by chance. Part of check_all. The
+# Python scripts `hostile` and `random_texts` do the work; they load a small library before the program (faults.c).
 
 # Adds what a script printed: `tried: COUNT WRONG KIND` for each kind, and a line for each try that was wrong.
 tally() {
@@ -26,7 +26,7 @@ try_all() {
 }
 
 declare -A tried=()
-# A program that was built without proofs watches its memory with a library of its own, and is slow: no request for memory
+# A program that was built without proofs watches its memory with a library of its own, and is slow: no growth of memory
 # is refused, and less is tried.
 less=
 defined=

@@ -1,10 +1,11 @@
 // A library that is loaded before the program (LD_PRELOAD), and has one thing go wrong in it.
 //
-// It stops the program before its `main`, and takes orders from the open file 4, each a row of settings. For each it starts
-// a copy of the process (fork), which does as the settings say and goes on to `main`, and answers the copy's wait status.
-// So a run costs no new loading of the program. The open file 3 gets one byte for each thing that went wrong.
+// It stops the program before its `main`, and takes orders from the open file 4, each a row of settings. For each it
+// starts a copy of the process (fork), which does as the settings say and goes on to `main`, and answers the copy's
+// wait status. So a run costs no new loading of the program. The open file 3 gets one byte for each thing that went
+// wrong.
 //
-// With NO_MEMORY defined at its compilation it leaves requests for memory alone, as a program that watches its memory wants.
+// With NO_MEMORY defined at its compilation it leaves memory alone, as a program that watches its memory itself wants.
 #define _GNU_SOURCE
 #include <dlfcn.h>
 #include <errno.h>

@@ -1,4 +1,4 @@
-"""Makes scripts by chance: with every step, plan, rule and refusal, and, where wanted, with one fault that `run` has to tell.
+"""Makes scripts by chance: with every step, plan, rule and refusal, and, where wanted, with one fault.
 
 Most steps are such that a packet's life goes on; some name what isn't there, or come from one who may not.
 """
@@ -26,6 +26,8 @@ class Maker:
         self.drivers = [self.driver() for _ in range(chance.randrange(1, 5))]
         self.devices = 0
         self.labels = 0
+        self.driver_of = []
+        self.holder = None
 
     def one_of(self, *many):
         return self.chance.choice(many)
@@ -63,7 +65,8 @@ class Maker:
         if not rules or self.seldom(0.2):
             return None
         rule = self.chance.choice(rules)
-        return [rule, self.chance.randrange(known.count(rule)), self.chance.randrange(2**64), self.chance.choice(FLAGS)]
+        number, context = self.chance.randrange(known.count(rule)), self.chance.randrange(2**64)
+        return [rule, number, context, self.chance.choice(FLAGS)]
 
     def plan(self):
         kind = self.one_of("finish", "hold", "hold", "skip", "forward", "forward", "forward_pend")
@@ -82,7 +85,9 @@ class Maker:
     # Steps.
 
     def device(self):
-        return self.chance.randrange(self.devices + 1) if self.seldom() else max(0, self.chance.randrange(-1, self.devices))
+        if self.seldom():
+            return self.chance.randrange(self.devices + 1)
+        return max(0, self.chance.randrange(-1, self.devices))
 
     def party(self):
         return self.one_of("o", self.device())
@@ -113,29 +118,44 @@ class Maker:
 
     def sent(self, irp):
         """Returns the steps of an originator until its packet is sent."""
-        steps = [{"do": "set_next", "by": "o", "irp": irp, "major": self.chance.choice(MAJORS), "word": self.chance.randrange(2**64)}]
+        major, word = self.chance.choice(MAJORS), self.chance.randrange(2**64)
+        steps = [{"do": "set_next", "by": "o", "irp": irp, "major": major, "word": word}]
         setting = self.setting(RULES)
         if setting:
             steps.append({"do": "set_routine", "by": "o", "irp": irp, "set": setting})
-        target = self.devices - 1 if self.seldom(0.8) else self.device()
-        return [*steps, {"do": "call_driver", "by": "o", "irp": irp, "target": max(0, target)}]
+        target = max(0, self.devices - 1 if self.seldom(0.8) else self.device())
+        self.holder = self.likely_holder(target, steps[0]["major"])
+        return [*steps, {"do": "call_driver", "by": "o", "irp": irp, "target": target}]
+
+    def likely_holder(self, target, major):
+        """Returns the device that holds a packet sent to the target, or None, where each stands upon the one before."""
+        for device in range(min(target, self.devices - 1), -1, -1):
+            dispatch = dict(self.drivers[self.driver_of[device]]).get(major)
+            plan = ["finish"] if dispatch is None else self.dispatches[dispatch]
+            if plan[0] in ("finish", "hold"):
+                return device if plan[0] == "hold" else None
+        return None
 
     def held(self, irp):
-        """Returns steps of a device that may hold the packet."""
-        by = self.device()
+        """Returns steps of a device that may hold the packet, or has it because its routine kept it."""
+        by = self.device() if self.holder is None or self.seldom(0.2) else self.holder
         owned = {"by": by, "irp": irp}
         send = {"do": "call_driver", **owned, "target": max(0, by - 1)}
         routine = {"do": "set_routine", **owned, "set": self.setting(RULES) or ["watch", 0, 0, "sec"]}
         cancel = self.chance.choice([None, *range(len(self.cancels))])
-        complete = {"do": "complete", **owned, "status": self.status(), "information": self.chance.randrange(99)}
+        set_cancel = {"do": "set_cancel_routine", **owned, "cancel": cancel}
+        status = self.chance.choice([*STATUSES, PENDING, MORE_PROCESSING])
+        complete = {"do": "complete", **owned, "status": status, "information": self.chance.randrange(99)}
         return self.one_of(
             [{"do": "copy_to_next", **owned}, routine, send],
             [{"do": "set_next", **owned, "major": 3, "word": 1}, send],
             [{"do": "skip", **owned}, {"do": self.one_of("skip", "copy_to_next"), **owned}, send],
+            [{"do": "set_next", **owned, "major": self.one_of(3, 28, 255), "word": 1}],
+            [{"do": "copy_to_next", **owned}, {**routine, "set": ["watch", 9, 0, "sec"]}],
             [{"do": "mark_pending", **owned}, complete],
-            [{"do": "set_cancel_routine", **owned, "cancel": cancel}, self.one_of(send, complete, {"do": "cancel", "irp": irp})],
+            [set_cancel, self.one_of(send, complete, {"do": "cancel", "irp": irp})],
             [complete],
-            [{"do": "cancel", "irp": irp}, {"do": "set_cancel_routine", **owned, "cancel": cancel}],
+            [{"do": "cancel", "irp": irp}, set_cancel],
         )
 
     def life(self):
@@ -146,7 +166,7 @@ class Maker:
         steps = [{"do": "allocate", "size": size, "as": irp}]
         for _ in range(self.chance.randrange(1, 3)):
             steps += self.sent(irp)
-            for _ in range(self.chance.randrange(4)):
+            for _ in range(self.chance.randrange(5)):
                 steps += self.held(irp)
             steps.append({"do": self.one_of("look", "look", "cancel"), "irp": irp})
             steps.append({"do": "reuse", "irp": irp, "status": self.status()})
@@ -169,8 +189,11 @@ class Maker:
         if self.seldom(0.02):
             self.devices = 66
         numbers = range(self.devices)
-        driver = lambda: self.chance.randrange(len(self.drivers))
-        steps = [{"do": "create_device", "driver": driver(), "lock": self.chance.randrange(self.locks)} for _ in numbers]
+        self.driver_of = [self.chance.randrange(len(self.drivers)) for _ in numbers]
+        steps = [
+            {"do": "create_device", "driver": driver, "lock": self.chance.randrange(self.locks)}
+            for driver in self.driver_of
+        ]
         return steps + [{"do": "attach", "device": it, "to": it - 1} for it in numbers if it and not self.seldom(0.1)]
 
     def script(self):
@@ -185,9 +208,11 @@ class Maker:
             seat = self.seat()
             lanes.append([{"do": "acquire", "lock": 0, "tag": 0, "seat": seat} for _ in range(66)])
         return {
-            "form": 1, "seats": self.seats, "locks": self.locks, "completions": self.completions, "cancels": self.cancels,
-            "dispatches": self.dispatches, "drivers": self.drivers, "setup": setup, "steps": self.mixed(lanes),
-        }
+            "form": 1, "seats": self.seats, "locks": self.locks,
+            "completions": self.completions, "cancels": self.cancels,
+            "dispatches": self.dispatches, "drivers": self.drivers,
+            "setup": setup, "steps": self.mixed(lanes),
+        }  # fmt: skip
 
     def mixed(self, lanes):
         """Returns the steps of these lanes in an order that keeps each lane's."""
@@ -271,7 +296,8 @@ def plan_breaks_its_rule(chance, script):
 
 def plan_names_nothing(chance, script):
     at = chance.randrange(len(script["dispatches"]))
-    script["dispatches"][at] = chance.choice([["hold", len(script["cancels"])], ["forward_pend", ["free", 256, 0, ""]]])
+    plans = ["hold", len(script["cancels"])], ["forward_pend", ["free", 256, 0, ""]]
+    script["dispatches"][at] = chance.choice(plans)
     return f"S6 dispatches {at}"
 
 
@@ -281,7 +307,8 @@ def driver_is_wrong(chance, script):
 
 
 def too_many(chance, script):
-    key, least, member = chance.choice([("drivers", 64, []), ("dispatches", 256, ["skip"]), ("cancels", 256, ["leave"])])
+    lists = ("drivers", 64, []), ("dispatches", 256, ["skip"]), ("cancels", 256, ["leave"])
+    key, least, member = chance.choice(lists)
     script[key] += [member] * (least + chance.randrange(1, 3) - len(script[key]))
     return f"S8 {key} {least}"
 
@@ -292,8 +319,9 @@ RULE_BREAKERS = (
 )  # fmt: skip
 PLAN_BREAKERS = (["finish", PENDING, 0], ["finish", MORE_PROCESSING, 1], ["forward", ["keeper", 0, 0, "s"]])
 FAULTS = (
-    key_is_missing, key_is_unknown, form_is_unknown, count_is_wrong, list_is_none, step_lacks_a_key, step_has_another_key,
-    seat_is_not_there, lock_in_setup, routine_breaks_its_rule, plan_breaks_its_rule, plan_names_nothing, driver_is_wrong, too_many,
+    key_is_missing, key_is_unknown, form_is_unknown, count_is_wrong, list_is_none, step_lacks_a_key,
+    step_has_another_key, seat_is_not_there, lock_in_setup, routine_breaks_its_rule, plan_breaks_its_rule,
+    plan_names_nothing, driver_is_wrong, too_many,
 )  # fmt: skip
 
 

@@ -138,8 +138,8 @@ def examples():
 
 
 def work(tasks, prepare, given):
-    """Does the tasks, pairs of a function and its arguments, as many at once as there are processors. Each process calls
-    `prepare` with what is given before. A task answers a Tally; this answers their sum."""
+    """Does the tasks, rows of a function and its arguments, as many at once as there are processors. Each process first
+    calls `prepare` with what is given. A task answers a Tally; this answers their sum."""
     whole = Tally()
     with multiprocessing.Pool(len(os.sched_getaffinity(0)), prepare, given) as pool:
         for tally in pool.imap_unordered(do, tasks):

@@ -126,7 +126,8 @@ one_device_finishes_one_packet|s/"do":"create_device"/"do":"create"/|line 2
 END
 
 # Headers that are refused: one with a routine of each rule and a cancel routine, and what sed does to it.
-header='{"cancels":["either"],"completions":[1,1,1,1,1],"dispatches":[[1,1,1,1,1,1]],"drivers":[[[3,0]]],"form":1,"locks":1,"seats":1}'
+header='{"cancels":["either"],"completions":[1,1,1,1,1],"dispatches":[[1,1,1,1,1,1]],"drivers":[[[3,0]]],'
+header+='"form":1,"locks":1,"seats":1}'
 echo "$header" >"$kept/text"
 told_of_transcript 'a header' "$kept/text" 'legal 0'
 while IFS= read -r change; do
@@ -170,16 +171,16 @@ told_of_transcript 'two headers' "$kept/text" 'line 2'
 
 # A packet is used again, and another seat names its first use in each call that takes a packet: Stale each time.
 stale=
-for call in '"do":"free"' '"do":"reuse","status":0' '"do":"set_next","by":"o","major":3,"word":7' '"do":"copy_to_next","by":"o"' \
-    '"do":"skip","by":"o"' '"do":"set_routine","by":"o","set":["watch",0,0,"sec"]' '"do":"mark_pending","by":"o"' \
-    '"do":"call_driver","by":"o","target":0' '"do":"complete","by":"o","status":0,"information":0' \
+for call in '"do":"free"' '"do":"reuse","status":0' '"do":"set_next","by":"o","major":3,"word":7' \
+    '"do":"copy_to_next","by":"o"' '"do":"skip","by":"o"' '"do":"set_routine","by":"o","set":["watch",0,0,"sec"]' \
+    '"do":"mark_pending","by":"o"' '"do":"call_driver","by":"o","target":0' '"do":"complete","by":"o","status":0,"information":0' \
     '"do":"set_cancel_routine","by":"o","cancel":null' '"do":"cancel"' '"do":"look"'; do
     stale+=",{\"seat\":1,\"irp\":[0,1],$call}"
 done
 steps='{"seat":0,"do":"create_device","driver":0,"lock":0},{"seat":0,"do":"allocate","size":1,"as":"a"},'
 steps+="{\"seat\":0,\"do\":\"reuse\",\"irp\":\"a\",\"status\":0}$stale,{\"seat\":0,\"do\":\"free\",\"irp\":\"a\"}"
-printf '{"form":1,"seats":2,"locks":1,"completions":[],"cancels":[],"dispatches":[],"drivers":[[]],"setup":[],"steps":[%s]}' \
-    "$steps" >"$kept/text"
+before='"completions":[],"cancels":[],"dispatches":[],"drivers":[[]],"setup":[]'
+printf '{"form":1,"seats":2,"locks":1,%s,"steps":[%s]}' "$before" "$steps" >"$kept/text"
 run run <"$kept/text"
 ended 'stale references' 0 ''
 cp "$kept/output" "$kept/transcript"
