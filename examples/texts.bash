@@ -101,24 +101,9 @@ done
 printf '"\377"' >"$kept/text"
 told_of_script 'bytes that are no text' "$kept/text" S2
 
-# Each beginning of a script is no JSON. Each beginning of a transcript ends with a line that is cut, or is legal.
-printf '%s' "$demo" >"$kept/whole"
-for ((end = 0; end < ${#demo}; end++)); do
-    head -c "$end" "$kept/whole" >"$kept/text"
-    told_of_script "the first $end bytes of a script" "$kept/text" S2
-done
-whole=one_device_finishes_one_packet.transcript
-for ((end = 0; end <= $(wc -c <"$whole"); end++)); do
-    head -c "$end" "$whole" >"$kept/text"
-    lines=$(wc -l <"$kept/text")
-    wanted="line $((lines + 1))"
-    if [ -z "$(tail -c 1 "$kept/text")" ]; then wanted="legal $((lines > 0 ? lines - 1 : 0))"; fi
-    told_of_transcript "the first $end bytes of a transcript" "$kept/text" "$wanted"
-done
-
 # A line of 65,536 bytes is read, and no longer one.
 for case in '65536:legal 0' '65537:line 1'; do
-    header=$(head -n 1 "$whole")
+    header=$(head -n 1 one_device_finishes_one_packet.transcript)
     { printf '%s' "$header" && spaces $((${case%%:*} - ${#header})) && echo; } >"$kept/text"
     told_of_transcript "a line of ${case%%:*} bytes" "$kept/text" "${case#*:}"
 done
@@ -136,5 +121,74 @@ one_device_finishes_one_packet|s/"shown":\[0,0,1,3,1,7/"shown":[0,0,1,3,1,8/|ill
 one_device_finishes_one_packet|s/"asked":\[{.*}\],"call"/"asked":[],"call"/|illegal 3
 a_remove_lock_is_drained|s/"drained":true/"drained":false/|illegal 2
 a_remove_lock_is_drained|s/"drained":false/"drained":true/|illegal 1
+a_remove_lock_is_drained|s/"drained":false,"lock":0/"drained":false,"lock":null/|illegal 1
 one_device_finishes_one_packet|s/"do":"create_device"/"do":"create"/|line 2
 END
+
+# Headers that are refused: one with a routine of each rule and a cancel routine, and what sed does to it.
+header='{"cancels":["either"],"completions":[1,1,1,1,1],"dispatches":[[1,1,1,1,1,1]],"drivers":[[[3,0]]],'
+header+='"form":1,"locks":1,"seats":1}'
+echo "$header" >"$kept/text"
+told_of_transcript 'a header' "$kept/text" 'legal 0'
+while IFS= read -r change; do
+    sed "$change" <<<"$header" >"$kept/text"
+    told_of_transcript "a header changed by $change" "$kept/text" 'line 1'
+done <<'END'
+s/\[\[1,/[[2,/
+s/\[\[1,1,/[[1,2,/
+s/\[\[1,1,1,/[[1,1,2,/
+s/\[\[1,1,1,1,/[[1,1,1,2,/
+s/\[\[1,1,1,1,1,/[[1,1,1,1,2,/
+s/,1\]\]/,2]]/
+s/,1\]\]/]]/
+s/,1\]\]/,1,0]]/
+s/\[1,1,1,1,1\]/[1,1,1,1,1,1]/
+s/\[1,1,1,1,1\]/[1,1,1,1,257]/
+s/\[1,1,1,1,1\]/[1,1,1,1,-1]/
+s/\[1,1,1,1,1\]/[1,1,1,1,1.0]/
+s/"either"/"neither"/
+s/\["either"\]/0/
+s/\[\[\[3,0\]\]\]/[[3,0]]/
+s/\[\[\[3,0\]\]\]/[[[3]]]/
+s/\[\[\[3,0\]\]\]/[[[256,0]]]/
+s/"form":1/"form":0/
+s/"form":1/"form":3/
+s/"form":1/"form":"1"/
+s/"locks":1/"locks":4294967297/
+s/"seats":1/"seats":1,"slots":1/
+s/"seats":1/"Seats":1/
+s/"cancels":\["either"\],//
+s/"completions":[^a-z]*,"d/"d/
+s/"dispatches":[^a-z]*,"d/"d/
+s/"drivers":[^a-z]*,"f/"f/
+s/"locks":1,//
+s/,"seats":1//
+s/^/[/;s/$/]/
+s/}$//
+END
+{ echo "$header" && echo "$header"; } >"$kept/text"
+told_of_transcript 'two headers' "$kept/text" 'line 2'
+
+# A packet is used again, and another seat names its first use in each call that takes a packet: Stale each time.
+stale=
+for call in '"do":"free"' '"do":"reuse","status":0' '"do":"set_next","by":"o","major":3,"word":7' \
+    '"do":"copy_to_next","by":"o"' '"do":"skip","by":"o"' '"do":"set_routine","by":"o","set":["watch",0,0,"sec"]' \
+    '"do":"mark_pending","by":"o"' '"do":"call_driver","by":"o","target":0' '"do":"complete","by":"o","status":0,"information":0' \
+    '"do":"set_cancel_routine","by":"o","cancel":null' '"do":"cancel"' '"do":"look"'; do
+    stale+=",{\"seat\":1,\"irp\":[0,1],$call}"
+done
+steps='{"seat":0,"do":"create_device","driver":0,"lock":0},{"seat":0,"do":"allocate","size":1,"as":"a"},'
+steps+="{\"seat\":0,\"do\":\"reuse\",\"irp\":\"a\",\"status\":0}$stale,{\"seat\":0,\"do\":\"free\",\"irp\":\"a\"}"
+before='"completions":[],"cancels":[],"dispatches":[],"drivers":[[]],"setup":[]'
+printf '{"form":1,"seats":2,"locks":1,%s,"steps":[%s]}' "$before" "$steps" >"$kept/text"
+run run <"$kept/text"
+ended 'stale references' 0 ''
+cp "$kept/output" "$kept/transcript"
+grep -o '"reply":.*' "$kept/transcript" >"$kept/replies"
+{
+    printf '"reply":{%s},"seat":0}\n' '"device":0' '"irp":[0,1]' '"irp":[0,2]'
+    for _ in {1..12}; do echo '"reply":{"refused":"Stale"},"seat":1}'; done
+    echo '"reply":"done","seat":0}'
+} >"$kept/expected"
+meets 'stale references: replies' cmp -s "$kept/expected" "$kept/replies"
+judged 'stale references: check' "$kept/transcript" 'legal 16' 0
