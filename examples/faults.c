@@ -18,7 +18,7 @@
 #include <sys/wait.h>
 #include <unistd.h>
 
-enum { MARKS = 3, ORDERS = 4, MOST_SECONDS = 60 };
+enum { MARKS = 3, ORDERS = 4, MOST_SECONDS = 60, MOST_SPARE = 40 };
 
 // The settings; a number below 0 stands for none. runs.py has them in this order.
 static struct {
@@ -129,8 +129,14 @@ static int is_refused(void) {
 
 void *malloc(size_t size) { return is_refused() ? NULL : __libc_malloc(size); }
 
+// Whether a piece gets shorter. The C library gives a little more than is asked for, so who asks for nearly all of what
+// is there may ask for more than before.
+static int is_shrink(void *old, size_t size) {
+    return old != NULL && size + MOST_SPARE < malloc_usable_size(old);
+}
+
 void *realloc(void *old, size_t size) {
-    int shrinks = old != NULL && size <= malloc_usable_size(old);
+    int shrinks = is_shrink(old, size);
     if (shrinks && set.refuse_shrinks > 0) {
         mark();
         errno = ENOMEM;

@@ -10,7 +10,6 @@ STATUSES = [0, 258, 0x7FFFFFFF, 0x80000005, 3221225473, 3221225488, 3221225760]
 MAJORS = [3, 3, 3, 4, 14, 22, 27]
 FLAGS = ["", "s", "e", "c", "se", "sc", "ec", "sec", "sec", "sec"]
 RULES = ["watch", "change", "keeper", "keep_on_error", "free"]
-ON_LOCKS = ["acquire", "release", "begin_remove", "drained"]
 
 
 class Maker:

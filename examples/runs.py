@@ -14,6 +14,8 @@ SETTINGS = (
     "refuse", "refuse_behind", "read_ends", "read_error", "read_once",
     "write_ends", "write_error", "piece", "refuse_threads", "refuse_shrinks",
 )  # fmt: skip
+# The steps that are no calls, but acts on a remove lock.
+ON_LOCKS = ("acquire", "release", "begin_remove", "drained")
 NO_MEMORY = b"irpx: out of memory\n"
 FAILED = b"irpx: input or output failed\n"
 
@@ -115,12 +117,12 @@ class Example(NamedTuple):
         """Returns the transcripts of the run's beginnings: of no step, of the first, of the first two, and so on."""
         script = json.loads(self.script)
         header, *lines = self.transcript.splitlines(keepends=True)
-        entries, words = lines[: self.entries()], lines[self.entries() :]
-        at = {json.loads(line)["step"]: line for line in words}
+        entries = lines[: self.entries()]
+        words = [(json.loads(line)["step"], line) for line in lines[self.entries() :]]
         texts, made = [header], 0
-        for place, step in enumerate(script["setup"] + script["steps"], 1 - len(script["setup"])):
-            made += step["do"] not in ("acquire", "release", "begin_remove", "drained")
-            told = [line for line in words if json.loads(line)["step"] < place] if at else []
+        for place, step in enumerate(script["setup"] + script["steps"], -len(script["setup"])):
+            made += step["do"] not in ON_LOCKS
+            told = [line for at, line in words if at <= place]
             texts.append(b"".join([header, *entries[:made], *told]))
         return texts
 
