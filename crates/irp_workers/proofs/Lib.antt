@@ -5,3 +5,4 @@ pub mod Pairs
 pub mod Places
 pub mod Telling
 pub mod Together
+pub mod Working

@@ -13,6 +13,9 @@ pub count_push : {S T : Type 0} (f : S → T) (test : T → Bool) (all front : L
 count_push f test all front last is =
     ap (λ list. count_by test (map f list)) is ∙ ap (count_by test) (map_push f front last) ∙ sum_by-append _ (map f front) (f last ∷ [])
 
+pub count_last : {S : Type 0} (test : S → Bool) (all front : List S) (last : S) → all ≡ front ++ last ∷ [] → count_by test all ≡ count_by test front + count_by test (last ∷ [])
+count_last test all front last is = ap (count_by test) is ∙ sum_by-append _ front (last ∷ [])
+
 -- a count of what some tell is a count of them
 pub count_map : {S T : Type 0} (f : S → T) (test : T → Bool) (xs : List S) → count_by test (map f xs) ≡ count_by (λ x. test (f x)) xs
 count_map f test [] = refl

@@ -13,7 +13,7 @@ use Rattle.irp_workers.specs.Words.{LockStep, Ran, if_on_lock, is_own, lock_step
 use Rattle.irp_workers.proofs.Numbers.{count_map, sum_at, sum_at_most, sum_from, sum_from_both, sum_from_none}
 use Rattle.std.specs.Prelude.{sum_by}
 
-enumerate-append : {X : Type 0} (n : ℕ) (xs ys : List X) → enumerate_from n (xs ++ ys) ≡ enumerate_from n xs ++ enumerate_from (n + length xs) ys
+pub enumerate-append : {X : Type 0} (n : ℕ) (xs ys : List X) → enumerate_from n (xs ++ ys) ≡ enumerate_from n xs ++ enumerate_from (n + length xs) ys
 enumerate-append n [] ys = let none : n ≡ n + 0 = omega arith in ap (λ k. enumerate_from k ys) none
 enumerate-append n (x ∷ xs) ys =
     let more : n + 1 + length xs ≡ n + suc (length xs) = omega arith in

@@ -13,11 +13,6 @@ use Rattle.irp_workers.specs.Pairs.{Pair}
 use Rattle.irp_workers.proofs.Making.{once_both}
 use Rattle.irp_workers.proofs.Numbers.{count_map, sum_same}
 
--- a count of pairs is a count of what has the pairs
-pub count_pairs : {S : Type 0} (f : S → SeatCalls) (test : Pair → Bool) (seats : List S)
-    → count_by (λ (told : SeatCalls). test told.pair) (map f seats) ≡ count_by test (map (λ s. (f s).pair) seats)
-count_pairs f test seats = count_map f (λ (told : SeatCalls). test told.pair) seats ∙ sym (count_map (λ s. (f s).pair) test seats)
-
 map_twice : {A B C : Type 0} (g : B → C) (f : A → B) (xs : List A) → map g (map f xs) ≡ map (λ x. g (f x)) xs
 map_twice g f [] = refl
 map_twice g f (x ∷ xs) = ap (λ rest. g (f x) ∷ rest) (map_twice g f xs)
@@ -96,34 +91,36 @@ setup_made f seats number workers steps after stopped made going first alone =
 -- no two of a worker's seats have one number where no two of all have
 once_dealt : {S W : Type 0} (f : S → SeatCalls) (seats_of : W → List S) (ready : List S) (groups : List W) (k : ℕ) (one : W) → k < length groups
     → NoneTwice (map (λ s. (f s).pair) ready)
-    → ((test : SeatCalls → Bool) → sum_by (λ worker. count_by test (map f (seats_of worker))) groups ≡ count_by test (map f ready))
+    → ((test : S → Bool) → sum_by (λ worker. count_by test (seats_of worker)) groups ≡ count_by test ready)
     → NoneTwice (map (λ s. (f s).pair) (seats_of (get_or groups k one)))
 once_dealt f seats_of ready groups k one lt once dealt number =
-    let here = part_at_most (λ worker. count_by (λ (told : SeatCalls). told.pair.seat == number) (map f (seats_of worker))) groups k one lt in
-    let all = dealt (λ (told : SeatCalls). told.pair.seat == number) in
+    let here = part_at_most (λ worker. count_by (λ s. (f s).pair.seat == number) (seats_of worker)) groups k one lt in
+    let all = dealt (λ s. (f s).pair.seat == number) in
     let few = once number in
-    let pairs = count_pairs f (λ (pair : Pair). pair.seat == number) (seats_of (get_or groups k one)) in
-    let all_pairs = count_pairs f (λ (pair : Pair). pair.seat == number) ready in
+    let pairs = count_map (λ s. (f s).pair) (λ (pair : Pair). pair.seat == number) (seats_of (get_or groups k one)) in
+    let all_pairs = count_map (λ s. (f s).pair) (λ (pair : Pair). pair.seat == number) ready in
     omega (arith, here, all, few, pairs, all_pairs)
 
 -- the workers' seats together have made the calls of all steps, where none was stopped
 pub all_made : {S W : Type 0} (f : S → SeatCalls) (seats_of : W → List S) (stopped : W → Bool) (ready : List S) (groups done : List W) (workers : ℕ) (steps : List Step)
     → length groups ≡ workers → length done ≡ workers → NoneTwice (map (λ s. (f s).pair) ready)
-    → ((test : SeatCalls → Bool) → sum_by (λ worker. count_by test (map f (seats_of worker))) groups ≡ count_by test (map f ready))
+    → ((test : S → Bool) → sum_by (λ worker. count_by test (seats_of worker)) groups ≡ count_by test ready)
     → ((k : ℕ) (one : W) → k < workers → All (λ s. (f s).pair.seat % workers ≡ k) (seats_of (get_or groups k one)))
     → ((k : ℕ) (one other : W) → k < workers → NoneTwice (map (λ s. (f s).pair) (seats_of (get_or groups k other)))
     → MadeCalls k workers steps (map f (seats_of (get_or groups k other))) (map f (seats_of (get_or done k one))) (stopped (get_or done k one)))
     → ((k : ℕ) (one : W) → k < length done → stopped (get_or done k one) ≡ false)
-    → (test : SeatCalls → Bool) → sum_by (λ worker. count_by test (map f (seats_of worker))) done ≡ count_by (λ (told : SeatCalls). test (once_made steps told)) (map f ready)
+    → (test : SeatCalls → Bool) → sum_by (λ worker. count_by (λ s. test (f s)) (seats_of worker)) done ≡ count_by (λ s. test (once_made steps (f s))) ready
 all_made f seats_of stopped ready groups done workers steps grouped counted once dealt own made going test =
-    sum_same (λ worker. count_by (λ (told : SeatCalls). test (once_made steps told)) (map f (seats_of worker))) (λ worker. count_by test (map f (seats_of worker))) groups done (counted ∙ sym grouped)
+    sum_same (λ worker. count_by (λ s. test (once_made steps (f s))) (seats_of worker)) (λ worker. count_by (λ s. test (f s)) (seats_of worker)) groups done (counted ∙ sym grouped)
     (λ k other one lt.
     let within : k < workers = omega (arith, grouped) in
     let apart = once_dealt f seats_of ready groups k other lt once dealt in
     let calls = made_whole f (seats_of (get_or groups k other)) k workers steps (map f (seats_of (get_or done k one))) (stopped (get_or done k one))
     (made k one other within apart) (going k one (omega (arith, counted))) (own k other within) in
-    ap (count_by test) calls ∙ count_map (once_made steps) test (map f (seats_of (get_or groups k other))))
-    ∙ dealt (λ (told : SeatCalls). test (once_made steps told))
+    sym (count_map f test (seats_of (get_or done k one))) ∙ ap (count_by test) calls
+    ∙ count_map (once_made steps) test (map f (seats_of (get_or groups k other)))
+    ∙ count_map f (λ (told : SeatCalls). test (once_made steps told)) (seats_of (get_or groups k other)))
+    ∙ dealt (λ s. test (once_made steps (f s)))
 
 -- the calls of the setup and then of the steps
 pub both_made : {S : Type 0} (f : S → SeatCalls) (seats : List S) (setup steps : List Step) (test : SeatCalls → Bool)

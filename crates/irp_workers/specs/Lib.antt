@@ -7,3 +7,4 @@ pub mod Made
 pub mod Numbers
 pub mod Pairs
 pub mod Words
+pub mod Working

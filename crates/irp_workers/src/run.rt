@@ -4,10 +4,11 @@ ghost use Rattle.std.specs.Prelude.{◌≡◌, ◌<◌, ◌%◌, ◌++◌, ℕ, 
 ghost use Rattle.std.specs.List.{count_by, list_any};
 ghost use Rattle.irp_shared.specs.declared.word_line.WordLine.{WordLine};
 ghost use Rattle.irp_remove.specs.Pairing.{IsSeatOf, lock_count};
-ghost use Rattle.irp_workers.specs.Made.{MadeCalls, NoneTwice, SeatCalls, once_made, seat_calls};
+ghost use Rattle.irp_workers.specs.Made.{MadeCalls, NoneTwice, once_made, seat_calls};
 ghost use Rattle.irp_workers.specs.Numbers.{AreSame, EachAsOften, NoneMoreOften};
 ghost use Rattle.irp_workers.specs.Pairs.{pair_of, pairs_of};
 ghost use Rattle.irp_workers.specs.Words.{AreInOrder, Ran, lock_steps, told_by};
+ghost use Rattle.irp_workers.specs.Working.{MakesOwn, RunsScript, at_work, working};
 
 use crate::gate::{AlwaysOpen, Gate};
 use crate::labels::Labels;
@@ -38,7 +39,7 @@ pub struct Worked<'a, L: Session> {
 
 /// The seats of a script: each seat with the remove seat of the same place, on condition that the remove seats were opened
 /// with these locks, that there are as many of them, and that there are as many locks as the session has. They come in some
-/// order.
+/// order, each with a remove seat of these locks.
 ///
 /// # Errors
 ///
@@ -55,6 +56,7 @@ pub fn script_seats<'a, L: Session>(
     ensures seats { IfOk result (λ pairs. AreSame (map (λ seat. seat.number) seats.items) (map (λ own. own.seat.number) pairs.items)) }
     ensures pairs { IfOk result (λ pairs. EachAsOften (pairs_of seats.items removes.items) (map (λ own. pair_of own.seat own.remove) pairs.items)) }
     ensures whole { IfOk result (λ pairs. EachAsOften seats.items (map (λ own. own.seat) pairs.items)) }
+    ensures fits { IfOk result (λ pairs. All (λ own. IsSeatOf locks.now own.remove) pairs.items) }
 {
     let mut pairs = Vec::new(alloc);
     while let Some(seat) = seats.pop() {
@@ -72,7 +74,7 @@ fn idle<'a, L: Session>(alloc: Global, workers: u32) -> Result<Vec<Worker<'a, L>
     requires { 0 < workers }
     ensures len { IfOk result (λ all. vec_len all ≡ workers) }
     ensures ready { IfOk result (λ all. (k : ℕ) (one : _) → k < workers → ((slice_index_or all.items k one).number ≡ k) × ((slice_index_or all.items k one).workers ≡ workers) × ((slice_index_or all.items k one).words.items ≡ []) × ((slice_index_or all.items k one).stopped ≡ false) × ((slice_index_or all.items k one).seats.items ≡ [])) }
-    ensures seats { IfOk result (λ all. (test : SeatCalls → Bool) → sum_by (λ worker. count_by test (map (λ own. seat_calls own.seat own.remove) worker.seats.items)) all.items ≡ 0) }
+    ensures seats { IfOk result (λ all. (test : _ → Bool) → sum_by (λ worker. count_by test worker.seats.items) all.items ≡ 0) }
 {
     let mut all = Vec::with_capacity(alloc, workers as usize)?;
     for number in 0..workers {
@@ -90,7 +92,7 @@ fn deal<'a, L: Session>(
     requires { 0 < workers }
     ensures len { IfOk result (λ all. vec_len all ≡ workers) }
     ensures ready { IfOk result (λ all. (k : ℕ) (one : _) → k < workers → ((slice_index_or all.items k one).number ≡ k) × ((slice_index_or all.items k one).workers ≡ workers) × ((slice_index_or all.items k one).words.items ≡ []) × ((slice_index_or all.items k one).stopped ≡ false) × All (λ own. own.seat.number % workers ≡ k) (slice_index_or all.items k one).seats.items) }
-    ensures seats { IfOk result (λ all. (test : SeatCalls → Bool) → sum_by (λ worker. count_by test (map (λ own. seat_calls own.seat own.remove) worker.seats.items)) all.items ≡ count_by test (map (λ own. seat_calls own.seat own.remove) seats.entry.items)) }
+    ensures seats { IfOk result (λ all. (test : _ → Bool) → sum_by (λ worker. count_by test worker.seats.items) all.items ≡ count_by test seats.entry.items) }
 {
     let mut all = idle(alloc, workers)?;
     while let Some(seat) = seats.pop() {
@@ -105,6 +107,7 @@ fn deal<'a, L: Session>(
 fn run_all<'a, A: Ask + Send, L: Session + Send + Sync, G: Gate + Sync, R: Threads + Wait + Sync>(
     rt: &R,
     place: &Workplace<A, L>,
+    line: &StartLine,
     gate: &G,
     steps: &[Step],
     workers: Vec<Worker<'a, L>>,
@@ -113,8 +116,13 @@ fn run_all<'a, A: Ask + Send, L: Session + Send + Sync, G: Gate + Sync, R: Threa
     ensures back { IfOk result (λ done. (k : ℕ) (one : _) (other : _) → k < vec_len workers.entry → map (λ own. pair_of own.seat own.remove) (slice_index_or done.items k one).seats.items ≡ map (λ own. pair_of own.seat own.remove) (slice_index_or workers.entry.items k other).seats.items) }
     ensures ran { IfOk result (λ done. (k : ℕ) (one : _) (other : _) → k < vec_len workers.entry → Ran (slice_index_or workers.entry.items k other).number (slice_index_or workers.entry.items k other).workers steps.now (map told_by (slice_index_or workers.entry.items k other).words.items) (slice_index_or done.items k one).words.items (slice_index_or done.items k one).stopped) }
     ensures called { IfOk result (λ done. (k : ℕ) (one : _) (other : _) → k < vec_len workers.entry → NoneTwice (map (λ own. pair_of own.seat own.remove) (slice_index_or workers.entry.items k other).seats.items) → MadeCalls (slice_index_or workers.entry.items k other).number (slice_index_or workers.entry.items k other).workers steps.now (map (λ own. seat_calls own.seat own.remove) (slice_index_or workers.entry.items k other).seats.items) (map (λ own. seat_calls own.seat own.remove) (slice_index_or done.items k one).seats.items) (slice_index_or done.items k one).stopped) }
+    ensures made { IfOk result (λ done. (k : ℕ) (one : _) (other : _) → k < vec_len workers.entry → MakesOwn L.fixed.locks (slice_index_or workers.entry.items k other).number (slice_index_or workers.entry.items k other).workers steps.now (working (map (λ own. at_work own.seat own.remove) (slice_index_or workers.entry.items k other).seats.items) (slice_index_or workers.entry.items k other).words.items) (working (map (λ own. at_work own.seat own.remove) (slice_index_or done.items k one).seats.items) (slice_index_or done.items k one).words.items) (slice_index_or done.items k one).stopped) }
 {
-    thread::map_vec(rt, workers, &|worker| worker.start(rt, place, gate, steps))
+    thread::map_vec(
+        rt,
+        workers,
+        &|worker| worker.run(rt, place, line, gate, steps),
+    )
 }
 
 /// What the workers did, together.
@@ -125,7 +133,7 @@ fn gather<'a, L: Session>(
     ensures words { IfOk result (λ worked. AreInOrder worked.words.items) }
     ensures lines { IfOk result (λ worked. (test : WordLine → Bool) → count_by test worked.words.items ≡ sum_by (λ worker. count_by test worker.words.items) workers.entry.items) }
     ensures stopped { IfOk result (λ worked. worked.stopped ≡ list_any (λ worker. worker.stopped) workers.entry.items) }
-    ensures seats { IfOk result (λ worked. (test : SeatCalls → Bool) → count_by test (map (λ own. seat_calls own.seat own.remove) worked.seats.items) ≡ sum_by (λ worker. count_by test (map (λ own. seat_calls own.seat own.remove) worker.seats.items)) workers.entry.items) }
+    ensures seats { IfOk result (λ worked. (test : _ → Bool) → count_by test worked.seats.items ≡ sum_by (λ worker. count_by test worker.seats.items) workers.entry.items) }
 {
     let mut seats = Vec::new(alloc);
     let mut words = Vec::new(alloc);
@@ -153,6 +161,14 @@ fn gather<'a, L: Session>(
 /// of the script's `steps` by its seat and its place, before and after it, outside the session's lock. A step of the setup
 /// on a remove lock, which no script that was read has, has no word line (this project's own format, docs/FORMATS.md).
 ///
+/// All remove seats were opened with these locks, which is the condition of this call.
+///
+/// What was done is a chain for the setup, and then one for each worker over the seats that it was dealt. Each link is one
+/// of its own steps, in the order of the script, made by the seat that the step names: one call, with what this seat's own
+/// remove seat knew of the locks, or one act on a remove lock, of which one word line tells what was answered. The next
+/// link goes on from there, and no other seat changes. A chain ends early only where its worker stopped. The seats and the
+/// word lines that come back are those that the chains end with.
+///
 /// Each word line has the seat, the place and the act of one of the script's `steps` on remove locks. No such step has two
 /// lines, and where nothing stopped, each has its line.
 ///
@@ -173,12 +189,14 @@ pub fn run_workers<
     rt: &R,
     alloc: Global,
     shared: &Shared<A, L>,
+    locks: &'a Locks,
     seats: Vec<ScriptSeat<'a, L>>,
     script: &Script,
     gate: &G,
     workers: u32,
 ) -> Result<Worked<'a, L>, AllocError>
-    requires { 0 < workers }
+    requires workers { 0 < workers }
+    requires locks { All (λ own. IsSeatOf locks.now own.remove) seats.items }
     ensures words { IfOk result (λ worked. AreInOrder worked.words.items) }
     ensures seats { IfOk result (λ worked. AreSame (map (λ own. own.seat.number) seats.entry.items) (map (λ own. own.seat.number) worked.seats.items)) }
     ensures pairs { IfOk result (λ worked. EachAsOften (map (λ own. pair_of own.seat own.remove) seats.entry.items) (map (λ own. pair_of own.seat own.remove) worked.seats.items)) }
@@ -186,15 +204,14 @@ pub fn run_workers<
     ensures all_told { IfOk result (λ worked. worked.stopped ≡ false → EachAsOften (lock_steps script.now.steps) (map told_by worked.words.items)) }
     ensures all_called { IfOk result (λ worked. worked.stopped ≡ false → NoneTwice (map (λ own. pair_of own.seat own.remove) seats.entry.items)
         → EachAsOften (map (λ own. once_made (script.now.setup ++ script.now.steps) (seat_calls own.seat own.remove)) seats.entry.items) (map (λ own. seat_calls own.seat own.remove) worked.seats.items)) }
+    ensures ran { IfOk result (λ worked. RunsScript L.fixed.locks workers script.now.setup script.now.steps (map (λ own. at_work own.seat own.remove) seats.entry.items) (map (λ own. at_work own.seat own.remove) worked.seats.items) worked.words.items worked.stopped) }
 {
+    let _ = locks;
     let labels = Labels::new(alloc, script.labels)?;
-    let place = Workplace {
-        shared,
-        labels,
-        line: StartLine::new(workers),
-    };
+    let place = Workplace { shared, labels };
     let all = Worker::new(alloc, 0, 1, seats);
-    let ready = all.run(rt, &place, &AlwaysOpen, script.setup.as_slice());
+    let alone = StartLine::new(1);
+    let ready = all.run(rt, &place, &alone, &AlwaysOpen, script.setup.as_slice());
     if ready.stopped {
         let seats = ready.seats;
         let words = Vec::new(alloc);
@@ -207,6 +224,7 @@ pub fn run_workers<
     }
     let steps = script.steps.as_slice();
     let groups = deal(alloc, workers, ready.seats)?;
-    let done = run_all(rt, &place, gate, steps, groups)?;
+    let line = StartLine::new(workers);
+    let done = run_all(rt, &place, &line, gate, steps, groups)?;
     gather(alloc, done)
 }

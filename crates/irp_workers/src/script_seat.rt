@@ -138,7 +138,7 @@ impl<'a, L: Session> ScriptSeat<'a, L> {
     fn act(&mut self, act: Act) -> WordReply
         ensures seat { self.new.seat ≡ self.old.seat }
         ensures remove { IsSameSeat self.old.remove self.new.remove }
-        ensures acts { Acts (lock_count self.old.locks.now) act self.old.remove self.new.remove result }
+        ensures acts { Acts L.fixed.locks act self.old.remove self.new.remove result }
     {
         match act {
             Act::Acquire { lock, tag } => self.acquire(lock, tag),
@@ -168,7 +168,7 @@ impl<'a, L: Session> ScriptSeat<'a, L> {
         ensures called { MatchOption result (IsAsBefore self.old.seat self.new.seat)
             (λ _. CallsUnlessActs (lock_act_of step.act) step.act self.old.remove self.old.seat self.new.seat) }
         ensures acts { MatchOption result (self.new.remove ≡ self.old.remove)
-            (λ _. ActsFor (lock_count self.old.locks.now) step.seat index (lock_act_of step.act) self.old.remove self.new.remove words.old.items words.new.items) }
+            (λ _. ActsFor L.fixed.locks step.seat index (lock_act_of step.act) self.old.remove self.new.remove words.old.items words.new.items) }
     {
         let Some(act) = lock_act_of(step.act) else {
             return self.call(rt, place, step);

@@ -5,9 +5,11 @@ ghost use Rattle.std.specs.Option.{option_to_list};
 ghost use Rattle.irp_workers.specs.Made.{MadeCalls, NoneTwice, once_made, own_among, seat_calls};
 ghost use Rattle.irp_workers.specs.Pairs.{pair_of};
 ghost use Rattle.irp_workers.specs.Words.{Ran, lock_step_of, own_steps, told_by};
+ghost use Rattle.irp_workers.specs.Working.{Makes, MakesEach, MakesOwn, at_work, if_own, working};
 
 use crate::gate::Gate;
 use crate::script_seat::ScriptSeat;
+use crate::start_line::StartLine;
 use crate::workplace::Workplace;
 use irp_routines::Ask;
 use irp_script_reader::Step;
@@ -80,6 +82,8 @@ impl<'a, L: Session> Worker<'a, L> {
         ensures called { MatchOption result (map (λ own. seat_calls own.seat own.remove) self.new.seats.items ≡ map (λ own. seat_calls own.seat own.remove) self.old.seats.items)
             (λ _. NoneTwice (map (λ own. pair_of own.seat own.remove) self.old.seats.items)
             → map (λ own. seat_calls own.seat own.remove) self.new.seats.items ≡ map (once_made (step ∷ [])) (map (λ own. seat_calls own.seat own.remove) self.old.seats.items)) }
+        ensures made { MatchOption result (working (map (λ own. at_work own.seat own.remove) self.new.seats.items) self.new.words.items ≡ working (map (λ own. at_work own.seat own.remove) self.old.seats.items) self.old.words.items)
+            (λ _. Makes L.fixed.locks index step (working (map (λ own. at_work own.seat own.remove) self.old.seats.items) self.old.words.items) (working (map (λ own. at_work own.seat own.remove) self.new.seats.items) self.new.words.items)) }
     {
         let at = self.place_of(step.seat)?;
         let own = &mut self.seats[at];
@@ -102,6 +106,8 @@ impl<'a, L: Session> Worker<'a, L> {
         ensures called { MatchOption result (map (λ own. seat_calls own.seat own.remove) self.new.seats.items ≡ map (λ own. seat_calls own.seat own.remove) self.old.seats.items)
             (λ _. NoneTwice (map (λ own. pair_of own.seat own.remove) self.old.seats.items)
             → map (λ own. seat_calls own.seat own.remove) self.new.seats.items ≡ map (once_made (step ∷ [])) (map (λ own. seat_calls own.seat own.remove) self.old.seats.items)) }
+        ensures made { MatchOption result (working (map (λ own. at_work own.seat own.remove) self.new.seats.items) self.new.words.items ≡ working (map (λ own. at_work own.seat own.remove) self.old.seats.items) self.old.words.items)
+            (λ _. Makes L.fixed.locks index step (working (map (λ own. at_work own.seat own.remove) self.old.seats.items) self.old.words.items) (working (map (λ own. at_work own.seat own.remove) self.new.seats.items) self.new.words.items)) }
     {
         let Ok(index) = u32::try_from(index) else {
             return None;
@@ -135,6 +141,8 @@ impl<'a, L: Session> Worker<'a, L> {
         ensures called { result ≡ true → NoneTwice (map (λ own. pair_of own.seat own.remove) self.old.seats.items)
             → map (λ own. seat_calls own.seat own.remove) self.new.seats.items ≡ map (once_made (own_among self.old.number self.old.workers (step ∷ []))) (map (λ own. seat_calls own.seat own.remove) self.old.seats.items) }
         ensures kept { result ≡ false → map (λ own. seat_calls own.seat own.remove) self.new.seats.items ≡ map (λ own. seat_calls own.seat own.remove) self.old.seats.items }
+        ensures turned { result ≡ true → MakesEach L.fixed.locks (if_own self.old.number self.old.workers index step) (working (map (λ own. at_work own.seat own.remove) self.old.seats.items) self.old.words.items) (working (map (λ own. at_work own.seat own.remove) self.new.seats.items) self.new.words.items) }
+        ensures stayed { result ≡ false → working (map (λ own. at_work own.seat own.remove) self.new.seats.items) self.new.words.items ≡ working (map (λ own. at_work own.seat own.remove) self.old.seats.items) self.old.words.items }
     {
         if !self.has(step) {
             return true;
@@ -142,13 +150,16 @@ impl<'a, L: Session> Worker<'a, L> {
         self.pass(rt, place, gate, index, step).is_some()
     }
 
-    /// Runs the steps of its own seats, in the order of the script, up to the first that isn't made. Its seats come back,
-    /// and its word lines tell of the steps on remove locks that it made. Where no two of its seats have the same number,
-    /// each has made the calls of its own among these steps after those that it had made, in order, and no other.
+    /// Runs the steps of its own seats, once all workers are at the line: in the order of the script, up to the first that
+    /// isn't made. Its seats come back. Each step was a call, with what the seat's own remove seat knew of the locks, or an
+    /// act on a remove lock, of which a line behind its word lines tells what was answered. Where no two of its seats have
+    /// the same number, each has made the calls of its own among these steps after those that it had made, in order, and no
+    /// other.
     pub fn run<A: Ask, G: Gate>(
         mut self,
         rt: &impl Wait,
         place: &Workplace<A, L>,
+        line: &StartLine,
         gate: &G,
         steps: &[Step],
     ) -> Worker<'a, L>
@@ -156,7 +167,9 @@ impl<'a, L: Session> Worker<'a, L> {
         ensures words { Ran self.entry.number self.entry.workers steps.now (map told_by self.entry.words.items) result.words.items result.stopped }
         ensures calls { NoneTwice (map (λ own. pair_of own.seat own.remove) self.entry.seats.items)
             → MadeCalls self.entry.number self.entry.workers steps.now (map (λ own. seat_calls own.seat own.remove) self.entry.seats.items) (map (λ own. seat_calls own.seat own.remove) result.seats.items) result.stopped }
+        ensures made { MakesOwn L.fixed.locks self.entry.number self.entry.workers steps.now (working (map (λ own. at_work own.seat own.remove) self.entry.seats.items) self.entry.words.items) (working (map (λ own. at_work own.seat own.remove) result.seats.items) result.words.items) result.stopped }
     {
+        line.wait();
         for (index, step) in steps.iter().enumerate() {
             if !self.turn(rt, place, gate, index, *step) {
                 self.stopped = true;
@@ -164,22 +177,5 @@ impl<'a, L: Session> Worker<'a, L> {
             }
         }
         self
-    }
-
-    /// Runs its steps as `run` does, once all workers are at the line.
-    pub fn start<A: Ask, G: Gate>(
-        self,
-        rt: &impl Wait,
-        place: &Workplace<A, L>,
-        gate: &G,
-        steps: &[Step],
-    ) -> Worker<'a, L>
-        ensures seats { map (λ own. pair_of own.seat own.remove) result.seats.items ≡ map (λ own. pair_of own.seat own.remove) self.entry.seats.items }
-        ensures words { Ran self.entry.number self.entry.workers steps.now (map told_by self.entry.words.items) result.words.items result.stopped }
-        ensures calls { NoneTwice (map (λ own. pair_of own.seat own.remove) self.entry.seats.items)
-            → MadeCalls self.entry.number self.entry.workers steps.now (map (λ own. seat_calls own.seat own.remove) self.entry.seats.items) (map (λ own. seat_calls own.seat own.remove) result.seats.items) result.stopped }
-    {
-        place.line.wait();
-        self.run(rt, place, gate, steps)
     }
 }

@@ -117,7 +117,16 @@ fn session<L: Session + Send + Sync, T: Threads + Wait + Sync>(
     let Ok(pairs) = script_seats(alloc, &locks, seats, removes) else {
         return Err(Ending::NoMemory);
     };
-    let Ok(worked) = run_workers(rt, alloc, &shared, pairs, script, &AlwaysOpen, workers) else {
+    let Ok(worked) = run_workers(
+        rt,
+        alloc,
+        &shared,
+        &locks,
+        pairs,
+        script,
+        &AlwaysOpen,
+        workers,
+    ) else {
         return Err(Ending::NoMemory);
     };
     let stopped = worked.stopped;

@@ -1,7 +1,6 @@
-use Rattle.std.proofs.Common.{◌≡◌, ◌<◌, ◌%◌, ◌++◌, ◌∷◌, [], All, false, length, map, ap, sym, subst, rules, arith}
+use Rattle.std.proofs.Common.{◌≡◌, ◌<◌, ◌%◌, ◌++◌, ◌∷◌, [], All, cond, false, length, ap, sym, subst, rules, arith}
 use Rattle.std.specs.List.{count_by}
-use Rattle.irp_workers.specs.Made.{seat_calls}
-use Rattle.irp_workers.proofs.Numbers.{all_push, count_push, count_none, dealt, each_set}
+use Rattle.irp_workers.proofs.Numbers.{all_push, count_last, dealt, each_set, sum_none}
 use Rattle.irp_workers.proofs.run.deal.Goals as goal
 
 pub loop-seat-init : goal.loop-seat-init
@@ -23,9 +22,9 @@ loop-seat-preserved g c =
           each_set (λ k worker. (worker.number ≡ k) × (worker.workers ≡ c.args.workers) × (worker.words.items ≡ []) × (worker.stopped ≡ false) × All (λ own. own.seat.number % c.args.workers ≡ k) worker.seats.items) c.args.workers c.loop-seat.all.items (c.number.result % c.args.workers) _ within c.loop-seat.invariant.ready
           (was.0, was.1, was.2, was.3, all_push (λ own. own.seat.number % c.args.workers ≡ c.number.result % c.args.workers) c.push_reserved.new.self.items c.index_mut-worker.result.now.seats.items c.in-Some.seat pushed was.4 (ap (λ n. n % c.args.workers) (sym c.number.ensures)));
       seats = λ test.
-          let taken = count_push (λ own. seat_calls own.seat own.remove) test c.loop-seat.seats.items c.pop.new.self.items c.in-Some.seat c.in-Some.ensures.items in
-          let more = count_push (λ own. seat_calls own.seat own.remove) test c.push_reserved.new.self.items c.index_mut-worker.result.now.seats.items c.in-Some.seat pushed in
-          dealt (λ worker. count_by test (map (λ own. seat_calls own.seat own.remove) worker.seats.items)) c.loop-seat.all.items (c.number.result % c.args.workers) _ c.index_mut-worker.result.now _ _ _ _ c.index_mut-worker.ensures.value within more taken (c.loop-seat.invariant.seats test);
+          let taken = count_last test c.loop-seat.seats.items c.pop.new.self.items c.in-Some.seat c.in-Some.ensures.items in
+          let more = count_last test c.push_reserved.new.self.items c.index_mut-worker.result.now.seats.items c.in-Some.seat pushed in
+          dealt (λ worker. count_by test worker.seats.items) c.loop-seat.all.items (c.number.result % c.args.workers) _ c.index_mut-worker.result.now _ _ _ _ c.index_mut-worker.ensures.value within more taken (c.loop-seat.invariant.seats test);
     }
 
 pub returns-clause-seats : goal.returns-clause-seats
@@ -33,5 +32,5 @@ returns-clause-seats g c =
     let empty : length c.loop-seat.seats.items ≡ 0 = search rules in
     λ test.
     let so_far = c.loop-seat.invariant.seats test in
-    let none = count_none (λ own. seat_calls own.seat own.remove) test c.loop-seat.seats.items empty in
+    let none = sum_none (λ own. cond (test own) 1 0) c.loop-seat.seats.items empty in
     omega (arith, so_far, none)

@@ -2,7 +2,6 @@ use Rattle.std.proofs.Common.{◌≡◌, map, vec_len, ◌+◌, Bool, ◌||◌}
 use Rattle.std.specs.Prelude.{sum_by}
 use Rattle.std.specs.List.{count_by, list_any}
 use Rattle.irp_shared.specs.declared.word_line.WordLine.{WordLine}
-use Rattle.irp_workers.specs.Made.{SeatCalls, seat_calls}
 use Rattle.irp_workers.proofs.run.gather.Given as goal
 
 -- what those left have and what is gathered is what all had
@@ -10,7 +9,7 @@ abbrev pub invariant-loop-worker : goal.invariant-loop-worker
 invariant-loop-worker g l = record {
   lines : (test : WordLine → Bool) → count_by test l.words.items + sum_by (λ worker. count_by test worker.words.items) l.workers.items ≡ sum_by (λ worker. count_by test worker.words.items) l.fn.workers.items;
   stopped : (list_any (λ worker. worker.stopped) l.workers.items || l.stopped) ≡ list_any (λ worker. worker.stopped) l.fn.workers.items;
-  seats : (test : SeatCalls → Bool) → count_by test (map (λ own. seat_calls own.seat own.remove) l.seats.items) + sum_by (λ worker. count_by test (map (λ own. seat_calls own.seat own.remove) worker.seats.items)) l.workers.items ≡ sum_by (λ worker. count_by test (map (λ own. seat_calls own.seat own.remove) worker.seats.items)) l.fn.workers.items;
+  seats : (test : _ → Bool) → count_by test l.seats.items + sum_by (λ worker. count_by test worker.seats.items) l.workers.items ≡ sum_by (λ worker. count_by test worker.seats.items) l.fn.workers.items;
 }
 
 abbrev pub decreases-loop-worker : goal.decreases-loop-worker

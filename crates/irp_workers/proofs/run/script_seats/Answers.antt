@@ -1,11 +1,12 @@
-use Rattle.std.proofs.Common.{◌≡◌, ◌==◌, ◌+◌, ◌++◌, ◌∷◌, [], length, ap, ◌∙◌, rules, arith}
+use Rattle.std.proofs.Common.{◌≡◌, ◌==◌, ◌+◌, ◌++◌, ◌∷◌, [], length, sym, subst, ap, ◌∙◌, rules, arith}
 use Rattle.std.proofs.lemmas.List.Elements.{All-pop}
 use Rattle.std.proofs.lemmas.List.Sums.{sum_by-append}
 use Rattle.std.specs.List.{count_by}
+use Rattle.std.specs.Prelude.{IfSome}
 use Rattle.irp_remove.specs.Pairing.{IsSeatOf}
 use Rattle.irp_workers.specs.Numbers.{how_often}
 use Rattle.irp_workers.specs.Pairs.{pair_of, pairs_of}
-use Rattle.irp_workers.proofs.Numbers.{count_push, count_none}
+use Rattle.irp_workers.proofs.Numbers.{all_push, count_push, count_none}
 use Rattle.irp_workers.proofs.Pairs.{pairs_push, pairs_none, nothing_left}
 use Rattle.irp_workers.proofs.run.script_seats.Goals as goal
 
@@ -16,6 +17,8 @@ loop-seat-preserved g c =
     let len : length c.pop.new.self.items ≡ length c.pop-in-Some.new.self.items = omega (arith, c.in-Some.ensures.len, c.in-Some-pop.ensures.len, c.loop-seat.invariant.len) in
     record {
       fit = fits.0;
+      fits = all_push (λ own. IsSeatOf c.args.locks.now own.remove) c.push_reserved.new.self.items c.loop-seat.pairs.items c.new.result pushed c.loop-seat.invariant.fits
+          (subst (IsSeatOf c.args.locks.now) (sym c.new.ensures.remove) (subst (λ found. IfSome found (IsSeatOf c.args.locks.now)) c.in-Some-pop.is fits.1));
       len = omega (arith, c.in-Some.ensures.len, c.in-Some-pop.ensures.len, c.loop-seat.invariant.len);
       seats = λ number.
           let so_far = c.loop-seat.invariant.seats number in

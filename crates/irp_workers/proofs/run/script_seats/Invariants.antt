@@ -10,6 +10,7 @@ use Rattle.irp_workers.proofs.run.script_seats.Given as goal
 abbrev pub invariant-loop-seat : goal.invariant-loop-seat
 invariant-loop-seat g l = record {
   fit : All (IsSeatOf l.locks) l.removes.items;
+  fits : All (λ own. IsSeatOf l.locks own.remove) l.pairs.items;
   len : vec_len l.seats ≡ vec_len l.removes;
   seats : (number : ℕ) → how_often number (map (λ seat. seat.number) l.seats.items) + how_often number (map (λ own. own.seat.number) l.pairs.items) ≡ how_often number (map (λ seat. seat.number) l.fn.seats.items);
   pairs : (test : Pair → Bool) → count_by test (pairs_of l.seats.items l.removes.items) + count_by test (map (λ own. pair_of own.seat own.remove) l.pairs.items) ≡ count_by test (pairs_of l.fn.seats.items l.fn.removes.items);

@@ -1,0 +1,180 @@
+-- What a worker makes of its seats and lines, step by step, and what the workers of a script make together.
+use Rattle.std.proofs.Common.{◌≡◌, ◌<◌, ◌+◌, ◌%◌, ◌==◌, ◌||◌, ℕ, Bool, true, false, cond, Option, Some, None, List, [], ◌∷◌, ◌++◌, length, map, take, get_or, set, refl, sym, subst, ap, ◌∙◌, arith}
+use Rattle.std.specs.Prelude.{IfOk, MatchOption, Result, Ok, Err, slice_get, sum_by}
+use Rattle.std.specs.Option.{option_map, unwrap_or}
+use Rattle.std.specs.List.{count_by, enumerate_from, filter, flat_map, list_any}
+use Rattle.std.proofs.lemmas.List.{length-take-le, length-map, get_or-map, map-set, take_more}
+use Rattle.std.proofs.lemmas.List.Elements.{filter-append}
+use Rattle.std.proofs.lemmas.List.Concat.{flat_map-cons}
+use Rattle.std.proofs.lemmas.List.Sums.{sum_by-append, sum_by-cons}
+use Rattle.std.proofs.lemmas.Option.{get_or_from_slice_get, none-some, slice_get-get_or, slice_get-map, slice_get_within}
+use Rattle.irp_manager.specs.Seats.{Seated}
+use Rattle.irp_remove.specs.Seats.{Holder}
+use Rattle.irp_shared.specs.Sharing.{IsAsBefore}
+use Rattle.irp_shared.specs.declared.word_line.Act.{Act}
+use Rattle.irp_shared.specs.declared.word_line.WordLine.{WordLine}
+use Rattle.irp_script_reader.specs.declared.act.Step.{Step}
+use Rattle.irp_script_reader.specs.declared.act.StepAct.{StepAct}
+use Rattle.irp_workers.specs.Acts.{ActsFor}
+use Rattle.irp_workers.specs.Calling.{CallsUnlessActs}
+use Rattle.irp_workers.specs.Deeds.{lock_act_of}
+use Rattle.irp_workers.specs.Made.{is_own_step}
+use Rattle.irp_workers.specs.Working.{AtWork, Left, Makes, MakesEach, MakesOwn, WorkApart, Working, at_work, if_own, own_placed, roomless, working}
+use Rattle.irp_workers.proofs.Numbers.{count_map, map_set_same}
+use Rattle.irp_workers.proofs.Telling.{enumerate-append}
+
+-- what a seat says doesn't tell its room
+roomless_same : (before after : Seated) → IsAsBefore before after → roomless after ≡ roomless before
+roomless_same before after same = λ i. record { number = same.number i; seen = same.seen i; entries = same.entries i; room = 0 }
+
+roomless_calls : (locked : Option Act) (act : StepAct) (remove : Holder) (before after : Seated) → CallsUnlessActs locked act remove before after
+    → CallsUnlessActs locked act remove (roomless before) (roomless after)
+roomless_calls None act remove before after calls =
+    let kept = calls.recorded.kept in
+    let of_call = calls.recorded.of_call in
+    record {
+      call = calls.call;
+      receipt = calls.receipt;
+      of_act = calls.of_act;
+      recorded = record {
+        entry = calls.recorded.entry;
+        of_call = record { within = of_call.within; after = of_call.after; by = of_call.by; asks = of_call.asks; noted = of_call.noted; deletes = of_call.deletes; few = of_call.few; told = of_call.told };
+        kept = record { number = kept.number; entries = kept.entries; seen = kept.seen };
+      };
+    }
+roomless_calls (Some acted) act remove before after same = ap roomless same
+
+-- what one seat makes of a step is what a worker makes that has it
+pub made_at : {S T : Type 0} (R : T → Type 0) (result : Option T) (seat : S → Seated) (remove : S → Holder) (seats : List S) (at : ℕ) (new old : S) (lines longer : List WordLine) (count place : ℕ) (step : Step)
+    → at < length seats → old ≡ get_or seats at old → (seat old).number ≡ step.seat
+    → MatchOption result (IsAsBefore (seat old) (seat new)) (λ _. CallsUnlessActs (lock_act_of step.act) step.act (remove old) (seat old) (seat new))
+    → MatchOption result (remove new ≡ remove old) (λ _. ActsFor count step.seat place (lock_act_of step.act) (remove old) (remove new) lines longer)
+    → MatchOption result (longer ≡ lines) R
+    → MatchOption result (working (map (λ s. at_work (seat s) (remove s)) (set seats at new)) longer ≡ working (map (λ s. at_work (seat s) (remove s)) seats) lines)
+    (λ _. Makes count place step (working (map (λ s. at_work (seat s) (remove s)) seats) lines) (working (map (λ s. at_work (seat s) (remove s)) (set seats at new)) longer))
+made_at R None seat remove seats at new old lines longer count place step lt there named called acted told =
+    let work : at_work (seat new) (remove new) ≡ at_work (seat old) (remove old) = λ i. record { seat = roomless_same (seat old) (seat new) called i; remove = acted i } in
+    let all : map (λ s. at_work (seat s) (remove s)) (set seats at new) ≡ map (λ s. at_work (seat s) (remove s)) seats =
+    map_set_same (λ s. at_work (seat s) (remove s)) seats at new old (work ∙ ap (λ s. at_work (seat s) (remove s)) there) lt in
+    λ i. working (all i) (told i)
+made_at R (Some x) seat remove seats at new old lines longer count place step lt there named called acted told = record {
+  at = at;
+  old = at_work (seat old) (remove old);
+  new = at_work (seat new) (remove new);
+  there =
+      slice_get-get_or (map (λ s. at_work (seat s) (remove s)) seats) at (at_work (seat old) (remove old)) (omega (arith, lt, length-map seats (λ s. at_work (seat s) (remove s))))
+      ∙ ap Some (get_or-map (λ s. at_work (seat s) (remove s)) seats at old (at_work (seat old) (remove old)) lt ∙ ap (λ s. at_work (seat s) (remove s)) (sym there));
+  named = named;
+  called = roomless_calls (lock_act_of step.act) step.act (remove old) (seat old) (seat new) called;
+  acted = acted;
+  others = map-set (λ s. at_work (seat s) (remove s)) seats at new;
+}
+
+-- a turn of the worker: it makes the step if it is its own
+pub turn_skips : (count number workers place : ℕ) (step : Step) (work : Working) → (step.seat % workers == number) ≡ false → MakesEach count (if_own number workers place step) work work
+turn_skips count number workers place step work other = subst (λ b. MakesEach count (cond b ((place, step) ∷ []) []) work work) (sym other) refl
+
+turn_makes : (count number workers place : ℕ) (step : Step) (before after : Working) → (step.seat % workers == number) ≡ true → Makes count place step before after → MakesEach count (if_own number workers place step) before after
+turn_makes count number workers place step before after own made = subst (λ b. MakesEach count (cond b ((place, step) ∷ []) []) before after) (sym own) (after, made, refl)
+
+-- some steps and then others
+both_make : (count : ℕ) (xs ys : List (ℕ × Step)) (before between after : Working) → MakesEach count xs before between → MakesEach count ys between after → MakesEach count (xs ++ ys) before after
+both_make count [] ys before between after first second = subst (λ from. MakesEach count ys from after) first second
+both_make count (x ∷ xs) ys before between after first second = (first.0, first.1, both_make count xs ys first.0 between after first.2 second)
+
+placed_more : (number workers : ℕ) (steps : List Step) (i : ℕ) (d : Step) → i < length steps
+    → own_placed number workers (take (i + 1) steps) ≡ own_placed number workers (take i steps) ++ if_own number workers i (get_or steps i d)
+placed_more number workers steps i d lt =
+    let first = take i steps in
+    let here : 0 + length first ≡ i = omega (arith, length-take-le i steps (omega arith)) in
+    ap (own_placed number workers) (take_more steps i d lt)
+    ∙ ap (filter (λ (each : ℕ × Step). is_own_step number workers each.1)) (enumerate-append 0 first (get_or steps i d ∷ []))
+    ∙ filter-append (λ (each : ℕ × Step). is_own_step number workers each.1) (enumerate_from 0 first) (enumerate_from (0 + length first) (get_or steps i d ∷ []))
+    ∙ ap (λ k. own_placed number workers first ++ if_own number workers k (get_or steps i d)) here
+
+pub makes_more : (count number workers : ℕ) (steps : List Step) (i : ℕ) (d : Step) (before old new : Working) (n w : ℕ) → i < length steps
+    → MakesEach count (own_placed number workers (take i steps)) before old → n ≡ number → w ≡ workers
+    → MakesEach count (if_own n w i (get_or steps i d)) old new
+    → MakesEach count (own_placed number workers (take (i + 1) steps)) before new
+makes_more count number workers steps i d before old new n w lt so_far same_number same_workers more =
+    let one = subst (λ k. MakesEach count (if_own number k i (get_or steps i d)) old new) same_workers (subst (λ k. MakesEach count (if_own k w i (get_or steps i d)) old new) same_number more) in
+    subst (λ all. MakesEach count all before new) (sym (placed_more number workers steps i d lt)) (both_make count _ _ before old new so_far one)
+
+-- the same of a worker that is known to be this one and to have begun so
+pub own_from : (count number workers : ℕ) (steps : List Step) (before : Working) (halted : Bool) (other_number other_workers : ℕ) (given : List Step) (from after : Working) (stopped : Bool)
+    → MakesOwn count other_number other_workers given from after stopped → other_number ≡ number → other_workers ≡ workers → given ≡ steps → from ≡ before → stopped ≡ halted
+    → MakesOwn count number workers steps before after halted
+own_from count number workers steps before halted other_number other_workers given from after stopped made same_number same_workers same_steps same_before same_halt =
+    subst (λ it. MakesOwn count number workers steps before after it) same_halt
+    (subst (λ it. MakesOwn count number workers steps it after stopped) same_before
+    (subst (λ it. MakesOwn count number workers it from after stopped) same_steps
+    (subst (λ it. MakesOwn count number it given from after stopped) same_workers
+    (subst (λ it. MakesOwn count it other_workers given from after stopped) same_number made))))
+
+pub begun : {S : Type 0} (f : S → AtWork) (seats given : List S) (lines : List WordLine) → seats ≡ given → lines ≡ [] → working (map f seats) lines ≡ working (map f given) []
+begun f seats given lines same none = λ i. working (map f (same i)) (none i)
+
+-- what is counted in the pieces that some tell
+count_pieces : {W P X : Type 0} (test : X → Bool) (piece : P → List X) (h : W → P) (g : W → ℕ) → ((w : W) → count_by test (piece (h w)) ≡ g w) → (ws : List W)
+    → count_by test (flat_map piece (map h ws)) ≡ sum_by g ws
+count_pieces test piece h g each [] = refl
+count_pieces test piece h g each (w ∷ ws) =
+    let both : count_by test (flat_map piece (h w ∷ map h ws)) ≡ count_by test (piece (h w)) + count_by test (flat_map piece (map h ws)) =
+    ap (count_by test) (flat_map-cons piece (h w) (map h ws)) ∙ sum_by-append _ (piece (h w)) (flat_map piece (map h ws)) in
+    let here : count_by test (piece (h w)) ≡ g w = each w in
+    let rest : count_by test (flat_map piece (map h ws)) ≡ sum_by g ws = count_pieces test piece h g each ws in
+    let sum : sum_by g (w ∷ ws) ≡ g w + sum_by g ws = sum_by-cons g w ws in
+    omega (arith, both, here, rest, sum)
+
+any_map : {W P : Type 0} (p : P → Bool) (h : W → P) (ws : List W) → list_any p (map h ws) ≡ list_any (λ w. p (h w)) ws
+any_map p h [] = refl
+any_map p h (w ∷ ws) = ap (λ rest. p (h w) || rest) (any_map p h ws)
+
+told_from : {W P : Type 0} (h : W → P) (o : Option W) (p : P) → option_map h o ≡ Some p → (w : W) × (o ≡ Some w) × (h w ≡ p)
+told_from h None p is = absurd (none-some p is)
+told_from h (Some w) p is = (w, refl, ap (λ found. unwrap_or found p) is)
+
+found_in : {W P : Type 0} (h : W → P) (ws : List W) (k : ℕ) (p : P) → slice_get (map h ws) k ≡ Some p → (w : W) × (slice_get ws k ≡ Some w) × (h w ≡ p)
+found_in h ws k p is = told_from h (slice_get ws k) p (sym (slice_get-map h ws k) ∙ is)
+
+abbrev left_of : {S W : Type 0} → (S → AtWork) → (W → List S) → (W → List WordLine) → (W → Bool) → W → Left
+left_of f seats_of lines_of stopped_of w = record { work = working (map f (seats_of w)) (lines_of w); stopped = stopped_of w }
+
+-- what follows of each answer by three facts follows where there is one
+pub if_ok_all : {T E : Type 0} (result : Result T E) {P Q R S : T → Type 0} → ((value : T) → P value → Q value → R value → S value) → IfOk result P → IfOk result Q → IfOk result R → IfOk result S
+if_ok_all (Ok value) step one two three = step value one two three
+if_ok_all (Err fault) step one two three = one
+
+-- workers that seats were dealt to, and what is gathered of what they left
+pub work_apart : {S W : Type 0} (f : S → AtWork) (seats_of : W → List S) (lines_of : W → List WordLine) (stopped_of : W → Bool) (count workers : ℕ) (steps : List Step) (ready : List S) (groups done : List W) (after : List S) (lines : List WordLine) (stopped : Bool)
+    → length groups ≡ workers → length done ≡ workers
+    → ((test : S → Bool) → sum_by (λ worker. count_by test (seats_of worker)) groups ≡ count_by test ready)
+    → ((k : ℕ) (one other : W) → k < workers → MakesOwn count k workers steps (working (map f (seats_of (get_or groups k other))) []) (working (map f (seats_of (get_or done k one))) (lines_of (get_or done k one))) (stopped_of (get_or done k one)))
+    → ((test : S → Bool) → count_by test after ≡ sum_by (λ worker. count_by test (seats_of worker)) done)
+    → ((test : WordLine → Bool) → count_by test lines ≡ sum_by (λ worker. count_by test (lines_of worker)) done)
+    → stopped ≡ list_any stopped_of done
+    → WorkApart count workers steps (map f ready) (map f after) lines stopped
+work_apart f seats_of lines_of stopped_of count workers steps ready groups done after lines stopped grouped counted dealt made gathered told halted =
+    record {
+      dealt = map (λ w. map f (seats_of w)) groups;
+      left = map (left_of f seats_of lines_of stopped_of) done;
+      many = (length-map groups (λ w. map f (seats_of w)) ∙ grouped, length-map done (left_of f seats_of lines_of stopped_of) ∙ counted);
+      seats = λ test.
+          count_pieces test (λ seats. seats) (λ w. map f (seats_of w)) (λ w. count_by (λ s. test (f s)) (seats_of w)) (λ w. count_map f test (seats_of w)) groups ∙ dealt (λ s. test (f s)) ∙ sym (count_map f test ready);
+      made = λ number seats one there here.
+          let group = found_in (λ w. map f (seats_of w)) groups number seats there in
+          let left = found_in (left_of f seats_of lines_of stopped_of) done number one here in
+          let within : number < workers = omega (arith, slice_get_within groups number group.0 group.1, grouped) in
+          let first = get_or_from_slice_get groups number group.0 group.0 group.1 in
+          let last = get_or_from_slice_get done number left.0 left.0 left.1 in
+          subst (λ (one : Left). MakesOwn count number workers steps (working seats []) one.work one.stopped) left.2
+          (subst (λ seats. MakesOwn count number workers steps (working seats []) (working (map f (seats_of left.0)) (lines_of left.0)) (stopped_of left.0)) group.2
+          (subst (λ w. MakesOwn count number workers steps (working (map f (seats_of group.0)) []) (working (map f (seats_of w)) (lines_of w)) (stopped_of w)) last
+          (subst (λ w. MakesOwn count number workers steps (working (map f (seats_of w)) []) (working (map f (seats_of (get_or done number left.0))) (lines_of (get_or done number left.0))) (stopped_of (get_or done number left.0))) first
+          (made number left.0 group.0 within))));
+      back = λ test.
+          count_map f test after ∙ gathered (λ s. test (f s))
+          ∙ sym (count_pieces test (λ (one : Left). one.work.seats) (left_of f seats_of lines_of stopped_of) (λ w. count_by (λ s. test (f s)) (seats_of w)) (λ w. count_map f test (seats_of w)) done);
+      told = λ test. told test ∙ sym (count_pieces test (λ (one : Left). one.work.lines) (left_of f seats_of lines_of stopped_of) (λ w. count_by test (lines_of w)) (λ w. refl) done);
+      halted = halted ∙ sym (any_map (λ (one : Left). one.stopped) (left_of f seats_of lines_of stopped_of) done);
+    }
