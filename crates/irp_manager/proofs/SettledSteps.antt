@@ -33,18 +33,7 @@ use Rattle.irp_types.specs.declared.reply.Reply.TheVariants.{Irp, Status as Stat
 use Rattle.irp_unwind.specs.Laws.{AreRepliesOf, IsReplyOf, UnwindingIsSettled, DescentIsSettled}
 use Rattle.irp_manager.specs.Laws.{IsSameSlot}
 use Rattle.irp_manager.proofs.Sound.{sound_new, own_passed, both_passed, cancellable_here}
-use Rattle.irp_manager.proofs.OnePacket.{found}
-
--- the packet that a reference names by its slot keeps the standing facts, live or not
-sound_named : (counts : Known) (state : StateValue) (irp : IrpRef) → StandingFacts counts state → IsSound counts (packet_of state irp)
-sound_named counts state irp stands = by (live_at state irp.slot) refl
-  where
-    by : (given : Option LivePacket) → live_at state irp.slot ≡ given → IsSound counts (packet_of state irp)
-    by None at =
-        let new : LivePacket = record { packet = new_packet 1; use_no = 0 } in
-        let is : packet_of state irp ≡ new_packet 1 = ap (λ (there : Option LivePacket). (unwrap_or there new).packet) at in
-        subst (IsSound counts) (sym is) (sound_new counts 1 (omega arith) (omega arith))
-    by (Some live) at = subst (λ (given : LivePacket). IsSound counts given.packet) (sym (found state irp.slot live at)) (stands.packets irp.slot live at)
+use Rattle.irp_manager.proofs.Named.{sound_named}
 
 -- what is asked, the reply and the next state are the same
 abbrev pub AreSame : List Asked → List Asked → Reply → Reply → StateValue → StateValue → Type 0

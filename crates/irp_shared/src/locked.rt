@@ -1,8 +1,7 @@
 //! What lies under the lock.
 
-ghost use Rattle.std.specs.Prelude.{◌≡◌, ◌≤◌, ◌<◌, ◌+◌, ◌++◌, ◌∷◌, [], ℕ, length, vec_capacity, IfOk, OnErr, Err};
+ghost use Rattle.std.specs.Prelude.{◌≡◌, ◌≤◌, ◌<◌, ◌+◌, ◌++◌, ◌∷◌, [], ℕ, length, IfOk, OnErr, Err};
 ghost use mathlib.Core.Logic.{◌↔◌};
-ghost use Rattle.irp_manager.specs.Cores.{most_asked};
 ghost use Rattle.irp_manager.specs.Booked.{most_entries};
 ghost use Rattle.irp_manager.specs.declared.not_recorded.NotRecorded.TheVariants.{Behind, HistoryFull};
 ghost use Rattle.irp_shared.specs.Sharing.{Called, CalledIn, IsAsBefore};
@@ -10,7 +9,7 @@ ghost use Rattle.irp_shared.specs.Sharing.{Called, CalledIn, IsAsBefore};
 use crate::session::Session;
 use irp_manager::{Book, DrainNote, NotRecorded, Receipt, Seat};
 use irp_routines::Ask;
-use irp_types::{Asked, Call};
+use irp_types::Call;
 use std::sync::ledger::{Book as Total, Ledger, Share};
 
 /// What lies under the lock: the book; the total of what all seats count, which by this type is the length of the history;
@@ -27,8 +26,8 @@ pub struct Locked<A, L: Session> {
 }
 
 impl<A: Ask, L: Session> Locked<A, L> {
-    /// Makes a call of a seat, records it, and gives the seat a copy of its entry, in the room given. On condition that the
-    /// room is enough for as many questions as the call may ask, and that the seat has room for one more entry.
+    /// Makes a call of a seat, records it, and gives the seat a copy of its entry, on condition that the seat has room for
+    /// one more entry.
     ///
     /// # Errors
     ///
@@ -36,17 +35,16 @@ impl<A: Ask, L: Session> Locked<A, L> {
     pub fn call<N: DrainNote>(
         &mut self,
         seat: &mut Seat<L>,
-        room: Vec<Asked>,
         call: Call,
         note: &N,
     ) -> Result<Receipt, NotRecorded>
-        requires room { (room.items ≡ []) × (most_asked call ≤ vec_capacity room) × (0 < seat.old.room) }
+        requires room { 0 < seat.old.room }
         ensures called { IfOk result (λ receipt. CalledIn self.old.book.history self.new.book.history seat.old call (N.knows_drained note.now) receipt seat.new) }
         ensures err { OnErr result ((self.new.book ≡ self.old.book) × IsAsBefore seat.old seat.new) }
         ensures behind { (told : ℕ) → (result ≡ Err (Behind told)) ↔ ((told ≡ length self.old.book.history) × (told < seat.old.seen)) }
         ensures full { (result ≡ Err HistoryFull) ↔ ((seat.old.seen ≤ length self.old.book.history) × (length self.old.book.history ≡ most_entries)) }
     {
-        keep(&mut self.book, &mut self.total, seat, room, call, note)
+        keep(&mut self.book, &mut self.total, seat, call, note)
     }
 }
 
@@ -55,11 +53,10 @@ fn keep<A: Ask, L: Ledger, N: DrainNote>(
     book: &mut Book<A>,
     total: &mut Total<L>,
     seat: &mut Seat<L>,
-    room: Vec<Asked>,
     call: Call,
     note: &N,
 ) -> Result<Receipt, NotRecorded>
-    requires room { (room.items ≡ []) × (most_asked call ≤ vec_capacity room) × (0 < seat.old.room) }
+    requires room { 0 < seat.old.room }
     ensures called { IfOk result (λ receipt. CalledIn book.old.history book.new.history seat.old call (N.knows_drained note.now) receipt seat.new) }
     ensures total { IfOk result (λ receipt. total.new.total ≡ total.old.total + 1) }
     ensures fixed { book.new.fixed ≡ book.old.fixed }
@@ -67,9 +64,9 @@ fn keep<A: Ask, L: Ledger, N: DrainNote>(
     ensures behind { (told : ℕ) → (result ≡ Err (Behind told)) ↔ ((told ≡ length book.old.history) × (told < seat.old.seen)) }
     ensures full { (result ≡ Err HistoryFull) ↔ ((seat.old.seen ≤ length book.old.history) × (length book.old.history ≡ most_entries)) }
 {
-    let receipt = book.record(&*seat, call, note)?;
+    let made = book.record_copied(&*seat, call, note)?;
+    let (receipt, entry) = made;
     let number = receipt.number();
-    let entry = book.copy_of(number as usize, room);
     seat.took(entry, total);
     seat.saw(number + 1);
     Ok(receipt)

@@ -20,7 +20,7 @@ use crate::mismatch::Mismatch;
 use crate::open_refused::OpenRefused;
 use crate::session::Session;
 use crate::transcript::Transcript;
-use irp_manager::{Book, DrainNote, Manager, NotRecorded, Receipt, Recorded, Seat, most_asked};
+use irp_manager::{Book, DrainNote, Manager, NotRecorded, Receipt, Recorded, Seat};
 use irp_routines::{Ask, FixedTables, Parts};
 use irp_types::{Call, Entry, Row, history_completes_once};
 use std::alloc::Global;
@@ -97,7 +97,8 @@ impl<A: Ask, L: Session> Shared<A, L> {
     /// the receipt tells of, and has seen up to it. The entry's number is at least what the seat had seen. Its `drained` is
     /// what the note knows of the entry's lock, and true where a deletion is answered Done.
     ///
-    /// It waits for its turn. All growths come before anything is asked, and those of the seat before its turn.
+    /// It waits for its turn. All growths come before anything is asked; room for the seat's entry comes before its turn, and
+    /// room for the questions in it comes in its turn, when it is known how many can be asked.
     ///
     /// # Errors
     ///
@@ -115,13 +116,10 @@ impl<A: Ask, L: Session> Shared<A, L> {
         ensures err { OnErr result (IsAsBefore seat.old seat.new) }
         ensures behind { (told : ℕ) → result ≡ Err (Behind told) → told < seat.old.seen }
     {
-        let Ok(room) = Vec::with_capacity(self.alloc, most_asked(call)) else {
-            return Err(NotRecorded::Memory);
-        };
         if seat.room().is_err() {
             return Err(NotRecorded::Memory);
         }
-        self.lock.lock(rt).call(seat, room, call, note)
+        self.lock.lock(rt).call(seat, call, note)
     }
 }
 

@@ -1,0 +1,91 @@
+//! Room for the questions that a call can ask.
+
+ghost use Rattle.std.specs.Prelude.{◌≡◌, ◌≤◌, [], length, vec_capacity, IfOk};
+ghost use Rattle.irp_types.specs.Limits.{most_locations};
+ghost use Rattle.irp_types.specs.Stacks.{stack_size_of};
+ghost use Rattle.irp_types.specs.State.{packet_of};
+ghost use Rattle.irp_manager.specs.Cores.{state_of};
+ghost use Rattle.irp_manager.specs.Rooms.{within_reach, can_ask};
+
+use super::Core;
+use crate::keep::Keep;
+use irp_types::{Asked, Call, DeviceId, IrpRef};
+use std::alloc::AllocError;
+
+/// The questions, in the room given: an empty list with room for as many.
+fn filled(asked: &[Asked], room: Vec<Asked>) -> Vec<Asked>
+    requires empty { room.items ≡ [] }
+    requires ample { length asked.now ≤ vec_capacity room }
+    ensures { result.items ≡ asked.now }
+{
+    let mut kept = room;
+    for item in asked {
+        kept.push_reserved(*item);
+    }
+    kept
+}
+
+/// The questions, in the room given: an empty list with room for as many. What they don't need of it is given back.
+pub(super) fn copied(asked: &Vec<Asked>, room: Vec<Asked>) -> Vec<Asked>
+    requires empty { room.items ≡ [] }
+    requires ample { length asked.now.items ≤ vec_capacity room }
+    ensures { result.items ≡ asked.now.items }
+{
+    let mut room = room;
+    room.shrink_to(asked.len());
+    filled(asked.as_slice(), room)
+}
+
+impl<K: Keep> Core<K> {
+    /// The position of a device in its stack, from 1 at the bottom, and 1 where it was never created.
+    fn depth(&self, device: DeviceId) -> u32
+        ensures depth { result ≡ stack_size_of self.now.stacks device.0 }
+        ensures few { result ≤ most_locations }
+    {
+        self.stacks.are_stacks();
+        match self.stacks.facts(device) {
+            Some(_) => self.stacks.stack_size(device),
+            None => 1,
+        }
+    }
+
+    /// To how many locations at most the packet of a reference comes in a call that sends it through so many devices.
+    fn reach(&self, irp: IrpRef, depth: u32) -> usize
+        ensures reach { within_reach (packet_of (state_of K.live self.now) irp) depth ≤ result }
+        ensures few { result ≤ most_locations }
+    {
+        match self.keep.get(irp.slot) {
+            None => 1,
+            Some(live) => {
+                let stays = (live.packet.current() - 1).saturating_sub(depth);
+                live.packet.size().saturating_sub(stays) as usize
+            }
+        }
+    }
+
+    /// How many questions a call asks at most, by the packet and the target that it finds.
+    fn can_ask(&self, call: Call) -> usize
+        ensures { can_ask (state_of K.live self.now) call ≤ result }
+    {
+        match call {
+            Call::CallDriver { irp, target, .. } => {
+                let depth = self.depth(target);
+                depth as usize + self.reach(irp, depth)
+            }
+            Call::Complete { irp, .. } => self.reach(irp, 0),
+            Call::Cancel { irp } => 1 + self.reach(irp, 0),
+            _ => 0,
+        }
+    }
+
+    /// An empty list with room for what a call can ask.
+    ///
+    /// # Errors
+    ///
+    /// `AllocError` where the growth was refused.
+    pub(crate) fn room_for(&self, call: Call) -> Result<Vec<Asked>, AllocError>
+        ensures { IfOk result (λ room. (room.items ≡ []) × (can_ask (state_of K.live self.now) call ≤ vec_capacity room)) }
+    {
+        Vec::with_capacity(self.alloc, self.can_ask(call))
+    }
+}
