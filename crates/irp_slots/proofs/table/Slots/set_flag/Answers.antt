@@ -1,4 +1,4 @@
-use Rattle.std.proofs.Common.{arith, ◌≡◌, ◌+◌, ◌*◌, ◌/◌, ◌<◌, ℕ, true, false, length, get_or-set_same, ap, ◌∙◌}
+use Rattle.std.proofs.Common.{arith, ◌≡◌, ◌*◌, ◌/◌, ◌<◌, ℕ, true, false, length, get_or-set_same, ap, ◌∙◌}
 use Rattle.irp_slots.specs.declared.views.View.{View}
 use Rattle.irp_slots.specs.declared.views.View.TheVariants.{Canceller}
 use Rattle.irp_slots.specs.Core.{flag, asking_of, slot_flagged}

@@ -1,4 +1,4 @@
-use Rattle.std.proofs.Common.{arith, ◌≡◌, ◌+◌, ◌*◌, ◌<◌, true, length, ap, ◌∙◌}
+use Rattle.std.proofs.Common.{arith, ◌<◌, length, ap, ◌∙◌}
 use Rattle.irp_slots.specs.Core.{flag, asking_of}
 use Rattle.irp_slots.proofs.Steps.{take_out_allowed}
 use Rattle.irp_slots.proofs.table.Slots.take_out.Goals as goal
