@@ -138,8 +138,13 @@ all_below count (entry ∷ entries) is =
 kept_counts : (history : List Entry) (seats : List Seated) → All (IsKept history) seats → sum_by count_of seats ≡ sum_by (λ (seat : Seated). length (own_entries history seat.number)) seats
 kept_counts history [] kept = refl
 kept_counts history (seat ∷ seats) kept =
-    omega (arith, sum_by-cons count_of seat seats, sum_by-cons (λ (seat : Seated). length (own_entries history seat.number)) seat seats,
-    ap length (All-head (IsKept history) seat seats kept), kept_counts history seats (All-tail (IsKept history) seat seats kept))
+    omega (
+      arith,
+      sum_by-cons count_of seat seats,
+      sum_by-cons (λ (seat : Seated). length (own_entries history seat.number)) seat seats,
+      ap length (All-head (IsKept history) seat seats kept),
+      kept_counts history seats (All-tail (IsKept history) seat seats kept),
+    )
 
 -- each entry of a history that the seats have whole is of one of them
 pub all_seated : (history : List Entry) (count : ℕ) (seats : List Seated) → AllHere seats count → All (IsKept history) seats → sum_by count_of seats ≡ length history
