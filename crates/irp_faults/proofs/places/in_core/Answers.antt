@@ -1,0 +1,5 @@
+-- The standing facts hold in the opening state.
+use Rattle.irp_faults.proofs.places.in_core.Goals as goal
+
+pub play-requires : goal.play-requires
+play-requires g c = c.new-core.ensures.stands (g.A.Ask.tables c.args.ask).counts

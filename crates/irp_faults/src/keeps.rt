@@ -1,0 +1,98 @@
+//! Where packets are kept, and the room of a seat.
+
+ghost use Rattle.std.specs.Prelude.{◌≡◌, ◌<◌, IfOk};
+
+use crate::example::IRP;
+use crate::tried::{Halt, Tried};
+use irp_manager::{Keep, Live, MapKeep, Seat, SlabKeep};
+use irp_packet::Packet;
+use irp_types::{Call, Entry, Reply, Row};
+use std::alloc::Global;
+use std::marker::Brand;
+use std::sync::ledger::{Blank, Ledger};
+
+/// Puts a packet into a keep, under this use number. None where memory was missing.
+fn inserted<K: Keep>(alloc: Global, keep: &mut K, use_no: u64) -> Result<Option<usize>, Halt> {
+    let Ok(packet) = Packet::new(alloc, 1) else {
+        return Err(Halt::Wrong("a packet of one location was refused"));
+    };
+    Ok(keep.insert(None, Live { packet, use_no }).ok())
+}
+
+/// Puts packets into a keep. A refused call has to leave the others there.
+fn fill<K: Keep>(
+    alloc: Global,
+    keep: &mut K,
+    name: &'static str,
+    tried: &mut Tried,
+) -> Result<(), Halt> {
+    for number in 0..40usize {
+        tried.at(number);
+        if inserted(alloc, keep, number as u64)?.is_none() {
+            tried.refused(name, keep.len() == number)?;
+            inserted(alloc, keep, number as u64)?;
+        }
+        if keep.len() != number + 1 {
+            return Err(Halt::Wrong("a keep has another number of packets"));
+        }
+    }
+    Ok(())
+}
+
+/// Fills a map.
+pub fn fill_map(alloc: Global, tried: &mut Tried) -> Result<(), Halt> {
+    fill(alloc, &mut MapKeep::new(alloc), "MapKeep::insert", tried)
+}
+
+/// Fills a slab.
+pub fn fill_slab(alloc: Global, tried: &mut Tried) -> Result<(), Halt> {
+    fill(alloc, &mut SlabKeep::new(alloc), "SlabKeep::insert", tried)
+}
+
+/// An entry, of a look in seat 0.
+fn entry(alloc: Global, number: u64) -> Entry {
+    Entry {
+        number,
+        seat: 0,
+        call: Call::Look { irp: IRP },
+        lock: None,
+        drained: false,
+        asked: Row::from_vec(Vec::new(alloc)),
+        reply: Reply::Done,
+    }
+}
+
+/// Makes room in a seat, and once more where memory was missing. The seat has to keep what it has.
+fn room<L: Ledger>(seat: &mut Seat<L>, tried: &mut Tried) -> Result<(), Halt>
+    ensures { IfOk result (λ _. 0 < seat.new.room) }
+{
+    let before = (seat.count(), seat.seen());
+    if seat.room().is_err() {
+        tried.refused("Seat::room", (seat.count(), seat.seen()) == before)?;
+        seat.room()?;
+    }
+    Ok(())
+}
+
+/// A seat takes entries, each once there is room for it.
+fn fill_its_seat<L: Ledger>(alloc: Global, blank: Blank, tried: &mut Tried) -> Result<(), Halt>
+    requires { (blank.name ≡ L.name) × (blank.parts ≡ L.parts) × (blank.parts ≡ 1) }
+{
+    let (mut total, share) = blank.open::<L>();
+    let mut seat = Seat::new(alloc, 0, share);
+    for number in 0..9usize {
+        tried.at(number);
+        room(&mut seat, tried)?;
+        seat.took(entry(alloc, number as u64), &mut total);
+    }
+    if seat.count() == 9 {
+        Ok(())
+    } else {
+        Err(Halt::Wrong("a seat has another number of entries"))
+    }
+}
+
+/// Fills a seat.
+pub fn fill_seat(alloc: Global, tried: &mut Tried) -> Result<(), Halt> {
+    fill_its_seat::<Brand>(alloc, Blank::new(1), tried)
+}

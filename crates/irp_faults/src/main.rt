@@ -1,0 +1,123 @@
+//! The program: plays scenarios of library calls, while one request for memory may be refused, and tells where that fell and
+//! whether all was as it has to be.
+#![tactic(auto)]
+
+mod counting;
+mod example;
+mod growing;
+mod keeps;
+mod place;
+mod places;
+mod playing;
+mod removes;
+mod rows;
+mod scenarios;
+mod seating;
+mod session;
+mod stores;
+mod tables;
+mod tables_alone;
+mod texts;
+mod tried;
+
+use crate::scenarios::{SCENARIOS, Work, perform};
+use crate::tried::{Fell, Halt, Tried};
+use std::alloc::Global;
+use std::env;
+use std::io::{self, Write};
+use std::process::ExitCode;
+use std::rt::Env;
+use std::sync::Wait;
+
+/// The words that the program was given, behind its name.
+fn words_of<R: Env + AllocGlobal>(rt: &R) -> Result<Vec<String>, Halt> {
+    Ok(env::args(rt)?.skip(1).collect(rt.alloc())?)
+}
+
+/// Writes what a scenario came to: its lines, and where the refused request fell.
+fn tell<W: Write>(writer: &mut W, lines: &[u8], fell: Fell) -> io::Result<()> {
+    writer.write_all(lines)?;
+    match fell {
+        Fell::Nowhere => writeln!(writer, "refused: none"),
+        Fell::SetUp => writeln!(writer, "refused: set-up"),
+        Fell::Call(step, name) => writeln!(writer, "refused: step {step}, {name}"),
+    }
+}
+
+/// Plays a scenario, and once more where memory was missing for what it takes for itself.
+fn lines_of<R: Wait>(
+    rt: &R,
+    alloc: Global,
+    work: Work,
+    tried: &mut Tried,
+) -> Result<Vec<u8>, Halt> {
+    for is_first in [true, false] {
+        let mut out = Vec::new(alloc);
+        match perform(rt, alloc, work, tried, &mut out) {
+            Ok(()) => return Ok(out),
+            Err(Halt::Wrong(what)) => return Err(Halt::Wrong(what)),
+            Err(Halt::Memory) => {
+                if !tried.may_begin_anew(is_first) {
+                    break;
+                }
+            }
+        }
+    }
+    Err(Halt::Wrong("memory was missing twice"))
+}
+
+/// Plays the scenarios of this name, or each where the name is `every`, and tells what they came to.
+fn play_named<R: Wait, W: Write>(
+    rt: &R,
+    alloc: Global,
+    writer: &mut W,
+    name: &str,
+    fell: Fell,
+) -> Result<(), Halt> {
+    for (known, work) in SCENARIOS {
+        if name == known || name == "every" {
+            let mut tried = Tried::new(fell);
+            let lines = lines_of(rt, alloc, work, &mut tried)?;
+            tell(writer, lines.as_slice(), tried.fell())?;
+        }
+    }
+    Ok(())
+}
+
+/// Lists the scenarios.
+fn list<W: Write>(writer: &mut W) -> Result<(), Halt> {
+    for (name, _work) in SCENARIOS {
+        writeln!(writer, "{name}")?;
+    }
+    Ok(())
+}
+
+/// The words once more, where memory was missing for them the first time, and where the refused request fell so far.
+fn words_again<R: Env + AllocGlobal>(rt: &R) -> Result<(Vec<String>, Fell), Halt> {
+    match words_of(rt) {
+        Ok(words) => Ok((words, Fell::Nowhere)),
+        Err(_) => Ok((words_of(rt)?, Fell::SetUp)),
+    }
+}
+
+/// Does what the words ask for.
+fn run<R: Wait + Env + AllocGlobal, W: Write>(rt: &R, writer: &mut W) -> Result<(), Halt> {
+    let (words, fell) = words_again(rt)?;
+    match words.as_slice() {
+        [name] => play_named(rt, rt.alloc(), writer, name.as_str(), fell),
+        _ => list(writer),
+    }
+}
+
+fn main(rt: HostRuntime) -> ExitCode {
+    let mut writer = io::writer(&rt);
+    let Err(halt) = run(&rt, &mut writer) else {
+        return ExitCode::SUCCESS;
+    };
+    let what = match halt {
+        Halt::Memory => "the program has no memory or no output",
+        Halt::Wrong(what) => what,
+    };
+    let _ = writeln!(writer, "wrong: {what}");
+    ExitCode::from(1)
+}

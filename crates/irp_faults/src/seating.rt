@@ -1,0 +1,40 @@
+//! The seats of a script: seats of a session beside remove seats.
+
+ghost use Rattle.std.specs.Prelude.{◌≡◌};
+
+use crate::tried::{Halt, Tried};
+use irp_routines::Ask;
+use irp_script::script_seats;
+use irp_shared::{Session, open};
+use std::alloc::Global;
+use std::sync::ledger::Blank;
+
+/// Opens a session and remove locks, and puts their seats side by side. Where memory is missing for that, the seats are gone.
+pub fn seat_pairs<A: Ask + Drop, L: Session>(
+    alloc: Global,
+    blank: Blank,
+    ask: A,
+    locks: u32,
+    seats: u32,
+    tried: &mut Tried,
+) -> Result<(), Halt>
+    requires blank { (blank.name ≡ L.name) × (blank.parts ≡ L.parts) }
+    requires seats { (L.parts ≡ seats) × (L.seats ≡ seats) }
+    requires fixed { L.fixed ≡ record { locks = locks; tables = A.tables ask } }
+{
+    let Ok((_shared, places)) = open::<A, L>(alloc, blank, ask, locks, seats) else {
+        return Err(Halt::Memory);
+    };
+    let Ok((own, removes)) = irp_remove::open(alloc, locks, seats) else {
+        return Err(Halt::Memory);
+    };
+    let Ok(pairs) = script_seats(alloc, &own, places, removes) else {
+        tried.refused("script_seats", true)?;
+        return Err(Halt::Memory);
+    };
+    if pairs.len() == seats as usize {
+        Ok(())
+    } else {
+        Err(Halt::Wrong("some seats are missing"))
+    }
+}
