@@ -1,12 +1,17 @@
 //! The drivers of the two devices.
 
-ghost use Rattle.std.specs.Prelude.{◌≡◌, ◌<◌, true};
+ghost use Rattle.std.specs.Prelude.{◌≡◌, ◌<◌, true, IfSome};
+ghost use Rattle.irp_example.specs.Bench.{HasLegalHistory};
 ghost use Rattle.irp_types.specs.Rules.{is_plan_allowed};
 ghost use Rattle.irp_types.specs.declared.routine.Known.{Known};
 
+use crate::bench::run;
 use irp_routines::{Dispatch, Routine, Store};
+use irp_shared::Transcript;
 use irp_types::{DriverId, Known, Plan, RoutineId, Rule, Setting, Shown, Status};
 use std::alloc::Global;
+use std::sync::Wait;
+use std::thread::Threads;
 
 /// The major function code of a read, IRP_MJ_READ (WDK: "IRP_MJ_READ").
 pub const READ: u8 = 0x03;
@@ -62,8 +67,11 @@ pub struct Drivers {
 }
 
 impl Drivers {
-    /// A store with these closures and both drivers. None where memory ran out.
-    pub fn into_store(self, alloc: Global) -> Option<Store> {
+    /// Puts these closures and both drivers into a store, and runs the bench over it. The transcript, whose history is
+    /// legal. None where memory ran out.
+    pub fn run<R: Threads + Wait + Sync>(self, rt: &R, alloc: Global) -> Option<Transcript>
+        ensures { IfSome result HasLegalHistory }
+    {
         let Drivers {
             watch,
             filter,
@@ -71,16 +79,13 @@ impl Drivers {
         } = self;
         let mut store = Store::new(alloc);
         // The routine comes first: a dispatch may name only what the store has.
-        let stored = store.add(watch).is_ok()
-            && add_driver(alloc, &mut store, filter).is_some()
-            && add_driver(alloc, &mut store, disk).is_some();
-        if stored { Some(store) } else { None }
+        let _watch = store.add(watch).ok()?;
+        let filter = store.add_dispatch(filter).ok()?;
+        let disk = store.add_dispatch(disk).ok()?;
+        for dispatch in [filter, disk] {
+            let reads = [(READ, dispatch)].to_vec(alloc).ok()?;
+            let _driver = store.add_driver(reads).ok()?;
+        }
+        run(rt, alloc, store)
     }
-}
-
-/// Adds a driver whose reads go to this dispatch.
-fn add_driver(alloc: Global, store: &mut Store, dispatch: Dispatch) -> Option<DriverId> {
-    let dispatch = store.add_dispatch(dispatch).ok()?;
-    let table = [(READ, dispatch)].to_vec(alloc).ok()?;
-    store.add_driver(table).ok()
 }

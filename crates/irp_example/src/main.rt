@@ -11,7 +11,6 @@ mod bench;
 mod caller;
 mod drivers;
 
-use crate::bench::run;
 use crate::drivers::{Drivers, FILTER_KNOWS, forwarded};
 use irp_routines::{Dispatch, Routine};
 use irp_script::{Verdict, check};
@@ -60,10 +59,7 @@ fn main(rt: HostRuntime) -> io::Result<()> {
         filter: Dispatch::new(FILTER_KNOWS, Box::new(alloc, filter)?),
         disk: Dispatch::new(Known::NONE, Box::new(alloc, disk)?),
     };
-    let Some(store) = drivers.into_store(alloc) else {
-        return Err(io::Error::from(io::ErrorKind::OutOfMemory));
-    };
-    let Some(transcript) = run(&rt, alloc, store) else {
+    let Some(transcript) = drivers.run(&rt, alloc) else {
         return Err(io::Error::from(io::ErrorKind::OutOfMemory));
     };
     tell(&rt, &transcript, watched.load(Ordering::SeqCst))
