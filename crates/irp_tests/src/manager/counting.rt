@@ -52,26 +52,6 @@ const ON_SUCCESS: Setting = Setting {
 /// A second packet.
 const SECOND: IrpRef = IrpRef { slot: 1, use_no: 2 };
 
-/// How often each closure was asked.
-#[derive(Drop)]
-struct Counts {
-    plans: AtomicU32,
-    cancels: AtomicU32,
-    watches: AtomicU32,
-    unmet: AtomicU32,
-}
-
-impl Counts {
-    const fn new() -> Counts {
-        Counts {
-            plans: AtomicU32::new(0),
-            cancels: AtomicU32::new(0),
-            watches: AtomicU32::new(0),
-            unmet: AtomicU32::new(0),
-        }
-    }
-}
-
 /// Holds with the cancel routine, where the packet isn't cancelled yet.
 fn counted_hold(count: &AtomicU32, shown: Shown) -> Plan
     ensures { is_plan_allowed (record no_routines { cancel = 1 }) shown result ≡ true }
@@ -99,64 +79,6 @@ fn counted_cancel(count: &AtomicU32) -> CancelAnswer
 {
     count.fetch_add(1, Ordering::SeqCst);
     CancelAnswer::Finish { information: 0 }
-}
-
-/// The first Watch, which is asked; and the second, which isn't.
-fn add_watches(alloc: Global, store: &mut Store, counts: &Arc<Counts>) -> Result<(), Fail> {
-    let own = counts.clone()?;
-    let run: CompletionClosure = Box::new(
-        alloc,
-        move |shown: Shown| counted_watch(&own.watches, shown),
-    )?;
-    let _watch = store
-        .add(Routine::new(Rule::Watch, run))
-        .ok()
-        .ok_or("a routine")?;
-    let own = counts.clone()?;
-    let run: CompletionClosure = Box::new(
-        alloc,
-        move |shown: Shown| counted_watch(&own.unmet, shown),
-    )?;
-    let _unmet = store
-        .add(Routine::new(Rule::Watch, run))
-        .ok()
-        .ok_or("a routine")?;
-    Ok(())
-}
-
-fn add_cancel(alloc: Global, store: &mut Store, counts: &Arc<Counts>) -> Result<(), Fail> {
-    let own = counts.clone()?;
-    let run: CancelClosure = Box::new(alloc, move |_shown: Shown| counted_cancel(&own.cancels))?;
-    let routine = CancelRoutine::new(CancelRule::MustFinish, run);
-    let _cancel = store.add_cancel(routine).ok().ok_or("a cancel routine")?;
-    Ok(())
-}
-
-fn add_driver(alloc: Global, store: &mut Store, counts: &Arc<Counts>) -> Result<(), Fail> {
-    let own = counts.clone()?;
-    let run: DispatchClosure = Box::new(
-        alloc,
-        move |shown: Shown| counted_hold(&own.plans, shown),
-    )?;
-    let _plan = store
-        .add_dispatch(Dispatch::new(ONE_CANCEL, run))
-        .ok()
-        .ok_or("a dispatch")?;
-    let dispatches = [(READ, DispatchId(0))].to_vec(alloc)?;
-    let _driver = store.add_driver(dispatches).ok().ok_or("a driver")?;
-    Ok(())
-}
-
-/// A book whose closures count.
-fn counting_book(alloc: Global, counts: &Arc<Counts>) -> Result<Book<Store>, Fail> {
-    let mut store = Store::new(alloc);
-    add_watches(alloc, &mut store, counts)?;
-    add_cancel(alloc, &mut store, counts)?;
-    add_driver(alloc, &mut store, counts)?;
-    let book = Book::new(Manager::new(alloc, store, 1))
-        .ok()
-        .ok_or("a book")?;
-    Ok(book)
 }
 
 /// The cancel routine, as a cancellation of this packet asks it.
@@ -248,16 +170,32 @@ fn send_and_cancel<A: Ask>(rt: &impl Abort, alloc: Global, book: &mut Book<A>) -
 #[test]
 fn closures_are_asked_once_through_a_book(rt: HostRuntime) -> Result<(), Fail> {
     let alloc = rt.alloc();
-    let counts = Arc::new(alloc, Counts::new())?;
-    let mut book = counting_book(alloc, &counts)?;
+    let plans = Arc::new(alloc, AtomicU32::new(0))?;
+    let cancels = Arc::new(alloc, AtomicU32::new(0))?;
+    let watches = Arc::new(alloc, AtomicU32::new(0))?;
+    let unmet = Arc::new(alloc, AtomicU32::new(0))?;
+    let mut store = Store::new(alloc);
+    let own = watches.clone()?;
+    let run: CompletionClosure = Box::new(alloc, move |shown: Shown| counted_watch(&own, shown))?;
+    let watch = store.add(Routine::new(Rule::Watch, run));
+    let own = unmet.clone()?;
+    let run: CompletionClosure = Box::new(alloc, move |shown: Shown| counted_watch(&own, shown))?;
+    let other = store.add(Routine::new(Rule::Watch, run));
+    let own = cancels.clone()?;
+    let run: CancelClosure = Box::new(alloc, move |_shown: Shown| counted_cancel(&own))?;
+    let cancel = store.add_cancel(CancelRoutine::new(CancelRule::MustFinish, run));
+    let own = plans.clone()?;
+    let run: DispatchClosure = Box::new(alloc, move |shown: Shown| counted_hold(&own, shown))?;
+    let plan = store.add_dispatch(Dispatch::new(ONE_CANCEL, run));
+    assert!(rt; watch.is_ok() && other.is_ok() && cancel.is_ok() && plan.is_ok());
+    let driver = store.add_driver([(READ, DispatchId(0))].to_vec(alloc)?);
+    assert!(rt; driver.is_ok());
+    let Ok(mut book) = Book::new(Manager::new(alloc, store, 1)) else {
+        return Err(Fail::from("a book"));
+    };
     send_and_cancel(&rt, alloc, &mut book)?;
-    let asked = [
-        &counts.plans,
-        &counts.cancels,
-        &counts.watches,
-        &counts.unmet,
-    ];
-    for (count, wanted) in asked.iter().zip([2, 2, 1, 0]) {
+    let counts = [&plans, &cancels, &watches, &unmet];
+    for (count, wanted) in counts.iter().zip([2, 2, 1, 0]) {
         assert_eq!(rt; count.load(Ordering::SeqCst), wanted);
     }
     Ok(())
