@@ -8,7 +8,7 @@ use Rattle.std.proofs.lemmas.List.{get_or_past, length-map, length-take, length-
 use Rattle.std.proofs.lemmas.List.Sums.{length-filter, count_by-le-length}
 use Rattle.std.proofs.lemmas.List.FromFn.{length-range_with_len}
 use Rattle.irp_types.specs.Status.{cancelled, invalid_device_request}
-use Rattle.irp_types.specs.Packet.{PacketValue, size_of, location_at, cleared, with_status}
+use Rattle.irp_types.specs.Packet.{PacketValue, size_of, location_at, cleared, with_status, after_take}
 use Rattle.irp_types.specs.Limits.{most_locations}
 use Rattle.irp_types.specs.Stacks.{DevicesValue, stack_of, depth_of, stack_size_of, AreStacks}
 use Rattle.irp_types.specs.Unwinding.{Asking, as_asked, place_of, keeper_of, stop_of, from_to, is_met_at, IsAskedRight, AreAsked, Unwound}
@@ -28,10 +28,10 @@ use Rattle.irp_types.specs.declared.shown.Shown.{Shown}
 use Rattle.irp_types.specs.declared.answer.CancelAnswer.{CancelAnswer}
 use Rattle.irp_types.specs.declared.answer.CancelAnswer.TheVariants.{Finish as FinishCancel, Leave}
 use Rattle.irp_types.specs.declared.answer.Plan.{Plan}
-use Rattle.irp_types.specs.declared.answer.Plan.TheVariants.{Finish, Hold, Skip, Forward, ForwardPend}
+use Rattle.irp_types.specs.declared.answer.Plan.TheVariants.{Finish, Hold, HoldSlot, Skip, Forward, ForwardPend}
 use Rattle.irp_types.specs.declared.asked.Asked.{Asked}
 use Rattle.irp_types.specs.declared.call.Call.{Call}
-use Rattle.irp_types.specs.declared.call.Call.TheVariants.{CreateDevice, Attach, Detach, Delete, Allocate, Free, Reuse, SetNext, CopyToNext, Skip as SkipCall, SetRoutine, MarkPending, CallDriver, Complete, SetCancelRoutine, Cancel, Look}
+use Rattle.irp_types.specs.declared.call.Call.TheVariants.{CreateDevice, Attach, Detach, Delete, Allocate, Free, Reuse, SetNext, CopyToNext, Skip as SkipCall, SetRoutine, MarkPending, CallDriver, Complete, FinishTaken, SetCancelRoutine, Cancel, Look}
 use Rattle.irp_types.specs.declared.refusal.Refusal.{Refusal}
 use Rattle.irp_types.specs.declared.reply.Reply.{Reply}
 use Rattle.irp_types.specs.declared.reply.Reply.TheVariants.{Refused}
@@ -122,6 +122,7 @@ few_ended : (irp : IrpRef) (last : Frame) (reached : PacketValue) (asked : List 
 few_ended irp last reached asked new None ends = few_unwound irp (with_status reached invalid_device_request 0) asked ends.asked_right
 few_ended irp last reached asked new (Some (Finish status information)) ends = few_unwound irp (with_status reached status information) asked ends.asked_right
 few_ended irp last reached asked new (Some (Hold cancel)) ends = let none : length asked ≡ 0 = ap length ends.0 in omega (arith, none)
+few_ended irp last reached asked new (Some HoldSlot) ends = let none : length asked ≡ 0 = ap length ends.0 in omega (arith, none)
 few_ended irp last reached asked new (Some Skip) ends = absurd ends
 few_ended irp last reached asked new (Some (Forward set)) ends = absurd ends
 few_ended irp last reached asked new (Some (ForwardPend set)) ends = absurd ends
@@ -175,6 +176,10 @@ few_effect fixed old (MarkPending party irp) asked reply new stands effect = non
 few_effect fixed old (CallDriver party irp target) asked reply new stands effect = few_descended fixed.tables irp old.devices (packet_of old irp) target.0 asked effect.0 effect.1 effect.2
 few_effect fixed old (Complete party irp status information) asked reply new stands effect =
     let few = few_completed irp (with_status (packet_of old irp) status information) effect.0 asked effect.1 in
+    let placed = (sound_named fixed.tables.counts old irp stands).placed in
+    omega (arith, few, placed)
+few_effect fixed old (FinishTaken irp token status information) asked reply new stands effect =
+    let few = few_completed irp (with_status (after_take (packet_of old irp)) status information) effect.0 asked effect.1 in
     let placed = (sound_named fixed.tables.counts old irp stands).placed in
     omega (arith, few, placed)
 few_effect fixed old (SetCancelRoutine party irp cancel) asked reply new stands effect = none_few asked 0 effect.0
@@ -234,6 +239,9 @@ at_most counts state (CallDriver party irp target) stands =
     let few = (sound_named counts state irp stands).few in
     omega (arith, deep, few)
 at_most counts state (Complete party irp status information) stands =
+    let few = (sound_named counts state irp stands).few in
+    omega (arith, few)
+at_most counts state (FinishTaken irp token status information) stands =
     let few = (sound_named counts state irp stands).few in
     omega (arith, few)
 at_most counts state (SetCancelRoutine party irp cancel) stands = omega arith

@@ -4,9 +4,9 @@ use Rattle.std.proofs.lemmas.Bool.{cases_eq}
 use Rattle.std.proofs.lemmas.Option.{same_Some}
 use Rattle.std.specs.FinMap as fin
 use Rattle.irp_types.specs.Checks.{Check, first_failing, or_else}
-use Rattle.irp_types.specs.Refusals.{has_ended, is_owner, packet_refusal, party_refusal}
+use Rattle.irp_types.specs.Refusals.{has_ended, is_owner, slot_check, packet_refusal, party_refusal}
 use Rattle.irp_types.specs.declared.call.Party.{Party}
-use Rattle.irp_types.specs.declared.refusal.Refusal.TheVariants.{NoIrp, Stale, NotOwner, Ended as HasEnded}
+use Rattle.irp_types.specs.declared.refusal.Refusal.TheVariants.{NoIrp, Stale, NotOwner, Ended as HasEnded, SlotHeld}
 use Rattle.irp_types.specs.Packet.{PacketValue, new_packet}
 use Rattle.irp_types.specs.State.{StateValue, LivePacket, live_at, packet_at, packet_of, with_packet}
 use Rattle.irp_types.specs.Descent.{StaysUp}
@@ -88,7 +88,7 @@ party_checked state party irp live at =
     (not (is_some given), NoIrp)
     ∷ (not (packet.use_no == irp.use_no), Stale)
     ∷ (has_ended packet.packet.owner, HasEnded)
-    ∷ (not (is_owner party packet.packet.owner), NotOwner) ∷ [])) at
+    ∷ (not (is_owner party packet.packet.owner), NotOwner) ∷ slot_check packet.packet ∷ [])) at
 
 -- a call of a party on the packet of a slot
 pub party_goes_on : (state : StateValue) (party : Party) (irp : IrpRef) (refusal : PacketValue → Option Refusal) (becomes : PacketValue → PacketValue → Type 0) (live new : LivePacket) (asked : List Asked) (reply : Reply) (slots : Slots)
@@ -101,10 +101,21 @@ party_goes_on state party irp refusal becomes live new asked reply slots at put 
 -- the packet of a party that owns it has not ended
 pub not_ended : (party : Party) (irp : IrpRef) (live : LivePacket) → party_refusal_in (Some live) party irp ≡ None → has_ended live.packet.owner ≡ false
 not_ended party irp live none =
-    let owned : List Check = (not (is_owner party live.packet.owner), NotOwner) ∷ [] in
+    let owned : List Check = (not (is_owner party live.packet.owner), NotOwner) ∷ slot_check live.packet ∷ [] in
     let used : List Check = (has_ended live.packet.owner, HasEnded) ∷ owned in
     let current = passed (not (live.use_no == irp.use_no)) Stale used none in
     (passed (has_ended live.packet.owner) HasEnded owned current.1).0
+
+-- and it stands in no cancel slot
+pub not_in_slot : (party : Party) (irp : IrpRef) (live : LivePacket) → party_refusal_in (Some live) party irp ≡ None → live.packet.slot_held ≡ false
+not_in_slot party irp live none =
+    let slot : List Check = slot_check live.packet ∷ [] in
+    let owned : List Check = (not (is_owner party live.packet.owner), NotOwner) ∷ slot in
+    let used : List Check = (has_ended live.packet.owner, HasEnded) ∷ owned in
+    let current = passed (not (live.use_no == irp.use_no)) Stale used none in
+    let unended = passed (has_ended live.packet.owner) HasEnded owned current.1 in
+    let own = passed (not (is_owner party live.packet.owner)) NotOwner slot unended.1 in
+    (passed live.packet.slot_held SlotHeld [] own.1).0
 
 -- the use of a packet stays through a call
 same_use : (refusal : Option Refusal) (becomes : PacketValue → Type 0) (live new : LivePacket) (asked : List Asked) (reply : Reply) → Goes refusal becomes live new asked reply → new.use_no ≡ live.use_no

@@ -1,13 +1,13 @@
 -- Where each closure has one answer, a state and a call settle the step.
-use Rattle.std.proofs.Common.{◌≡◌, ◌≤◌, Bool, not, is_some, List, [], ◌∷◌, map, Option, Some, None, MatchOption, refl, sym, ◌∙◌, ap, subst, arith}
-use Rattle.std.specs.Prelude.{unwrap_or}
+use Rattle.std.proofs.Common.{◌≡◌, ℕ, ◌≤◌, Bool, not, is_some, List, [], ◌∷◌, map, Option, Some, None, MatchOption, refl, sym, ◌∙◌, ap, subst, arith}
+use Rattle.std.specs.Prelude.{◌==◌, unwrap_or}
 use Rattle.std.specs.List.{AllByRecursion}
 use Rattle.irp_types.specs.Status.{cancelled, is_completable}
-use Rattle.irp_types.specs.Checks.{or_else}
-use Rattle.irp_types.specs.Packet.{PacketValue, size_of, new_packet, with_status}
+use Rattle.irp_types.specs.Checks.{Check, or_else}
+use Rattle.irp_types.specs.Packet.{PacketValue, size_of, new_packet, with_status, after_take}
 use Rattle.irp_types.specs.Unwinding.{Asking, as_asked}
 use Rattle.irp_types.specs.State.{StateValue, LivePacket, Fixed, Tables, live_at, packet_of, with_packet}
-use Rattle.irp_types.specs.Refusals.{party_refusal, complete_refusal, first_refusal}
+use Rattle.irp_types.specs.Refusals.{has_ended, packet_refusal, party_refusal, ended_check, complete_refusal, take_refusal, first_refusal}
 use Rattle.irp_types.specs.Standing.{IsSound, StandingFacts}
 use Rattle.irp_types.specs.Steps.{Unasked, Completes, shown_to_cancel, after_cancel, Follows, Cancels, with_new_packet, Effect}
 use Rattle.irp_types.specs.declared.status.Status.{Status}
@@ -25,14 +25,14 @@ use Rattle.irp_types.specs.declared.answer.Plan.{Plan}
 use Rattle.irp_types.specs.declared.asked.Asked.{Asked}
 use Rattle.irp_types.specs.declared.asked.Asked.TheVariants.{Cancel as CancelAsked}
 use Rattle.irp_types.specs.declared.call.Call.{Call}
-use Rattle.irp_types.specs.declared.call.Call.TheVariants.{CreateDevice, Attach, Detach, Delete, Allocate, Free, Reuse, SetNext, CopyToNext, Skip, SetRoutine, MarkPending, CallDriver, Complete, SetCancelRoutine, Cancel, Look}
+use Rattle.irp_types.specs.declared.call.Call.TheVariants.{CreateDevice, Attach, Detach, Delete, Allocate, Free, Reuse, SetNext, CopyToNext, Skip, SetRoutine, MarkPending, CallDriver, Complete, FinishTaken, SetCancelRoutine, Cancel, Look}
 use Rattle.irp_types.specs.declared.refusal.Refusal.{Refusal}
-use Rattle.irp_types.specs.declared.refusal.Refusal.TheVariants.{BadStatus, CancelRoutineSet}
+use Rattle.irp_types.specs.declared.refusal.Refusal.TheVariants.{Stale, Ended as HasEnded, BadStatus, CancelRoutineSet, NotSlotHeld}
 use Rattle.irp_types.specs.declared.reply.Reply.{Reply}
 use Rattle.irp_types.specs.declared.reply.Reply.TheVariants.{Irp, Status as StatusIs, Refused}
 use Rattle.irp_unwind.specs.Laws.{AreRepliesOf, IsReplyOf, UnwindingIsSettled, DescentIsSettled}
 use Rattle.irp_manager.specs.Laws.{IsSameSlot}
-use Rattle.irp_manager.proofs.Sound.{sound_new, own_passed, both_passed, cancellable_here}
+use Rattle.irp_manager.proofs.Sound.{sound_new, is_so, passed, own_passed, both_passed, cancellable_here, held_here}
 use Rattle.irp_manager.proofs.Named.{sound_named}
 
 -- what is asked, the reply and the next state are the same
@@ -81,6 +81,18 @@ module _ (plan_of : DispatchId → Shown → Plan) (reply_of : RoutineId → Sho
       let own = (both_passed (party_refusal old party irp) (complete_refusal packet status) none).1 in
       (own_passed packet ((not (is_completable status), BadStatus) ∷ (is_some packet.cancel_routine, CancelRoutineSet) ∷ []) own).1
 
+  -- a packet that who took it may complete stands in a location
+  taken_here : (counts : Known) (old : StateValue) (irp : IrpRef) (token : ℕ) (status : Status) → IsSound counts (packet_of old irp)
+      → or_else (packet_refusal old irp) (take_refusal (packet_of old irp) irp.use_no token status) ≡ None → (packet_of old irp).current ≤ size_of (packet_of old irp)
+  taken_here counts old irp token status sound none =
+      let packet = packet_of old irp in
+      let completable : List Check = (not (is_completable status), BadStatus) ∷ [] in
+      let held : List Check = (not packet.slot_held, NotSlotHeld) ∷ completable in
+      let own = (both_passed (packet_refusal old irp) (take_refusal packet irp.use_no token status) none).1 in
+      let current = passed (not (token == irp.use_no)) Stale (ended_check packet ∷ held) own in
+      let unended = passed (has_ended packet.owner) HasEnded held current.1 in
+      held_here counts packet sound (is_so packet.slot_held (passed (not packet.slot_held) NotSlotHeld completable unended.1).0)
+
   same_effect : UnwindingIsSettled → DescentIsSettled → (fixed : Fixed) (old : StateValue) (drained : Bool) (call : Call) (asked others : List Asked) (reply other : Reply) (new another : StateValue)
       → StandingFacts fixed.tables.counts old → first_refusal fixed old drained call ≡ None
       → Effect fixed old call asked reply new → Effect fixed old call others other another → IsSameSlot call reply other → answered asked → answered others
@@ -108,6 +120,11 @@ module _ (plan_of : DispatchId → Shown → Plan) (reply_of : RoutineId → Sho
   same_effect up down fixed old drained (Complete party irp status information) asked others reply other new another stands none first second slots given answers =
       let sound = sound_named fixed.tables.counts old irp stands in
       let same = same_completion up irp (with_status (packet_of old irp) status information) asked others first.0 second.0 sound.placed (completable_here old party irp status none) first.1 second.1 given answers in
+      (same.0, first.2 ∙ sym second.2, first.3 ∙ ap (with_packet old irp.slot) same.1 ∙ sym second.3)
+  same_effect up down fixed old drained (FinishTaken irp token status information) asked others reply other new another stands none first second slots given answers =
+      let sound = sound_named fixed.tables.counts old irp stands in
+      let taken = with_status (after_take (packet_of old irp)) status information in
+      let same = same_completion up irp taken asked others first.0 second.0 sound.placed (taken_here fixed.tables.counts old irp token status sound none) first.1 second.1 given answers in
       (same.0, first.2 ∙ sym second.2, first.3 ∙ ap (with_packet old irp.slot) same.1 ∙ sym second.3)
   same_effect up down fixed old drained (SetCancelRoutine party irp cancel) asked others reply other new another stands none first second slots given answers = (first.0 ∙ sym second.0, first.1 ∙ sym second.1, first.2 ∙ sym second.2)
   same_effect up down fixed old drained (Cancel irp) asked others reply other new another stands none first second slots given answers =

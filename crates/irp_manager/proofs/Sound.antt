@@ -8,7 +8,7 @@ use Rattle.std.proofs.lemmas.Option.{none-some, same_Some}
 use Rattle.irp_types.specs.Limits.{most_locations}
 use Rattle.irp_types.specs.Rules.{is_known}
 use Rattle.irp_types.specs.Checks.{Check, first_failing, or_else}
-use Rattle.irp_types.specs.Packet.{PacketValue, size_of, location_at, location_with, with_location, with_status, cleared, new_packet, is_nothing, is_filled, is_skipped, lower_check, major_check, location_check, skip_check, is_above_top, set_next_refusal, copy_to_next_refusal, skip_refusal, set_routine_refusal, mark_pending_refusal, after_set_next, after_copy, after_skip, after_set_routine, after_mark, after_reset}
+use Rattle.irp_types.specs.Packet.{PacketValue, size_of, location_at, location_with, with_location, with_status, cleared, new_packet, is_nothing, is_filled, is_skipped, lower_check, major_check, location_check, skip_check, is_above_top, set_next_refusal, copy_to_next_refusal, skip_refusal, set_routine_refusal, mark_pending_refusal, after_set_next, after_copy, after_skip, after_set_routine, after_mark, after_take, after_reset}
 use Rattle.irp_types.specs.Refusals.{has_ended, is_owned_by_device, leave_refusal, routine_refusal, cancel_refusal}
 use Rattle.irp_types.specs.Steps.{after_cancel}
 use Rattle.irp_types.specs.Standing.{lowest_location, own_location, IsSound}
@@ -50,6 +50,7 @@ sound_new counts size some few =
       originator = λ _. ap (λ given. given + 1) (sym count);
       routines = λ number setting there. absurd (none-some setting (sym (bare number) ∙ there));
       cancel = λ routine there. absurd (none-some routine there);
+      slots = λ is. absurd (false≢true is);
       keepers = λ number setting from below there keeps. absurd (none-some setting (sym (bare number) ∙ there));
     }
 
@@ -65,6 +66,23 @@ sound_with_status counts packet status information sound = record {
   originator = sound.originator;
   routines = sound.routines;
   cancel = λ routine there. let cancellable = sound.cancel routine there in record { there = cancellable.there; held = cancellable.held; unskipped = cancellable.unskipped };
+  slots = λ is. let kept = sound.slots is in record { held = kept.held; no_routine = kept.no_routine; unprepared = kept.unprepared };
+  keepers = sound.keepers;
+}
+
+pub sound_take : (counts : Known) (packet : PacketValue) → IsSound counts packet → IsSound counts (after_take packet)
+sound_take counts packet sound = record {
+  some = sound.some;
+  few = sound.few;
+  placed = sound.placed;
+  within = sound.within;
+  prepared = sound.prepared;
+  marked = sound.marked;
+  devices = sound.devices;
+  originator = sound.originator;
+  routines = sound.routines;
+  cancel = λ routine there. let cancellable = sound.cancel routine there in record { there = cancellable.there; held = cancellable.held; unskipped = cancellable.unskipped };
+  slots = λ is. absurd (false≢true is);
   keepers = sound.keepers;
 }
 
@@ -94,7 +112,7 @@ owned_here counts packet sound used within = by packet.owner refl used
 
 -- another content of the next lower location, which the packet is prepared with: it keeps the standing facts where its
 -- routine is there, and stands above none that may keep but under a mark
-module _ (counts : Known) (packet : PacketValue) (location : Location) (two : 2 ≤ packet.current) (unskipped : is_skipped packet.preparation ≡ false) (sound : IsSound counts packet) where
+module _ (counts : Known) (packet : PacketValue) (location : Location) (two : 2 ≤ packet.current) (unskipped : is_skipped packet.preparation ≡ false) (unheld : packet.slot_held ≡ false) (sound : IsSound counts packet) where
   abbrev pub lowered : PacketValue
   lowered = record (with_location packet (packet.current - 1) location) { preparation = Filled }
 
@@ -127,6 +145,7 @@ module _ (counts : Known) (packet : PacketValue) (location : Location) (two : 2 
       | inr other ↦ sound.routines number setting (ap (λ (given : Location). given.setting) (sym (at_other packet (packet.current - 1) number location other)) ∙ there)
     ];
     cancel = λ routine there. let cancellable = sound.cancel routine there in record { there = cancellable.there; held = cancellable.held; unskipped = refl };
+    slots = λ is. absurd (false≢true (sym unheld ∙ is));
     keepers = λ number setting from below there keeps. elim (cases_eq number (packet.current - 1)) as (λ _. (location_at lowered (number + 1)).pending ≡ true) [
       | inl same ↦
           let up : number + 1 ≡ packet.current = omega (arith, same, two) in
@@ -146,15 +165,15 @@ set_next_passed packet major none =
     let two : 1 < packet.current = leb-false packet.current 1 lower.0 in
     (unskipped.0, omega arith)
 
-pub sound_set_next : (counts : Known) (packet : PacketValue) (major word : ℕ) → set_next_refusal packet major ≡ None
+pub sound_set_next : (counts : Known) (packet : PacketValue) (major word : ℕ) → packet.slot_held ≡ false → set_next_refusal packet major ≡ None
     → IsSound counts packet → IsSound counts (after_set_next packet major word)
-sound_set_next counts packet major word none sound =
+sound_set_next counts packet major word unheld none sound =
     let checks = set_next_passed packet major none in
-    sound_lowered counts packet (location_with major word) checks.1 checks.0 sound
+    sound_lowered counts packet (location_with major word) checks.1 checks.0 unheld sound
     (λ setting there. absurd (none-some setting there)) (λ setting there. absurd (none-some setting there))
 
 -- what doesn't fail to be so is so
-is_so : (fact : Bool) → not fact ≡ false → fact ≡ true
+pub is_so : (fact : Bool) → not fact ≡ false → fact ≡ true
 is_so true _ = refl
 is_so false fails = absurd (true≢false fails)
 
@@ -165,9 +184,9 @@ filled packet Nothing is none = absurd (none-some NotPrepared (sym none))
 filled packet Filled is none = refl
 filled packet Skipped is none = absurd (none-some AfterSkip (sym none))
 
-pub sound_set_routine : (counts : Known) (packet : PacketValue) (setting : Setting) → has_ended packet.owner ≡ false → routine_refusal counts packet setting ≡ None
+pub sound_set_routine : (counts : Known) (packet : PacketValue) (setting : Setting) → has_ended packet.owner ≡ false → packet.slot_held ≡ false → routine_refusal counts packet setting ≡ None
     → IsSound counts packet → IsSound counts (after_set_routine packet setting)
-sound_set_routine counts packet setting used none sound =
+sound_set_routine counts packet setting used unheld none sound =
     let checks = both_passed (set_routine_refusal packet) (first_failing ((not (is_known counts setting), NoRoutine) ∷ [])) none in
     let is : packet.preparation ≡ Filled = filled packet packet.preparation refl checks.0 in
     let unskipped : is_skipped packet.preparation ≡ false = ap is_skipped is in
@@ -175,9 +194,9 @@ sound_set_routine counts packet setting used none sound =
     let unknown : not (is_known counts setting) ≡ false = (passed (not (is_known counts setting)) NoRoutine [] checks.1).0 in
     let there = is_so (is_known counts setting) unknown in
     let location : Location = record (location_at packet (packet.current - 1)) { setting = Some setting } in
-    let same : lowered counts packet location two unskipped sound ≡ after_set_routine packet setting = ap (λ given. record (after_set_routine packet setting) { preparation = given }) (sym is) in
+    let same : lowered counts packet location two unskipped unheld sound ≡ after_set_routine packet setting = ap (λ given. record (after_set_routine packet setting) { preparation = given }) (sym is) in
     subst (IsSound counts) same
-    (sound_lowered counts packet location two unskipped sound
+    (sound_lowered counts packet location two unskipped unheld sound
     (λ other set_there. subst (λ given. is_known counts given ≡ true) (same_Some setting other set_there) there)
     (λ other set_there within. pending_here counts packet unskipped sound (owned_here counts packet sound used within)))
 
@@ -193,13 +212,13 @@ own_passed packet others none =
     ] in
     (skipped.0, within, skipped.1)
 
-pub sound_copy : (counts : Known) (packet : PacketValue) → copy_to_next_refusal packet ≡ None → IsSound counts packet → IsSound counts (after_copy packet None)
-sound_copy counts packet none sound =
+pub sound_copy : (counts : Known) (packet : PacketValue) → packet.slot_held ≡ false → copy_to_next_refusal packet ≡ None → IsSound counts packet → IsSound counts (after_copy packet None)
+sound_copy counts packet unheld none sound =
     let checks = own_passed packet (lower_check packet ∷ []) none in
     let lower = passed (nat_le packet.current 1) TooShort [] checks.2 in
     let two : 1 < packet.current = leb-false packet.current 1 lower.0 in
     let here = location_at packet packet.current in
-    sound_lowered counts packet (record (location_with here.major here.word) { setting = None }) (omega arith) checks.0 sound
+    sound_lowered counts packet (record (location_with here.major here.word) { setting = None }) (omega arith) checks.0 unheld sound
     (λ setting there. absurd (none-some setting there)) (λ setting there. absurd (none-some setting there))
 
 pub sound_mark : (counts : Known) (packet : PacketValue) → mark_pending_refusal packet ≡ None → IsSound counts packet → IsSound counts (after_mark packet packet.current)
@@ -241,13 +260,14 @@ sound_mark counts packet none sound =
       originator = λ is. sound.originator is ∙ ap (λ given. given + 1) (sym size);
       routines = λ number setting there. sound.routines number setting (sym (setting_of number) ∙ there);
       cancel = λ routine there. let cancellable = sound.cancel routine there in record { there = cancellable.there; held = cancellable.held; unskipped = cancellable.unskipped };
+      slots = λ is. let kept = sound.slots is in record { held = kept.held; no_routine = kept.no_routine; unprepared = kept.unprepared };
       keepers = λ number setting from below there keeps. still (number + 1) (sound.keepers number setting from (omega (arith, size, below)) (sym (setting_of number) ∙ there) keeps);
     }
 
 -- a device gives its location to the next lower one
-skipped : (counts : Known) (packet : PacketValue) → is_skipped packet.preparation ≡ false → packet.current ≤ size_of packet → packet.cancel_routine ≡ None → is_owned_by_device packet.owner ≡ true
+skipped : (counts : Known) (packet : PacketValue) → is_skipped packet.preparation ≡ false → packet.current ≤ size_of packet → packet.cancel_routine ≡ None → packet.slot_held ≡ false → is_owned_by_device packet.owner ≡ true
     → IsSound counts packet → IsSound counts (record packet { current = packet.current + 1; preparation = Skipped })
-skipped counts packet unskipped within free owned sound =
+skipped counts packet unskipped within free unheld owned sound =
     let back : packet.current + 1 - 1 ≡ packet.current = omega arith in
     let placed : 1 ≤ packet.current = sound.placed in
     record {
@@ -261,6 +281,7 @@ skipped counts packet unskipped within free owned sound =
       originator = λ is. let top = sound.originator is in absurd (omega (arith, top, within));
       routines = sound.routines;
       cancel = λ routine there. absurd (none-some routine (sym free ∙ there));
+      slots = λ is. absurd (false≢true (sym unheld ∙ is));
       keepers = λ number setting from below there keeps. sound.keepers number setting (low packet number (omega (arith, from, back))) below there keeps;
     }
 
@@ -269,8 +290,8 @@ nothing_set : (cancel : Option CancelId) → is_some cancel ≡ false → cancel
 nothing_set None _ = refl
 nothing_set (Some routine) set = absurd (true≢false set)
 
-pub sound_skip : (counts : Known) (packet : PacketValue) → has_ended packet.owner ≡ false → leave_refusal packet ≡ None → IsSound counts packet → IsSound counts (after_skip packet)
-sound_skip counts packet used none sound =
+pub sound_skip : (counts : Known) (packet : PacketValue) → has_ended packet.owner ≡ false → packet.slot_held ≡ false → leave_refusal packet ≡ None → IsSound counts packet → IsSound counts (after_skip packet)
+sound_skip counts packet used unheld none sound =
     let checks = both_passed (skip_refusal packet) (first_failing ((is_some packet.cancel_routine, CancelRoutineSet) ∷ [])) none in
     let own = own_passed packet [] checks.0 in
     let free = nothing_set packet.cancel_routine (passed (is_some packet.cancel_routine) CancelRoutineSet [] checks.1).0 in
@@ -279,17 +300,17 @@ sound_skip counts packet used none sound =
   where
     by : (preparation : Preparation) → packet.preparation ≡ preparation → is_skipped packet.preparation ≡ false → packet.current ≤ size_of packet → packet.cancel_routine ≡ None → is_owned_by_device packet.owner ≡ true
         → IsSound counts (record (if is_filled preparation then with_location packet (packet.current - 1) cleared else packet) { current = packet.current + 1; preparation = Skipped })
-    by Nothing is unskipped within free owned = skipped counts packet unskipped within free owned sound
-    by Skipped is unskipped within free owned = skipped counts packet unskipped within free owned sound
+    by Nothing is unskipped within free owned = skipped counts packet unskipped within free unheld owned sound
+    by Skipped is unskipped within free owned = skipped counts packet unskipped within free unheld owned sound
     by Filled is unskipped within free owned =
         let two : 2 ≤ packet.current = sound.prepared (ap is_nothing is) in
-        let size : size_of (lowered counts packet cleared two unskipped sound) ≡ size_of packet = length-set packet.locations (packet.current - 1 - 1) cleared in
-        let bare = sound_lowered counts packet cleared two unskipped sound (λ setting there. absurd (none-some setting there)) (λ setting there. absurd (none-some setting there)) in
-        skipped counts (lowered counts packet cleared two unskipped sound) refl (omega (arith, size, within)) free owned bare
+        let size : size_of (lowered counts packet cleared two unskipped unheld sound) ≡ size_of packet = length-set packet.locations (packet.current - 1 - 1) cleared in
+        let bare = sound_lowered counts packet cleared two unskipped unheld sound (λ setting there. absurd (none-some setting there)) (λ setting there. absurd (none-some setting there)) in
+        skipped counts (lowered counts packet cleared two unskipped unheld sound) refl (omega (arith, size, within)) free unheld owned bare
 
-pub sound_set_cancel : (counts : Known) (packet : PacketValue) (cancel : Option CancelId) → has_ended packet.owner ≡ false → cancel_refusal counts packet cancel ≡ None
+pub sound_set_cancel : (counts : Known) (packet : PacketValue) (cancel : Option CancelId) → has_ended packet.owner ≡ false → packet.slot_held ≡ false → cancel_refusal counts packet cancel ≡ None
     → IsSound counts packet → IsSound counts (record packet { cancel_routine = cancel })
-sound_set_cancel counts packet cancel used none sound =
+sound_set_cancel counts packet cancel used unheld none sound =
     let twice : List Check = (is_some cancel && packet.cancel, AlreadyCancelled) ∷ [] in
     let unknown : Bool = option_map_or (λ (routine : CancelId). nat_le counts.cancel routine.0) cancel false in
     let own = own_passed packet ((unknown, NoRoutine) ∷ twice) none in
@@ -310,6 +331,7 @@ sound_set_cancel counts packet cancel used none sound =
         held = owned;
         unskipped = own.0;
       };
+      slots = λ is. absurd (false≢true (sym unheld ∙ is));
       keepers = sound.keepers;
     }
 
@@ -328,14 +350,14 @@ sound_cancel counts packet sound = record {
   originator = sound.originator;
   routines = sound.routines;
   cancel = λ routine there. absurd (none-some routine there);
+  slots = λ is. let kept = sound.slots is in record { held = kept.held; no_routine = refl; unprepared = kept.unprepared };
   keepers = sound.keepers;
 }
 
--- a packet with a cancel routine stands in a location: its device's own, which is marked
-pub cancellable_here : (counts : Known) (packet : PacketValue) (routine : CancelId) → IsSound counts packet → packet.cancel_routine ≡ Some routine → packet.current ≤ size_of packet
-cancellable_here counts packet routine sound there =
-    let cancellable = sound.cancel routine there in
-    let marked = pending_here counts packet cancellable.unskipped sound cancellable.held in
+-- a packet that its device owns and did not skip stands in a location: the device's own, which is marked
+stands_here : (counts : Known) (packet : PacketValue) → IsSound counts packet → is_skipped packet.preparation ≡ false → is_owned_by_device packet.owner ≡ true → packet.current ≤ size_of packet
+stands_here counts packet sound unskipped held =
+    let marked = pending_here counts packet unskipped sound held in
     let placed : 1 ≤ packet.current = sound.placed in
     elim (cases_lt (size_of packet) packet.current) as (λ _. packet.current ≤ size_of packet) [
       | inl above ↦
@@ -348,3 +370,29 @@ cancellable_here counts packet routine sound there =
     past [] place far = refl
     past (location ∷ others) zero far = absurd (omega arith)
     past (location ∷ others) (suc place) far = past others place (omega arith)
+
+-- a packet with a cancel routine stands in a location
+pub cancellable_here : (counts : Known) (packet : PacketValue) (routine : CancelId) → IsSound counts packet → packet.cancel_routine ≡ Some routine → packet.current ≤ size_of packet
+cancellable_here counts packet routine sound there =
+    let cancellable = sound.cancel routine there in
+    stands_here counts packet sound cancellable.unskipped cancellable.held
+
+-- nothing was skipped where nothing was prepared
+unprepared_unskipped : (preparation : Preparation) → is_nothing preparation ≡ true → is_skipped preparation ≡ false
+unprepared_unskipped Nothing is = refl
+unprepared_unskipped Filled is = refl
+unprepared_unskipped Skipped is = absurd (false≢true is)
+
+-- so does one in a cancel slot
+pub held_here : (counts : Known) (packet : PacketValue) → IsSound counts packet → packet.slot_held ≡ true → packet.current ≤ size_of packet
+held_here counts packet sound is =
+    let held = sound.slots is in
+    stands_here counts packet sound (unprepared_unskipped packet.preparation held.unprepared) held.held
+
+-- a packet with a cancel routine stands in no cancel slot
+pub cancellable_unheld : (counts : Known) (packet : PacketValue) (routine : CancelId) → IsSound counts packet → packet.cancel_routine ≡ Some routine → packet.slot_held ≡ false
+cancellable_unheld counts packet routine sound there = by packet.slot_held refl
+  where
+    by : (held : Bool) → packet.slot_held ≡ held → held ≡ false
+    by false is = refl
+    by true is = absurd (none-some routine (sym (sound.slots is).no_routine ∙ there))

@@ -4,7 +4,7 @@ use Rattle.irp_types.specs.Checks.{Check, first_failing, or_else}
 use Rattle.irp_types.specs.Packet.{PacketValue, set_next_refusal, copy_to_next_refusal, mark_pending_refusal, after_set_next, after_copy, after_skip, after_set_routine, after_mark}
 use Rattle.irp_types.specs.Stacks.{delete_checks}
 use Rattle.irp_types.specs.State.{StateValue, LivePacket, Fixed, packet_of, with_packet}
-use Rattle.irp_types.specs.Refusals.{is_in_flight, has_ended, party_refusal, leave_refusal, routine_refusal, cancel_refusal, send_refusal, complete_refusal}
+use Rattle.irp_types.specs.Refusals.{is_in_flight, has_ended, packet_refusal, party_refusal, leave_refusal, routine_refusal, cancel_refusal, send_refusal, complete_refusal, take_refusal}
 use Rattle.irp_types.specs.Steps.{Unasked, Effect, Step}
 use Rattle.irp_types.specs.Standing.{IsSound}
 use Rattle.irp_types.specs.declared.names.IrpRef.{IrpRef}
@@ -14,13 +14,13 @@ use Rattle.irp_types.specs.declared.status.Status.{Status}
 use Rattle.irp_types.specs.declared.routine.Known.{Known}
 use Rattle.irp_types.specs.declared.routine.Setting.{Setting}
 use Rattle.irp_types.specs.declared.call.Party.{Party}
-use Rattle.irp_types.specs.declared.call.Call.TheVariants.{SetNext, CopyToNext, Skip, SetRoutine, MarkPending, CallDriver, Complete, SetCancelRoutine}
+use Rattle.irp_types.specs.declared.call.Call.TheVariants.{SetNext, CopyToNext, Skip, SetRoutine, MarkPending, CallDriver, Complete, FinishTaken, SetCancelRoutine}
 use Rattle.irp_types.specs.declared.asked.Asked.{Asked}
 use Rattle.irp_types.specs.declared.refusal.Refusal.{Refusal}
 use Rattle.irp_types.specs.declared.refusal.Refusal.TheVariants.{InFlight, NotDrained}
 use Rattle.irp_types.specs.declared.reply.Reply.{Reply}
 use Rattle.irp_types.specs.declared.reply.Reply.TheVariants.{Done, Previous, Refused}
-use Rattle.irp_manager.specs.Calls.{Goes, Fills, Copies, Leaves, Sets, Marks, Sends, Finishes, SetsCancel}
+use Rattle.irp_manager.specs.Calls.{Goes, Fills, Copies, Leaves, Sets, Marks, Sends, Finishes, Takes, SetsCancel}
 use Rattle.irp_manager.proofs.OnePacket.{GoesOn}
 use Rattle.irp_manager.proofs.Sound.{both_passed, sound_set_next, sound_copy, sound_skip, sound_set_routine, sound_mark, sound_set_cancel}
 
@@ -53,10 +53,10 @@ kept_by P (Some refusal) after reply told live new goes made before = subst P (a
 
 pub filled_sound : (counts : Known) (here : Option Refusal) (major word : ℕ) (reply : Reply) (live new : LivePacket)
     → Goes (or_else here (set_next_refusal live.packet major)) (Fills major word [] reply live.packet) live new [] reply
-    → IsSound counts live.packet → IsSound counts new.packet
-filled_sound counts here major word reply live new goes sound =
+    → (here ≡ None → live.packet.slot_held ≡ false) → IsSound counts live.packet → IsSound counts new.packet
+filled_sound counts here major word reply live new goes unheld sound =
     kept_by (IsSound counts) (or_else here (set_next_refusal live.packet major)) (after_set_next live.packet major word) reply Done live new goes
-    (λ none. sound_set_next counts live.packet major word (both_passed here (set_next_refusal live.packet major) none).1 sound) sound
+    (λ none. let passed = both_passed here (set_next_refusal live.packet major) none in sound_set_next counts live.packet major word (unheld passed.0) passed.1 sound) sound
 
 pub copied_step : (fixed : Fixed) (drained : Bool) (old : StateValue) (party : Party) (irp : IrpRef) (reply : Reply) (new : StateValue)
     → GoesOn (or_else (party_refusal old party irp) (copy_to_next_refusal (packet_of old irp))) (Copies [] reply (packet_of old irp)) old irp.slot [] reply new
@@ -66,9 +66,9 @@ copied_step fixed drained old party irp reply new goes =
 
 pub copied_sound : (counts : Known) (here : Option Refusal) (reply : Reply) (live new : LivePacket)
     → Goes (or_else here (copy_to_next_refusal live.packet)) (Copies [] reply live.packet) live new [] reply
-    → IsSound counts live.packet → IsSound counts new.packet
-copied_sound counts here reply live new goes sound =
-    kept_by (IsSound counts) (or_else here (copy_to_next_refusal live.packet)) (after_copy live.packet None) reply Done live new goes (λ none. sound_copy counts live.packet (both_passed here (copy_to_next_refusal live.packet) none).1 sound) sound
+    → (here ≡ None → live.packet.slot_held ≡ false) → IsSound counts live.packet → IsSound counts new.packet
+copied_sound counts here reply live new goes unheld sound =
+    kept_by (IsSound counts) (or_else here (copy_to_next_refusal live.packet)) (after_copy live.packet None) reply Done live new goes (λ none. let passed = both_passed here (copy_to_next_refusal live.packet) none in sound_copy counts live.packet (unheld passed.0) passed.1 sound) sound
 
 pub left_step : (fixed : Fixed) (drained : Bool) (old : StateValue) (party : Party) (irp : IrpRef) (reply : Reply) (new : StateValue)
     → GoesOn (or_else (party_refusal old party irp) (leave_refusal (packet_of old irp))) (Leaves [] reply (packet_of old irp)) old irp.slot [] reply new
@@ -78,9 +78,9 @@ left_step fixed drained old party irp reply new goes =
 
 pub left_sound : (counts : Known) (here : Option Refusal) (reply : Reply) (live new : LivePacket)
     → Goes (or_else here (leave_refusal live.packet)) (Leaves [] reply live.packet) live new [] reply
-    → (here ≡ None → has_ended live.packet.owner ≡ false) → IsSound counts live.packet → IsSound counts new.packet
-left_sound counts here reply live new goes used sound =
-    kept_by (IsSound counts) (or_else here (leave_refusal live.packet)) (after_skip live.packet) reply Done live new goes (λ none. let passed = both_passed here (leave_refusal live.packet) none in sound_skip counts live.packet (used passed.0) passed.1 sound) sound
+    → (here ≡ None → has_ended live.packet.owner ≡ false) → (here ≡ None → live.packet.slot_held ≡ false) → IsSound counts live.packet → IsSound counts new.packet
+left_sound counts here reply live new goes used unheld sound =
+    kept_by (IsSound counts) (or_else here (leave_refusal live.packet)) (after_skip live.packet) reply Done live new goes (λ none. let passed = both_passed here (leave_refusal live.packet) none in sound_skip counts live.packet (used passed.0) (unheld passed.0) passed.1 sound) sound
 
 pub marked_step : (fixed : Fixed) (drained : Bool) (old : StateValue) (party : Party) (irp : IrpRef) (reply : Reply) (new : StateValue)
     → GoesOn (or_else (party_refusal old party irp) (mark_pending_refusal (packet_of old irp))) (Marks [] reply (packet_of old irp)) old irp.slot [] reply new
@@ -103,10 +103,10 @@ cancel_step fixed drained old party irp cancel reply new goes =
 
 pub cancel_sound : (counts : Known) (here : Option Refusal) (cancel : Option CancelId) (reply : Reply) (live new : LivePacket)
     → Goes (or_else here (cancel_refusal counts live.packet cancel)) (SetsCancel cancel [] reply live.packet) live new [] reply
-    → (here ≡ None → has_ended live.packet.owner ≡ false) → IsSound counts live.packet → IsSound counts new.packet
-cancel_sound counts here cancel reply live new goes used sound =
+    → (here ≡ None → has_ended live.packet.owner ≡ false) → (here ≡ None → live.packet.slot_held ≡ false) → IsSound counts live.packet → IsSound counts new.packet
+cancel_sound counts here cancel reply live new goes used unheld sound =
     kept_by (IsSound counts) (or_else here (cancel_refusal counts live.packet cancel)) (record live.packet { cancel_routine = cancel }) reply (Previous live.packet.cancel_routine) live new goes
-    (λ none. let passed = both_passed here (cancel_refusal counts live.packet cancel) none in sound_set_cancel counts live.packet cancel (used passed.0) passed.1 sound) sound
+    (λ none. let passed = both_passed here (cancel_refusal counts live.packet cancel) none in sound_set_cancel counts live.packet cancel (used passed.0) (unheld passed.0) passed.1 sound) sound
 
 pub set_step : (fixed : Fixed) (drained : Bool) (old : StateValue) (party : Party) (irp : IrpRef) (setting : Setting) (reply : Reply) (new : StateValue)
     → GoesOn (or_else (party_refusal old party irp) (routine_refusal fixed.tables.counts (packet_of old irp) setting)) (Sets setting [] reply (packet_of old irp)) old irp.slot [] reply new
@@ -116,10 +116,10 @@ set_step fixed drained old party irp setting reply new goes =
 
 pub set_sound : (counts : Known) (here : Option Refusal) (setting : Setting) (reply : Reply) (live new : LivePacket)
     → Goes (or_else here (routine_refusal counts live.packet setting)) (Sets setting [] reply live.packet) live new [] reply
-    → (here ≡ None → has_ended live.packet.owner ≡ false) → IsSound counts live.packet → IsSound counts new.packet
-set_sound counts here setting reply live new goes used sound =
+    → (here ≡ None → has_ended live.packet.owner ≡ false) → (here ≡ None → live.packet.slot_held ≡ false) → IsSound counts live.packet → IsSound counts new.packet
+set_sound counts here setting reply live new goes used unheld sound =
     kept_by (IsSound counts) (or_else here (routine_refusal counts live.packet setting)) (after_set_routine live.packet setting) reply Done live new goes
-    (λ none. let passed = both_passed here (routine_refusal counts live.packet setting) none in sound_set_routine counts live.packet setting (used passed.0) passed.1 sound) sound
+    (λ none. let passed = both_passed here (routine_refusal counts live.packet setting) none in sound_set_routine counts live.packet setting (used passed.0) (unheld passed.0) passed.1 sound) sound
 
 pub sent_step : (fixed : Fixed) (drained : Bool) (old : StateValue) (party : Party) (irp : IrpRef) (target : DeviceId) (asked : List Asked) (reply : Reply) (new : StateValue)
     → GoesOn (or_else (party_refusal old party irp) (send_refusal old.devices party (packet_of old irp) target.0)) (Sends fixed.tables irp old.devices target.0 asked reply (packet_of old irp)) old irp.slot asked reply new
@@ -138,6 +138,16 @@ finished_step fixed drained old party irp status information asked reply new goe
     if_none (or_else (party_refusal old party irp) (complete_refusal (packet_of old irp) status))
     ((packet : PacketValue) × Finishes irp status information asked reply (packet_of old irp) packet × (new ≡ with_packet old irp.slot packet))
     (Effect fixed old (Complete party irp status information) asked reply new)
+    (λ refusal. Unasked asked reply new (Refused refusal) old)
+    (λ done. (done.0, done.1.0, done.1.1, done.2)) goes
+
+pub taken_step : (fixed : Fixed) (drained : Bool) (old : StateValue) (irp : IrpRef) (token : ℕ) (status : Status) (information : ℕ) (asked : List Asked) (reply : Reply) (new : StateValue)
+    → GoesOn (or_else (packet_refusal old irp) (take_refusal (packet_of old irp) irp.use_no token status)) (Takes irp status information asked reply (packet_of old irp)) old irp.slot asked reply new
+    → Step fixed old drained (FinishTaken irp token status information) asked reply new
+taken_step fixed drained old irp token status information asked reply new goes =
+    if_none (or_else (packet_refusal old irp) (take_refusal (packet_of old irp) irp.use_no token status))
+    ((packet : PacketValue) × Takes irp status information asked reply (packet_of old irp) packet × (new ≡ with_packet old irp.slot packet))
+    (Effect fixed old (FinishTaken irp token status information) asked reply new)
     (λ refusal. Unasked asked reply new (Refused refusal) old)
     (λ done. (done.0, done.1.0, done.1.1, done.2)) goes
 

@@ -1,11 +1,11 @@
 -- What a call on one live packet does.
 use Rattle.std.specs.Prelude.{ℕ, ◌≡◌, Bool, true, false, not, ◌==◌, List, [], ◌∷◌, ◌++◌, Option, Some, None}
 use Rattle.irp_types.specs.Checks.{first_failing}
-use Rattle.irp_types.specs.Packet.{PacketValue, with_status, after_set_next, after_copy, after_skip, after_set_routine, after_mark}
+use Rattle.irp_types.specs.Packet.{PacketValue, with_status, after_set_next, after_copy, after_skip, after_set_routine, after_mark, after_take}
 use Rattle.irp_types.specs.Stacks.{DevicesValue}
 use Rattle.irp_types.specs.State.{LivePacket, Tables}
 use Rattle.irp_types.specs.Descent.{Descended}
-use Rattle.irp_types.specs.Refusals.{has_ended, is_owner}
+use Rattle.irp_types.specs.Refusals.{has_ended, is_owner, slot_check}
 use Rattle.irp_types.specs.Steps.{Completes, Follows, Cancels}
 use Rattle.irp_types.specs.declared.names.IrpRef.{IrpRef}
 use Rattle.irp_types.specs.declared.names.CancelId.{CancelId}
@@ -14,7 +14,7 @@ use Rattle.irp_types.specs.declared.routine.Setting.{Setting}
 use Rattle.irp_types.specs.declared.answer.CancelAnswer.{CancelAnswer}
 use Rattle.irp_types.specs.declared.call.Party.{Party}
 use Rattle.irp_types.specs.declared.call.Call.{Call}
-use Rattle.irp_types.specs.declared.call.Call.TheVariants.{CreateDevice, Attach, Detach, Delete, Allocate, Free, Reuse, SetNext, CopyToNext, Skip, SetRoutine, MarkPending, CallDriver, Complete, SetCancelRoutine, Cancel, Look}
+use Rattle.irp_types.specs.declared.call.Call.TheVariants.{CreateDevice, Attach, Detach, Delete, Allocate, Free, Reuse, SetNext, CopyToNext, Skip, SetRoutine, MarkPending, CallDriver, Complete, FinishTaken, SetCancelRoutine, Cancel, Look}
 use Rattle.irp_types.specs.declared.asked.Asked.{Asked}
 use Rattle.irp_types.specs.declared.refusal.Refusal.{Refusal}
 use Rattle.irp_types.specs.declared.refusal.Refusal.TheVariants.{NoIrp, Stale, NotOwner, Ended}
@@ -32,7 +32,7 @@ party_refusal_in None party irp = Some NoIrp
 party_refusal_in (Some live) party irp = first_failing (
     (not (live.use_no == irp.use_no), Stale)
     ∷ (has_ended live.packet.owner, Ended)
-    ∷ (not (is_owner party live.packet.owner), NotOwner) ∷ [])
+    ∷ (not (is_owner party live.packet.owner), NotOwner) ∷ slot_check live.packet ∷ [])
 
 -- a call that names a party
 abbrev pub names_party : Call → Bool
@@ -50,6 +50,7 @@ names_party (SetRoutine party irp setting) = true
 names_party (MarkPending party irp) = true
 names_party (CallDriver party irp target) = true
 names_party (Complete party irp status information) = true
+names_party (FinishTaken irp token status information) = false
 names_party (SetCancelRoutine party irp cancel) = true
 names_party (Cancel irp) = false
 names_party (Look irp) = false
@@ -90,6 +91,10 @@ Sends tables irp devices target asked reply old new = (status : Status) × Desce
 -- the packet was completed
 abbrev pub Finishes : IrpRef → Status → ℕ → List Asked → Reply → PacketValue → PacketValue → Type 0
 Finishes irp status information asked reply old new = Completes irp (with_status old status information) asked new × (reply ≡ Done)
+
+-- the packet was taken from its cancel slot and completed
+abbrev pub Takes : IrpRef → Status → ℕ → List Asked → Reply → PacketValue → PacketValue → Type 0
+Takes irp status information asked reply old new = Completes irp (with_status (after_take old) status information) asked new × (reply ≡ Done)
 
 -- the packet was cancelled
 abbrev pub IsCancelled : Tables → IrpRef → List Asked → Reply → PacketValue → PacketValue → Type 0

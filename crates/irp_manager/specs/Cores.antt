@@ -7,7 +7,7 @@ use Rattle.irp_types.specs.Steps.{Step}
 use Rattle.irp_types.specs.Standing.{StandingFacts}
 use Rattle.irp_types.specs.declared.asked.Asked.{Asked}
 use Rattle.irp_types.specs.declared.call.Call.{Call}
-use Rattle.irp_types.specs.declared.call.Call.TheVariants.{Allocate, CallDriver, Complete, Cancel}
+use Rattle.irp_types.specs.declared.call.Call.TheVariants.{Allocate, CallDriver, Complete, FinishTaken, Cancel}
 use Rattle.irp_types.specs.declared.call.Party.{Party}
 use Rattle.irp_types.specs.declared.names.IrpRef.{IrpRef}
 use Rattle.irp_types.specs.declared.names.DeviceId.{DeviceId}
@@ -47,5 +47,6 @@ SlotGranted grants old wish call reply = (size : ℕ) (irp : IrpRef) → call �
 abbrev pub most_asked : Call → ℕ
 most_asked (CallDriver party irp target) = 2 * most_locations
 most_asked (Complete party irp status information) = 2 * most_locations
+most_asked (FinishTaken irp token status information) = 2 * most_locations
 most_asked (Cancel irp) = 2 * most_locations
 most_asked _ = 0

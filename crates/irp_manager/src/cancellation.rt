@@ -1,6 +1,6 @@
 //! The cancellation of one live packet.
 
-ghost use Rattle.std.specs.Prelude.{◌≡◌, ◌+◌, ◌*◌, ◌≤◌, None, Some, [], ◌∷◌, vec_capacity, vec_len};
+ghost use Rattle.std.specs.Prelude.{◌≡◌, ◌+◌, ◌*◌, ◌≤◌, false, None, Some, [], ◌∷◌, vec_capacity, vec_len};
 ghost use Rattle.irp_types.specs.Limits.{most_locations};
 ghost use Rattle.irp_types.specs.Checks.{first_failing, or_else};
 ghost use Rattle.irp_types.specs.Packet.{size_of};
@@ -68,6 +68,7 @@ fn follow<A: Ask>(
 )
     requires sound { IsSound (A.tables ask.now).counts packet.old }
     requires taken { packet.old.cancel_routine ≡ None }
+    requires unheld { packet.old.slot_held ≡ false }
     requires placed { packet.old.current ≤ size_of packet.old }
     requires room { vec_len asked.old + most_locations ≤ vec_capacity asked.old }
     ensures capacity { vec_capacity asked.new ≡ vec_capacity asked.old }

@@ -1,20 +1,20 @@
 //! What a call does to one live packet.
 
-ghost use Rattle.std.specs.Prelude.{◌≡◌, ◌+◌, ◌*◌, ◌<◌, ◌≤◌, false, Option, Some, None, [], ◌∷◌, length, vec_capacity, vec_len};
+ghost use Rattle.std.specs.Prelude.{◌≡◌, ◌+◌, ◌*◌, ◌<◌, ◌≤◌, false, true, Option, Some, None, [], ◌∷◌, length, vec_capacity, vec_len};
 ghost use Rattle.irp_types.specs.Limits.{most_locations};
 ghost use Rattle.irp_types.specs.Checks.{first_failing, or_else};
 ghost use Rattle.irp_types.specs.Packet.{size_of, is_nothing, set_next_refusal, copy_to_next_refusal, mark_pending_refusal};
 ghost use Rattle.irp_types.specs.Stacks.{stack_size_of};
 ghost use Rattle.std.specs.List.{list_any};
 ghost use Rattle.irp_types.specs.Unwinding.{from_to};
-ghost use Rattle.irp_types.specs.Refusals.{is_owner, is_wrong_target, stands_at, has_packet, flight_check, leave_refusal, routine_refusal, cancel_refusal, send_refusal, complete_refusal};
+ghost use Rattle.irp_types.specs.Refusals.{is_owner, is_wrong_target, stands_at, has_packet, flight_check, leave_refusal, routine_refusal, cancel_refusal, send_refusal, complete_refusal, take_refusal};
 ghost use Rattle.irp_types.specs.Descent.{StaysUp};
 ghost use Rattle.irp_types.specs.Steps.{seen_of};
 ghost use Rattle.irp_types.specs.Standing.{IsSound};
 ghost use Rattle.irp_types.specs.declared.status.Status.{Status};
 ghost use Rattle.irp_types.specs.declared.reply.Reply.TheVariants.{Status as StatusIs};
 ghost use Rattle.irp_routines.specs.Answers.{AreAnswered};
-ghost use Rattle.irp_manager.specs.Calls.{packet_refusal_in, party_refusal_in, Goes, Fills, Copies, Leaves, Sets, Marks, Sends, Finishes, SetsCancel};
+ghost use Rattle.irp_manager.specs.Calls.{packet_refusal_in, party_refusal_in, Goes, Fills, Copies, Leaves, Sets, Marks, Sends, Finishes, Takes, SetsCancel};
 
 use crate::keep::Live;
 use irp_packet::Packet;
@@ -51,7 +51,8 @@ pub fn packet_refusal(live: &Live, irp: IrpRef) -> Option<Refusal>
 
 /// Why a call of this party on the packet is refused, if it is.
 pub fn party_refusal(live: &Live, party: Party, irp: IrpRef) -> Option<Refusal>
-    ensures { result ≡ party_refusal_in (Some live.now) party irp }
+    ensures refusal { result ≡ party_refusal_in (Some live.now) party irp }
+    ensures free { result ≡ None → live.now.packet.slot_held ≡ false }
 {
     if live.use_no != irp.use_no {
         return Some(Refusal::Stale);
@@ -62,6 +63,9 @@ pub fn party_refusal(live: &Live, party: Party, irp: IrpRef) -> Option<Refusal>
     }
     if !is_owner(party, owner) {
         return Some(Refusal::NotOwner);
+    }
+    if live.packet.slot_held() {
+        return Some(Refusal::SlotHeld);
     }
     None
 }
@@ -391,6 +395,58 @@ pub fn complete<A: Ask>(
     if let Some(refusal) = complete_check(&live.packet, status) {
         return Reply::Refused(refusal);
     }
+    live.packet.set_status(status, information);
+    let _ending = unwind(&mut live.packet, irp, ask, asked);
+    Reply::Done
+}
+
+/// Why a packet that was taken from its cancel slot is not completed, if it is not.
+fn take_check(packet: &Packet, use_no: u64, token: u64, status: Status) -> Option<Refusal>
+    ensures refusal { result ≡ take_refusal packet.now use_no token status }
+    ensures held { result ≡ None → packet.now.slot_held ≡ true }
+{
+    if token != use_no {
+        return Some(Refusal::Stale);
+    }
+    if matches!(packet.owner(), Owner::Ended) {
+        return Some(Refusal::Ended);
+    }
+    if !packet.slot_held() {
+        return Some(Refusal::NotSlotHeld);
+    }
+    if !status.is_completable() {
+        return Some(Refusal::BadStatus);
+    }
+    None
+}
+
+/// Completes the packet, which stands in a cancel slot, for who has the token that was taken from there. The room is for
+/// a question to each location.
+pub fn finish_taken<A: Ask>(
+    live: &mut Live,
+    irp: IrpRef,
+    ask: &A,
+    token: u64,
+    status: Status,
+    information: u64,
+    asked: &mut Vec<Asked>,
+) -> Reply
+    requires sound { IsSound (A.tables ask.now).counts live.old.packet }
+    requires empty { asked.old.items ≡ [] }
+    requires room { vec_len asked.old + most_locations ≤ vec_capacity asked.old }
+    ensures capacity { vec_capacity asked.new ≡ vec_capacity asked.old }
+    ensures goes { Goes (or_else (packet_refusal_in (Some live.old) irp) (take_refusal live.old.packet irp.use_no token status))
+        (Takes irp status information asked.new.items result live.old.packet) live.old live.new asked.new.items result }
+    ensures may { AreAnswered (A.may_plan ask.now) (A.may_answer ask.now) (A.may_cancel ask.now) asked.new.items }
+    ensures sound { IsSound (A.tables ask.now).counts live.new.packet }
+{
+    if let Some(refusal) = packet_refusal(live, irp) {
+        return Reply::Refused(refusal);
+    }
+    if let Some(refusal) = take_check(&live.packet, irp.use_no, token, status) {
+        return Reply::Refused(refusal);
+    }
+    live.packet.set_slot_held(false);
     live.packet.set_status(status, information);
     let _ending = unwind(&mut live.packet, irp, ask, asked);
     Reply::Done

@@ -41,6 +41,7 @@ pub struct Packet {
     cancel_routine: Option<CancelId>,
     owner: Owner,
     preparation: Preparation,
+    slot_held: bool,
 }
 
 impl Model for Packet {
@@ -60,6 +61,7 @@ impl Model for Packet {
       cancel_routine = packet.cancel_routine;
       owner = packet.owner;
       preparation = packet.preparation;
+      slot_held = packet.slot_held;
     } };
 
     // a prepared packet has a location below the owner's, which the next device is to use
@@ -99,6 +101,7 @@ impl Packet {
             cancel_routine: None,
             owner: Owner::Originator,
             preparation: Preparation::Nothing,
+            slot_held: false,
         })
     }
 
@@ -171,6 +174,13 @@ impl Packet {
         ensures prepared { is_nothing result ≡ false → 2 ≤ self.now.current }
     {
         self.preparation
+    }
+
+    /// Whether it stands in a cancel slot, and only who takes it from there completes it (this project's own rule).
+    pub fn slot_held(&self) -> bool
+        ensures { result ≡ self.now.slot_held }
+    {
+        self.slot_held
     }
 
     /// The content of location `number`, counted from 1 at the bottom: nothing where `number` is 0 or above `size`.
@@ -413,6 +423,13 @@ impl Packet {
         self.cancel_routine = routine;
     }
 
+    /// Writes whether the packet stands in a cancel slot (this project's own rule).
+    pub fn set_slot_held(&mut self, slot_held: bool)
+        ensures { self.new ≡ record self.old { slot_held = slot_held } }
+    {
+        self.slot_held = slot_held;
+    }
+
     /// Makes the packet as newly allocated, of the same size, with this status (WDK: "IoReuseIrp").
     pub fn reset(&mut self, status: Status)
         ensures { self.new ≡ after_reset self.old status }
@@ -426,5 +443,6 @@ impl Packet {
         self.cancel_routine = None;
         self.owner = Owner::Originator;
         self.preparation = Preparation::Nothing;
+        self.slot_held = false;
     }
 }

@@ -8,7 +8,7 @@ use Rattle.std.proofs.lemmas.List.{take_more, reverse-append, append_assoc, get_
 use Rattle.irp_types.specs.Status.{cancelled, invalid_device_request}
 use Rattle.irp_types.specs.Rules.{is_allowed}
 use Rattle.irp_types.specs.Allowed.{IsPlanAllowed, IsCancelAllowed}
-use Rattle.irp_types.specs.Packet.{PacketValue, with_status}
+use Rattle.irp_types.specs.Packet.{PacketValue, with_status, after_take}
 use Rattle.irp_types.specs.Unwinding.{Asking, place_of, as_asked, is_met_at, IsAskedRight, Unwound}
 use Rattle.irp_types.specs.Stacks.{DevicesValue, stack_of, stack_size_of, depth_of, AreStacks}
 use Rattle.irp_types.specs.State.{StateValue, Fixed, Tables, packet_of}
@@ -28,11 +28,11 @@ use Rattle.irp_types.specs.declared.answer.Answer.{Answer}
 use Rattle.irp_types.specs.declared.answer.CancelAnswer.{CancelAnswer}
 use Rattle.irp_types.specs.declared.answer.CancelAnswer.TheVariants.{Finish as CancelFinish, Leave}
 use Rattle.irp_types.specs.declared.answer.Plan.{Plan}
-use Rattle.irp_types.specs.declared.answer.Plan.TheVariants.{Finish, Hold, Skip, Forward, ForwardPend}
+use Rattle.irp_types.specs.declared.answer.Plan.TheVariants.{Finish, Hold, HoldSlot, Skip, Forward, ForwardPend}
 use Rattle.irp_types.specs.declared.asked.Asked.{Asked}
 use Rattle.irp_types.specs.declared.asked.Asked.TheVariants.{Dispatch, Completion, Cancel as CancelAsked}
 use Rattle.irp_types.specs.declared.call.Call.{Call}
-use Rattle.irp_types.specs.declared.call.Call.TheVariants.{CreateDevice, Attach, Detach, Delete, Allocate, Free, Reuse, SetNext, CopyToNext, Skip as SkipCall, SetRoutine, MarkPending, CallDriver, Complete, SetCancelRoutine, Cancel, Look}
+use Rattle.irp_types.specs.declared.call.Call.TheVariants.{CreateDevice, Attach, Detach, Delete, Allocate, Free, Reuse, SetNext, CopyToNext, Skip as SkipCall, SetRoutine, MarkPending, CallDriver, Complete, FinishTaken, SetCancelRoutine, Cancel, Look}
 use Rattle.irp_types.specs.declared.refusal.Refusal.{Refusal}
 use Rattle.irp_types.specs.declared.reply.Reply.{Reply}
 use Rattle.irp_types.specs.declared.reply.Reply.TheVariants.{Refused}
@@ -285,6 +285,7 @@ end_own : (tables : Tables) (irp : IrpRef) (last : Frame) (reached new : PacketV
 end_own tables irp last reached new asking None ends = (unwound_first irp (with_status reached invalid_device_request 0) new asking ends, unwound_right tables irp (with_status reached invalid_device_request 0) new asking ends)
 end_own tables irp last reached new asking (Some (Finish status information)) ends = (unwound_first irp (with_status reached status information) new asking ends, unwound_right tables irp (with_status reached status information) new asking ends)
 end_own tables irp last reached new asking (Some (Hold cancel)) ends = subst (λ (given : List Asking). AreOwn tables (map as_asked given)) (sym ends.0) (tt, tt)
+end_own tables irp last reached new asking (Some HoldSlot) ends = subst (λ (given : List Asking). AreOwn tables (map as_asked given)) (sym ends.0) (tt, tt)
 end_own tables irp last reached new asking (Some Skip) ends = absurd ends
 end_own tables irp last reached new asking (Some (Forward set)) ends = absurd ends
 end_own tables irp last reached new asking (Some (ForwardPend set)) ends = absurd ends
@@ -340,6 +341,7 @@ effect_own fixed old new (SetRoutine party irp setting) asked reply stacks done 
 effect_own fixed old new (MarkPending party irp) asked reply stacks done = none_own fixed.tables asked done.0
 effect_own fixed old new (CallDriver party irp target) asked reply stacks done = descended_own fixed irp old.devices (packet_of old irp) done.0 target.0 asked done.1 stacks done.2
 effect_own fixed old new (Complete party irp status information) asked reply stacks done = completed_own fixed.tables irp (with_status (packet_of old irp) status information) done.0 asked done.1
+effect_own fixed old new (FinishTaken irp token status information) asked reply stacks done = completed_own fixed.tables irp (with_status (after_take (packet_of old irp)) status information) done.0 asked done.1
 effect_own fixed old new (SetCancelRoutine party irp cancel) asked reply stacks done = none_own fixed.tables asked done.0
 effect_own fixed old new (Cancel irp) asked reply stacks done = cancelled_own fixed.tables irp (packet_of old irp) done.0 (packet_of old irp).cancel_routine asked reply done.1
 effect_own fixed old new (Look irp) asked reply stacks done = none_own fixed.tables asked done.0

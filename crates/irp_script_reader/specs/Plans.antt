@@ -5,7 +5,7 @@ use Rattle.irp_types.specs.Limits.{last_major}
 use Rattle.irp_types.specs.Rules.{is_known, is_watch}
 use Rattle.irp_types.specs.Status.{is_completable}
 use Rattle.irp_types.specs.declared.answer.Plan.{Plan}
-use Rattle.irp_types.specs.declared.answer.Plan.TheVariants.{Finish, Hold, Skip, Forward, ForwardPend}
+use Rattle.irp_types.specs.declared.answer.Plan.TheVariants.{Finish, Hold, HoldSlot, Skip, Forward, ForwardPend}
 use Rattle.irp_types.specs.declared.names.CancelId.{CancelId}
 use Rattle.irp_types.specs.declared.names.DispatchId.{DispatchId}
 use Rattle.irp_types.specs.declared.routine.Known.{Known}
@@ -15,6 +15,7 @@ use Rattle.irp_types.specs.declared.routine.Setting.{Setting}
 abbrev pub is_plan_sound : Plan → Bool
 is_plan_sound (Finish status information) = is_completable status
 is_plan_sound (Hold cancel) = true
+is_plan_sound HoldSlot = true
 is_plan_sound Skip = true
 is_plan_sound (Forward set) = option_map_or (λ (setting : Setting). is_watch setting.routine.rule) set true
 is_plan_sound (ForwardPend set) = true
@@ -23,6 +24,7 @@ is_plan_sound (ForwardPend set) = true
 abbrev pub names_known : Known → Plan → Bool
 names_known known (Finish status information) = true
 names_known known (Hold cancel) = option_map_or (λ (routine : CancelId). nat_lt routine.0 known.cancel) cancel true
+names_known known HoldSlot = true
 names_known known Skip = true
 names_known known (Forward set) = option_map_or (is_known known) set true
 names_known known (ForwardPend set) = option_map_or (is_known known) set true

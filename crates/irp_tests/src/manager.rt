@@ -1,6 +1,7 @@
 //! Worked examples of the manager and the book. `docs/EXAMPLES.md` has them by name.
 
 mod counting;
+mod held;
 mod place;
 
 use irp_manager::{Book, DrainNote, KnowsNothing, Manager, NotRecorded, Receipt, Seat};

@@ -123,6 +123,7 @@ setting_json setting =
 abbrev pub plan_json : Plan → Data
 plan_json (plan.Finish status information) = list (string (codes "finish") ∷ status_json status ∷ natural information ∷ [])
 plan_json (plan.Hold cancel) = list (string (codes "hold") ∷ or_null cancel_json cancel ∷ [])
+plan_json plan.HoldSlot = list (string (codes "hold_slot") ∷ [])
 plan_json plan.Skip = list (string (codes "skip") ∷ [])
 plan_json (plan.Forward setting) = list (string (codes "forward") ∷ or_null setting_json setting ∷ [])
 plan_json (plan.ForwardPend setting) = list (string (codes "forward_pend") ∷ or_null setting_json setting ∷ [])
@@ -201,6 +202,9 @@ call_json (call.CallDriver party irp target) _ _ =
 call_json (call.Complete party irp status information) _ _ =
     fields ((codes "by", party_json party) ∷ (codes "do", string (codes "complete")) ∷ (codes "information", natural information)
     ∷ (codes "irp", irp_json irp) ∷ (codes "status", status_json status) ∷ [])
+call_json (call.FinishTaken irp token status information) _ _ =
+    fields ((codes "do", string (codes "finish_taken")) ∷ (codes "information", natural information) ∷ (codes "irp", irp_json irp)
+    ∷ (codes "status", status_json status) ∷ (codes "token", natural token) ∷ [])
 call_json (call.SetCancelRoutine party irp cancel) _ _ =
     fields ((codes "by", party_json party) ∷ (codes "cancel", or_null cancel_json cancel)
     ∷ (codes "do", string (codes "set_cancel_routine")) ∷ (codes "irp", irp_json irp) ∷ [])

@@ -63,6 +63,7 @@ owner_whole owner.Ended = refl
 pub plan_whole : (plan : Plan) → IsWhole (plan_json plan)
 plan_whole (plan.Finish status information) = refl
 plan_whole (plan.Hold cancel) = or_whole _ _ (or_null_whole cancel_json (λ _. refl) cancel) refl
+plan_whole plan.HoldSlot = refl
 plan_whole plan.Skip = refl
 plan_whole (plan.Forward setting) = or_whole _ _ (or_null_whole setting_json (λ _. refl) setting) refl
 plan_whole (plan.ForwardPend setting) = or_whole _ _ (or_null_whole setting_json (λ _. refl) setting) refl
@@ -102,6 +103,7 @@ call_whole (call.SetRoutine party irp setting) _ _ = or_whole _ _ (party_whole p
 call_whole (call.MarkPending party irp) _ _ = or_whole _ _ (party_whole party) refl
 call_whole (call.CallDriver party irp target) _ _ = or_whole _ _ (party_whole party) refl
 call_whole (call.Complete party irp status information) _ _ = or_whole _ _ (party_whole party) refl
+call_whole (call.FinishTaken irp token status information) _ _ = refl
 call_whole (call.SetCancelRoutine party irp cancel) _ _ =
     or_whole _ _ (party_whole party) (or_whole _ _ (or_null_whole cancel_json (λ _. refl) cancel) refl)
 call_whole (call.Cancel irp) _ _ = refl

@@ -90,6 +90,21 @@ fn form_of_complete(
     json!(in alloc; {"by": party, "do": "complete", "information": information, "irp": irp, "status": status})
 }
 
+/// The form of a call that completes a packet which was taken from a cancel slot.
+fn form_of_finish_taken(
+    alloc: Global,
+    irp: IrpRef,
+    token: u64,
+    status: Status,
+    information: u64,
+) -> Result<Value, AllocError>
+    ensures { IfOk result (λ value. IsFormOf (Call.FinishTaken irp token status information) (view value)) }
+{
+    let irp = irp.to_json(alloc)?;
+    let status = status.0;
+    json!(in alloc; {"do": "finish_taken", "information": information, "irp": irp, "status": status, "token": token})
+}
+
 /// The form of a call of a party on its packet that names nothing else.
 fn form_of_party(alloc: Global, word: &str, party: Party, irp: IrpRef) -> Result<Value, AllocError>
     ensures { IfOk result (λ value. view value ≡ party_call_json word.now party irp) }
@@ -184,6 +199,12 @@ pub fn form_of_call(
         Call::Allocate { size } => json!(in alloc; {"do": "allocate", "size": size}),
         Call::Free { irp } => form_of_irp(alloc, "free", irp),
         Call::Reuse { irp, status } => form_of_reuse(alloc, irp, status),
+        Call::FinishTaken {
+            irp,
+            token,
+            status,
+            information,
+        } => form_of_finish_taken(alloc, irp, token, status, information),
         Call::Cancel { irp } => form_of_irp(alloc, "cancel", irp),
         Call::Look { irp } => form_of_irp(alloc, "look", irp),
         _ => form_of_party_call(alloc, call),

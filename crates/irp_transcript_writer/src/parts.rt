@@ -200,6 +200,7 @@ impl ToJson for Plan {
                 information,
             } => json!(in alloc; ["finish", (status.0), information]),
             Plan::Hold { cancel } => form_of_named(alloc, "hold", &cancel),
+            Plan::HoldSlot => json!(in alloc; ["hold_slot"]),
             Plan::Skip => json!(in alloc; ["skip"]),
             Plan::Forward { set } => form_of_named(alloc, "forward", &set),
             Plan::ForwardPend { set } => form_of_named(alloc, "forward_pend", &set),

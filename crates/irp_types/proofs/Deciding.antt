@@ -170,7 +170,7 @@ cancel_answer = variants a_cancel_answer.enum (or (last unsigned_Decides) (or em
 plan : Tells plan_eq.eq-value.it
 plan =
     variants a_plan.enum
-    (or (also status (last unsigned_Decides)) (or (last (option cancel)) (or empty (or (last (option setting)) (or (last (option setting)) end)))))
+    (or (also status (last unsigned_Decides)) (or (last (option cancel)) (or empty (or empty (or (last (option setting)) (or (last (option setting)) end))))))
 
 pub asked : Tells asked_eq.eq-value.it
 asked =
@@ -189,7 +189,7 @@ call =
     (or (last irp) (or (also irp (last status)) (or (also party (also irp (also unsigned_Decides (last unsigned_Decides))))
     (or (also party (last irp)) (or (also party (last irp)) (or (also party (also irp (last setting))) (or (also party (last irp))
     (or (also party (also irp (last device))) (or (also party (also irp (also status (last unsigned_Decides))))
-    (or (also party (also irp (last (option cancel)))) (or (last irp) (or (last irp) end)))))))))))))))))
+    (or (also irp (also unsigned_Decides (also status (last unsigned_Decides)))) (or (also party (also irp (last (option cancel)))) (or (last irp) (or (last irp) end))))))))))))))))))
 
 owner : Tells owner_eq.eq-value.it
 owner = variants an_owner.enum (or empty (or (last device) (or empty end)))

@@ -46,6 +46,7 @@ sound_with_more fewer more packet within sound = record {
   originator = sound.originator;
   routines = λ number setting is. known_with_more fewer more setting within (sound.routines number setting is);
   cancel = λ routine is. cancellable_with_more fewer more packet routine within (sound.cancel routine is);
+  slots = sound.slots;
   keepers = sound.keepers;
 }
 

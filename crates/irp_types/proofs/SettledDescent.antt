@@ -13,7 +13,7 @@ use Rattle.irp_types.specs.declared.status.Status.{Status}
 use Rattle.irp_types.specs.declared.names.IrpRef.{IrpRef}
 use Rattle.irp_types.specs.declared.location.Preparation.TheVariants.{Nothing}
 use Rattle.irp_types.specs.declared.answer.Plan.{Plan}
-use Rattle.irp_types.specs.declared.answer.Plan.TheVariants.{Finish, Hold, Skip, Forward, ForwardPend}
+use Rattle.irp_types.specs.declared.answer.Plan.TheVariants.{Finish, Hold, HoldSlot, Skip, Forward, ForwardPend}
 use Rattle.irp_types.specs.declared.asked.Asked.{Asked}
 use Rattle.irp_types.proofs.SettledUnwinding.{same_askings, same_unwound}
 use Rattle.irp_types.proofs.SettledFrames.{AreRun, AreAlike, same_frames}
@@ -49,6 +49,7 @@ same_end irp last reached None one two new other same first second =
 same_end irp last reached (Some (Finish status information)) one two new other same first second =
     same_unwound irp (with_status reached status information) new other one two same first second
 same_end irp last reached (Some (Hold cancel)) one two new other same first second = first.1 ∙ sym second.1
+same_end irp last reached (Some HoldSlot) one two new other same first second = first.1 ∙ sym second.1
 same_end irp last reached (Some Skip) one two new other same first second = absurd first
 same_end irp last reached (Some (Forward set)) one two new other same first second = absurd first
 same_end irp last reached (Some (ForwardPend set)) one two new other same first second = absurd first

@@ -1,7 +1,7 @@
 -- An entry settles its next state.
 use Rattle.std.proofs.Common.{◌≡◌, List, ◌∷◌, sym, subst, ◌∙◌, ap, Option, Some, None, MatchOption}
 use Rattle.irp_types.specs.Status.{cancelled}
-use Rattle.irp_types.specs.Packet.{PacketValue, new_packet, with_status}
+use Rattle.irp_types.specs.Packet.{PacketValue, new_packet, with_status, after_take}
 use Rattle.irp_types.specs.State.{StateValue, Fixed, Tables, packet_of, with_packet}
 use Rattle.irp_types.specs.Refusals.{first_refusal}
 use Rattle.irp_types.specs.Steps.{Unasked, Completes, shown_to_cancel, after_cancel, Follows, Cancels, with_new_packet, Effect}
@@ -14,7 +14,7 @@ use Rattle.irp_types.specs.declared.answer.CancelAnswer.TheVariants.{Finish, Lea
 use Rattle.irp_types.specs.declared.asked.Asked.{Asked}
 use Rattle.irp_types.specs.declared.asked.Asked.TheVariants.{Cancel as CancelAsked}
 use Rattle.irp_types.specs.declared.call.Call.{Call}
-use Rattle.irp_types.specs.declared.call.Call.TheVariants.{CreateDevice, Attach, Detach, Delete, Allocate, Free, Reuse, SetNext, CopyToNext, Skip, SetRoutine, MarkPending, CallDriver, Complete, SetCancelRoutine, Cancel, Look}
+use Rattle.irp_types.specs.declared.call.Call.TheVariants.{CreateDevice, Attach, Detach, Delete, Allocate, Free, Reuse, SetNext, CopyToNext, Skip, SetRoutine, MarkPending, CallDriver, Complete, FinishTaken, SetCancelRoutine, Cancel, Look}
 use Rattle.irp_types.specs.declared.reply.Reply.{Reply}
 use Rattle.irp_types.specs.declared.reply.Reply.TheVariants.{Irp, Refused}
 use Rattle.irp_types.proofs.SettledUnwinding.{same_askings, same_unwound}
@@ -66,6 +66,9 @@ same_effect fixed old (CallDriver party irp target) asked reply new other first 
     first.4 ∙ ap (with_packet old irp.slot) packet ∙ sym second.4
 same_effect fixed old (Complete party irp status information) asked reply new other first second =
     let packet = same_completion irp (with_status (packet_of old irp) status information) asked first.0 second.0 first.1 second.1 in
+    first.3 ∙ ap (with_packet old irp.slot) packet ∙ sym second.3
+same_effect fixed old (FinishTaken irp token status information) asked reply new other first second =
+    let packet = same_completion irp (with_status (after_take (packet_of old irp)) status information) asked first.0 second.0 first.1 second.1 in
     first.3 ∙ ap (with_packet old irp.slot) packet ∙ sym second.3
 same_effect fixed old (SetCancelRoutine party irp cancel) asked reply new other first second = first.2 ∙ sym second.2
 same_effect fixed old (Cancel irp) asked reply new other first second =

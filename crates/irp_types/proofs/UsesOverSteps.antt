@@ -3,18 +3,20 @@ use Rattle.std.proofs.Common.{◌≡◌, ℕ, ◌<◌, ◌≤◌, Bool, true, fa
 use Rattle.std.proofs.lemmas.Bool.{cases_eq, false≢true}
 use Rattle.std.proofs.lemmas.Option.{none-some, same_Some}
 use Rattle.std.specs.FinMap as fin
+use Rattle.irp_types.specs.Status.{is_completable}
 use Rattle.irp_types.specs.Checks.{Check, first_failing, or_else}
 use Rattle.irp_types.specs.Packet.{PacketValue, new_packet, after_reset}
 use Rattle.irp_types.specs.State.{StateValue, LivePacket, Fixed, live_at, packet_at, packet_of, with_packet}
-use Rattle.irp_types.specs.Refusals.{has_ended, is_owner, packet_refusal, party_refusal, ended_check, first_refusal}
+use Rattle.irp_types.specs.Refusals.{has_ended, is_owner, packet_refusal, party_refusal, slot_check, ended_check, take_refusal, first_refusal}
 use Rattle.irp_types.specs.Steps.{Unasked, with_new_packet, Effect, Step}
+use Rattle.irp_types.specs.declared.status.Status.{Status}
 use Rattle.irp_types.specs.declared.names.IrpRef.{IrpRef}
 use Rattle.irp_types.specs.declared.asked.Asked.{Asked}
 use Rattle.irp_types.specs.declared.refusal.Refusal.{Refusal}
-use Rattle.irp_types.specs.declared.refusal.Refusal.TheVariants.{NoIrp, Stale, NotOwner, Ended as HasEnded}
+use Rattle.irp_types.specs.declared.refusal.Refusal.TheVariants.{NoIrp, Stale, NotOwner, Ended as HasEnded, BadStatus, NotSlotHeld}
 use Rattle.irp_types.specs.declared.call.Party.{Party}
 use Rattle.irp_types.specs.declared.call.Call.{Call}
-use Rattle.irp_types.specs.declared.call.Call.TheVariants.{CreateDevice, Attach, Detach, Delete, Allocate, Free, Reuse, SetNext, CopyToNext, Skip, SetRoutine, MarkPending, CallDriver, Complete, SetCancelRoutine, Cancel, Look}
+use Rattle.irp_types.specs.declared.call.Call.TheVariants.{CreateDevice, Attach, Detach, Delete, Allocate, Free, Reuse, SetNext, CopyToNext, Skip, SetRoutine, MarkPending, CallDriver, Complete, FinishTaken, SetCancelRoutine, Cancel, Look}
 use Rattle.irp_types.specs.declared.reply.Reply.{Reply}
 use Rattle.irp_types.specs.declared.reply.Reply.TheVariants.{Refused}
 use Rattle.irp_types.proofs.LiveMaps.{get_inserted, get_kept, get_removed, get_left}
@@ -142,7 +144,7 @@ module _ (state : StateValue) (irp : IrpRef) where
   open_by_party : (party : Party) (others : Option Refusal) → or_else (party_refusal state party irp) others ≡ None → IsOpenAt state irp
   open_by_party party others none =
       let owner = (packet_of state irp).owner in
-      let later : List Check = (not (is_owner party owner), NotOwner) ∷ [] in
+      let later : List Check = (not (is_owner party owner), NotOwner) ∷ slot_check (packet_of state irp) ∷ [] in
       let all = (both_passed (party_refusal state party irp) others none).0 in
       let there = passed (not (is_some (live_at state irp.slot))) NoIrp ((not ((packet_at state irp.slot).use_no == irp.use_no), Stale) ∷ (has_ended owner, HasEnded) ∷ later) all in
       let fresh = passed (not ((packet_at state irp.slot).use_no == irp.use_no)) Stale ((has_ended owner, HasEnded) ∷ later) there.1 in
@@ -153,6 +155,15 @@ module _ (state : StateValue) (irp : IrpRef) where
       let groups = both_passed (packet_refusal state irp) (first_failing (ended_check (packet_of state irp) ∷ [])) none in
       let there = passed (not (is_some (live_at state irp.slot))) NoIrp ((not ((packet_at state irp.slot).use_no == irp.use_no), Stale) ∷ []) groups.0 in
       (is_so (is_some (live_at state irp.slot)) there.0, (passed (has_ended (packet_of state irp).owner) HasEnded [] groups.1).0)
+
+  open_by_token : (token : ℕ) (status : Status) → or_else (packet_refusal state irp) (take_refusal (packet_of state irp) irp.use_no token status) ≡ None → IsOpenAt state irp
+  open_by_token token status none =
+      let packet = packet_of state irp in
+      let held : List Check = (not packet.slot_held, NotSlotHeld) ∷ (not (is_completable status), BadStatus) ∷ [] in
+      let groups = both_passed (packet_refusal state irp) (take_refusal packet irp.use_no token status) none in
+      let there = passed (not (is_some (live_at state irp.slot))) NoIrp ((not ((packet_at state irp.slot).use_no == irp.use_no), Stale) ∷ []) groups.0 in
+      let fresh = passed (not (token == irp.use_no)) Stale (ended_check packet ∷ held) groups.1 in
+      (is_so (is_some (live_at state irp.slot)) there.0, (passed (has_ended packet.owner) HasEnded held fresh.1).0)
 
 over_effect : (fixed : Fixed) (drained : Bool) (old : StateValue) (call : Call) (asked : List Asked) (reply : Reply) (new : StateValue)
     → first_refusal fixed old drained call ≡ None → Effect fixed old call asked reply new → UsesGoOn old new
@@ -177,6 +188,8 @@ over_effect fixed drained old (CallDriver party irp target) asked reply new none
     repacked_from old new irp.slot effect.0 (open_by_party old irp party _ none) effect.4
 over_effect fixed drained old (Complete party irp status information) asked reply new none effect =
     repacked_from old new irp.slot effect.0 (open_by_party old irp party _ none) effect.3
+over_effect fixed drained old (FinishTaken irp token status information) asked reply new none effect =
+    repacked_from old new irp.slot effect.0 (open_by_token old irp token status none) effect.3
 over_effect fixed drained old (SetCancelRoutine party irp cancel) asked reply new none effect =
     repacked_from old new irp.slot _ (open_by_party old irp party _ none) effect.2
 over_effect fixed drained old (Cancel irp) asked reply new none effect = repacked_from old new irp.slot effect.0 (open_by_check old irp none) effect.2

@@ -18,7 +18,7 @@ use Rattle.irp_types.specs.declared.routine.Setting.{Setting}
 use Rattle.irp_types.specs.declared.routine.Known.{Known}
 use Rattle.irp_types.specs.declared.shown.Shown.{Shown}
 use Rattle.irp_types.specs.declared.answer.Plan.{Plan}
-use Rattle.irp_types.specs.declared.answer.Plan.TheVariants.{Finish, Hold, Skip, Forward, ForwardPend}
+use Rattle.irp_types.specs.declared.answer.Plan.TheVariants.{Finish, Hold, HoldSlot, Skip, Forward, ForwardPend}
 use Rattle.irp_types.specs.declared.asked.Asked.{Asked}
 use Rattle.irp_types.specs.declared.asked.Asked.TheVariants.{Dispatch}
 
@@ -33,6 +33,7 @@ pub record Frame : Type 0 where
 abbrev pub is_copying : Plan → Bool
 is_copying (Finish status information) = false
 is_copying (Hold cancel) = false
+is_copying HoldSlot = false
 is_copying Skip = false
 is_copying (Forward set) = true
 is_copying (ForwardPend set) = true
@@ -41,6 +42,7 @@ is_copying (ForwardPend set) = true
 abbrev pub is_passing : Plan → Bool
 is_passing (Finish status information) = false
 is_passing (Hold cancel) = false
+is_passing HoldSlot = false
 is_passing Skip = true
 is_passing (Forward set) = true
 is_passing (ForwardPend set) = true
@@ -49,6 +51,7 @@ is_passing (ForwardPend set) = true
 abbrev pub marks_location : Plan → Bool
 marks_location (Finish status information) = false
 marks_location (Hold cancel) = true
+marks_location HoldSlot = true
 marks_location Skip = false
 marks_location (Forward set) = false
 marks_location (ForwardPend set) = true
@@ -57,6 +60,7 @@ marks_location (ForwardPend set) = true
 abbrev pub set_by : Plan → Option Setting
 set_by (Finish status information) = None
 set_by (Hold cancel) = None
+set_by HoldSlot = None
 set_by Skip = None
 set_by (Forward set) = set
 set_by (ForwardPend set) = set
@@ -173,12 +177,15 @@ pub record PassedDown (packet : PacketValue) (frames : List Frame) (reached : Pa
   pub above : (number : ℕ) → first_location packet < number → location_at reached number ≡ location_at packet number
   pub others : reached ≡ record packet { locations = reached.locations; current = (last_frame frames).location; preparation = Nothing }
 
--- how a descent ends: the last device holds the packet, or it is finished and unwound
+-- how a descent ends: the last device holds the packet, with a cancel routine or for a cancel slot, or it is finished
+-- and unwound
 abbrev pub Ends : IrpRef → Frame → PacketValue → List Asking → PacketValue → Option Plan → Type 0
 Ends irp last reached asked new None = Unwound irp (with_status reached invalid_device_request 0) asked new
 Ends irp last reached asked new (Some (Finish status information)) = Unwound irp (with_status reached status information) asked new
 Ends irp last reached asked new (Some (Hold cancel)) =
     (asked ≡ []) × (new ≡ record reached { owner = Device (record { 0 = last.device }); cancel_routine = cancel })
+Ends irp last reached asked new (Some HoldSlot) =
+    (asked ≡ []) × (new ≡ record reached { owner = Device (record { 0 = last.device }); cancel_routine = None; slot_held = true })
 Ends irp last reached asked new (Some Skip) = ⊥
 Ends irp last reached asked new (Some (Forward set)) = ⊥
 Ends irp last reached asked new (Some (ForwardPend set)) = ⊥
@@ -188,6 +195,7 @@ abbrev pub final_status : Option Plan → Status
 final_status None = invalid_device_request
 final_status (Some (Finish status information)) = status
 final_status (Some (Hold cancel)) = pending
+final_status (Some HoldSlot) = pending
 final_status (Some Skip) = pending
 final_status (Some (Forward set)) = pending
 final_status (Some (ForwardPend set)) = pending

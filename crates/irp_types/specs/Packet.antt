@@ -26,6 +26,8 @@ pub record PacketValue : Type 0 where
   pub cancel_routine : Option CancelId
   pub owner : Owner
   pub preparation : Preparation
+  -- whether it stands in a cancel slot, and only who takes it from there completes it
+  pub slot_held : Bool
 
 -- how many locations a packet has
 abbrev pub size_of : PacketValue → ℕ
@@ -68,6 +70,7 @@ new_packet size = record {
   cancel_routine = None;
   owner = Originator;
   preparation = Nothing;
+  slot_held = false;
 }
 
 -- nothing was prepared for the next send
@@ -167,6 +170,10 @@ after_enter packet device =
 -- the next higher location becomes the current one
 abbrev pub after_rise : PacketValue → PacketValue
 after_rise packet = record packet { current = packet.current + 1; preparation = Nothing }
+
+-- the packet taken from its cancel slot
+abbrev pub after_take : PacketValue → PacketValue
+after_take packet = record packet { slot_held = false }
 
 -- the packet as newly allocated, with this status
 abbrev pub after_reset : PacketValue → Status → PacketValue

@@ -22,9 +22,9 @@ use Rattle.irp_types.specs.declared.routine.Setting.{Setting}
 use Rattle.irp_types.specs.declared.call.Party.{Party}
 use Rattle.irp_types.specs.declared.call.Party.TheVariants.{Originator as ByOriginator, Device as ByDevice}
 use Rattle.irp_types.specs.declared.call.Call.{Call}
-use Rattle.irp_types.specs.declared.call.Call.TheVariants.{CreateDevice, Attach, Detach, Delete, Allocate, Free, Reuse, SetNext, CopyToNext, Skip, SetRoutine, MarkPending, CallDriver, Complete, SetCancelRoutine, Cancel, Look}
+use Rattle.irp_types.specs.declared.call.Call.TheVariants.{CreateDevice, Attach, Detach, Delete, Allocate, Free, Reuse, SetNext, CopyToNext, Skip, SetRoutine, MarkPending, CallDriver, Complete, FinishTaken, SetCancelRoutine, Cancel, Look}
 use Rattle.irp_types.specs.declared.refusal.Refusal.{Refusal}
-use Rattle.irp_types.specs.declared.refusal.Refusal.TheVariants.{NoIrp, Stale, NotOwner, TooShort, WrongTarget, NoRoutine, BadStatus, CancelRoutineSet, AlreadyCancelled, InFlight, Full, NotDrained, BadSize, NoDriver, Ended as HasEnded, NoLock}
+use Rattle.irp_types.specs.declared.refusal.Refusal.TheVariants.{NoIrp, Stale, NotOwner, TooShort, WrongTarget, NoRoutine, BadStatus, CancelRoutineSet, AlreadyCancelled, InFlight, Full, NotDrained, BadSize, NoDriver, Ended as HasEnded, NoLock, SlotHeld, NotSlotHeld}
 
 -- the use was completed
 abbrev pub has_ended : Owner → Bool
@@ -57,11 +57,15 @@ packet_checks state irp =
 abbrev pub packet_refusal : StateValue → IrpRef → Option Refusal
 packet_refusal state irp = first_failing (packet_checks state irp)
 
+-- the packet stands in a cancel slot
+abbrev pub slot_check : PacketValue → Check
+slot_check packet = (packet.slot_held, SlotHeld)
+
 -- the checks of a call that names a packet and a party
 abbrev pub party_refusal : StateValue → Party → IrpRef → Option Refusal
 party_refusal state party irp =
     let owner = (packet_of state irp).owner in
-    first_failing (packet_checks state irp ++ (has_ended owner, HasEnded) ∷ (not (is_owner party owner), NotOwner) ∷ [])
+    first_failing (packet_checks state irp ++ (has_ended owner, HasEnded) ∷ (not (is_owner party owner), NotOwner) ∷ slot_check (packet_of state irp) ∷ [])
 
 -- why the owner can't skip, or none
 abbrev pub leave_refusal : PacketValue → Option Refusal
@@ -93,6 +97,18 @@ complete_refusal packet status = first_failing (
     ∷ (not (is_completable status), BadStatus)
     ∷ (is_some packet.cancel_routine, CancelRoutineSet) ∷ [])
 
+-- the use was completed
+abbrev pub ended_check : PacketValue → Check
+ended_check packet = (has_ended packet.owner, HasEnded)
+
+-- why who took a packet with this token, of this use, can't complete it with a status, or none
+abbrev pub take_refusal : PacketValue → ℕ → ℕ → Status → Option Refusal
+take_refusal packet use_no token status = first_failing (
+    (not (token == use_no), Stale)
+    ∷ ended_check packet
+    ∷ (not packet.slot_held, NotSlotHeld)
+    ∷ (not (is_completable status), BadStatus) ∷ [])
+
 -- why the owner can't set a cancel routine, or take it out, where so many are there, or none
 abbrev pub cancel_refusal : Known → PacketValue → Option CancelId → Option Refusal
 cancel_refusal counts packet cancel = first_failing (
@@ -103,10 +119,6 @@ cancel_refusal counts packet cancel = first_failing (
 -- a device owns the packet
 abbrev pub flight_check : PacketValue → Check
 flight_check packet = (is_owned_by_device packet.owner, InFlight)
-
--- the use was completed
-abbrev pub ended_check : PacketValue → Check
-ended_check packet = (has_ended packet.owner, HasEnded)
 
 -- a device stands in a location of a packet
 abbrev pub stands_at : PacketValue → ℕ → ℕ → Bool
@@ -156,6 +168,8 @@ first_refusal fixed state drained (CallDriver party irp target) =
     or_else (party_refusal state party irp) (send_refusal state.devices party (packet_of state irp) target.0)
 first_refusal fixed state drained (Complete party irp status information) =
     or_else (party_refusal state party irp) (complete_refusal (packet_of state irp) status)
+first_refusal fixed state drained (FinishTaken irp token status information) =
+    or_else (packet_refusal state irp) (take_refusal (packet_of state irp) irp.use_no token status)
 first_refusal fixed state drained (SetCancelRoutine party irp cancel) =
     or_else (party_refusal state party irp) (cancel_refusal fixed.tables.counts (packet_of state irp) cancel)
 first_refusal fixed state drained (Cancel irp) = or_else (packet_refusal state irp) (first_failing (ended_check (packet_of state irp) ∷ []))

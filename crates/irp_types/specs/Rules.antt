@@ -16,7 +16,7 @@ use Rattle.irp_types.specs.declared.answer.Replacement.{Replacement}
 use Rattle.irp_types.specs.declared.answer.CancelAnswer.{CancelAnswer}
 use Rattle.irp_types.specs.declared.answer.CancelAnswer.TheVariants.{Finish as CancelFinish, Leave}
 use Rattle.irp_types.specs.declared.answer.Plan.{Plan}
-use Rattle.irp_types.specs.declared.answer.Plan.TheVariants.{Finish, Hold, Skip, Forward, ForwardPend}
+use Rattle.irp_types.specs.declared.answer.Plan.TheVariants.{Finish, Hold, HoldSlot, Skip, Forward, ForwardPend}
 
 -- whether a rule lets a completion routine keep or continue, and replace, as this answer does
 abbrev pub obeys : Rule → Shown → Answer → Bool
@@ -68,6 +68,7 @@ is_watch Free = false
 abbrev pub is_plan_allowed : Known → Shown → Plan → Bool
 is_plan_allowed known shown (Finish status information) = is_completable status
 is_plan_allowed known shown (Hold cancel) = option_map_or (λ (routine : CancelId). not shown.cancel && nat_lt routine.0 known.cancel) cancel true
+is_plan_allowed known shown HoldSlot = true
 is_plan_allowed known shown Skip = shown.has_lower
 is_plan_allowed known shown (Forward set) =
     shown.has_lower && option_map_or (λ (setting : Setting). is_watch setting.routine.rule && is_known known setting) set true

@@ -1,5 +1,5 @@
 -- The standing facts: what holds of each state that a legal history leads through.
-use Rattle.std.specs.Prelude.{ℕ, ◌≡◌, ◌+◌, ◌-◌, ◌<◌, ◌≤◌, Bool, true, false, if◌then◌else◌, is_some, Some}
+use Rattle.std.specs.Prelude.{ℕ, ◌≡◌, ◌+◌, ◌-◌, ◌<◌, ◌≤◌, Bool, true, false, if◌then◌else◌, is_some, Some, None}
 use Rattle.irp_types.specs.Limits.{most_locations}
 use Rattle.irp_types.specs.Rules.{is_known}
 use Rattle.irp_types.specs.Packet.{PacketValue, size_of, location_at, is_nothing, is_skipped}
@@ -35,6 +35,12 @@ pub record IsCancellable (counts : Known) (packet : PacketValue) (routine : Canc
   pub held : is_owned_by_device packet.owner ≡ true
   pub unskipped : is_skipped packet.preparation ≡ false
 
+-- a packet in a cancel slot is held by a device, has no cancel routine, and nothing was prepared
+pub record IsInSlot (packet : PacketValue) : Type 0 where
+  pub held : is_owned_by_device packet.owner ≡ true
+  pub no_routine : packet.cancel_routine ≡ None
+  pub unprepared : is_nothing packet.preparation ≡ true
+
 -- the standing facts of one packet
 pub record IsSound (counts : Known) (packet : PacketValue) : Type 0 where
   -- it has 1 to 16 locations, stands in one of them or above the top, and has a lower one where something is prepared
@@ -51,6 +57,7 @@ pub record IsSound (counts : Known) (packet : PacketValue) : Type 0 where
   -- each routine that the packet names is there
   pub routines : (number : ℕ) (setting : Setting) → (location_at packet number).setting ≡ Some setting → is_known counts setting ≡ true
   pub cancel : (routine : CancelId) → packet.cancel_routine ≡ Some routine → IsCancellable counts packet routine
+  pub slots : packet.slot_held ≡ true → IsInSlot packet
   -- above a routine that may keep the packet, the location is marked
   pub keepers :
       (number : ℕ) (setting : Setting)

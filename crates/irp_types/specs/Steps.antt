@@ -3,7 +3,7 @@ use Rattle.std.specs.Prelude.{ℕ, ◌≡◌, ◌+◌, Bool, true, false, if◌t
 use Rattle.std.specs.FinMap as fin
 use Rattle.irp_types.specs.Status.{cancelled}
 use Rattle.irp_types.specs.Allowed.{IsCancelAllowed}
-use Rattle.irp_types.specs.Packet.{PacketValue, location_at, new_packet, with_status, after_set_next, after_copy, after_skip, after_set_routine, after_mark, after_reset, is_above_top}
+use Rattle.irp_types.specs.Packet.{PacketValue, location_at, new_packet, with_status, after_set_next, after_copy, after_skip, after_set_routine, after_mark, after_take, after_reset, is_above_top}
 use Rattle.irp_types.specs.Unwinding.{Asking, as_asked, Unwound}
 use Rattle.irp_types.specs.Stacks.{top_of, cut_off_by, after_create, after_attach, after_detach, after_delete}
 use Rattle.irp_types.specs.State.{StateValue, Fixed, Tables, live_at, packet_of, with_packet}
@@ -21,7 +21,7 @@ use Rattle.irp_types.specs.declared.answer.CancelAnswer.TheVariants.{Finish, Lea
 use Rattle.irp_types.specs.declared.asked.Asked.{Asked}
 use Rattle.irp_types.specs.declared.asked.Asked.TheVariants.{Cancel as CancelAsked}
 use Rattle.irp_types.specs.declared.call.Call.{Call}
-use Rattle.irp_types.specs.declared.call.Call.TheVariants.{CreateDevice, Attach, Detach, Delete, Allocate, Free, Reuse, SetNext, CopyToNext, Skip, SetRoutine, MarkPending, CallDriver, Complete, SetCancelRoutine, Cancel, Look}
+use Rattle.irp_types.specs.declared.call.Call.TheVariants.{CreateDevice, Attach, Detach, Delete, Allocate, Free, Reuse, SetNext, CopyToNext, Skip, SetRoutine, MarkPending, CallDriver, Complete, FinishTaken, SetCancelRoutine, Cancel, Look}
 use Rattle.irp_types.specs.declared.reply.Seen.{Seen}
 use Rattle.irp_types.specs.declared.reply.Reply.{Reply}
 use Rattle.irp_types.specs.declared.reply.Reply.TheVariants.{Done, Device, Irp, Status as StatusIs, Previous, Cancelled, Seen as SeenAs, Refused}
@@ -128,6 +128,10 @@ Effect fixed old (CallDriver party irp target) asked reply new =
 Effect fixed old (Complete party irp status information) asked reply new =
     (packet : PacketValue)
     × Completes irp (with_status (packet_of old irp) status information) asked packet
+    × (reply ≡ Done) × (new ≡ with_packet old irp.slot packet)
+Effect fixed old (FinishTaken irp token status information) asked reply new =
+    (packet : PacketValue)
+    × Completes irp (with_status (after_take (packet_of old irp)) status information) asked packet
     × (reply ≡ Done) × (new ≡ with_packet old irp.slot packet)
 Effect fixed old (SetCancelRoutine party irp cancel) asked reply new =
     Unasked asked reply new (Previous (packet_of old irp).cancel_routine) (with_packet old irp.slot (record (packet_of old irp) { cancel_routine = cancel }))

@@ -37,6 +37,9 @@ pub enum Plan {
     Finish { status: Status, information: u64 },
     /// Marks it pending and keeps it, with this cancel routine.
     Hold { cancel: Option<CancelId> },
+    /// Marks it pending and keeps it for a cancel slot: from then on only who takes it from the slot completes it (this
+    /// project's own plan).
+    HoldSlot,
     /// Passes it down in the dispatch's own location.
     Skip,
     /// Passes it down in the next lower location, with this completion routine.

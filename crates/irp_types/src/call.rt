@@ -89,6 +89,14 @@ pub enum Call {
         status: Status,
         information: u64,
     },
+    /// Completes a packet that stands in a cancel slot, with the number of the token that was taken from the slot (this
+    /// project's own call; WDK: "Canceling IRPs in Drivers That Queue IRPs").
+    FinishTaken {
+        irp: IrpRef,
+        token: u64,
+        status: Status,
+        information: u64,
+    },
     /// Puts a cancel routine into the packet, or none, in place of what was there (WDK: "IoSetCancelRoutine").
     SetCancelRoutine {
         party: Party,

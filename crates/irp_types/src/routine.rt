@@ -160,7 +160,7 @@ impl Known {
     }
 
     /// Whether a dispatch that may name these routines may plan so when it is shown this (this project's own rule): it
-    /// finishes with a status that can complete a packet; passes down only where a device stands below; names a cancel
+    /// finishes with a status that can complete a packet; holds a packet for a cancel slot always; passes down only where a device stands below; names a cancel
     /// routine only for a packet that isn't cancelled; sets only a routine of rule Watch where it doesn't mark its
     /// location; and names only routines within these counts.
     pub fn allows(self, shown: Shown, plan: Plan) -> bool
@@ -170,6 +170,7 @@ impl Known {
             Plan::Finish { status, .. } => status.is_completable(),
             Plan::Hold { cancel: None } => true,
             Plan::Hold { cancel: Some(id) } => !shown.cancel && id.0 < self.cancel,
+            Plan::HoldSlot => true,
             Plan::Skip => shown.has_lower,
             Plan::Forward { set: None } | Plan::ForwardPend { set: None } => shown.has_lower,
             Plan::Forward { set: Some(set) } => {

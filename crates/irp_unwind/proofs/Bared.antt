@@ -111,6 +111,7 @@ module _ (packet : PacketValue) (some : 1 ≤ packet.current) (h : packet.curren
         cancel_routine = packet.cancel_routine;
         owner = cond (is_some (keeper_of later)) (owner_from (d i)) Ended;
         preparation = Nothing;
+        slot_held = packet.slot_held;
       }
 
   pub unwound_bared : (irp : IrpRef) (later : List Asking) (new : PacketValue) → Unwound irp (bared packet) later new → Unwound irp packet later new

@@ -21,7 +21,7 @@ use Rattle.irp_types.specs.declared.shown.Shown.{Shown}
 use Rattle.irp_types.specs.declared.answer.Answer.{Answer}
 use Rattle.irp_types.specs.declared.answer.CancelAnswer.{CancelAnswer}
 use Rattle.irp_types.specs.declared.answer.Plan.{Plan}
-use Rattle.irp_types.specs.declared.answer.Plan.TheVariants.{Finish, Hold, Skip, Forward, ForwardPend}
+use Rattle.irp_types.specs.declared.answer.Plan.TheVariants.{Finish, Hold, HoldSlot, Skip, Forward, ForwardPend}
 use Rattle.irp_types.specs.declared.asked.Asked.{Asked}
 use Rattle.irp_routines.specs.Answers.{IsAnswered}
 use Rattle.irp_unwind.specs.declared.ending.Sent.{Sent}
@@ -72,6 +72,7 @@ stood_of : (packet : PacketValue) (device : DeviceId) (location : ℕ) (plan : O
 stood_of packet device location None low high stops = stood_entered packet device _ low high refl refl
 stood_of packet device location (Some (Finish status information)) low high stops = stood_entered packet device _ low high refl refl
 stood_of packet device location (Some (Hold cancel)) low high stops = stood_noted packet device _ low high refl refl
+stood_of packet device location (Some HoldSlot) low high stops = stood_noted packet device _ low high refl refl
 stood_of packet device location (Some Skip) low high stops = absurd (cc)
 stood_of packet device location (Some (Forward set)) low high stops = absurd (cc)
 stood_of packet device location (Some (ForwardPend set)) low high stops = absurd (cc)
@@ -83,6 +84,7 @@ sent_of : (packet : PacketValue) (device : DeviceId) (plan : Option Plan) → 3 
 sent_of packet device None low high passes = absurd (cc)
 sent_of packet device (Some (Finish status information)) low high passes = absurd (cc)
 sent_of packet device (Some (Hold cancel)) low high passes = absurd (cc)
+sent_of packet device (Some HoldSlot) low high passes = absurd (cc)
 sent_of packet device (Some Skip) low high passes =
     let frame : Frame = record { device = device.0; location = first_location packet; plan = Some Skip } in
     let two : 2 ≤ packet.current = omega arith in
@@ -100,6 +102,7 @@ no_copy : (plan : Option Plan) → option_map_or is_passing plan false ≡ false
 no_copy None stops = refl
 no_copy (Some (Finish status information)) stops = refl
 no_copy (Some (Hold cancel)) stops = refl
+no_copy (Some HoldSlot) stops = refl
 no_copy (Some Skip) stops = refl
 no_copy (Some (Forward set)) stops = stops
 no_copy (Some (ForwardPend set)) stops = stops
@@ -108,6 +111,7 @@ reply_one : (device location : ℕ) (plan : Option Plan) → final_status plan �
 reply_one device location None = refl
 reply_one device location (Some (Finish status information)) = refl
 reply_one device location (Some (Hold cancel)) = refl
+reply_one device location (Some HoldSlot) = refl
 reply_one device location (Some Skip) = refl
 reply_one device location (Some (Forward set)) = refl
 reply_one device location (Some (ForwardPend set)) = refl

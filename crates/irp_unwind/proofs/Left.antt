@@ -73,6 +73,7 @@ turned_left packet answer some h mark =
       information = refl;
       cancel = refl;
       cancel_routine = refl;
+      slot_held = refl;
       device = λ number a. same_field (λ items. items.device) (λ l b. refl) packet answer.mark some h number a;
       major = λ number a. same_field (λ items. items.major) (λ l b. refl) packet answer.mark some h number a;
       word = λ number a. same_field (λ items. items.word) (λ l b. refl) packet answer.mark some h number a;

@@ -17,7 +17,7 @@ use Rattle.irp_types.specs.declared.routine.Known.{Known}
 use Rattle.irp_types.specs.declared.routine.Setting.{Setting}
 use Rattle.irp_types.specs.declared.shown.Shown.{Shown}
 use Rattle.irp_types.specs.declared.answer.Plan.{Plan}
-use Rattle.irp_types.specs.declared.answer.Plan.TheVariants.{Finish, Hold, Skip, Forward, ForwardPend}
+use Rattle.irp_types.specs.declared.answer.Plan.TheVariants.{Finish, Hold, HoldSlot, Skip, Forward, ForwardPend}
 use Rattle.irp_unwind.specs.Conditions.{HasRoutines}
 use Rattle.irp_unwind.proofs.Frames.{set_at}
 use Rattle.irp_unwind.proofs.SentOn.{SentOn}
@@ -36,6 +36,7 @@ IsSet known plan setting = (is_known known setting ≡ true) × (marks_location 
 known_set : (known : Known) (shown : Shown) (plan : Plan) → is_plan_allowed known shown plan ≡ true → IfSome (set_by plan) (IsSet known plan)
 known_set known shown (Finish status information) allowed = tt
 known_set known shown (Hold cancel) allowed = tt
+known_set known shown HoldSlot allowed = tt
 known_set known shown Skip allowed = tt
 known_set known shown (Forward None) allowed = tt
 known_set known shown (Forward (Some setting)) allowed =

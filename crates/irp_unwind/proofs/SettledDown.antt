@@ -18,7 +18,7 @@ use Rattle.irp_types.specs.declared.routine.RoutineId.{RoutineId}
 use Rattle.irp_types.specs.declared.shown.Shown.{Shown}
 use Rattle.irp_types.specs.declared.answer.Answer.{Answer}
 use Rattle.irp_types.specs.declared.answer.Plan.{Plan}
-use Rattle.irp_types.specs.declared.answer.Plan.TheVariants.{Finish, Hold, Skip, Forward, ForwardPend}
+use Rattle.irp_types.specs.declared.answer.Plan.TheVariants.{Finish, Hold, HoldSlot, Skip, Forward, ForwardPend}
 use Rattle.irp_types.specs.declared.asked.Asked.{Asked}
 use Rattle.irp_types.specs.declared.names.CancelId.{CancelId}
 use Rattle.irp_types.specs.declared.answer.CancelAnswer.{CancelAnswer}
@@ -167,6 +167,7 @@ module _ (planned_by : DispatchId → Shown → Plan) (reply : RoutineId → Sho
   same_end frame None mid n m A B some h u w ma mb = same_unwinding (with_status mid invalid_device_request 0) n m A B some h u w ma mb
   same_end frame (Some (Finish status information)) mid n m A B some h u w ma mb = same_unwinding (with_status mid status information) n m A B some h u w ma mb
   same_end frame (Some (Hold cancel)) mid n m A B some h u w ma mb = (u.0 ∙ sym w.0, u.1 ∙ sym w.1)
+  same_end frame (Some HoldSlot) mid n m A B some h u w ma mb = (u.0 ∙ sym w.0, u.1 ∙ sym w.1)
   same_end frame (Some Skip) mid n m A B some h u w ma mb = absurd u
   same_end frame (Some (Forward set)) mid n m A B some h u w ma mb = absurd u
   same_end frame (Some (ForwardPend set)) mid n m A B some h u w ma mb = absurd u

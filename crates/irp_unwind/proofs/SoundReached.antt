@@ -1,5 +1,5 @@
 -- A descent leaves a packet with the standing facts, if it had them.
-use Rattle.std.proofs.Common.{◌≡◌, ℕ, ◌+◌, ◌<◌, ◌≤◌, zero, suc, true, false, ◌||◌, ◌&&◌, ◌==◌, is_some, List, [], ◌∷◌, refl, sym, ◌∙◌, ap, subst, arith, Option, Some, None, inl, inr}
+use Rattle.std.proofs.Common.{◌≡◌, ℕ, ◌+◌, ◌<◌, ◌≤◌, zero, suc, Bool, true, false, ◌||◌, ◌&&◌, ◌==◌, is_some, List, [], ◌∷◌, refl, sym, ◌∙◌, ap, subst, arith, Option, Some, None, inl, inr}
 use Rattle.std.specs.List.{list_any, AllByRecursion}
 use Rattle.std.specs.Option.{option_map_or}
 use Rattle.std.proofs.Math.Bool.{or-true}
@@ -16,12 +16,13 @@ use Rattle.irp_types.specs.declared.names.IrpRef.{IrpRef}
 use Rattle.irp_types.specs.declared.names.CancelId.{CancelId}
 use Rattle.irp_types.specs.declared.location.Location.{Location}
 use Rattle.irp_types.specs.declared.location.Owner.TheVariants.{Device}
+use Rattle.irp_types.specs.declared.location.Preparation.TheVariants.{Nothing}
 use Rattle.irp_types.specs.declared.status.Status.{Status}
 use Rattle.irp_types.specs.declared.routine.Rule.TheVariants.{Watch}
 use Rattle.irp_types.specs.declared.routine.Known.{Known}
 use Rattle.irp_types.specs.declared.routine.Setting.{Setting}
 use Rattle.irp_types.specs.declared.answer.Plan.{Plan}
-use Rattle.irp_types.specs.declared.answer.Plan.TheVariants.{Finish, Hold, Skip, Forward, ForwardPend}
+use Rattle.irp_types.specs.declared.answer.Plan.TheVariants.{Finish, Hold, HoldSlot, Skip, Forward, ForwardPend}
 use Rattle.irp_types.specs.declared.asked.Asked.{Asked}
 use Rattle.irp_unwind.proofs.Fit.{IsFit}
 use Rattle.irp_unwind.proofs.Lists.{all_map}
@@ -186,15 +187,26 @@ module _ (tables : Tables) (irp : IrpRef) (devices : DevicesValue) (old reached 
     keepers = fit.keepers;
   }
 
-  held : (cancel : Option CancelId) → (last_frame frames).plan ≡ Some (Hold cancel) → IsSound tables.counts (record reached { owner = Device (record { 0 = (last_frame frames).device }); cancel_routine = cancel })
-  held cancel plan =
-      let marks : plans marks_location (last_frame frames) ≡ true = ap (λ given. option_map_or marks_location given false) plan in
+  -- the packet as the last device holds it
+  abbrev held_as : Option CancelId → Bool → PacketValue
+  held_as cancel slot_held = record old {
+    locations = reached.locations;
+    current = last;
+    preparation = Nothing;
+    owner = Device (record { 0 = (last_frame frames).device });
+    cancel_routine = cancel;
+    slot_held = slot_held;
+  }
+
+  held_sound : (cancel : Option CancelId) (slot_held : Bool) → plans marks_location (last_frame frames) ≡ true
+      → ((routine : CancelId) → cancel ≡ Some routine → routine.0 < tables.counts.cancel) → (slot_held ≡ true → cancel ≡ None) → IsSound tables.counts (held_as cancel slot_held)
+  held_sound cancel slot_held marks there free =
       let content = location_at old first in
       let marked : (location_at reached last).pending ≡ true =
       ap (λ (location : Location). location.pending) (passed.used last (omega arith) below_first)
       ∙ ap (λ some. ((last == first) && content.pending) || some) (last_marks_here frames marks)
       ∙ or-true ((last == first) && content.pending) in
-      subst (λ (value : PacketValue). IsSound tables.counts (record value { owner = Device (record { 0 = (last_frame frames).device }); cancel_routine = cancel })) (sym passed.others) (record {
+      record {
         some = omega (arith, fit.placed, fit.within);
         few = fit.few;
         placed = passed.lowest;
@@ -204,22 +216,47 @@ module _ (tables : Tables) (irp : IrpRef) (devices : DevicesValue) (old reached 
         devices = devices_from;
         originator = λ owns. absurd (cc);
         routines = known;
-        cancel = λ routine set. record {
-          there = cancel_counted tables irp old devices (last_frame frames) agree (last_has (IsPlanned tables irp old devices) frames right.some right.planned) routine (plan ∙ ap (λ given. Some (Hold given)) set);
-          held = refl;
-          unskipped = refl;
-        };
+        cancel = λ routine set. record { there = there routine set; held = refl; unskipped = refl };
+        slots = λ is. record { held = refl; no_routine = free is; unprepared = refl };
         keepers = keepers;
-      })
+      }
+
+  -- the packet stood in no cancel slot when it was sent
+  no_slot : old.slot_held ≡ false
+  no_slot =
+      elim (old.slot_held) as (λ given. old.slot_held ≡ given → given ≡ false) [
+        | false ↦ λ is. refl
+        | true ↦ λ is. let unprepared = (sound.slots is).unprepared in absurd (cc)
+      ] refl
+
+  marks_by : (plan : Plan) → (last_frame frames).plan ≡ Some plan → marks_location plan ≡ true → plans marks_location (last_frame frames) ≡ true
+  marks_by plan is marks = ap (λ given. option_map_or marks_location given false) is ∙ marks
+
+  held : (cancel : Option CancelId) → (last_frame frames).plan ≡ Some (Hold cancel) → IsSound tables.counts (record reached { owner = Device (record { 0 = (last_frame frames).device }); cancel_routine = cancel })
+  held cancel plan =
+      subst (λ (value : PacketValue). IsSound tables.counts (record value { owner = Device (record { 0 = (last_frame frames).device }); cancel_routine = cancel })) (sym passed.others)
+      (held_sound cancel old.slot_held (marks_by (Hold cancel) plan refl)
+      (λ routine set. cancel_counted tables irp old devices (last_frame frames) agree (last_has (IsPlanned tables irp old devices) frames right.some right.planned) routine (plan ∙ ap (λ given. Some (Hold given)) set))
+      (λ is. let none : old.slot_held ≡ false = no_slot in absurd (cc)))
+
+  held_in_slot : (last_frame frames).plan ≡ Some HoldSlot
+      → IsSound tables.counts (record reached { owner = Device (record { 0 = (last_frame frames).device }); cancel_routine = None; slot_held = true })
+  held_in_slot plan =
+      subst (λ (value : PacketValue). IsSound tables.counts (record value { owner = Device (record { 0 = (last_frame frames).device }); cancel_routine = None; slot_held = true })) (sym passed.others)
+      (held_sound None true (marks_by HoldSlot plan refl) (λ routine set. absurd (cc)) (λ is. refl))
 
   uncancelled : old.cancel_routine ≡ None → reached.cancel_routine ≡ None
   uncancelled none = ap (λ (value : PacketValue). value.cancel_routine) passed.others ∙ none
 
+  unslotted : reached.slot_held ≡ false
+  unslotted = ap (λ (value : PacketValue). value.slot_held) passed.others ∙ no_slot
+
   pub ends_sound : (plan : Option Plan) (asked : List Asking) (new : PacketValue) → old.cancel_routine ≡ None → (last_frame frames).plan ≡ plan → Ends irp (last_frame frames) reached asked new plan
       → IsSound tables.counts new
-  ends_sound None asked new none is unwound = unwound_sound tables.counts irp (with_status reached invalid_device_request 0) asked new (fit_with invalid_device_request 0) unwound (uncancelled none)
-  ends_sound (Some (Finish status information)) asked new none is unwound = unwound_sound tables.counts irp (with_status reached status information) asked new (fit_with status information) unwound (uncancelled none)
+  ends_sound None asked new none is unwound = unwound_sound tables.counts irp (with_status reached invalid_device_request 0) asked new (fit_with invalid_device_request 0) unwound (uncancelled none) unslotted
+  ends_sound (Some (Finish status information)) asked new none is unwound = unwound_sound tables.counts irp (with_status reached status information) asked new (fit_with status information) unwound (uncancelled none) unslotted
   ends_sound (Some (Hold cancel)) asked new none is ends = subst (IsSound tables.counts) (sym ends.1) (held cancel is)
+  ends_sound (Some HoldSlot) asked new none is ends = subst (IsSound tables.counts) (sym ends.1) (held_in_slot is)
   ends_sound (Some Skip) asked new none is never = absurd never
   ends_sound (Some (Forward set)) asked new none is never = absurd never
   ends_sound (Some (ForwardPend set)) asked new none is never = absurd never

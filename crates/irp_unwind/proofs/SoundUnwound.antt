@@ -190,8 +190,8 @@ module _ (counts : Known) (irp : IrpRef) (old : PacketValue) (asked : List Askin
       let set : (location_at old number).setting ≡ Some setting = sym (ap (λ (location : Location). location.setting) (same number here)) ∙ is in
       ap (λ (location : Location). location.pending) (same (number + 1) next) ∙ fit.keepers number setting (omega (arith, above_current)) top set keeps
 
-  pub unwound_sound : old.cancel_routine ≡ None → IsSound counts new
-  unwound_sound uncancelled = subst (IsSound counts) (sym unwound.left) (record {
+  pub unwound_sound : old.cancel_routine ≡ None → old.slot_held ≡ false → IsSound counts new
+  unwound_sound uncancelled unslotted = subst (IsSound counts) (sym unwound.left) (record {
     some = omega (arith, size, fit.placed, fit.within);
     few = omega (arith, size, fit.few);
     placed = omega arith;
@@ -202,5 +202,6 @@ module _ (counts : Known) (irp : IrpRef) (old : PacketValue) (asked : List Askin
     originator = originator;
     routines = routines;
     cancel = λ routine set. let none : old.cancel_routine ≡ None = uncancelled in absurd (cc);
+    slots = λ is. let none : old.slot_held ≡ false = unslotted in absurd (cc);
     keepers = keepers;
   })

@@ -20,7 +20,7 @@ use Rattle.irp_types.specs.declared.routine.Setting.{Setting}
 use Rattle.irp_types.specs.declared.shown.Shown.{Shown}
 use Rattle.irp_types.specs.declared.answer.Answer.{Answer}
 use Rattle.irp_types.specs.declared.answer.Plan.{Plan}
-use Rattle.irp_types.specs.declared.answer.Plan.TheVariants.{Finish, Hold, Skip, Forward, ForwardPend}
+use Rattle.irp_types.specs.declared.answer.Plan.TheVariants.{Finish, Hold, HoldSlot, Skip, Forward, ForwardPend}
 use Rattle.irp_types.specs.declared.asked.Asked.{Asked}
 use Rattle.irp_unwind.proofs.Lists.{above_start, all_map, all_both}
 use Rattle.irp_unwind.proofs.Frames.{set_at, last_in}
@@ -113,6 +113,7 @@ module _ (tables : Tables) (irp : IrpRef) (devices : DevicesValue) (packet reach
   ends_above last None asked new unwound other = unwound_above invalid_device_request 0 asked new unwound
   ends_above last (Some (Finish status information)) asked new unwound other = unwound_above status information asked new unwound
   ends_above last (Some (Hold cancel)) asked new unwound other = absurd (other refl)
+  ends_above last (Some HoldSlot) asked new unwound other = absurd (other refl)
   ends_above last (Some Skip) asked new unwound other = absurd unwound
   ends_above last (Some (Forward set)) asked new unwound other = absurd unwound
   ends_above last (Some (ForwardPend set)) asked new unwound other = absurd unwound

@@ -54,6 +54,7 @@ left_ended packet answer o m = λ i. record {
   cancel_routine = packet.cancel_routine;
   owner = o;
   preparation = Nothing;
+  slot_held = packet.slot_held;
 }
 
 module _ (may : RoutineId → Shown → Answer → Type 0) (irp : IrpRef) (packet : PacketValue) (before : List Asked) where

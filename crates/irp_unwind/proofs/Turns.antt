@@ -22,6 +22,7 @@ pub record Turned (packet next : PacketValue) (outcome : Replacement) : Type 0 w
   pub information : next.information ≡ outcome.information
   pub cancel : next.cancel ≡ packet.cancel
   pub cancel_routine : next.cancel_routine ≡ packet.cancel_routine
+  pub slot_held : next.slot_held ≡ packet.slot_held
   pub device : (number : ℕ) → packet.current < number → (location_at next number).device ≡ (location_at packet number).device
   pub major : (number : ℕ) → packet.current < number → (location_at next number).major ≡ (location_at packet number).major
   pub word : (number : ℕ) → packet.current < number → (location_at next number).word ≡ (location_at packet number).word
@@ -122,6 +123,7 @@ unwound_later packet next outcome asked later turned agreed h =
       cancel_routine = turned.cancel_routine i;
       owner = cond (is_some (sym agreed.keeper i)) (owner_from (d i)) Ended;
       preparation = Nothing;
+      slot_held = turned.slot_held i;
     }
 
 -- the outcome at the start is the pair at the start

@@ -135,6 +135,7 @@ ends_here packet asked outcome o b h st out own =
       cancel_routine = packet.cancel_routine;
       owner = sym own i;
       preparation = Nothing;
+      slot_held = packet.slot_held;
     }
 
 range_here : (packet : PacketValue) (asked : List Asking) → stop_of packet asked ≡ packet.current → from_to packet.current (stop_of packet asked) ≡ packet.current ∷ []

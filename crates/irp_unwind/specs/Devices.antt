@@ -12,7 +12,7 @@ use Rattle.irp_types.specs.declared.routine.RoutineId.{RoutineId}
 use Rattle.irp_types.specs.declared.shown.Shown.{Shown}
 use Rattle.irp_types.specs.declared.answer.Answer.{Answer}
 use Rattle.irp_types.specs.declared.answer.Plan.{Plan}
-use Rattle.irp_types.specs.declared.answer.Plan.TheVariants.{Finish, Hold, Skip, Forward, ForwardPend}
+use Rattle.irp_types.specs.declared.answer.Plan.TheVariants.{Finish, Hold, HoldSlot, Skip, Forward, ForwardPend}
 use Rattle.irp_types.specs.declared.asked.Asked.{Asked}
 use Rattle.irp_unwind.specs.declared.ending.Ending.{Ending}
 use Rattle.irp_unwind.specs.declared.ending.Ending.TheVariants.{Held, Ended}
@@ -27,6 +27,7 @@ abbrev pub passed_on : PacketValue → Option Plan → PacketValue
 passed_on packet None = packet
 passed_on packet (Some (Finish status information)) = packet
 passed_on packet (Some (Hold cancel)) = packet
+passed_on packet (Some HoldSlot) = packet
 passed_on packet (Some Skip) = after_rise packet
 passed_on packet (Some (Forward set)) = after_copy packet set
 passed_on packet (Some (ForwardPend set)) = after_copy (marked_here packet) set
@@ -36,6 +37,7 @@ abbrev pub stopped : PacketValue → Option Plan → PacketValue
 stopped packet None = packet
 stopped packet (Some (Finish status information)) = packet
 stopped packet (Some (Hold cancel)) = marked_here packet
+stopped packet (Some HoldSlot) = marked_here packet
 stopped packet (Some Skip) = packet
 stopped packet (Some (Forward set)) = packet
 stopped packet (Some (ForwardPend set)) = packet
@@ -71,6 +73,7 @@ abbrev pub ending_at : Frame → PacketValue → List Asking → Option Plan →
 ending_at last reached asked None = ending_of (with_status reached invalid_device_request 0) asked
 ending_at last reached asked (Some (Finish status information)) = ending_of (with_status reached status information) asked
 ending_at last reached asked (Some (Hold cancel)) = Held (record { 0 = last.device })
+ending_at last reached asked (Some HoldSlot) = Held (record { 0 = last.device })
 ending_at last reached asked (Some Skip) = Ended
 ending_at last reached asked (Some (Forward set)) = Ended
 ending_at last reached asked (Some (ForwardPend set)) = Ended

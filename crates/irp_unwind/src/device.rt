@@ -7,14 +7,17 @@ ghost use Rattle.irp_types.specs.Stacks.{facts_of, lower_of};
 ghost use Rattle.irp_types.specs.Descent.{is_passing, is_copying, marks_location, final_status};
 ghost use Rattle.irp_routines.specs.Answers.{IsAnswered};
 ghost use Rattle.irp_unwind.specs.Conditions.{HasDevices, HasRoutines};
-ghost use Rattle.irp_unwind.specs.Devices.{frame_at, shown_here, passed_on, IsPlannedHere, EndsHere};
+ghost use Rattle.irp_types.specs.Status.{pending};
+ghost use Rattle.irp_types.specs.declared.location.Owner.TheVariants.{Device as HeldBy};
+ghost use Rattle.irp_unwind.specs.declared.ending.Ending.TheVariants.{Held};
+ghost use Rattle.irp_unwind.specs.Devices.{frame_at, shown_here, marked_here, passed_on, IsPlannedHere, EndsHere};
 
 use crate::ending::{Ending, Sent};
 use crate::unwinding::unwind;
 use irp_packet::Packet;
 use irp_routines::Ask;
 use irp_stack::Stacks;
-use irp_types::{Asked, DeviceId, DriverId, IrpRef, Owner, Plan, Shown, Status};
+use irp_types::{Asked, CancelId, DeviceId, DriverId, IrpRef, Owner, Plan, Shown, Status};
 
 /// Whether a plan passes the packet down.
 pub(crate) fn is_passing(plan: Option<Plan>) -> bool
@@ -30,7 +33,10 @@ pub(crate) fn is_passing(plan: Option<Plan>) -> bool
 pub(crate) fn marks_location(plan: Option<Plan>) -> bool
     ensures { result ≡ option_map_or marks_location plan false }
 {
-    matches!(plan, Some(Plan::Hold { .. } | Plan::ForwardPend { .. }))
+    matches!(
+        plan,
+        Some(Plan::Hold { .. } | Plan::HoldSlot | Plan::ForwardPend { .. })
+    )
 }
 
 /// What the dispatch of a device is shown in the current location.
@@ -114,7 +120,24 @@ pub(crate) fn pass_on(packet: &mut Packet, plan: Option<Plan>)
             packet.mark(number);
             packet.copy(set);
         }
-        Some(Plan::Finish { .. } | Plan::Hold { .. }) | None => {}
+        Some(Plan::Finish { .. } | Plan::Hold { .. } | Plan::HoldSlot) | None => {}
+    }
+}
+
+/// The device marks the current location and owns the packet, with this cancel routine or none.
+fn hold(packet: &mut Packet, device: DeviceId, cancel: Option<CancelId>) -> Sent
+    requires { packet.old.current ≤ size_of packet.old }
+    ensures held { packet.new ≡ record (marked_here packet.old) { owner = HeldBy device; cancel_routine = cancel } }
+    ensures status { result.status ≡ pending }
+    ensures ending { result.ending ≡ Held device }
+{
+    let held_at = packet.current();
+    packet.mark(held_at);
+    packet.set_owner(Owner::Device(device));
+    packet.set_cancel(packet.cancel(), cancel);
+    Sent {
+        status: Status::PENDING,
+        ending: Ending::Held(device),
     }
 }
 
@@ -139,14 +162,12 @@ pub(crate) fn end_at<A: Ask>(
 {
     let (status, information) = match plan {
         Some(Plan::Hold { cancel }) => {
-            let held_at = packet.current();
-            packet.mark(held_at);
-            packet.set_owner(Owner::Device(device));
-            packet.set_cancel(packet.cancel(), cancel);
-            return Sent {
-                status: Status::PENDING,
-                ending: Ending::Held(device),
-            };
+            return hold(packet, device, cancel);
+        }
+        Some(Plan::HoldSlot) => {
+            let held = hold(packet, device, None);
+            packet.set_slot_held(true);
+            return held;
         }
         Some(
             Plan::Finish {

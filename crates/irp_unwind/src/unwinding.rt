@@ -1,6 +1,6 @@
 //! A packet on its way up.
 
-ghost use Rattle.std.specs.Prelude.{◌≡◌, ◌+◌, ◌-◌, ◌≤◌, None, vec_len, vec_capacity};
+ghost use Rattle.std.specs.Prelude.{◌≡◌, ◌+◌, ◌-◌, ◌≤◌, None, false, vec_len, vec_capacity};
 ghost use Rattle.irp_types.specs.Packet.{size_of};
 ghost use Rattle.irp_types.specs.Standing.{IsSound};
 ghost use Rattle.irp_unwind.specs.Conditions.{HasDevices, HasRoutines};
@@ -68,14 +68,15 @@ fn unwind_from<A: Ask>(packet: &mut Packet, irp: IrpRef, ask: &A, asked: &mut Ve
 ///
 /// `irp` is the packet's own reference, which the routines are shown. What is asked goes behind the other questions in
 /// `asked`, into room that is there: it takes no memory. The conditions are those of `can_unwind`, and room for one
-/// question for each location from the current one up. A packet without a cancel routine keeps the standing facts.
+/// question for each location from the current one up. A packet without a cancel routine, which stands in no
+/// cancel slot, keeps the standing facts.
 pub fn unwind<A: Ask>(packet: &mut Packet, irp: IrpRef, ask: &A, asked: &mut Vec<Asked>) -> Ending
     requires placed { packet.old.current ≤ size_of packet.old }
     requires devices { HasDevices packet.old (packet.old.current + 1) }
     requires routines { HasRoutines (A.tables ask.now).counts packet.old packet.old.current }
     requires room { vec_len asked.old + ((size_of packet.old + 1) - packet.old.current) ≤ vec_capacity asked.old }
     ensures unwinds { Unwinds (A.may_answer ask.now) irp packet.old packet.new asked.old.items asked.new.items result }
-    ensures sound { packet.old.cancel_routine ≡ None → IsSound (A.tables ask.now).counts packet.old → IsSound (A.tables ask.now).counts packet.new }
+    ensures sound { packet.old.cancel_routine ≡ None → packet.old.slot_held ≡ false → IsSound (A.tables ask.now).counts packet.old → IsSound (A.tables ask.now).counts packet.new }
     ensures capacity { vec_capacity asked.new ≡ vec_capacity asked.old }
 {
     clear_below(packet);

@@ -10,7 +10,7 @@ use Rattle.irp_types.specs.declared.answer.Answer.{Answer}
 use Rattle.irp_types.specs.declared.answer.CancelAnswer.{CancelAnswer}
 use Rattle.irp_types.specs.declared.answer.CancelAnswer.TheVariants.{Finish as CancelFinish, Leave}
 use Rattle.irp_types.specs.declared.answer.Plan.{Plan}
-use Rattle.irp_types.specs.declared.answer.Plan.TheVariants.{Finish, Hold, Skip, Forward, ForwardPend}
+use Rattle.irp_types.specs.declared.answer.Plan.TheVariants.{Finish, Hold, HoldSlot, Skip, Forward, ForwardPend}
 use Rattle.irp_types.specs.declared.answer.Replacement.{Replacement}
 use Rattle.irp_script_reader.specs.Routines.{keeps}
 use Rattle.irp_script_reader.specs.declared.script.Behaviour.{Behaviour}
@@ -44,6 +44,7 @@ held (Some routine) shown = if shown.cancel then Finish cancelled 0 else Hold (S
 abbrev pub plan_of : Plan → Shown → Plan
 plan_of (Finish status information) shown = Finish status information
 plan_of (Hold cancel) shown = held cancel shown
+plan_of HoldSlot shown = HoldSlot
 plan_of Skip shown = passed_down Skip shown
 plan_of (Forward set) shown = passed_down (Forward set) shown
 plan_of (ForwardPend set) shown = passed_down (ForwardPend set) shown

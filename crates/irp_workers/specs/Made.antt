@@ -3,7 +3,7 @@ use Rattle.std.specs.Prelude.{ℕ, ◌≡◌, ◌≤◌, ◌%◌, ◌==◌, Bool
 use Rattle.std.specs.List.{count_by}
 use Rattle.irp_types.specs.declared.names.IrpRef.{IrpRef}
 use Rattle.irp_types.specs.declared.call.Call.{Call}
-use Rattle.irp_types.specs.declared.call.Call.TheVariants.{Free, Reuse, SetNext, CopyToNext, Skip, SetRoutine, MarkPending, CallDriver, Complete, SetCancelRoutine, Cancel, Look}
+use Rattle.irp_types.specs.declared.call.Call.TheVariants.{Free, Reuse, SetNext, CopyToNext, Skip, SetRoutine, MarkPending, CallDriver, Complete, FinishTaken, SetCancelRoutine, Cancel, Look}
 use Rattle.irp_types.specs.declared.entry.Entry.{Entry}
 use Rattle.irp_manager.specs.Seats.{Seated}
 use Rattle.irp_remove.specs.Seats.{Holder}
@@ -26,6 +26,7 @@ nameless (SetRoutine party irp setting) = SetRoutine party any_packet setting
 nameless (MarkPending party irp) = MarkPending party any_packet
 nameless (CallDriver party irp target) = CallDriver party any_packet target
 nameless (Complete party irp status information) = Complete party any_packet status information
+nameless (FinishTaken irp token status information) = FinishTaken any_packet token status information
 nameless (SetCancelRoutine party irp cancel) = SetCancelRoutine party any_packet cancel
 nameless (Cancel irp) = Cancel any_packet
 nameless (Look irp) = Look any_packet

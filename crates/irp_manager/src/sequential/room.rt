@@ -72,7 +72,7 @@ impl<K: Keep> Core<K> {
                 let depth = self.depth(target);
                 depth as usize + self.reach(irp, depth)
             }
-            Call::Complete { irp, .. } => self.reach(irp, 0),
+            Call::Complete { irp, .. } | Call::FinishTaken { irp, .. } => self.reach(irp, 0),
             Call::Cancel { irp } => 1 + self.reach(irp, 0),
             _ => 0,
         }

@@ -21,7 +21,7 @@ returns-clause-goes g c =
     let status = c.descend-sent.result.status in
     let refusal = send_refusal devices c.args.party old.packet target in
     let none : or_else (party_refusal_in (Some c.args.live.now) c.args.party irp) refusal ≡ None =
-    ap (λ (given : Option Refusal). or_else given refusal) (sym c.party_refusal.ensures ∙ c.in_default.is) ∙ sym c.send_check.ensures.refusal ∙ c.in_default-send_check.is in
+    ap (λ (given : Option Refusal). or_else given refusal) (sym c.party_refusal.ensures.refusal ∙ c.in_default.is) ∙ sym c.send_check.ensures.refusal ∙ c.in_default-send_check.is in
     let descends = c.descend-sent.ensures.descends in
     let listed : items ≡ descends.asked = descends.listed ∙ ap (λ (before : List Asked). before ++ descends.asked) c.requires.empty in
     let descended : Descended tables irp devices old.packet target items new.packet status =

@@ -15,8 +15,8 @@ returns-clause-unwinds g c =
     c.clear_below.ensures.bared c.unwind_from.ensures.unwinds)
 
 pub returns-clause-sound : goal.returns-clause-sound
-returns-clause-sound g c uncancelled sound =
+returns-clause-sound g c uncancelled unslotted sound =
     let counts = (g.A.Ask.tables c.args.ask.now).counts in
     let packet = c.args.packet.now in
     let unwinds = returns-clause-unwinds g c in
-    unwound_sound counts c.args.irp packet unwinds.asked c.unwind_from.new.packet (fit_of counts packet sound c.requires.placed) unwinds.unwound uncancelled
+    unwound_sound counts c.args.irp packet unwinds.asked c.unwind_from.new.packet (fit_of counts packet sound c.requires.placed) unwinds.unwound uncancelled unslotted

@@ -78,5 +78,10 @@ returns-in-Cancel-clause-stepped g c =
     let tables = g.A.Ask.tables c.args.ask.now in
     subst (λ (given : Call). Stepped g.K.Keep.live tables c.args.drained c.args.self.now given c.cancel.new.asked.items c.cancel.result c.cancel.new.self) (sym c.in-Cancel.is) (c.cancel.ensures.stepped c.args.drained)
 
+pub returns-in-FinishTaken-clause-stepped : goal.returns-in-FinishTaken-clause-stepped
+returns-in-FinishTaken-clause-stepped g c =
+    let tables = g.A.Ask.tables c.args.ask.now in
+    subst (λ (given : Call). Stepped g.K.Keep.live tables c.args.drained c.args.self.now given c.finish_taken.new.asked.items c.finish_taken.result c.finish_taken.new.self) (sym c.in-FinishTaken.is) (c.finish_taken.ensures.stepped c.args.drained)
+
 pub returns-in_default-clause-stepped : goal.returns-in_default-clause-stepped
 returns-in_default-clause-stepped g c = c.answer_party.ensures.stepped c.args.drained
