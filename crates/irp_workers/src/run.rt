@@ -12,8 +12,8 @@ ghost use Rattle.irp_workers.specs.Working.{MakesOwn, RunsScript, at_work, worki
 
 use crate::gate::{AlwaysOpen, Gate};
 use crate::labels::Labels;
+use crate::meeting::Meeting;
 use crate::script_seat::ScriptSeat;
-use crate::start_line::StartLine;
 use crate::words::put_in_order;
 use crate::worker::Worker;
 use crate::workplace::Workplace;
@@ -103,11 +103,11 @@ fn deal<'a, L: Session>(
     Ok(all)
 }
 
-/// Each worker runs in a thread of its own, and comes back with its seats. They start together.
+/// Each worker runs in a thread of its own, and comes back with its seats.
 fn run_all<'a, A: Ask + Send, L: Session + Send + Sync, G: Gate + Sync, R: Threads + Wait + Sync>(
     rt: &R,
     place: &Workplace<A, L>,
-    line: &StartLine,
+    meeting: &Meeting,
     gate: &G,
     steps: &[Step],
     workers: Vec<Worker<'a, L>>,
@@ -121,7 +121,7 @@ fn run_all<'a, A: Ask + Send, L: Session + Send + Sync, G: Gate + Sync, R: Threa
     thread::map_vec(
         rt,
         workers,
-        &|worker| worker.run(rt, place, line, gate, steps),
+        &|worker| worker.run(rt, place, meeting, gate, steps),
     )
 }
 
@@ -152,9 +152,9 @@ fn gather<'a, L: Session>(
 }
 
 /// Runs a script: its setup in order, on this thread, and then so many workers in threads of their own, of which worker w
-/// runs, in the order of the script, the steps whose seat's number leaves w when divided by their number. The workers start
-/// together, once the setup is done: each waits for the others for a bounded time. With one worker all steps are run in the
-/// order of the script.
+/// runs, in the order of the script, the steps whose seat's number leaves w when divided by their number. The workers meet
+/// before each of their first 32 steps, so that short scripts mix: each waits for the others for a bounded time. With one
+/// worker all steps are run in the order of the script.
 ///
 /// Labels are shared by all seats: one that isn't bound yet stands for a packet that is never live. A step whose seat isn't
 /// there, and one whose call isn't recorded, stops its worker; in the setup, nothing more is run. The gate is told of each
@@ -210,7 +210,7 @@ pub fn run_workers<
     let labels = Labels::new(alloc, script.labels)?;
     let place = Workplace { shared, labels };
     let all = Worker::new(alloc, 0, 1, seats);
-    let alone = StartLine::new(1);
+    let alone = Meeting::new(1);
     let ready = all.run(rt, &place, &alone, &AlwaysOpen, script.setup.as_slice());
     if ready.stopped {
         let seats = ready.seats;
@@ -224,7 +224,7 @@ pub fn run_workers<
     }
     let steps = script.steps.as_slice();
     let groups = deal(alloc, workers, ready.seats)?;
-    let line = StartLine::new(workers);
-    let done = run_all(rt, &place, &line, gate, steps, groups)?;
+    let meeting = Meeting::new(workers);
+    let done = run_all(rt, &place, &meeting, gate, steps, groups)?;
     gather(alloc, done)
 }

@@ -8,8 +8,8 @@ ghost use Rattle.irp_workers.specs.Words.{Ran, lock_step_of, own_steps, told_by}
 ghost use Rattle.irp_workers.specs.Working.{Makes, MakesEach, MakesOwn, at_work, if_own, working};
 
 use crate::gate::Gate;
+use crate::meeting::Meeting;
 use crate::script_seat::ScriptSeat;
-use crate::start_line::StartLine;
 use crate::workplace::Workplace;
 use irp_routines::Ask;
 use irp_script_reader::Step;
@@ -125,11 +125,12 @@ impl<'a, L: Session> Worker<'a, L> {
         step.seat % self.workers == self.number
     }
 
-    /// Makes a step, if it is one of its own. Whether it goes on.
+    /// Makes a step, if it is one of its own, once it has met the other workers. Whether it goes on.
     fn turn<A: Ask, G: Gate>(
         &mut self,
         rt: &impl Wait,
         place: &Workplace<A, L>,
+        meeting: &Meeting,
         gate: &G,
         index: usize,
         step: Step,
@@ -147,19 +148,20 @@ impl<'a, L: Session> Worker<'a, L> {
         if !self.has(step) {
             return true;
         }
+        meeting.meet();
         self.pass(rt, place, gate, index, step).is_some()
     }
 
-    /// Runs the steps of its own seats, once all workers are at the line: in the order of the script, up to the first that
-    /// isn't made. Its seats come back. Each step was a call, with what the seat's own remove seat knew of the locks, or an
-    /// act on a remove lock, of which a line behind its word lines tells what was answered. Where no two of its seats have
-    /// the same number, each has made the calls of its own among these steps after those that it had made, in order, and no
+    /// Runs the steps of its own seats, in the order of the script, up to the first that isn't made, and leaves the
+    /// meeting. Its seats come back. Each step was a call, with what the seat's own remove seat knew of the locks, or an act
+    /// on a remove lock, of which a line behind its word lines tells what was answered. Where no two of its seats have the
+    /// same number, each has made the calls of its own among these steps after those that it had made, in order, and no
     /// other.
     pub fn run<A: Ask, G: Gate>(
         mut self,
         rt: &impl Wait,
         place: &Workplace<A, L>,
-        line: &StartLine,
+        meeting: &Meeting,
         gate: &G,
         steps: &[Step],
     ) -> Worker<'a, L>
@@ -169,13 +171,14 @@ impl<'a, L: Session> Worker<'a, L> {
             → MadeCalls self.entry.number self.entry.workers steps.now (map (λ own. seat_calls own.seat own.remove) self.entry.seats.items) (map (λ own. seat_calls own.seat own.remove) result.seats.items) result.stopped }
         ensures made { MakesOwn L.fixed.locks self.entry.number self.entry.workers steps.now (working (map (λ own. at_work own.seat own.remove) self.entry.seats.items) self.entry.words.items) (working (map (λ own. at_work own.seat own.remove) result.seats.items) result.words.items) result.stopped }
     {
-        line.wait();
         for (index, step) in steps.iter().enumerate() {
-            if !self.turn(rt, place, gate, index, *step) {
+            if !self.turn(rt, place, meeting, gate, index, *step) {
                 self.stopped = true;
+                meeting.leave();
                 return self;
             }
         }
+        meeting.leave();
         self
     }
 }
