@@ -1,7 +1,7 @@
 //! Device stacks and tables of answers that grow.
 
 use crate::tables::{add, add_cancel, add_dispatch, add_driver};
-use crate::tried::{Halt, Tried};
+use crate::tried::{Halt, Tried, wanted};
 use irp_routines::{AnswerTable, FixedTables};
 use irp_stack::{NotCreated, Stacks};
 use irp_types::{CancelAnswer, CancelRule, DeviceId, DispatchId, DriverId, LockNo, Plan, Rule};
@@ -17,11 +17,7 @@ fn create(stacks: &mut Stacks, number: u32, tried: &mut Tried) -> Result<(), Hal
         }
         other => other,
     };
-    if made == Ok(DeviceId(number)) {
-        Ok(())
-    } else {
-        Err(Halt::Wrong("a device has another number"))
-    }
+    wanted(made == Ok(DeviceId(number)), "a device has another number")
 }
 
 /// Creates as many devices as there may be, and one more, which is refused.
@@ -31,11 +27,10 @@ pub fn create_devices(alloc: Global, tried: &mut Tried) -> Result<(), Halt> {
         tried.at(number as usize);
         create(&mut stacks, number, tried)?;
     }
-    if stacks.create(DriverId(0), LockNo(0)) == Err(NotCreated::Full) {
-        Ok(())
-    } else {
-        Err(Halt::Wrong("there are more devices than there may be"))
-    }
+    wanted(
+        stacks.create(DriverId(0), LockNo(0)) == Err(NotCreated::Full),
+        "there are more devices than there may be",
+    )
 }
 
 /// Adds to a table of answers: of each kind one.
@@ -77,11 +72,10 @@ fn copy(alloc: Global, table: &AnswerTable, tried: &mut Tried) -> Result<(), Hal
             FixedTables::told_by(alloc, table)?
         }
     };
-    if are_same(own, &copied) && are_same(own, &told) {
-        Ok(())
-    } else {
-        Err(Halt::Wrong("a copy isn't the same"))
-    }
+    wanted(
+        are_same(own, &copied) && are_same(own, &told),
+        "a copy isn't the same",
+    )
 }
 
 /// A table of answers grows, and its tables are copied.

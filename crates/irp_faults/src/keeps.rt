@@ -3,7 +3,7 @@
 ghost use Rattle.std.specs.Prelude.{◌≡◌, ◌<◌, IfOk};
 
 use crate::example::IRP;
-use crate::tried::{Halt, Tried};
+use crate::tried::{Halt, Tried, wanted};
 use irp_manager::{Keep, Live, MapKeep, Seat, SlabKeep};
 use irp_packet::Packet;
 use irp_types::{Call, Entry, Reply, Row};
@@ -85,11 +85,7 @@ fn fill_its_seat<L: Ledger>(alloc: Global, blank: Blank, tried: &mut Tried) -> R
         room(&mut seat, tried)?;
         seat.took(entry(alloc, number as u64), &mut total);
     }
-    if seat.count() == 9 {
-        Ok(())
-    } else {
-        Err(Halt::Wrong("a seat has another number of entries"))
-    }
+    wanted(seat.count() == 9, "a seat has another number of entries")
 }
 
 /// Fills a seat.

@@ -21,6 +21,7 @@ mod texts;
 mod tried;
 
 use crate::scenarios::{SCENARIOS, Work, perform};
+use crate::texts::cut_writes;
 use crate::tried::{Fell, Halt, Tried};
 use std::alloc::Global;
 use std::env;
@@ -66,7 +67,16 @@ fn lines_of<R: Wait>(
     Err(Halt::Wrong("memory was missing twice"))
 }
 
-/// Plays the scenarios of this name, or each where the name is `every`, and tells what they came to.
+/// Tells what writes came to whose output failed.
+fn tell_cut_writes<W: Write>(alloc: Global, writer: &mut W) -> Result<(), Halt> {
+    let mut out = Vec::new(alloc);
+    cut_writes(alloc, &mut out)?;
+    writer.write_all(out.as_slice())?;
+    Ok(())
+}
+
+/// Plays the scenarios of this name, or each where the name is `every`, and tells what they came to. The writes whose output
+/// fails are no scenario of a refused request: they have a name of their own.
 fn play_named<R: Wait, W: Write>(
     rt: &R,
     alloc: Global,
@@ -80,6 +90,9 @@ fn play_named<R: Wait, W: Write>(
             let lines = lines_of(rt, alloc, work, &mut tried)?;
             tell(writer, lines.as_slice(), tried.fell())?;
         }
+    }
+    if name == "cut_writes" || name == "every" {
+        tell_cut_writes(alloc, writer)?;
     }
     Ok(())
 }

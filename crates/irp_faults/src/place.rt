@@ -5,7 +5,7 @@ ghost use Rattle.irp_manager.specs.Keeps.{slabbed};
 ghost use Rattle.irp_manager.specs.Cores.{state_of};
 
 use crate::example::Deed;
-use irp_manager::{KnowsNothing, Manager};
+use irp_manager::{KnowsNothing, Manager, NotRecorded, Receipt};
 use irp_routines::Ask;
 use irp_types::{Call, Reply};
 
@@ -16,6 +16,16 @@ pub enum Lack {
     Memory,
     /// Something isn't as it has to be.
     Wrong(&'static str),
+}
+
+/// What came of a call whose entry has to have this number. A refused one has to have left all as it was.
+pub fn told(made: Result<Receipt, NotRecorded>, number: u64, is_same: bool) -> Result<Reply, Lack> {
+    match made {
+        Ok(receipt) if receipt.number() == number => Ok(receipt.reply()),
+        Ok(_) => Err(Lack::Wrong("an entry has another number than it should have")),
+        Err(NotRecorded::Memory) if is_same => Err(Lack::Memory),
+        Err(_) => Err(Lack::Wrong("a call wasn't recorded, or changed its book or seat")),
+    }
 }
 
 /// Where calls of a manager are made from, by seats that are numbered from 0.

@@ -7,10 +7,10 @@ ghost use Rattle.irp_manager.specs.Keeps.{slabbed, mapped};
 ghost use Rattle.irp_manager.specs.Cores.{state_of};
 
 use crate::example::{Deed, Example};
-use crate::place::{Lack, Place};
+use crate::place::{Lack, Place, told};
 use crate::playing::play;
 use crate::tried::{Halt, Tried};
-use irp_manager::{Book, Core, KnowsNothing, Manager, MapKeep, NotRecorded, Seat};
+use irp_manager::{Book, Core, KnowsNothing, Manager, MapKeep, Seat};
 use irp_routines::Ask;
 use irp_types::{Call, Reply};
 use std::alloc::Global;
@@ -32,12 +32,8 @@ impl<A: Ask, L: Ledger> Place for InBook<A, L> {
     fn make(&mut self, seat: u32, call: Call) -> Result<Reply, Lack> {
         let _ = seat;
         let length = self.book.length();
-        match self.book.record(&self.seat, call, &KnowsNothing) {
-            Ok(receipt) if receipt.number() == length as u64 => Ok(receipt.reply()),
-            Ok(_) => Err(Lack::Wrong("an entry has another number")),
-            Err(NotRecorded::Memory) if self.book.length() == length => Err(Lack::Memory),
-            Err(_) => Err(Lack::Wrong("a call wasn't recorded, or its book changed")),
-        }
+        let made = self.book.record(&self.seat, call, &KnowsNothing);
+        told(made, length as u64, self.book.length() == length)
     }
 
     fn look(&mut self, call: Call) -> Result<Reply, Lack> {

@@ -2,7 +2,7 @@
 
 use crate::example::{Deed, Example, IRP, Wanted, call_of};
 use crate::place::{Lack, Place};
-use crate::tried::{Halt, Tried};
+use crate::tried::{Halt, Tried, wanted};
 use irp_types::{Call, Reply};
 use std::sync::atomic::{AtomicU32, Ordering};
 
@@ -101,11 +101,7 @@ fn step<P: Place>(
         Some(wanted) => call(place, asked, tried, seat, wanted)?,
         None => place.acts(seat, deed),
     };
-    if is_so {
-        Ok(())
-    } else {
-        Err(Halt::Wrong("an answer isn't the example's"))
-    }
+    wanted(is_so, "an answer isn't the example's")
 }
 
 /// Makes the steps of an example, one after the other, each after a look, and has a last look. One look more comes first,
@@ -125,9 +121,8 @@ pub fn play<P: Place>(
         let (seat, deed) = example.steps[number];
         step(place, asked, tried, seat, deed)?;
     }
-    if look_around(place, asked, tried)?.look == example.last {
-        Ok(())
-    } else {
-        Err(Halt::Wrong("the last look isn't the example's"))
-    }
+    wanted(
+        look_around(place, asked, tried)?.look == example.last,
+        "the last look isn't the example's",
+    )
 }

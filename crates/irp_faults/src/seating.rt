@@ -2,7 +2,7 @@
 
 ghost use Rattle.std.specs.Prelude.{◌≡◌};
 
-use crate::tried::{Halt, Tried};
+use crate::tried::{Halt, Tried, wanted};
 use irp_routines::Ask;
 use irp_script::script_seats;
 use irp_shared::{Session, open};
@@ -32,9 +32,5 @@ pub fn seat_pairs<A: Ask + Drop, L: Session>(
         tried.refused("script_seats", true)?;
         return Err(Halt::Memory);
     };
-    if pairs.len() == seats as usize {
-        Ok(())
-    } else {
-        Err(Halt::Wrong("some seats are missing"))
-    }
+    wanted(pairs.len() == seats as usize, "some seats are missing")
 }

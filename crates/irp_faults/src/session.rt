@@ -3,11 +3,11 @@
 ghost use Rattle.std.specs.Prelude.{◌≡◌, ⊤};
 
 use crate::example::{Deed, Example};
-use crate::place::{Lack, Place};
+use crate::place::{Lack, Place, told};
 use crate::playing::play;
 use crate::removes::Removes;
 use crate::tried::{Halt, Tried};
-use irp_manager::{DrainNote, KnowsNothing, NotRecorded};
+use irp_manager::{DrainNote, KnowsNothing};
 use irp_routines::Ask;
 use irp_shared::{OpenRefused, Seat, Session, Shared, Transcript, open};
 use irp_types::{Call, Reply};
@@ -37,12 +37,8 @@ fn called<A: Ask, L: Session, N: DrainNote>(
     number: u64,
 ) -> Result<Reply, Lack> {
     let before = (seat.count(), seat.seen());
-    match shared.call(rt, seat, call, note) {
-        Ok(receipt) if receipt.number() == number => Ok(receipt.reply()),
-        Ok(_) => Err(Lack::Wrong("an entry has another number than it should have")),
-        Err(NotRecorded::Memory) if (seat.count(), seat.seen()) == before => Err(Lack::Memory),
-        Err(_) => Err(Lack::Wrong("a call wasn't recorded, or changed its seat")),
-    }
+    let made = shared.call(rt, seat, call, note);
+    told(made, number, (seat.count(), seat.seen()) == before)
 }
 
 impl<R: Wait, A: Ask, L: Session> Place for Room<'_, R, A, L> {

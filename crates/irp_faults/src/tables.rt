@@ -1,9 +1,10 @@
 //! Tables of answers, from the data of examples.
 
 use crate::example::Example;
+use crate::tables_alone::extent_of;
 use crate::tried::{Halt, Tried};
 use irp_routines::{AnswerTable, Behaviour, Reaction, Reason};
-use irp_types::{CancelAnswer, CancelRule, DispatchId, Known, Plan, Rule};
+use irp_types::{CancelAnswer, CancelRule, DispatchId, Plan, Rule};
 use std::alloc::Global;
 
 /// It continues, and replaces nothing.
@@ -17,29 +18,13 @@ const BEHAVIOUR: Behaviour = Behaviour {
     on_error: CONTINUES,
 };
 
-/// How many routines, dispatches and drivers a table has.
-#[derive(Clone, Copy, PartialEq, Eq)]
-struct Sizes {
-    counts: Known,
-    dispatches: usize,
-    drivers: usize,
-}
-
-fn sizes_of(table: &AnswerTable) -> Sizes {
-    Sizes {
-        counts: table.tables().counts(),
-        dispatches: table.tables().dispatches().len(),
-        drivers: table.tables().drivers().len(),
-    }
-}
-
 /// Adds a completion routine.
 pub fn add(table: &mut AnswerTable, rule: Rule, tried: &mut Tried) -> Result<(), Halt> {
-    let before = sizes_of(table);
+    let before = extent_of(table.tables());
     match table.add(rule, BEHAVIOUR) {
         Ok(_) => Ok(()),
         Err(Reason::Memory) => {
-            tried.refused("AnswerTable::add", sizes_of(table) == before)?;
+            tried.refused("AnswerTable::add", extent_of(table.tables()) == before)?;
             table.add(rule, BEHAVIOUR)?;
             Ok(())
         }
@@ -53,11 +38,14 @@ pub fn add_cancel(
     routine: (CancelRule, CancelAnswer),
     tried: &mut Tried,
 ) -> Result<(), Halt> {
-    let before = sizes_of(table);
+    let before = extent_of(table.tables());
     match table.add_cancel(routine.0, routine.1) {
         Ok(_) => Ok(()),
         Err(Reason::Memory) => {
-            tried.refused("AnswerTable::add_cancel", sizes_of(table) == before)?;
+            tried.refused(
+                "AnswerTable::add_cancel",
+                extent_of(table.tables()) == before,
+            )?;
             table.add_cancel(routine.0, routine.1)?;
             Ok(())
         }
@@ -67,11 +55,14 @@ pub fn add_cancel(
 
 /// Adds a dispatch, which may name all routines that there are.
 pub fn add_dispatch(table: &mut AnswerTable, plan: Plan, tried: &mut Tried) -> Result<(), Halt> {
-    let before = sizes_of(table);
+    let before = extent_of(table.tables());
     match table.add_dispatch(before.counts, plan) {
         Ok(_) => Ok(()),
         Err(Reason::Memory) => {
-            tried.refused("AnswerTable::add_dispatch", sizes_of(table) == before)?;
+            tried.refused(
+                "AnswerTable::add_dispatch",
+                extent_of(table.tables()) == before,
+            )?;
             table.add_dispatch(before.counts, plan)?;
             Ok(())
         }
@@ -86,14 +77,17 @@ pub fn add_driver(
     pairs: &[(u8, DispatchId)],
     tried: &mut Tried,
 ) -> Result<(), Halt> {
-    let before = sizes_of(table);
+    let before = extent_of(table.tables());
     let Err(back) = table.add_driver(pairs.to_vec(alloc)?) else {
         return Ok(());
     };
     if back.reason != Reason::Memory || back.item.as_slice() != pairs {
         return Err(Halt::Wrong("a driver was refused, or not handed back"));
     }
-    tried.refused("AnswerTable::add_driver", sizes_of(table) == before)?;
+    tried.refused(
+        "AnswerTable::add_driver",
+        extent_of(table.tables()) == before,
+    )?;
     table.add_driver(back.item)?;
     Ok(())
 }

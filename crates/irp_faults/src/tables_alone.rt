@@ -1,19 +1,20 @@
 //! The tables behind stores and answer tables, which grow alone.
 
-use crate::tried::{Halt, Tried};
+use crate::tried::{Halt, Tried, wanted};
 use irp_routines::{FixedTables, Reason};
 use irp_types::{CancelRule, DispatchId, Known};
 use std::alloc::Global;
 
 /// How much tables have.
 #[derive(Clone, Copy, PartialEq, Eq)]
-struct Extent {
-    counts: Known,
+pub struct Extent {
+    pub counts: Known,
     dispatches: usize,
     drivers: usize,
 }
 
-fn extent_of(tables: &FixedTables) -> Extent {
+/// How much these tables have.
+pub fn extent_of(tables: &FixedTables) -> Extent {
     Extent {
         counts: tables.counts(),
         dispatches: tables.dispatches().len(),
@@ -76,9 +77,8 @@ pub fn grow_tables(alloc: Global, tried: &mut Tried) -> Result<(), Halt> {
         dispatches: 9,
         drivers: 9,
     };
-    if extent_of(&tables) == grown {
-        Ok(())
-    } else {
-        Err(Halt::Wrong("tables have not what was added"))
-    }
+    wanted(
+        extent_of(&tables) == grown,
+        "tables have not what was added",
+    )
 }

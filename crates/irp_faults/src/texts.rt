@@ -1,18 +1,16 @@
 //! The texts of scripts and transcripts.
 
-ghost use Rattle.std.specs.Prelude.{Some};
-
-use crate::tried::{Halt, Tried};
+use crate::tried::{Fell, Halt, Tried};
 use irp_script::{Verdict, check};
 use irp_shared::{Header, Transcript, TranscriptParts};
 use irp_text::{
-    Cause, Failed, Out, ReadFault, ScriptFault, WriteFault, read_script, read_transcript,
+    Cause, ReadFault, ScriptFault, WriteFault, WriterOut, read_script, read_transcript,
     write_transcript,
 };
 use irp_transcript_writer::line_of;
 use irp_types::Entry;
 use std::alloc::Global;
-use std::io::Write;
+use std::io::{self, Write};
 
 /// The transcript of one device that finishes one packet, byte by byte as the formats have it (docs/FORMATS.md).
 const TRANSCRIPT: &[u8] =
@@ -22,6 +20,9 @@ const TRANSCRIPT: &[u8] =
 {\"asked\":[],\"call\":{\"by\":\"o\",\"do\":\"set_next\",\"irp\":[0,1],\"major\":3,\"word\":7},\"n\":2,\"reply\":\"done\",\"seat\":0}
 {\"asked\":[{\"dispatch\":0,\"plan\":[\"finish\",0,5],\"shown\":[0,0,1,3,1,7,0,0,false,false,0,false]}],\"call\":{\"by\":\"o\",\"do\":\"call_driver\",\"irp\":[0,1],\"target\":0},\"n\":3,\"reply\":{\"status\":0},\"seat\":0}
 ";
+
+/// How many bytes its first line has, the header's, with its newline.
+const HEADER_LENGTH: usize = 119;
 
 /// A script with a routine, a cancel routine, a dispatch, a driver, a label, a call and an act on a remove lock.
 const SCRIPT: &[u8] =
@@ -135,34 +136,45 @@ pub fn read_the_transcript(
     put_transcript(alloc, out, transcript, 1, tried)
 }
 
-/// A text with room for as many bytes as it will have, and how often it had no room.
+/// A writer that keeps the bytes that it takes: so many a write at most, and so many in all. Then it fails.
 #[derive(Drop)]
-struct Text {
-    bytes: Vec<u8>,
-    failures: u64,
+struct Cut<'a> {
+    bytes: &'a mut Vec<u8>,
+    most: usize,
+    room: usize,
 }
 
-/// A put fails only where there is no room.
-impl Out for Text {
-    ghost gone = { λ text. Some text.bytes.items };
-
-    ghost failures = { λ text. text.failures };
-
-    fn put(&mut self, piece: &[u8]) -> Result<usize, Failed> {
-        if self.bytes.extend_from_slice(piece).is_err() {
-            self.failures = self.failures.wrapping_add(1);
-            return Err(Failed);
+impl Write for Cut<'_> {
+    fn write(&mut self, piece: &[u8]) -> io::Result<usize> {
+        let count = piece.len().min(self.most.min(self.room));
+        if count == 0 {
+            return Err(io::Error::from(io::ErrorKind::BrokenPipe));
         }
-        Ok(piece.len())
+        self.bytes.extend_from_slice(&piece[..count])?;
+        self.room = self.room.saturating_sub(count);
+        Ok(count)
+    }
+
+    fn flush(&mut self) -> io::Result<()> {
+        Ok(())
     }
 }
 
-/// Writes a transcript. What went out, and the fault.
-fn written(alloc: Global, transcript: &Transcript) -> Result<(Vec<u8>, Option<WriteFault>), Halt> {
-    let bytes = Vec::with_capacity(alloc, TRANSCRIPT.len())?;
-    let mut text = Text { bytes, failures: 0 };
-    let fault = write_transcript(alloc, &mut text, transcript).err();
-    let Text { bytes, failures: _ } = text;
+/// Writes a transcript to an output that takes so many bytes a write at most, and so many in all. What went out, and the
+/// fault.
+fn written(
+    alloc: Global,
+    transcript: &Transcript,
+    most: usize,
+    room: usize,
+) -> Result<(Vec<u8>, Option<WriteFault>), Halt> {
+    let mut bytes = Vec::with_capacity(alloc, TRANSCRIPT.len())?;
+    let mut out = WriterOut::new(Cut {
+        bytes: &mut bytes,
+        most,
+        room,
+    });
+    let fault = write_transcript(alloc, &mut out, transcript).err();
     Ok((bytes, fault))
 }
 
@@ -181,14 +193,60 @@ pub fn write_the_transcript(
 ) -> Result<(), Halt> {
     let transcript = the_transcript(alloc, tried)?;
     tried.at(1);
-    let (mut bytes, fault) = written(alloc, &transcript)?;
+    let length = TRANSCRIPT.len();
+    let (mut bytes, fault) = written(alloc, &transcript, length, length)?;
     if let Some(fault) = fault {
         tried.refused("write_transcript", is_beginning(bytes.as_slice(), fault))?;
-        bytes = written(alloc, &transcript)?.0;
+        bytes = written(alloc, &transcript, length, length)?.0;
     }
     if bytes.as_slice() != TRANSCRIPT {
         return Err(Halt::Wrong("the text that was written isn't the one that was read"));
     }
     out.extend_from_slice(bytes.as_slice())?;
+    Ok(())
+}
+
+/// Writes to an output that fails after so many bytes, and answers whether exactly these went out, and were told.
+fn is_cut(alloc: Global, transcript: &Transcript, room: usize) -> Result<bool, Halt> {
+    let (bytes, fault) = written(alloc, transcript, TRANSCRIPT.len(), room)?;
+    let told = WriteFault {
+        written: room as u64,
+        cause: Cause::Io,
+    };
+    Ok(fault == Some(told) && bytes.len() == room && TRANSCRIPT.starts_with(bytes.as_slice()))
+}
+
+/// Whether an output that fails after as many bytes as the header's line has got that line.
+fn is_header(alloc: Global, transcript: &Transcript) -> Result<bool, Halt> {
+    let Some(header) = transcript.header() else {
+        return Ok(false);
+    };
+    let bytes = written(alloc, transcript, TRANSCRIPT.len(), HEADER_LENGTH)?.0;
+    Ok(bytes.as_slice() == line_of(alloc, header)?.as_slice())
+}
+
+/// Whether an output that takes one byte a write gets the whole text.
+fn is_whole(alloc: Global, transcript: &Transcript) -> Result<bool, Halt> {
+    let (bytes, fault) = written(alloc, transcript, 1, TRANSCRIPT.len())?;
+    Ok(fault.is_none() && bytes.as_slice() == TRANSCRIPT)
+}
+
+/// Writes the transcript to an output that fails after each number of bytes, and to one that takes one byte a write. Puts a
+/// line for each number that was wrong, and how many were tried and were wrong.
+pub fn cut_writes(alloc: Global, out: &mut Vec<u8>) -> Result<(), Halt> {
+    let transcript = the_transcript(alloc, &mut Tried::new(Fell::Nowhere))?;
+    let mut wrong: u32 = 0;
+    for room in 0..TRANSCRIPT.len() {
+        if !is_cut(alloc, &transcript, room)? {
+            wrong = wrong.wrapping_add(1);
+            writeln!(out, "wrong: a write that fails after {room} bytes")?;
+        }
+    }
+    if !is_header(alloc, &transcript)? || !is_whole(alloc, &transcript)? {
+        wrong = wrong.wrapping_add(1);
+        writeln!(out, "wrong: the header's line, or a write byte by byte")?;
+    }
+    let tries = TRANSCRIPT.len() + 1;
+    writeln!(out, "tried: {tries} {wrong} cut writes")?;
     Ok(())
 }

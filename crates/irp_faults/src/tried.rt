@@ -43,6 +43,15 @@ impl<T: Drop> From<NotAdded<T>> for Halt {
     }
 }
 
+/// Ok where something is as it has to be.
+pub fn wanted(is_so: bool, what: &'static str) -> Result<(), Halt> {
+    if is_so {
+        Ok(())
+    } else {
+        Err(Halt::Wrong(what))
+    }
+}
+
 /// Where the refused request fell, as far as it showed.
 #[derive(Clone, Copy, PartialEq, Eq)]
 pub enum Fell {
