@@ -4,7 +4,7 @@ ghost use Rattle.std.specs.Prelude.{◌≡◌};
 
 use irp_manager::{KnowsNothing, NotRecorded, Receipt};
 use irp_routines::AnswerTable;
-use irp_shared::{Seat, Session, learn, open};
+use irp_shared::{Seat, Session, Shared, learn, open};
 use irp_types::Call;
 use std::alloc::Global;
 use std::marker::Brand;
@@ -39,6 +39,41 @@ fn third_receipt<L: Session, R: Wait>(
     shared.call(rt, &mut seat, ALLOCATE, &KnowsNothing).ok()
 }
 
+/// A seat that learned of three calls elsewhere is refused, since nothing is recorded here yet.
+fn is_behind<L: Session, R: Wait + Abort>(
+    rt: &R,
+    shared: &Shared<AnswerTable, L>,
+    seat: &mut Seat<L>,
+) {
+    let refused = shared.call(rt, seat, ALLOCATE, &KnowsNothing).err();
+    assert_eq!(rt; refused, Some(NotRecorded::Behind { length: 0 }));
+    assert_eq!(rt; (seat.count(), seat.seen()), (0, 3));
+}
+
+/// The seat makes three calls, the first of the session.
+fn makes_three<L: Session, R: Wait + Abort>(
+    rt: &R,
+    shared: &Shared<AnswerTable, L>,
+    seat: &mut Seat<L>,
+) -> Result<(), Fail> {
+    for number in 0..3u64 {
+        let made = shared.call(rt, seat, ALLOCATE, &KnowsNothing)?;
+        assert_eq!(rt; made.number(), number);
+    }
+    Ok(())
+}
+
+/// The seat that was behind makes the fourth call.
+fn makes_the_fourth<L: Session, R: Wait + Abort>(
+    rt: &R,
+    shared: &Shared<AnswerTable, L>,
+    seat: &mut Seat<L>,
+) -> Result<(), Fail> {
+    let made = shared.call(rt, seat, ALLOCATE, &KnowsNothing)?;
+    assert_eq!(rt; (made.number(), made.seat(), made.call()), (3, 0, ALLOCATE));
+    Ok(())
+}
+
 /// The first seat of another session learns of the receipt, and is behind until the second has made three calls.
 fn behind<L: Session, R: Wait + Abort>(
     rt: &R,
@@ -53,26 +88,17 @@ fn behind<L: Session, R: Wait + Abort>(
     requires seats { (L.parts ≡ seats) × (L.seats ≡ seats) }
     requires fixed { L.fixed ≡ record { locks = locks; tables = table.tables } }
 {
-    let Ok((shared, mut places)) = open::<AnswerTable, L>(alloc, blank, table, locks, seats) else {
-        return Err("not opened".into());
+    let (shared, mut places) = open::<AnswerTable, L>(alloc, blank, table, locks, seats)?;
+    let (Some(mut second), Some(mut first)) = (places.pop(), places.pop()) else {
+        return Err(Fail::from("two seats were asked for"));
     };
-    let mut second = places.pop().ok_or("no seat")?;
-    let mut first = places.pop().ok_or("no seat")?;
     learn(&mut first, receipt);
-    let refused = shared.call(rt, &mut first, ALLOCATE, &KnowsNothing).err();
-    assert_eq!(rt; refused, Some(NotRecorded::Behind { length: 0 }));
-    assert_eq!(rt; (first.count(), first.seen()), (0, 3));
-    for number in 0..3u64 {
-        let made = shared.call(rt, &mut second, ALLOCATE, &KnowsNothing)?;
-        assert_eq!(rt; made.number(), number);
-    }
-    let made = shared.call(rt, &mut first, ALLOCATE, &KnowsNothing)?;
-    assert_eq!(rt; (made.number(), made.seat(), made.call()), (3, 0, ALLOCATE));
+    is_behind(rt, &shared, &mut first);
+    makes_three(rt, &shared, &mut second)?;
+    makes_the_fourth(rt, &shared, &mut first)?;
     places.push(first)?;
     places.push(second)?;
-    let Ok(transcript) = shared.close(places) else {
-        return Err("a mismatch".into());
-    };
+    let transcript = shared.close(places).ok().ok_or("a mismatch")?;
     assert_eq!(rt; transcript.entries().len(), 4);
     assert!(rt; transcript.words().is_empty());
     Ok(())

@@ -137,45 +137,85 @@ fn closed<A: Drop, L: Session>(
     Ok(transcript)
 }
 
+/// An entry of a transcript, as a test expects it.
+#[derive(Clone, Copy)]
+struct Expected {
+    number: u64,
+    seat: u32,
+    call: Call,
+    /// Of a deletion of the device: whether the seat knows its lock drained.
+    drained: Option<bool>,
+    /// What the dispatch planned, where it was asked.
+    plan: Option<Plan>,
+    reply: Reply,
+}
+
 /// An entry of a call that deletes nothing, in which nothing was asked.
-fn entry(alloc: Global, number: u64, seat: u32, call: Call, reply: Reply) -> Entry {
-    Entry {
+const fn entry(number: u64, seat: u32, call: Call, reply: Reply) -> Expected {
+    Expected {
         number,
         seat,
         call,
-        lock: None,
-        drained: false,
-        asked: Row::from_vec(Vec::new(alloc)),
+        drained: None,
+        plan: None,
         reply,
     }
 }
 
 /// An entry of a deletion of the device, by a seat that knows its lock drained or doesn't.
-fn deletion(alloc: Global, number: u64, seat: u32, drained: bool, reply: Reply) -> Entry {
-    Entry {
-        lock: Some(LOCK),
-        drained,
-        ..entry(alloc, number, seat, DELETE, reply)
+const fn deletion(number: u64, seat: u32, drained: bool, reply: Reply) -> Expected {
+    Expected {
+        drained: Some(drained),
+        ..entry(number, seat, DELETE, reply)
     }
 }
 
 /// The entry of the call by the first seat that sends the packet, in which the dispatch planned this.
-fn sending(alloc: Global, number: u64, plan: Plan, reply: Reply) -> Result<Entry, AllocError> {
+const fn sending(number: u64, plan: Plan, reply: Reply) -> Expected {
+    Expected {
+        plan: Some(plan),
+        ..entry(number, 0, SEND, reply)
+    }
+}
+
+/// What was asked, where the dispatch planned this.
+fn asked(alloc: Global, plan: Option<Plan>) -> Result<Row<Asked>, AllocError> {
+    let Some(plan) = plan else {
+        return Ok(Row::from_vec(Vec::new(alloc)));
+    };
     let asked = Asked::Dispatch {
         id: DispatchId(0),
         shown: SHOWN,
         plan,
     };
-    Ok(Entry {
-        asked: Row::from_vec([asked].to_vec(alloc)?),
-        ..entry(alloc, number, 0, SEND, reply)
-    })
+    Ok(Row::from_vec([asked].to_vec(alloc)?))
+}
+
+impl Expected {
+    fn entry(&self, alloc: Global) -> Result<Entry, AllocError> {
+        Ok(Entry {
+            number: self.number,
+            seat: self.seat,
+            call: self.call,
+            lock: self.drained.map(|_| LOCK),
+            drained: self.drained == Some(true),
+            asked: asked(alloc, self.plan)?,
+            reply: self.reply,
+        })
+    }
 }
 
 /// The entries of the transcript are these, each whole.
-fn has_entries(rt: &impl Abort, transcript: &Transcript, expected: &[Entry]) {
+fn has_entries(
+    rt: &impl Abort,
+    alloc: Global,
+    transcript: &Transcript,
+    expected: &[Expected],
+) -> Result<(), Fail> {
     assert_eq!(rt; transcript.entries().len(), expected.len());
-    for (found, entry) in transcript.entries().iter().zip(expected) {
-        assert!(rt; found.is_same(entry), "entry {}", entry.number);
+    for (found, expected) in transcript.entries().iter().zip(expected) {
+        let entry = expected.entry(alloc)?;
+        assert!(rt; found.is_same(&entry), "entry {}", expected.number);
     }
+    Ok(())
 }

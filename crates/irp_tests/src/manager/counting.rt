@@ -81,6 +81,32 @@ fn counted_cancel(count: &AtomicU32) -> CancelAnswer
     CancelAnswer::Finish { information: 0 }
 }
 
+/// A store of these closures, with one driver.
+fn counting_store(
+    alloc: Global,
+    watch: Routine,
+    unmet: Routine,
+    cancel: CancelRoutine,
+    dispatch: Dispatch,
+) -> Result<Store, Fail> {
+    let mut store = Store::new(alloc);
+    let _watch = store.add(watch).ok().ok_or("a routine")?;
+    let _unmet = store.add(unmet).ok().ok_or("a routine")?;
+    let _cancel = store.add_cancel(cancel).ok().ok_or("a cancel routine")?;
+    let _plan = store.add_dispatch(dispatch).ok().ok_or("a dispatch")?;
+    let dispatches = [(READ, DispatchId(0))].to_vec(alloc)?;
+    let _driver = store.add_driver(dispatches).ok().ok_or("a driver")?;
+    Ok(store)
+}
+
+/// A book of a store that counts.
+fn counting_book(alloc: Global, store: Store) -> Result<Book<Store>, Fail> {
+    let book = Book::new(Manager::new(alloc, store, 1))
+        .ok()
+        .ok_or("a book")?;
+    Ok(book)
+}
+
 /// The cancel routine, as a cancellation of this packet asks it.
 fn asked_by_cancel(irp: IrpRef) -> Asked {
     Asked::Cancel {
@@ -174,25 +200,20 @@ fn closures_are_asked_once_through_a_book(rt: HostRuntime) -> Result<(), Fail> {
     let cancels = Arc::new(alloc, AtomicU32::new(0))?;
     let watches = Arc::new(alloc, AtomicU32::new(0))?;
     let unmet = Arc::new(alloc, AtomicU32::new(0))?;
-    let mut store = Store::new(alloc);
     let own = watches.clone()?;
     let run: CompletionClosure = Box::new(alloc, move |shown: Shown| counted_watch(&own, shown))?;
-    let watch = store.add(Routine::new(Rule::Watch, run));
+    let watch = Routine::new(Rule::Watch, run);
     let own = unmet.clone()?;
     let run: CompletionClosure = Box::new(alloc, move |shown: Shown| counted_watch(&own, shown))?;
-    let other = store.add(Routine::new(Rule::Watch, run));
+    let other = Routine::new(Rule::Watch, run);
     let own = cancels.clone()?;
     let run: CancelClosure = Box::new(alloc, move |_shown: Shown| counted_cancel(&own))?;
-    let cancel = store.add_cancel(CancelRoutine::new(CancelRule::MustFinish, run));
+    let cancel = CancelRoutine::new(CancelRule::MustFinish, run);
     let own = plans.clone()?;
     let run: DispatchClosure = Box::new(alloc, move |shown: Shown| counted_hold(&own, shown))?;
-    let plan = store.add_dispatch(Dispatch::new(ONE_CANCEL, run));
-    assert!(rt; watch.is_ok() && other.is_ok() && cancel.is_ok() && plan.is_ok());
-    let driver = store.add_driver([(READ, DispatchId(0))].to_vec(alloc)?);
-    assert!(rt; driver.is_ok());
-    let Ok(mut book) = Book::new(Manager::new(alloc, store, 1)) else {
-        return Err(Fail::from("a book"));
-    };
+    let dispatch = Dispatch::new(ONE_CANCEL, run);
+    let store = counting_store(alloc, watch, other, cancel, dispatch)?;
+    let mut book = counting_book(alloc, store)?;
     send_and_cancel(&rt, alloc, &mut book)?;
     let counts = [&plans, &cancels, &watches, &unmet];
     for (count, wanted) in counts.iter().zip([2, 2, 1, 0]) {

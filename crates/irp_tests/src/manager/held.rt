@@ -112,7 +112,11 @@ fn hold_and_finish<A: Ask>(rt: &impl Abort, alloc: Global, book: &mut Book<A>) -
     let steps: [(Call, Reply, &[Asked]); 18] = [
         (CREATE, Reply::Device(DEVICE), &[]),
         (ALLOCATE, Reply::Irp(IRP), &[]),
-        (finish(IRP, 1, CANCELLED, 0), refused(Refusal::NotSlotHeld), &[]),
+        (
+            finish(IRP, 1, CANCELLED, 0),
+            refused(Refusal::NotSlotHeld),
+            &[],
+        ),
         (fill(IRP, READ), Reply::Done, &[]),
         (set, Reply::Done, &[]),
         (send(IRP), Reply::Status(Status(259)), &held),
@@ -124,10 +128,22 @@ fn hold_and_finish<A: Ask>(rt: &impl Abort, alloc: Global, book: &mut Book<A>) -
         (ALLOCATE, Reply::Irp(SECOND), &[]),
         (fill(SECOND, READ), Reply::Done, &[]),
         (send(SECOND), Reply::Status(Status(259)), &second_held),
-        (finish(SECOND, 1, CANCELLED, 0), refused(Refusal::Stale), &[]),
-        (finish(SECOND, 2, Status(259), 0), refused(Refusal::BadStatus), &[]),
+        (
+            finish(SECOND, 1, CANCELLED, 0),
+            refused(Refusal::Stale),
+            &[],
+        ),
+        (
+            finish(SECOND, 2, Status(259), 0),
+            refused(Refusal::BadStatus),
+            &[],
+        ),
         (finish(SECOND, 2, Status::SUCCESS, 1), Reply::Done, &[]),
-        (Call::Look { irp: SECOND }, seen(Status::SUCCESS, 1, false), &[]),
+        (
+            Call::Look { irp: SECOND },
+            seen(Status::SUCCESS, 1, false),
+            &[],
+        ),
     ];
     let mut place_of_calls = Place::new(0);
     for place in 0..steps.len() {

@@ -34,6 +34,15 @@ struct Meeting {
     answered: AtomicBool,
 }
 
+impl Meeting {
+    const fn new() -> Meeting {
+        Meeting {
+            asked: AtomicBool::new(false),
+            answered: AtomicBool::new(false),
+        }
+    }
+}
+
 /// Waits until this is told. Whether it was, within the turns.
 fn waits(told: &AtomicBool) -> bool {
     for _ in 0..TURNS {
@@ -91,15 +100,18 @@ fn meets<A: Ask + Send, L: Session + Send + Sync, R: Threads + Wait + Sync>(
     rt: &R,
     shared: &Shared<A, L>,
     seat: Seat<L>,
-    locks: &Locks,
-    taker: RemoveSeat,
+    lock: RemoveLock,
     meeting: &Meeting,
-) -> (Seat<L>, Taken)
-    requires { IsSeatOf locks.now taker }
-{
+) -> (Seat<L>, Taken) {
+    let RemoveLock {
+        locks,
+        first: taker,
+        second: _,
+    } = lock;
+    let lent = &locks;
     let taking = move || -> Taken
-        requires { IsSeatOf locks.now taker }
-    { takes(locks, taker, meeting) };
+        requires { IsSeatOf lent.now taker }
+    { takes(lent, taker, meeting) };
     let sending = move || -> Seat<L> { sends(rt, shared, seat) };
     thread::join(rt, sending, taking)
 }
@@ -110,6 +122,7 @@ fn session<L: Session + Send + Sync, R: Threads + Wait + Sync>(
     alloc: Global,
     blank: Blank,
     store: Store,
+    lock: RemoveLock,
     meeting: &Meeting,
 ) -> Result<(Transcript, Taken), Fail>
     requires blank { (blank.name ≡ L.name) × (blank.parts ≡ L.parts) }
@@ -120,12 +133,7 @@ fn session<L: Session + Send + Sync, R: Threads + Wait + Sync>(
     let Some(seat) = seats.pop() else {
         return Err(Fail::from("a seat was asked for"));
     };
-    let RemoveLock {
-        locks,
-        first: taker,
-        second: _,
-    } = remove_lock(alloc)?;
-    let (seat, taken) = meets(rt, &shared, seat, &locks, taker, meeting);
+    let (seat, taken) = meets(rt, &shared, seat, lock, meeting);
     seats.push(seat)?;
     let Ok(transcript) = shared.close(seats) else {
         return Err(Fail::from("the seat kept what was recorded"));
@@ -133,48 +141,48 @@ fn session<L: Session + Send + Sync, R: Threads + Wait + Sync>(
     Ok((transcript, taken))
 }
 
+/// A store of one driver, with this dispatch for reads.
+fn store_of(alloc: Global, dispatch: Dispatch) -> Result<Store, Fail> {
+    let mut store = Store::new(alloc);
+    let dispatch = store.add_dispatch(dispatch).ok().ok_or("a dispatch")?;
+    let dispatches = [(READ, dispatch)].to_vec(alloc)?;
+    let _driver = store.add_driver(dispatches).ok().ok_or("a driver")?;
+    Ok(store)
+}
+
+const ANSWERED: Taken = Taken {
+    asked: true,
+    acquired: Ok(()),
+    released: Ok(()),
+};
+
+const MET: Plan = Plan::Finish {
+    status: Status::SUCCESS,
+    information: 1,
+};
+
 #[test]
 fn acquire_during_call(rt: HostRuntime) -> Result<(), Fail> {
     let alloc = rt.alloc();
-    let meeting = Arc::new(
-        alloc,
-        Meeting {
-            asked: AtomicBool::new(false),
-            answered: AtomicBool::new(false),
-        },
-    )?;
+    let meeting = Arc::new(alloc, Meeting::new())?;
     let own = meeting.clone()?;
     let run: DispatchClosure = Box::new(alloc, move |shown: Shown| plan_after(&own, shown))?;
-    let mut store = Store::new(alloc);
-    let Ok(dispatch) = store.add_dispatch(Dispatch::new(Known::NONE, run)) else {
-        return Err(Fail::from("a dispatch"));
-    };
-    let Ok(_driver) = store.add_driver([(READ, dispatch)].to_vec(alloc)?) else {
-        return Err(Fail::from("a driver"));
-    };
+    let store = store_of(alloc, Dispatch::new(Known::NONE, run))?;
+    let lock = remove_lock(alloc)?;
     let (transcript, taken) = session::<Brand, HostRuntime>(
         &rt,
         alloc,
         Blank::new(1),
         store,
+        lock,
         &meeting,
     )?;
-    let expected = Taken {
-        asked: true,
-        acquired: Ok(()),
-        released: Ok(()),
-    };
-    assert_eq!(rt; taken, expected);
-    let plan = Plan::Finish {
-        status: Status::SUCCESS,
-        information: 1,
-    };
-    let entries = [
-        entry(alloc, 0, 0, CREATE, Reply::Device(DEVICE)),
-        entry(alloc, 1, 0, ALLOCATE, Reply::Irp(IRP)),
-        entry(alloc, 2, 0, FILL, Reply::Done),
-        sending(alloc, 3, plan, Reply::Status(Status::SUCCESS))?,
+    assert_eq!(rt; taken, ANSWERED);
+    let expected = [
+        entry(0, 0, CREATE, Reply::Device(DEVICE)),
+        entry(1, 0, ALLOCATE, Reply::Irp(IRP)),
+        entry(2, 0, FILL, Reply::Done),
+        sending(3, MET, Reply::Status(Status::SUCCESS)),
     ];
-    has_entries(&rt, &transcript, &entries);
-    Ok(())
+    has_entries(&rt, alloc, &transcript, &expected)
 }

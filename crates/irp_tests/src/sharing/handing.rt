@@ -123,62 +123,93 @@ fn completes_elsewhere<L: Session + Send + Sync, R: Threads + Wait + Sync>(
 }
 
 /// One thread sends, the lock is removed, and another thread completes. Then each seat deletes the device.
+fn hands_over<L: Session + Send + Sync, R: Threads + Wait + Abort + Sync>(
+    rt: &R,
+    shared: &Shared<AnswerTable, L>,
+    lock: RemoveLock,
+    first: Seat<L>,
+    second: Seat<L>,
+) -> (Seat<L>, Seat<L>, HandedOver) {
+    let RemoveLock {
+        locks,
+        first: giver,
+        second: mut taker,
+    } = lock;
+    let (first, giver, acquired) = sends_elsewhere(rt, shared, &locks, first, giver);
+    assert_eq!(rt; acquired, Ok(()));
+    assert_eq!(rt; locks.acquire(&mut taker, LOCK, 2), Ok(()));
+    assert_eq!(rt; locks.begin_remove(&mut taker, LOCK, 2), Ok(()));
+    let second = deletes(rt, shared, second, &taker);
+    let (second, giver, taker, answers) = completes_elsewhere(
+        rt, shared, &locks, second, giver, taker,
+    );
+    let first = deletes(rt, shared, first, &giver);
+    let second = deletes(rt, shared, second, &taker);
+    (first, second, answers)
+}
+
+/// The seat deletes the device, with what the remove seat knows.
+fn deletes<L: Session>(
+    rt: &impl Wait,
+    shared: &Shared<AnswerTable, L>,
+    mut seat: Seat<L>,
+    remove: &RemoveSeat,
+) -> Seat<L> {
+    make(rt, shared, &mut seat, remove, &[DELETE]);
+    seat
+}
+
+/// The transcript of a session of two seats in which a reference is handed over.
 fn session<L: Session + Send + Sync, R: Threads + Wait + Abort + Sync>(
     rt: &R,
     alloc: Global,
     blank: Blank,
     ask: AnswerTable,
+    lock: RemoveLock,
 ) -> Result<(Transcript, HandedOver), Fail>
     requires blank { (blank.name ≡ L.name) × (blank.parts ≡ L.parts) }
     requires seats { (L.parts ≡ 2) × (L.seats ≡ 2) }
     requires fixed { L.fixed ≡ record { locks = 1; tables = ask.tables } }
 {
     let (shared, mut seats) = open::<AnswerTable, L>(alloc, blank, ask, 1, 2)?;
-    let (Some(mut second), Some(first)) = (seats.pop(), seats.pop()) else {
+    let (Some(second), Some(first)) = (seats.pop(), seats.pop()) else {
         return Err(Fail::from("two seats were asked for"));
     };
-    let RemoveLock {
-        locks,
-        first: giver,
-        second: mut taker,
-    } = remove_lock(alloc)?;
-    let (mut first, giver, acquired) = sends_elsewhere(rt, &shared, &locks, first, giver);
-    assert_eq!(rt; acquired, Ok(()));
-    assert_eq!(rt; locks.acquire(&mut taker, LOCK, 2), Ok(()));
-    assert_eq!(rt; locks.begin_remove(&mut taker, LOCK, 2), Ok(()));
-    make(rt, &shared, &mut second, &taker, &[DELETE]);
-    let (mut second, giver, taker, answers) = completes_elsewhere(
-        rt, &shared, &locks, second, giver, taker,
-    );
-    make(rt, &shared, &mut first, &giver, &[DELETE]);
-    make(rt, &shared, &mut second, &taker, &[DELETE]);
+    let (first, second, answers) = hands_over(rt, &shared, lock, first, second);
     let transcript = closed(shared, seats, first, second)?;
     Ok((transcript, answers))
 }
+
+const HANDED_OVER: HandedOver = HandedOver {
+    handed: Ok(()),
+    released_by_giver: Err(ReleaseRefusal::NotHeld),
+    busy: Err(DrainRefusal::Busy(3)),
+    released_by_taker: Ok(()),
+    drained: Ok(()),
+};
 
 #[test]
 fn another_thread_completes_with_the_reference(rt: HostRuntime) -> Result<(), Fail> {
     let alloc = rt.alloc();
     let ask = holds_reads(alloc)?;
-    let (transcript, answers) = session::<Brand, HostRuntime>(&rt, alloc, Blank::new(2), ask)?;
-    let handed_over = HandedOver {
-        handed: Ok(()),
-        released_by_giver: Err(ReleaseRefusal::NotHeld),
-        busy: Err(DrainRefusal::Busy(3)),
-        released_by_taker: Ok(()),
-        drained: Ok(()),
-    };
-    assert_eq!(rt; answers, handed_over);
+    let lock = remove_lock(alloc)?;
+    let (transcript, answers) = session::<Brand, HostRuntime>(
+        &rt,
+        alloc,
+        Blank::new(2),
+        ask,
+        lock,
+    )?;
+    assert_eq!(rt; answers, HANDED_OVER);
     let expected = [
-        entry(alloc, 0, 0, CREATE, Reply::Device(DEVICE)),
-        entry(alloc, 1, 0, ALLOCATE, Reply::Irp(IRP)),
-        entry(alloc, 2, 0, FILL, Reply::Done),
-        sending(alloc, 3, Plan::Hold { cancel: None }, PENDING)?,
-        deletion(alloc, 4, 1, false, IN_FLIGHT),
-        entry(alloc, 5, 1, COMPLETE, Reply::Done),
-        deletion(alloc, 6, 0, false, NOT_DRAINED),
-        deletion(alloc, 7, 1, true, Reply::Done),
+        entry(0, 0, CREATE, Reply::Device(DEVICE)),
+        entry(1, 0, ALLOCATE, Reply::Irp(IRP)),
+        entry(2, 0, FILL, Reply::Done),
+        sending(3, Plan::Hold { cancel: None }, PENDING),
+        deletion(4, 1, false, IN_FLIGHT),
+        entry(5, 1, COMPLETE, Reply::Done),
+        deletion(6, 0, false, NOT_DRAINED),
+        deletion(7, 1, true, Reply::Done),
     ];
-    has_entries(&rt, &transcript, &expected);
-    Ok(())
+    has_entries(&rt, alloc, &transcript, &expected)
 }

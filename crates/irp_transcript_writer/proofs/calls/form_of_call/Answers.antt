@@ -9,3 +9,7 @@ returns-in-Attach c =
 pub returns-in-Reuse : goal.returns-in-Reuse
 returns-in-Reuse c =
     rw c.in-Reuse.is (MatchResult-weaker c.form_of_reuse.result c.form_of_reuse.ensures (λ value form. form c.args.lock c.args.drained) (λ _ _. tt))
+
+pub returns-in-FinishTaken : goal.returns-in-FinishTaken
+returns-in-FinishTaken c =
+    rw c.in-FinishTaken.is (MatchResult-weaker c.form_of_finish_taken.result c.form_of_finish_taken.ensures (λ value form. form c.args.lock c.args.drained) (λ _ _. tt))
