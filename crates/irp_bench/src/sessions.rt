@@ -12,7 +12,7 @@ use crate::fault::Fault;
 use crate::packets::{Packet, READ, repeat, set_up};
 use irp_manager::{KnowsNothing, Manager, NotRecorded};
 use irp_routines::{Ask, Dispatch, Routine, Store};
-use irp_shared::{Seat, Session, Shared, Transcript, open};
+use irp_shared::{Seat, Session, Shared, Transcript, needs_token, open};
 use irp_types::{Answer, Call, Known, Plan, Reply, RoutineId, Rule, Setting, Shown, Status};
 use std::alloc::Global;
 use std::marker::Brand;
@@ -79,6 +79,9 @@ impl<R: Wait, A: Ask, L: Session> Caller for Recorder<'_, R, A, L> {
     ghost makes = { λ old call reply new. Keeps old.seat call reply new.seat };
 
     fn reply_to(&mut self, call: Call) -> Result<Reply, Fault> {
+        if needs_token(call) {
+            return Err(Fault::Failed);
+        }
         let made = self
             .shared
             .call(self.rt, &mut self.seat, call, &KnowsNothing);

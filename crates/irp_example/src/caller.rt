@@ -6,7 +6,7 @@ ghost use Rattle.irp_remove.specs.Pairing.{IsSeatOf};
 use crate::drivers::{DISK_DRIVER, FILTER_DRIVER, READ};
 use irp_remove::{Locks, RemoveSeat};
 use irp_routines::Ask;
-use irp_shared::{Seat, Session, Shared};
+use irp_shared::{Seat, Session, Shared, needs_token};
 use irp_types::{Call, DeviceId, LockNo, Party, Reply};
 use std::sync::Wait;
 
@@ -79,6 +79,9 @@ impl<'a, L: Session> Caller<'a, L> {
 
     /// Makes a call, with what it knows of the lock. The reply, or none where the call wasn't recorded.
     fn call<A: Ask>(&mut self, rt: &impl Wait, shared: &Shared<A, L>, call: Call) -> Option<Reply> {
+        if needs_token(call) {
+            return None;
+        }
         match shared.call(rt, &mut self.seat, call, &self.remove) {
             Ok(receipt) => Some(receipt.reply()),
             Err(_) => None,

@@ -9,7 +9,7 @@ use crate::removes::Removes;
 use crate::tried::{Halt, Tried};
 use irp_manager::{DrainNote, KnowsNothing};
 use irp_routines::Ask;
-use irp_shared::{OpenRefused, Seat, Session, Shared, Transcript, open};
+use irp_shared::{OpenRefused, Seat, Session, Shared, Transcript, needs_token, open};
 use irp_types::{Call, Reply};
 use std::alloc::Global;
 use std::sync::Wait;
@@ -36,6 +36,9 @@ fn called<A: Ask, L: Session, N: DrainNote>(
     note: &N,
     number: u64,
 ) -> Result<Reply, Lack> {
+    if needs_token(call) {
+        return Err(Lack::Wrong("only a token finishes a packet"));
+    }
     let before = (seat.count(), seat.seen());
     let made = shared.call(rt, seat, call, note);
     told(made, number, (seat.count(), seat.seen()) == before)

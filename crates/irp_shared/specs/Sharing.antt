@@ -1,10 +1,28 @@
 -- What a call makes of a seat.
-use Rattle.std.specs.Prelude.{◌≡◌, ◌+◌, Bool, List, [], ◌∷◌, ◌++◌, length}
+use Rattle.std.specs.Prelude.{◌≡◌, ◌+◌, Bool, true, false, if◌then◌else◌, Option, Some, None, List, [], ◌∷◌, ◌++◌, length}
 use Rattle.irp_types.specs.declared.names.LockNo.{LockNo}
 use Rattle.irp_types.specs.declared.call.Call.{Call}
+use Rattle.irp_types.specs.declared.call.Call.TheVariants.{FinishTaken}
+use Rattle.irp_types.specs.declared.reply.Reply.{Reply}
+use Rattle.irp_types.specs.declared.reply.Reply.TheVariants as reply
+use Rattle.irp_slots.specs.declared.answers.Token.{Token}
 use Rattle.irp_types.specs.declared.entry.Entry.{Entry}
 use Rattle.irp_manager.specs.Seats.{Seated}
 use Rattle.irp_manager.specs.Booked.{Receipted, IsCallOf}
+
+-- a call that only who has a token may make
+abbrev pub needs_token : Call → Bool
+needs_token (FinishTaken irp token status information) = true
+needs_token other = false
+
+-- whether a reply is Done
+abbrev pub is_done : Reply → Bool
+is_done reply.Done = true
+is_done other = false
+
+-- the token that comes back: none where the packet was finished
+abbrev pub given_back : Reply → Token → Option Token
+given_back answered token = if is_done answered then None else Some token
 
 -- the seat has one entry more, this one, and has seen it and all before it
 pub record Keeps (entry : Entry) (old new : Seated) : Type 0 where

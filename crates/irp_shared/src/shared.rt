@@ -1,13 +1,15 @@
 //! A book that threads share.
 
-ghost use Rattle.std.specs.Prelude.{◌≡◌, ◌<◌, ◌+◌, [], ℕ, if◌then◌else◌, nat_lt, vec_len, slice_get, Some, IfSome, IfOk, OnErr, Err, Option};
+ghost use Rattle.std.specs.Prelude.{◌≡◌, ◌<◌, ◌+◌, [], ℕ, if◌then◌else◌, nat_lt, vec_len, slice_get, Some, IfSome, IfOk, IfErr, OnErr, Err, Option, false};
 ghost use mathlib.Core.Logic.{◌↔◌};
 ghost use Rattle.irp_types.specs.State.{Fixed};
 ghost use Rattle.irp_types.specs.declared.entry.Entry.{Entry};
 ghost use Rattle.irp_manager.specs.Seats.{Seated};
 ghost use Rattle.irp_manager.specs.declared.not_recorded.NotRecorded.TheVariants.{Behind};
 ghost use Rattle.irp_shared.specs.Opening.{IsBadCount, IsGoodCount, AreNew};
-ghost use Rattle.irp_shared.specs.Sharing.{Called, IsAsBefore};
+ghost use Rattle.irp_types.specs.declared.call.Call.TheVariants.{FinishTaken};
+ghost use Rattle.irp_slots.specs.declared.answers.Token.{Token};
+ghost use Rattle.irp_shared.specs.Sharing.{Called, IsAsBefore, needs_token, is_done, given_back};
 ghost use Rattle.irp_shared.specs.Headers.{fixed_of};
 ghost use Rattle.irp_shared.specs.Closing.{AllHere, Kept, Closes, entry_at};
 ghost use Rattle.irp_shared.specs.declared.open_refused.OpenRefused.TheVariants.{BadCount};
@@ -20,9 +22,10 @@ use crate::mismatch::Mismatch;
 use crate::open_refused::OpenRefused;
 use crate::session::Session;
 use crate::transcript::Transcript;
-use irp_manager::{Book, DrainNote, Manager, NotRecorded, Receipt, Recorded, Seat};
+use irp_manager::{Book, DrainNote, KnowsNothing, Manager, NotRecorded, Receipt, Recorded, Seat};
 use irp_routines::{Ask, FixedTables, Parts};
-use irp_types::{Call, Entry, Row, history_completes_once};
+use irp_slots::Token;
+use irp_types::{Call, Entry, IrpRef, Reply, Row, Status, history_completes_once};
 use std::alloc::Global;
 use std::sync::ledger::{Blank, Ledger, Share};
 use std::sync::{Mutex, Wait};
@@ -93,8 +96,8 @@ pub fn open<A: Ask + Drop, L: Session>(
 }
 
 impl<A: Ask, L: Session> Shared<A, L> {
-    /// Makes a call in a seat that was opened with this book, and records it. The seat keeps a copy of the entry, which
-    /// the receipt tells of, and has seen up to it. The entry's number is at least what the seat had seen. Its `drained` is
+    /// Makes a call in a seat that was opened with this book, and records it, on condition that it needs no token (for that
+    /// there is `finish_taken`). The seat keeps a copy of the entry, which the receipt tells of, and has seen up to it. The entry's number is at least what the seat had seen. Its `drained` is
     /// what the note knows of the entry's lock, and true where a deletion is answered Done.
     ///
     /// It waits for its turn. All growths come before anything is asked; room for the seat's entry comes before its turn, and
@@ -112,6 +115,61 @@ impl<A: Ask, L: Session> Shared<A, L> {
         call: Call,
         note: &N,
     ) -> Result<Receipt, NotRecorded>
+        requires free { needs_token call ≡ false }
+        ensures called { IfOk result (λ receipt. Called seat.old call (N.knows_drained note.now) receipt seat.new) }
+        ensures err { OnErr result (IsAsBefore seat.old seat.new) }
+        ensures behind { (told : ℕ) → result ≡ Err (Behind told) → told < seat.old.seen }
+    {
+        self.record(rt, seat, call, note)
+    }
+
+    /// Completes a packet that was taken from a cancel slot, with the token that was taken there, in a seat that was opened
+    /// with this book, and records it, as `call` does. A packet that is finished spends the token; with every other reply
+    /// the token comes back (this project's own call).
+    ///
+    /// It waits for its turn. All growths come before anything is asked, as in `call`.
+    ///
+    /// # Errors
+    ///
+    /// Those of `call`, with the token. The seat stays as it was, and nothing is recorded.
+    pub fn finish_taken(
+        &self,
+        rt: &impl Wait,
+        seat: &mut Seat<L>,
+        irp: IrpRef,
+        token: Token,
+        status: Status,
+        information: u64,
+    ) -> Result<(Receipt, Option<Token>), (NotRecorded, Token)>
+        ensures called { IfOk result (λ finished. Called seat.old (FinishTaken irp token.use_no status information) (λ lock. false) finished.0 seat.new) }
+        ensures spent { IfOk result (λ finished. finished.1 ≡ given_back finished.0.reply token) }
+        ensures err { IfErr result (λ error. IsAsBefore seat.old seat.new × (error.1 ≡ token)) }
+        ensures behind { (told : ℕ) (back : Token) → result ≡ Err (Behind told, back) → told < seat.old.seen }
+    {
+        let call = Call::FinishTaken {
+            irp,
+            token: token.use_no(),
+            status,
+            information,
+        };
+        match self.record(rt, seat, call, &KnowsNothing) {
+            Err(error) => Err((error, token)),
+            Ok(receipt) => {
+                if is_done(receipt.reply()) {
+                    return Ok((receipt, None));
+                }
+                Ok((receipt, Some(token)))
+            }
+        }
+    }
+
+    fn record<N: DrainNote>(
+        &self,
+        rt: &impl Wait,
+        seat: &mut Seat<L>,
+        call: Call,
+        note: &N,
+    ) -> Result<Receipt, NotRecorded>
         ensures called { IfOk result (λ receipt. Called seat.old call (N.knows_drained note.now) receipt seat.new) }
         ensures err { OnErr result (IsAsBefore seat.old seat.new) }
         ensures behind { (told : ℕ) → result ≡ Err (Behind told) → told < seat.old.seen }
@@ -121,6 +179,21 @@ impl<A: Ask, L: Session> Shared<A, L> {
         }
         self.lock.lock(rt).call(seat, call, note)
     }
+}
+
+/// Whether only who has a token may make a call: whether it finishes a packet that was taken from a cancel slot (this
+/// project's own rule).
+pub fn needs_token(call: Call) -> bool
+    ensures { result ≡ needs_token call }
+{
+    matches!(call, Call::FinishTaken { .. })
+}
+
+/// Whether a reply is Done.
+fn is_done(reply: Reply) -> bool
+    ensures { result ≡ is_done reply }
+{
+    matches!(reply, Reply::Done)
 }
 
 /// A seat that is told of a receipt has seen its entry, and all before it. A receipt of another session may be learned

@@ -9,7 +9,7 @@ ghost use Rattle.irp_remove.specs.Pairing.{IsSeatOf};
 use irp_manager::DrainNote;
 use irp_remove::{Locks, RemoveSeat};
 use irp_routines::{AnswerTable, Ask};
-use irp_shared::{Seat, Session, Shared, Transcript, open};
+use irp_shared::{Seat, Session, Shared, Transcript, needs_token, open};
 use irp_types::{
     Asked, Call, DeviceId, DispatchId, DriverId, Entry, IrpRef, Known, LockNo, Party, Plan,
     Refusal, Reply, Row, Shown, Status,
@@ -115,7 +115,9 @@ fn make<A: Ask, L: Session, N: DrainNote>(
     calls: &[Call],
 ) {
     for call in calls {
-        let _ = shared.call(rt, seat, *call, note);
+        if !needs_token(*call) {
+            let _ = shared.call(rt, seat, *call, note);
+        }
     }
 }
 

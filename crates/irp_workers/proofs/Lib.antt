@@ -6,3 +6,4 @@ pub mod Places
 pub mod Telling
 pub mod Together
 pub mod Working
+pub mod Tokenless

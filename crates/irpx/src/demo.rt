@@ -1,6 +1,7 @@
 //! The demonstration: one device and one packet, from the first call to the printed history.
 
-ghost use Rattle.std.specs.Prelude.{◌≡◌, [], ◌∷◌, ◌++◌, IfSome};
+ghost use Rattle.std.specs.Prelude.{◌≡◌, [], ◌∷◌, ◌++◌, IfSome, false};
+ghost use Rattle.irp_shared.specs.Sharing.{needs_token};
 ghost use Rattle.irp_transcript_writer.specs.Out.{risen};
 ghost use Rattle.irpx.specs.Demo.{calls_of, AreDemoCalls, IsDemoTranscript, WritesLegal, BeginsLegal};
 ghost use Rattle.irpx.specs.declared.ending.Ending.TheVariants.{Done, OtherWords, Failed};
@@ -31,6 +32,7 @@ fn call<A: Ask, L: Session>(
     seat: &mut Seat<L>,
     call: Call,
 ) -> Option<Reply>
+    requires { needs_token call ≡ false }
     ensures seat { seat.new.number ≡ seat.old.number }
     ensures calls { IfSome result (λ reply. calls_of seat.new.entries ≡ calls_of seat.old.entries ++ (seat.old.number, call) ∷ []) }
 {
