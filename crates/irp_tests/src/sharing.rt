@@ -19,29 +19,29 @@ use std::process::Abort;
 use std::sync::Wait;
 use std::test::Fail;
 
-const READ: u8 = 0x03;
+pub(crate) const READ: u8 = 0x03;
 
 const LOCK: LockNo = LockNo(0);
 
-const DEVICE: DeviceId = DeviceId(0);
+pub(crate) const DEVICE: DeviceId = DeviceId(0);
 
-const IRP: IrpRef = IrpRef { slot: 0, use_no: 1 };
+pub(crate) const IRP: IrpRef = IrpRef { slot: 0, use_no: 1 };
 
-const CREATE: Call = Call::CreateDevice {
+pub(crate) const CREATE: Call = Call::CreateDevice {
     driver: DriverId(0),
     lock: LOCK,
 };
 
-const ALLOCATE: Call = Call::Allocate { size: 1 };
+pub(crate) const ALLOCATE: Call = Call::Allocate { size: 1 };
 
-const FILL: Call = Call::SetNext {
+pub(crate) const FILL: Call = Call::SetNext {
     party: Party::Originator,
     irp: IRP,
     major: READ,
     word: 7,
 };
 
-const SEND: Call = Call::CallDriver {
+pub(crate) const SEND: Call = Call::CallDriver {
     party: Party::Originator,
     irp: IRP,
     target: DEVICE,
@@ -53,10 +53,10 @@ const IN_FLIGHT: Reply = Reply::Refused(Refusal::InFlight);
 
 const NOT_DRAINED: Reply = Reply::Refused(Refusal::NotDrained);
 
-const PENDING: Reply = Reply::Status(Status::PENDING);
+pub(crate) const PENDING: Reply = Reply::Status(Status::PENDING);
 
 /// What the dispatch is shown of the packet that is sent.
-const SHOWN: Shown = Shown {
+pub(crate) const SHOWN: Shown = Shown {
     device: Some(DEVICE),
     irp: IRP,
     major: READ,
@@ -107,7 +107,7 @@ fn holds_reads(alloc: Global) -> Result<AnswerTable, Fail> {
 }
 
 /// The seat makes the calls. What they are answered is told by the transcript.
-fn make<A: Ask, L: Session, N: DrainNote>(
+pub(crate) fn make<A: Ask, L: Session, N: DrainNote>(
     rt: &impl Wait,
     shared: &Shared<A, L>,
     seat: &mut Seat<L>,
@@ -122,7 +122,7 @@ fn make<A: Ask, L: Session, N: DrainNote>(
 }
 
 /// The transcript of a session with these two seats.
-fn closed<A: Drop, L: Session>(
+pub(crate) fn closed<A: Drop, L: Session>(
     shared: Shared<A, L>,
     room: Vec<Seat<L>>,
     first: Seat<L>,
