@@ -96,9 +96,12 @@ pub fn open<A: Ask + Drop, L: Session>(
 }
 
 impl<A: Ask, L: Session> Shared<A, L> {
-    /// Makes a call in a seat that was opened with this book, and records it, on condition that it needs no token (for that
-    /// there is `finish_taken`). The seat keeps a copy of the entry, which the receipt tells of, and has seen up to it. The entry's number is at least what the seat had seen. Its `drained` is
-    /// what the note knows of the entry's lock, and true where a deletion is answered Done.
+    /// Makes a call in a seat that was opened with this book, and records it, on condition that the call needs no token: a
+    /// packet that was taken from a cancel slot is finished by `finish_taken`.
+    ///
+    /// The seat keeps a copy of the entry, which the receipt tells of, and has seen up to it. The entry's number is at least
+    /// what the seat had seen. Its `drained` is what the note knows of the entry's lock, and true where a deletion is
+    /// answered Done.
     ///
     /// It waits for its turn. All growths come before anything is asked; room for the seat's entry comes before its turn, and
     /// room for the questions in it comes in its turn, when it is known how many can be asked.
@@ -181,8 +184,8 @@ impl<A: Ask, L: Session> Shared<A, L> {
     }
 }
 
-/// Whether only who has a token may make a call: whether it finishes a packet that was taken from a cancel slot (this
-/// project's own rule).
+/// Whether a call needs a token: true of a `FinishTaken` alone, which finishes a packet that was taken from a cancel slot
+/// (this project's own rule).
 pub fn needs_token(call: Call) -> bool
     ensures { result ≡ needs_token call }
 {
