@@ -13,7 +13,7 @@ use Rattle.irp_manager.specs.Seats.{Seated}
 use Rattle.irp_shared.specs.Transcripts.{TranscriptValue, no_lines}
 use Rattle.irp_transcript_reader.specs.Reading.{ReadsFrom, cut}
 use Rattle.irp_bench.specs.declared.packets.Packet.{Packet}
-use Rattle.irp_bench.specs.declared.packets.Packet.TheVariants.{Round, Unsent, Sent}
+use Rattle.irp_bench.specs.declared.packets.Packet.TheVariants.{Round, Unused, Unsent, Sent}
 
 -- what a call with its reply makes of a caller
 abbrev pub Making : Type 0 → Type 1
@@ -28,6 +28,8 @@ Makes {C} making (step ∷ rest) old new = (next : C) × making old step.0 step.
 abbrev pub MakesPacket : {C : Type 0} → Making C → Packet → C → C → Type 0
 MakesPacket making Round old new = (irp : IrpRef) × (completed again : Refusal)
     × Makes making ((Allocate 1, Irp irp) ∷ (Complete Originator irp pending 0, Refused completed) ∷ (Free irp, Done) ∷ (Free irp, Refused again) ∷ []) old new
+MakesPacket making Unused old new = (irp : IrpRef)
+    × Makes making ((Allocate 16, Irp irp) ∷ (Free irp, Done) ∷ []) old new
 MakesPacket making Unsent old new = (irp : IrpRef)
     × Makes making ((Allocate 16, Irp irp) ∷ (SetNext Originator irp 0x03 7, Done) ∷ (Free irp, Done) ∷ []) old new
 MakesPacket making (Sent target) old new = (irp : IrpRef)

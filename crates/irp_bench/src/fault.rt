@@ -23,7 +23,7 @@ impl Fault {
         match self {
             Fault::NotLegal => (2, "a transcript was not judged legal"),
             Fault::Memory => (3, "out of memory"),
-            Fault::Usage => (4, "usage: irp_bench [locks|calls|write|read|check]"),
+            Fault::Usage => (4, "usage: irp_bench [locks|slots|calls|write|read|check]"),
             Fault::Failed => (5, "the clock, the output or a call failed"),
         }
     }

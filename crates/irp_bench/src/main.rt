@@ -1,4 +1,4 @@
-//! The program: times what the calls of remove locks and of the manager cost, the texts of transcripts, and their judging.
+//! The program: times what the calls of remove locks, of cancel slots and of the manager cost, the texts of transcripts, and their judging.
 #![tactic(auto)]
 
 mod caller;
@@ -7,6 +7,7 @@ mod fault;
 mod locks;
 mod packets;
 mod sessions;
+mod slots;
 mod table;
 mod texts;
 

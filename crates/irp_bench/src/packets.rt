@@ -18,9 +18,11 @@ pub const READ: u8 = 0x03;
 pub enum Packet {
     /// It is allocated with one location, a completion is refused, it is given back, and giving it back again is refused.
     Round,
-    /// It is allocated with 16 locations, filled with a read, and given back.
+    /// It is allocated with 16 locations, and given back.
+    Unused,
+    /// The same, but that it is filled with a read before it is given back.
     Unsent,
-    /// The same, but that it is sent to this device before it is given back.
+    /// The same, but that it is filled with a read and sent to this device before it is given back.
     Sent(DeviceId),
 }
 
@@ -91,6 +93,16 @@ fn fill(irp: IrpRef) -> Call
     }
 }
 
+/// Makes the calls of `Packet::Unused`.
+fn unused<C: Caller>(caller: &mut C) -> Result<(), Fault>
+    requires { C.is_ready caller.old }
+    ensures ready { C.is_ready caller.new }
+    ensures made { IfOk result (λ _. MakesPacket C.makes Packet.Unused caller.old caller.new) }
+{
+    let irp = allocate(caller, 16)?;
+    done(caller, Call::Free { irp })
+}
+
 /// Makes the calls of `Packet::Unsent`.
 fn unsent<C: Caller>(caller: &mut C) -> Result<(), Fault>
     requires { C.is_ready caller.old }
@@ -126,6 +138,7 @@ fn make<C: Caller>(caller: &mut C, packet: Packet) -> Result<(), Fault>
 {
     match packet {
         Packet::Round => round(caller),
+        Packet::Unused => unused(caller),
         Packet::Unsent => unsent(caller),
         Packet::Sent(target) => sent(caller, target),
     }

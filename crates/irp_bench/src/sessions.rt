@@ -252,18 +252,19 @@ pub fn do_work<R: Threads + Wait + Sync + Clock + AllocGlobal>(
 /// How many packets are timed, by each caller. A history has at most 1,000,000 entries.
 const PACKETS: u32 = 20_000;
 
-/// Times what is done with packets, in a stack of so many devices.
+/// Times what is done with packets, in a stack of so many devices, while so many packets are live.
 pub fn packets<R: Threads + Wait + Sync + Clock + AllocGlobal>(
     rt: &R,
     packet: Packet,
     devices: u32,
+    live: u32,
     seats: Option<u32>,
 ) -> Result<Done, Fault> {
     let work = Work {
         packet,
         count: PACKETS,
         devices,
-        live: 1,
+        live,
         seats,
     };
     Ok(Done::new(PACKETS, 0, do_work(rt, work)?.taken))

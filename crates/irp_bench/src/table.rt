@@ -5,6 +5,7 @@ use crate::fault::Fault;
 use crate::locks::{acquire_and_release, add_and_subtract};
 use crate::packets::Packet;
 use crate::sessions::packets;
+use crate::slots::{Pair, pairs_on_slots};
 use crate::texts::{Sample, Task, perform, record_sample};
 use irp_types::DeviceId;
 use std::rt::Clock;
@@ -14,13 +15,16 @@ use std::thread::Threads;
 /// How often each load is timed. The least time counts, since what else runs on the machine only adds to it.
 const ROUNDS: u32 = 5;
 
-/// What is timed, for a number: of threads, of devices or of entries. The names in the table tell what each is.
+/// What is timed, for a number: of threads, slots, live packets, devices or entries. The names in the table tell which.
 #[derive(Clone, Copy)]
 enum Load {
     Lock,
     Word,
+    Slot(Pair),
     Rounds,
     RecordedRounds,
+    Unused,
+    RecordedUnused,
     Unsent,
     Sent,
     RecordedUnsent,
@@ -40,7 +44,7 @@ struct Row {
 }
 
 /// All that the program times, in this order.
-const TABLE: [Row; 7] = [
+const TABLE: [Row; 10] = [
     Row {
         word: "locks",
         name: "acquire and release, threads",
@@ -50,12 +54,36 @@ const TABLE: [Row; 7] = [
         numbers: &[1, 4],
     },
     Row {
+        word: "slots",
+        name: "publish and withdraw, slots",
+        load: Load::Slot(Pair::Withdrawn),
+        beside_name: "two swaps and a fetch-or",
+        beside: Load::Slot(Pair::Bare),
+        numbers: &[64],
+    },
+    Row {
+        word: "slots",
+        name: "publish and request, slots",
+        load: Load::Slot(Pair::Requested),
+        beside_name: "two swaps and a fetch-or",
+        beside: Load::Slot(Pair::Bare),
+        numbers: &[64],
+    },
+    Row {
         word: "calls",
         name: "four recorded calls, threads",
         load: Load::RecordedRounds,
         beside_name: "four calls by the manager alone",
         beside: Load::Rounds,
         numbers: &[1, 4],
+    },
+    Row {
+        word: "calls",
+        name: "a packet allocated and given back, live packets",
+        load: Load::Unused,
+        beside_name: "recorded",
+        beside: Load::RecordedUnused,
+        numbers: &[1, 4_096],
     },
     Row {
         word: "calls",
@@ -106,16 +134,20 @@ fn run<R: Threads + Wait + Sync + Clock + AllocGlobal>(
     number: u32,
     sample: Option<&Sample>,
 ) -> Result<Done, Fault> {
-    let sent = Packet::Sent(DeviceId(number.saturating_sub(1)));
+    let below = number.saturating_sub(1);
+    let sent = Packet::Sent(DeviceId(below));
     match load {
         Load::Lock => acquire_and_release(rt, number),
         Load::Word => add_and_subtract(rt, number),
-        Load::Rounds => packets(rt, Packet::Round, 0, None),
-        Load::RecordedRounds => packets(rt, Packet::Round, 0, Some(number)),
-        Load::Unsent => packets(rt, Packet::Unsent, number, None),
-        Load::Sent => packets(rt, sent, number, None),
-        Load::RecordedUnsent => packets(rt, Packet::Unsent, number, Some(1)),
-        Load::RecordedSent => packets(rt, sent, number, Some(1)),
+        Load::Slot(pair) => pairs_on_slots(rt, pair, number),
+        Load::Rounds => packets(rt, Packet::Round, 0, 1, None),
+        Load::RecordedRounds => packets(rt, Packet::Round, 0, 1, Some(number)),
+        Load::Unused => packets(rt, Packet::Unused, 0, below, None),
+        Load::RecordedUnused => packets(rt, Packet::Unused, 0, below, Some(1)),
+        Load::Unsent => packets(rt, Packet::Unsent, number, 1, None),
+        Load::Sent => packets(rt, sent, number, 1, None),
+        Load::RecordedUnsent => packets(rt, Packet::Unsent, number, 1, Some(1)),
+        Load::RecordedSent => packets(rt, sent, number, 1, Some(1)),
         Load::Text(task) => match sample {
             Some(sample) => perform(rt, rt.alloc(), task, sample),
             None => Err(Fault::Failed),
