@@ -6,4 +6,4 @@ use Rattle.irpx.proofs.checking.text_of.Goals as goal
 pub returns-in-Ok-clause-ok : goal.returns-in-Ok-clause-ok
 returns-in-Ok-clause-ok g c =
     let few : length c.in-Ok.text.items ≤ 1073741824 = search rules in
-    record { few = few; whole = all_read 1073741824 c.in-Ok.text.items (g.R.Read.remaining c.args.input.now) few c.in-Ok.ensures.bytes }
+    record { few = few; whole = all_read 1073741824 c.in-Ok.text.items (g.R.Read.remaining c.args.input.now) few c.in-Ok.ensures.bytes; took = c.in-Ok.ensures.took }

@@ -66,7 +66,7 @@ nothing_begins gone = record {
 }
 
 pub returns-in_default-clause-begins : goal.returns-in_default-clause-begins
-returns-in_default-clause-begins g c other = nothing_begins _
+returns-in_default-clause-begins g c = nothing_begins _
 
 pub returns-in_default-transcript-clause-begins : goal.returns-in_default-transcript-clause-begins
-returns-in_default-transcript-clause-begins g c other = nothing_begins _
+returns-in_default-transcript-clause-begins g c = nothing_begins _
