@@ -37,7 +37,8 @@ impl Slots {
             return Publication::Used;
         }
         self.swap_in(owner, irp.use_no);
-        if self.finds_flag_clear(owner) {
+        let clear = self.finds_flag_clear(owner);
+        if clear {
             return Publication::Standing;
         }
         match self.take_back(owner) {

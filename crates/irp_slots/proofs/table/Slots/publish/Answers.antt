@@ -9,10 +9,10 @@ returns-in-None-clause-steps c =
     let before = c.args.owner.now.owning in
     let number = c.args.irp.use_no in
     let posted = c.swap_in.ensures.owning in
-    let same = c.finds_flag_clear.ensures.owning
-    ∙ (ap (λ (b : Bool). owning_checked b c.swap_in.new.owner.owning) c.if-finds_flag_clear.false ∙ posted) in (
+    let same = c.finds_flag_clear-clear.ensures.owning
+    ∙ (ap (λ (b : Bool). owning_checked b c.swap_in.new.owner.owning) c.if-clear.false ∙ posted) in (
       subst (λ (o : Owning). SwappedIn number before o) posted c.swap_in.ensures.step,
       subst (λ (o : Owning). ReadFlag 1 o (owning_published number before)) posted
-          (subst (λ (o : Owning). ReadFlag 1 c.swap_in.new.owner.owning o) same (c.finds_flag_clear.ensures.set c.if-finds_flag_clear.false)),
+          (subst (λ (o : Owning). ReadFlag 1 c.swap_in.new.owner.owning o) same (c.finds_flag_clear-clear.ensures.set c.if-clear.false)),
       subst (λ (o : Owning). SwappedOut 0 o c.take_back.new.owner.owning) same c.in-None.ensures.missed.1,
     )
