@@ -76,11 +76,11 @@ fn text_of<R: Read>(alloc: Global, input: &mut R) -> Result<Vec<u8>, InputFault>
     ensures ok { IfOk result (λ text. IsInput (R.remaining input.old) (R.remaining input.new) text.items) }
     ensures took { TakesAtMost most_taken (R.remaining input.old) (R.remaining input.new) }
 {
-    match read_up_to(alloc, input, MOST_BYTES + 1) {
-        Ok(text) if text.len() <= MOST_BYTES => Ok(text),
-        Ok(_) => Err(InputFault::Failed),
-        Err(fault) => Err(fault),
+    let text = read_up_to(alloc, input, MOST_BYTES + 1)?;
+    if text.len() > MOST_BYTES {
+        return Err(InputFault::Failed);
     }
+    Ok(text)
 }
 
 /// The verdict on the transcript of this text. The fault where the text is refused, or memory ran out.

@@ -140,8 +140,5 @@ pub fn demo<O: Out>(rt: &impl Wait, alloc: Global, output: &mut O) -> Result<(),
     let Some(transcript) = transcript(rt, alloc, dispatch) else {
         return Err(Unwritten::NoMemory);
     };
-    match write(alloc, output, &transcript) {
-        Ok(()) => Ok(()),
-        Err(fault) => Err(fault),
-    }
+    write(alloc, output, &transcript)
 }

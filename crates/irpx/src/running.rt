@@ -3,6 +3,7 @@
 ghost use Rattle.std.specs.Prelude.{IfErr, IfOk, ◌≡◌, ◌<◌, false, map, true};
 ghost use Rattle.irp_types.specs.Rules.{is_allowed, is_plan_allowed};
 ghost use Rattle.irp_routines.specs.Guarded.{guarded_answer, guarded_plan};
+ghost use Rattle.irp_shared.specs.Transcripts.{IsTranscript};
 ghost use Rattle.irp_workers.specs.Behaviours.{answer_of, plan_of};
 ghost use Rattle.irp_workers.specs.Numbers.{EachAsOften};
 ghost use Rattle.irpx.specs.Input.{TakesAtMost};
@@ -23,7 +24,7 @@ use crate::input::{InputFault, read_up_to};
 use crate::writing::{Unwritten, write};
 use irp_routines::{CancelRoutine, Dispatch, Routine, Store, guarded_answer, guarded_plan};
 use irp_script_reader::{CompletionRoutine, Script, ScriptFault, ScriptRefusal, read_script};
-use irp_shared::{Seat, Session, Transcript, TranscriptParts, open};
+use irp_shared::{Seat, Session, Transcript, WordLine, open};
 use irp_transcript_writer::Out;
 use irp_types::{Answer, Known, Plan, Row, Shown};
 use irp_workers::{
@@ -74,6 +75,16 @@ pub enum Unrun {
     /// Memory ran out.
     #[error("memory ran out")]
     NoMemory,
+}
+
+impl From<AllocError> for Unrun {
+    ghost use Rattle.irpx.specs.declared.running.Unrun.TheVariants.{NoMemory};
+
+    ghost from_gives = { λ _ unrun. unrun ≡ NoMemory };
+
+    fn from(_error: AllocError) -> Unrun {
+        Unrun::NoMemory
+    }
 }
 
 /// Why a script that was read wasn't run to its end, or its transcript not written whole.
@@ -196,6 +207,21 @@ fn seats_of<L: Session>(
     Ok(seats)
 }
 
+/// The transcript with these word lines in place of its own. `ReceiptsDiffer` where it has no header.
+fn with_words(transcript: Transcript, words: Vec<WordLine>) -> Result<Transcript, Unrun>
+    ensures made { IfOk result (λ made. made ≡ record transcript { words = words.items }) }
+    ensures accepted { IfOk result IsTranscript }
+{
+    transcript.is_one();
+    let parts = transcript.into_parts();
+    let Some(header) = parts.header else {
+        return Err(Unrun::ReceiptsDiffer);
+    };
+    let transcript = Transcript::new(header, parts.entries, Row::from_vec(words));
+    transcript.is_one();
+    Ok(transcript)
+}
+
 /// So many workers run the script in a session of its locks and seats.
 fn session<L: Session + Send + Sync, T: Threads + Wait + Sync>(
     rt: &T,
@@ -220,39 +246,16 @@ fn session<L: Session + Send + Sync, T: Threads + Wait + Sync>(
     let Ok((locks, removes)) = irp_remove::open(alloc, script.locks, script.seats) else {
         return Err(Unrun::NoMemory);
     };
-    let Ok(pairs) = script_seats(alloc, &locks, seats, removes) else {
-        return Err(Unrun::NoMemory);
-    };
-    let Ok(worked) = run_workers(
-        rt,
-        alloc,
-        &shared,
-        &locks,
-        pairs,
-        script,
-        &AlwaysOpen,
-        workers,
-    ) else {
-        return Err(Unrun::NoMemory);
-    };
+    let pairs = script_seats(alloc, &locks, seats, removes)?;
+    let gate = AlwaysOpen;
+    let worked = run_workers(rt, alloc, &shared, &locks, pairs, script, &gate, workers)?;
     let stopped = worked.stopped;
     let words = worked.words;
-    let Ok(seats) = seats_of(alloc, worked.seats) else {
-        return Err(Unrun::NoMemory);
-    };
+    let seats = seats_of(alloc, worked.seats)?;
     let Ok(transcript) = shared.close(seats) else {
         return Err(Unrun::ReceiptsDiffer);
     };
-    transcript.is_one();
-    let TranscriptParts {
-        header,
-        entries,
-        ..
-    } = transcript.into_parts();
-    let Some(header) = header else {
-        return Err(Unrun::ReceiptsDiffer);
-    };
-    let transcript = Transcript::new(header, entries, Row::from_vec(words));
+    let transcript = with_words(transcript, words)?;
     Ok(Finished {
         transcript,
         stopped,
