@@ -23,7 +23,7 @@ use Rattle.irp_workers.specs.Words.{AreInOrder, lock_steps, told_by}
 use Rattle.irp_transcript_writer.specs.Lines.{lines, text_of}
 use Rattle.irpx.specs.Writing.{BreaksOff, IsQuiet, Written}
 use Rattle.irpx.specs.declared.running.RunFault.{RunFault}
-use Rattle.irpx.specs.declared.running.RunFault.TheVariants.{Unread, Unfinished}
+use Rattle.irpx.specs.declared.running.RunFault.TheVariants as run_fault
 use Rattle.irpx.specs.declared.running.Unfinished.{Unfinished}
 use Rattle.irpx.specs.declared.running.Unfinished.TheVariants.{NoTranscript, Stopped, Unwritten}
 use Rattle.irpx.specs.declared.running.Unscripted.{Unscripted}
@@ -136,8 +136,8 @@ Runs input left old new before after =
 -- the same where it wasn't: there is no script, and nothing went out; or the input holds one, which wasn't run to
 -- its end
 abbrev pub Unran : Option (List ℕ) → Option (List ℕ) → Option (List ℕ) → Option (List ℕ) → ℕ → ℕ → RunFault → Type 0
-Unran input left old new before after (Unread fault) = NoScript input left fault × IsQuiet old new before after
-Unran input left old new before after (Unfinished fault) =
+Unran input left old new before after (run_fault.Unread fault) = NoScript input left fault × IsQuiet old new before after
+Unran input left old new before after (run_fault.Unfinished fault) =
     (script : Script) × HoldsScript input left script × BreaksOffRun script (tables_of script) old new before after fault
 
 -- what `run` did: the input holds a script, which was run to its end; or it wasn't

@@ -24,7 +24,7 @@ use crate::input::{InputFault, read_up_to};
 use crate::writing::{Unwritten, write};
 use irp_routines::{CancelRoutine, Dispatch, Routine, Store, guarded_answer, guarded_plan};
 use irp_script_reader::{CompletionRoutine, Script, ScriptFault, ScriptRefusal, read_script};
-use irp_shared::{Seat, Session, Transcript, WordLine, open};
+use irp_shared::{Seat, Session, Transcript, TranscriptParts, WordLine, open};
 use irp_transcript_writer::Out;
 use irp_types::{Answer, Known, Plan, Row, Shown};
 use irp_workers::{
@@ -213,11 +213,15 @@ fn with_words(transcript: Transcript, words: Vec<WordLine>) -> Result<Transcript
     ensures accepted { IfOk result IsTranscript }
 {
     transcript.is_one();
-    let parts = transcript.into_parts();
-    let Some(header) = parts.header else {
+    let TranscriptParts {
+        header,
+        entries,
+        ..
+    } = transcript.into_parts();
+    let Some(header) = header else {
         return Err(Unrun::ReceiptsDiffer);
     };
-    let transcript = Transcript::new(header, parts.entries, Row::from_vec(words));
+    let transcript = Transcript::new(header, entries, Row::from_vec(words));
     transcript.is_one();
     Ok(transcript)
 }
