@@ -1,7 +1,7 @@
 -- Bytes that were read one piece after another.
 use Rattle.std.proofs.Common.{◌≡◌, ℕ, ◌≤◌, List, [], ◌++◌, ◌+◌, length, take, Option, Some, None, IfSome, refl, sym, subst, ap, ◌∙◌, append_assoc, append-nil, arith, length-append}
 use Rattle.std.proofs.lemmas.Grind.{common_steps}
-use Rattle.std.proofs.lemmas.List.{take_at}
+use Rattle.std.proofs.lemmas.List.{length-take-le, take_at}
 use Rattle.std.specs.Io.KnownBytes.{Consumes, IsAtEnd, Keeps}
 use Rattle.irpx.specs.Input.{TakesAtMost}
 
@@ -51,5 +51,11 @@ pub takes_kept : (t : List ℕ) (limit : ℕ) (old mid new : Option (List ℕ)) 
 takes_kept t limit old mid new few took kept = (t, few, reads_kept t old mid new took kept)
 
 -- then a piece was taken, with which it is no longer than the limit
-pub takes_both : (t u : List ℕ) (limit : ℕ) (old mid new : Option (List ℕ)) → length t + length u ≤ limit → Consumes old mid t → Consumes mid new u → TakesAtMost limit old new
+takes_both : (t u : List ℕ) (limit : ℕ) (old mid new : Option (List ℕ)) → length t + length u ≤ limit → Consumes old mid t → Consumes mid new u → TakesAtMost limit old new
 takes_both t u limit old mid new few first second = (t ++ u, omega (arith, length-append t u, few), reads_on t u old mid new first second)
+
+-- the same where the piece is the first bytes of a buffer
+pub takes_piece : (t buffer : List ℕ) (n limit : ℕ) (old mid new : Option (List ℕ)) → n ≤ length buffer → length t + n ≤ limit → Consumes old mid t → Consumes mid new (take n buffer) → TakesAtMost limit old new
+takes_piece t buffer n limit old mid new within few first second =
+    let whole : length (take n buffer) ≡ n = length-take-le n buffer within in
+    takes_both t (take n buffer) limit old mid new (omega (arith, few, whole)) first second
