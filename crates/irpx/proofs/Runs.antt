@@ -4,7 +4,7 @@ use Rattle.irp_types.specs.Histories.{IsLegal, CompletesOnce}
 use Rattle.irp_types.specs.State.{Fixed, Tables}
 use Rattle.irp_manager.specs.Seats.{Seated}
 use Rattle.irp_shared.specs.Closing.{AreSeated, Closes}
-use Rattle.irp_shared.specs.Headers.{fixed_of, IsHeader}
+use Rattle.irp_shared.specs.Headers.{IsHeader}
 use Rattle.irp_shared.specs.Transcripts.{TranscriptValue}
 use Rattle.irp_shared.specs.declared.word_line.WordLine.{WordLine}
 use Rattle.irp_script_reader.specs.declared.script.Script.{Script}

@@ -8,4 +8,4 @@ returns-then-is_err-clause-within g c =
     let few : length c.loop-buffer.bytes.items + c.in-Ok.taken ≤ c.args.limit = search rules in
     takes_piece c.loop-buffer.bytes.items _ c.in-Ok.taken c.args.limit
     (g.R.Read.remaining c.args.reader.now) (g.R.Read.remaining c.loop-buffer.reader) (g.R.Read.remaining c.read.new.self)
-    c.in-Ok.ensures.bound few c.loop-buffer.invariant.so_far c.in-Ok.ensures.bytes.0
+    c.in-Ok.ensures.bound.0 few c.loop-buffer.invariant.so_far c.in-Ok.ensures.bytes.0

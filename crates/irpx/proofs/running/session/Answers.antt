@@ -1,5 +1,5 @@
 -- The transcript that was closed, with the word lines put in.
-use Rattle.std.proofs.Common.{◌≡◌, ◌<◌, ◌++◌, List, IfSome, map, sym, subst, ap, ◌∙◌}
+use Rattle.std.proofs.Common.{◌++◌, IfSome, map, sym, subst, ap, ◌∙◌}
 use Rattle.irp_types.specs.Histories.{own_entries}
 use Rattle.irp_types.specs.declared.entry.Entry.{Entry}
 use Rattle.irp_shared.specs.Closing.{AllHere}
