@@ -1,7 +1,7 @@
 -- What checking a transcript tells.
-use Rattle.std.specs.Prelude.{ℕ, ◌≡◌, ◌<◌, ◌≤◌, ◌⊎◌, List, ◌∷◌, [], ◌++◌, length, codes, Option, IfSome, Result, Ok, Err}
+use Rattle.std.specs.Prelude.{ℕ, ◌≡◌, ◌≤◌, List, ◌∷◌, [], ◌++◌, length, codes, Option, IfSome, Result, Ok, Err}
 use Rattle.std.specs.Fmt.{decimal}
-use Rattle.std.specs.Io.KnownBytes.{Appends, Keeps}
+use Rattle.std.specs.Io.KnownBytes.{Consumes}
 use Rattle.irp_shared.specs.Transcripts.{TranscriptValue, no_lines}
 use Rattle.irp_transcript_writer.specs.Out.{risen}
 use Rattle.irp_transcript_reader.specs.Reading.{ReadsFrom, cut}
@@ -9,27 +9,32 @@ use Rattle.irp_transcript_reader.specs.declared.read_fault.ReadFault.TheVariants
 use Rattle.irp_script.specs.Checked.{IsVerdictOn}
 use Rattle.irp_script.specs.declared.checker.Verdict.{Verdict}
 use Rattle.irp_script.specs.declared.checker.Verdict.TheVariants as verdict
-use Rattle.irpx.specs.declared.ending.Ending.{Ending}
-use Rattle.irpx.specs.declared.ending.Ending.TheVariants.{Done, RefusedScript, RefusedLine, Illegal, ReceiptsDiffer, NoMemory, OtherWords, Failed}
+use Rattle.irpx.specs.Writing.{Begins, IsQuiet, Written}
+use Rattle.irpx.specs.declared.checking.CheckFault.{CheckFault}
+use Rattle.irpx.specs.declared.checking.CheckFault.TheVariants as unchecked
+use Rattle.irpx.specs.declared.checking.Unjudged.{Unjudged}
+use Rattle.irpx.specs.declared.checking.Unjudged.TheVariants.{Input, RefusedLine, NoMemory}
+use Rattle.irpx.specs.declared.writing.Unwritten.{Unwritten}
+use Rattle.irpx.specs.declared.writing.Unwritten.TheVariants as unwritten
 
 -- as many bytes as the text of a transcript may have that is checked
 abbrev pub most_bytes : ℕ
 most_bytes = 1073741824
+
+-- as many bytes as may be taken of the input, since one too many shows that it is too long
+abbrev pub most_taken : ℕ
+most_taken = 1073741825
 
 -- the line that tells a verdict
 abbrev pub verdict_line : Verdict → List ℕ
 verdict_line (verdict.Legal entries) = codes "legal " ++ (decimal entries ++ 10 ∷ [])
 verdict_line (verdict.Illegal at) = codes "illegal " ++ (decimal at ++ 10 ∷ [])
 
--- the ending of a verdict that was told
-abbrev pub ending_of : Verdict → Ending
-ending_of (verdict.Legal entries) = Done
-ending_of (verdict.Illegal at) = Illegal
-
--- what is left of the input, where it is known, is this text, which isn't too long
-pub record IsInput (input : Option (List ℕ)) (text : List ℕ) : Type 0 where
+-- this text, which isn't too long, is what was left of the input, where that is known, and it was taken
+pub record IsInput (old new : Option (List ℕ)) (text : List ℕ) : Type 0 where
   pub few : length text ≤ most_bytes
-  pub whole : IfSome input (λ left. text ≡ left)
+  pub whole : IfSome old (λ left. text ≡ left)
+  pub took : Consumes old new text
 
 -- the text is a transcript's, and this is the verdict on it
 pub record Judges (text : List ℕ) (verdict : Verdict) : Type 0 where
@@ -37,71 +42,43 @@ pub record Judges (text : List ℕ) (verdict : Verdict) : Type 0 where
   pub read : ReadsFrom no_lines 0 (Ok transcript) (cut text)
   pub judged : IsVerdictOn transcript verdict
 
--- the ending of a text without a verdict: its first line that is refused, or want of memory
-abbrev pub Unjudged : List ℕ → Ending → Type 0
-Unjudged text (RefusedLine line) = ReadsFrom no_lines 0 (Err (fault.Line line)) (cut text)
-Unjudged text NoMemory = Unit {0}
-Unjudged text Done = ⊥
-Unjudged text Illegal = ⊥
-Unjudged text ReceiptsDiffer = ⊥
-Unjudged text (RefusedScript refusal) = ⊥
-Unjudged text OtherWords = ⊥
-Unjudged text Failed = ⊥
+-- the input holds a transcript, and this is the verdict on it
+abbrev pub HasVerdict : Option (List ℕ) → Option (List ℕ) → Verdict → Type 0
+HasVerdict old new verdict = (text : List ℕ) × IsInput old new text × Judges text verdict
 
--- the ending without a text: the input failed or was too long, or memory ran out
-abbrev pub Unread : Ending → Type 0
-Unread Failed = Unit {0}
-Unread NoMemory = Unit {0}
-Unread Done = ⊥
-Unread Illegal = ⊥
-Unread ReceiptsDiffer = ⊥
-Unread (RefusedScript refusal) = ⊥
-Unread OtherWords = ⊥
-Unread (RefusedLine line) = ⊥
+-- this line is the first of the text that is refused
+abbrev pub IsRefused : List ℕ → ℕ → Type 0
+IsRefused text line = ReadsFrom no_lines 0 (Err (fault.Line line)) (cut text)
 
--- the verdict on what the input holds, or the ending where there is none
-abbrev pub Judged : Option (List ℕ) → Result Verdict Ending → Type 0
-Judged input (Ok verdict) = (text : List ℕ) × IsInput input text × Judges text verdict
-Judged input (Err (RefusedLine line)) = (text : List ℕ) × IsInput input text × Unjudged text (RefusedLine line)
-Judged input (Err NoMemory) = Unit {0}
-Judged input (Err Failed) = Unit {0}
-Judged input (Err Done) = ⊥
-Judged input (Err Illegal) = ⊥
-Judged input (Err ReceiptsDiffer) = ⊥
-Judged input (Err (RefusedScript refusal)) = ⊥
-Judged input (Err OtherWords) = ⊥
+-- why a text has no verdict: its first line that is refused, or want of memory
+abbrev pub Unjudgeable : List ℕ → Unjudged → Type 0
+Unjudgeable text (RefusedLine line) = IsRefused text line
+Unjudgeable text (Input fault) = Unit {0}
+Unjudgeable text NoMemory = Unit {0}
 
--- a beginning of the text went out, which isn't the whole text
-pub record Begins (text : List ℕ) (old new : Option (List ℕ)) : Type 0 where
-  pub front : List ℕ
-  pub rest : List ℕ
-  pub whole : text ≡ front ++ rest
-  pub short : 0 < length rest
-  pub gone : Appends old new front
+-- why the input has no verdict: the first line that is refused of the text that it holds; or it wasn't read, or want of memory
+abbrev pub NotRead : Option (List ℕ) → Option (List ℕ) → Unjudged → Type 0
+NotRead old new (RefusedLine line) = (text : List ℕ) × IsInput old new text × IsRefused text line
+NotRead old new (Input fault) = Unit {0}
+NotRead old new NoMemory = Unit {0}
 
--- what went out and the count of failures where a verdict was told: its line; a beginning of it where the output failed; and
--- else nothing
-abbrev pub Tells : Verdict → Option (List ℕ) → Option (List ℕ) → ℕ → ℕ → Ending → Type 0
-Tells verdict old new before after Done = (ending_of verdict ≡ Done) × Appends old new (verdict_line verdict) × (after ≡ before)
-Tells verdict old new before after Illegal = (ending_of verdict ≡ Illegal) × Appends old new (verdict_line verdict) × (after ≡ before)
-Tells verdict old new before after NoMemory = Keeps old new × (after ≡ before)
-Tells verdict old new before after Failed = Begins (verdict_line verdict) old new × (after ≡ risen before)
-Tells verdict old new before after OtherWords = ⊥
-Tells verdict old new before after ReceiptsDiffer = ⊥
-Tells verdict old new before after (RefusedScript refusal) = ⊥
-Tells verdict old new before after (RefusedLine line) = ⊥
+-- what goes out and the count of failures where a verdict is told: its line
+abbrev pub Told : Verdict → Option (List ℕ) → Option (List ℕ) → ℕ → ℕ → Type 0
+Told verdict old new before after = Written (verdict_line verdict) old new before after
 
--- what `check` did, by its ending. Done and Illegal: the input holds a transcript, whose verdict's line went out. A refused
--- line: the input holds a text of which it is the first that is refused. Failed: the input holds a transcript, and a
--- beginning of its verdict's line went out, or nothing was told. But for these nothing went out, and the count of failures
--- rose only where the output failed.
-abbrev pub Checks : Option (List ℕ) → Option (List ℕ) → Option (List ℕ) → ℕ → ℕ → Ending → Type 0
-Checks input old new before after Done = (verdict : Verdict) × Judged input (Ok verdict) × Tells verdict old new before after Done
-Checks input old new before after Illegal = (verdict : Verdict) × Judged input (Ok verdict) × Tells verdict old new before after Illegal
-Checks input old new before after (RefusedLine line) = Judged input (Err (RefusedLine line)) × Keeps old new × (after ≡ before)
-Checks input old new before after NoMemory = Keeps old new × (after ≡ before)
-Checks input old new before after Failed =
-    ((verdict : Verdict) × Judged input (Ok verdict) × Tells verdict old new before after Failed) ⊎ (Keeps old new × (after ≡ before))
-Checks input old new before after OtherWords = ⊥
-Checks input old new before after ReceiptsDiffer = ⊥
-Checks input old new before after (RefusedScript refusal) = ⊥
+-- the same where it isn't: a beginning of its line where the output failed, else nothing
+abbrev pub Untold : Verdict → Option (List ℕ) → Option (List ℕ) → ℕ → ℕ → Unwritten → Type 0
+Untold verdict old new before after unwritten.Failed = Begins (verdict_line verdict) old new × (after ≡ risen before)
+Untold verdict old new before after unwritten.NoMemory = IsQuiet old new before after
+
+-- what `check` did where it tells no verdict. Where there is none nothing went out. Else the input holds a transcript, whose
+-- verdict wasn't told.
+abbrev pub Unchecked : Option (List ℕ) → Option (List ℕ) → Option (List ℕ) → Option (List ℕ) → ℕ → ℕ → CheckFault → Type 0
+Unchecked input left old new before after (unchecked.Unjudged fault) = NotRead input left fault × IsQuiet old new before after
+Unchecked input left old new before after (unchecked.Untold fault) =
+    (verdict : Verdict) × HasVerdict input left verdict × Untold verdict old new before after fault
+
+-- what `check` did: the input holds a transcript, whose verdict was told; or it told none
+abbrev pub Checks : Option (List ℕ) → Option (List ℕ) → Option (List ℕ) → Option (List ℕ) → ℕ → ℕ → Result Verdict CheckFault → Type 0
+Checks input left old new before after (Ok verdict) = HasVerdict input left verdict × Told verdict old new before after
+Checks input left old new before after (Err fault) = Unchecked input left old new before after fault

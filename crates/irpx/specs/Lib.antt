@@ -2,5 +2,7 @@ pub mod Checking
 pub mod CommandLine
 pub mod Demo
 pub mod Ending
+pub mod Input
 pub mod Program
 pub mod Running
+pub mod Writing

@@ -1,40 +1,49 @@
 -- What the program does for its words.
-use Rattle.std.specs.Prelude.{ℕ, ◌≡◌, List, Option, Result, Ok, Err}
-use Rattle.std.specs.Io.KnownBytes.{Keeps}
-use Rattle.irp_transcript_writer.specs.Out.{risen}
-use Rattle.irpx.specs.Checking.{Checks}
+use Rattle.std.specs.Prelude.{ℕ, ◌≡◌, ◌⊎◌, List, Option, Result, Ok, Err}
+use Rattle.irp_script.specs.declared.checker.Verdict.{Verdict}
+use Rattle.irpx.specs.Checking.{HasVerdict, Told, Unchecked, most_taken as most_checked}
 use Rattle.irpx.specs.Demo.{BeginsLegal, WritesLegal}
-use Rattle.irpx.specs.Running.{AfterRun}
+use Rattle.irpx.specs.Ending.{of_check, of_run, of_verdict, of_words, of_writing}
+use Rattle.irpx.specs.Input.{TakesAtMost}
+use Rattle.irpx.specs.Running.{Runs, Unran, most_taken as most_run}
+use Rattle.irpx.specs.Writing.{IsQuiet, count_after}
+use Rattle.irpx.specs.declared.checking.CheckFault.{CheckFault}
 use Rattle.irpx.specs.declared.ending.Ending.{Ending}
-use Rattle.irpx.specs.declared.ending.Ending.TheVariants.{Done, NoMemory, OtherWords, Failed}
+use Rattle.irpx.specs.declared.ending.Ending.TheVariants.{Done}
 use Rattle.irpx.specs.declared.orders.Order.{Order}
 use Rattle.irpx.specs.declared.orders.Order.TheVariants.{Demo, Run, Check}
 use Rattle.irpx.specs.declared.orders.Unread.{Unread}
-use Rattle.irpx.specs.declared.orders.Unread.TheVariants.{Usage, Memory}
+use Rattle.irpx.specs.declared.running.RunFault.{RunFault}
+use Rattle.irpx.specs.declared.writing.Unwritten.{Unwritten}
 
--- what the demonstration did
-pub record AfterDemo (old new : Option (List ℕ)) (before after : ℕ) (ending : Ending) : Type 0 where
-  pub done : ending ≡ Done → WritesLegal old new
-  pub begins : (ending ≡ Done → ⊥) → BeginsLegal old new
-  pub words : ending ≡ OtherWords → ⊥
-  pub failed : ending ≡ Failed → after ≡ risen before
-  pub calm : (ending ≡ Failed → ⊥) → after ≡ before
+-- the demonstration was done, or a fault of writing ended it after a beginning
+abbrev pub ObeysDemo : Option (List ℕ) → Option (List ℕ) → ℕ → ℕ → Ending → Type 0
+ObeysDemo old new before after ending =
+    ((ending ≡ Done) × WritesLegal old new × (after ≡ before))
+    ⊎ ((fault : Unwritten) × (ending ≡ of_writing fault) × BeginsLegal old new × (after ≡ count_after fault before))
 
--- nothing went out, and nothing failed
-abbrev pub IsQuiet : Option (List ℕ) → Option (List ℕ) → ℕ → ℕ → Type 0
-IsQuiet old new before after = Keeps old new × (after ≡ before)
+-- the script of the input was run to its end, or a fault ended it
+abbrev pub ObeysRun : Option (List ℕ) → Option (List ℕ) → Option (List ℕ) → Option (List ℕ) → ℕ → ℕ → Ending → Type 0
+ObeysRun input left old new before after ending =
+    ((ending ≡ Done) × Runs input left old new before after)
+    ⊎ ((fault : RunFault) × (ending ≡ of_run fault) × Unran input left old new before after fault)
 
--- nothing was read, but where the words ask for a script to be run or for a transcript to be checked
+-- the verdict on the input's transcript was told, or a fault ended it
+abbrev pub ObeysCheck : Option (List ℕ) → Option (List ℕ) → Option (List ℕ) → Option (List ℕ) → ℕ → ℕ → Ending → Type 0
+ObeysCheck input left old new before after ending =
+    ((verdict : Verdict) × (ending ≡ of_verdict verdict) × HasVerdict input left verdict × Told verdict old new before after)
+    ⊎ ((fault : CheckFault) × (ending ≡ of_check fault) × Unchecked input left old new before after fault)
+
+-- how much was read: nothing, but where the words ask for a script to be run or for a transcript to be checked
 abbrev pub ReadsFor : Result Order Unread → Option (List ℕ) → Option (List ℕ) → Type 0
 ReadsFor (Ok Demo) old new = new ≡ old
-ReadsFor (Ok (Run workers)) old new = Unit {0}
-ReadsFor (Ok Check) old new = Unit {0}
+ReadsFor (Ok (Run workers)) old new = TakesAtMost most_run old new
+ReadsFor (Ok Check) old new = TakesAtMost most_checked old new
 ReadsFor (Err unread) old new = new ≡ old
 
 -- what was done, by what the words ask for
-abbrev pub Obeys : Result Order Unread → Option (List ℕ) → Option (List ℕ) → Option (List ℕ) → ℕ → ℕ → Ending → Type 0
-Obeys (Ok Demo) input old new before after ending = AfterDemo old new before after ending
-Obeys (Ok (Run workers)) input old new before after ending = AfterRun input old new before after ending
-Obeys (Ok Check) input old new before after ending = Checks input old new before after ending
-Obeys (Err Usage) input old new before after ending = (ending ≡ OtherWords) × IsQuiet old new before after
-Obeys (Err Memory) input old new before after ending = (ending ≡ NoMemory) × IsQuiet old new before after
+abbrev pub Obeys : Result Order Unread → Option (List ℕ) → Option (List ℕ) → Option (List ℕ) → Option (List ℕ) → ℕ → ℕ → Ending → Type 0
+Obeys (Ok Demo) input left old new before after ending = ObeysDemo old new before after ending
+Obeys (Ok (Run workers)) input left old new before after ending = ObeysRun input left old new before after ending
+Obeys (Ok Check) input left old new before after ending = ObeysCheck input left old new before after ending
+Obeys (Err unread) input left old new before after ending = (ending ≡ of_words unread) × IsQuiet old new before after

@@ -1,6 +1,6 @@
 -- What running a script leaves and writes.
-use Rattle.std.specs.Prelude.{ℕ, ◌≡◌, ◌<◌, ◌+◌, ◌⊎◌, List, ◌++◌, length, map, take, Option, Some, IfSome, Result, Ok, Err}
-use Rattle.std.specs.Io.KnownBytes.{Appends, Keeps}
+use Rattle.std.specs.Prelude.{ℕ, ◌≡◌, ◌<◌, ◌+◌, List, ◌++◌, length, map, take, Option, Some, IfSome, Result, Ok, Err}
+use Rattle.std.specs.Io.KnownBytes.{Consumes}
 use Rattle.irp_types.specs.Histories.{IsLegal, CompletesOnce, own_entries}
 use Rattle.irp_types.specs.State.{Tables, Entrance}
 use Rattle.irp_types.specs.declared.answer.CancelAnswer.{CancelAnswer}
@@ -13,8 +13,7 @@ use Rattle.irp_shared.specs.Transcripts.{TranscriptValue}
 use Rattle.irp_shared.specs.declared.header.Header.{Header}
 use Rattle.irp_script_reader.specs.Scripts.{ReadsScript}
 use Rattle.irp_script_reader.specs.Sound.{with_all}
-use Rattle.irp_script_reader.specs.declared.refusal.ScriptFault.TheVariants.{Refused}
-use Rattle.irp_script_reader.specs.declared.refusal.ScriptRefusal.{ScriptRefusal}
+use Rattle.irp_script_reader.specs.declared.refusal.ScriptFault.TheVariants as fault
 use Rattle.irp_script_reader.specs.declared.script.CompletionRoutine.{CompletionRoutine}
 use Rattle.irp_script_reader.specs.declared.script.Script.{Script}
 use Rattle.irp_workers.specs.Behaviours.{cancel_rule_of}
@@ -22,34 +21,34 @@ use Rattle.irp_workers.specs.Made.{calls_of, nameless}
 use Rattle.irp_workers.specs.Numbers.{EachAsOften, NoneMoreOften}
 use Rattle.irp_workers.specs.Words.{AreInOrder, lock_steps, told_by}
 use Rattle.irp_transcript_writer.specs.Lines.{lines, text_of}
-use Rattle.irp_transcript_writer.specs.Out.{risen}
-use Rattle.irpx.specs.declared.ending.Ending.{Ending}
-use Rattle.irpx.specs.declared.ending.Ending.TheVariants.{Done, RefusedScript, RefusedLine, Illegal, ReceiptsDiffer, NoMemory, OtherWords, Failed}
+use Rattle.irpx.specs.Writing.{BreaksOff, IsQuiet, Written}
+use Rattle.irpx.specs.declared.running.RunFault.{RunFault}
+use Rattle.irpx.specs.declared.running.RunFault.TheVariants as run_fault
+use Rattle.irpx.specs.declared.running.Unfinished.{Unfinished}
+use Rattle.irpx.specs.declared.running.Unfinished.TheVariants.{NoTranscript, Stopped, Unwritten}
+use Rattle.irpx.specs.declared.running.Unscripted.{Unscripted}
+use Rattle.irpx.specs.declared.running.Unscripted.TheVariants.{Input, Refused, NoMemory}
 
 -- ---- the input
 
--- these bytes are what is read of the input, where that is known: all that is left, or one byte more than a script may have
-abbrev pub IsRead : Option (List ℕ) → List ℕ → Type 0
-IsRead input text = IfSome input (λ left. text ≡ take 1048577 left)
+-- as many bytes as are taken of the input, one more than the text of a script may have
+abbrev pub most_taken : ℕ
+most_taken = 1048577
+
+-- this text is what is taken of the input, and what is read, where the input is known: all that was left, or its first bytes
+pub record IsRead (old new : Option (List ℕ)) (text : List ℕ) : Type 0 where
+  pub first : IfSome old (λ left. text ≡ take most_taken left)
+  pub took : Consumes old new text
 
 -- what is read of the input is the text of this script
-abbrev pub Holds : Option (List ℕ) → Script → Type 0
-Holds input script = (text : List ℕ) × IsRead input text × ReadsScript (Ok script) text
+abbrev pub HoldsScript : Option (List ℕ) → Option (List ℕ) → Script → Type 0
+HoldsScript old new script = (text : List ℕ) × IsRead old new text × ReadsScript (Ok script) text
 
--- what is read of the input is refused as a script's text, so
-abbrev pub IsRefused : Option (List ℕ) → ScriptRefusal → Type 0
-IsRefused input refusal = (text : List ℕ) × IsRead input text × ReadsScript (Err (Refused refusal)) text
-
--- the ending where there is no script
-abbrev pub Unscripted : Option (List ℕ) → Ending → Type 0
-Unscripted input (RefusedScript refusal) = IsRefused input refusal
-Unscripted input NoMemory = Unit {0}
-Unscripted input Failed = Unit {0}
-Unscripted input Done = ⊥
-Unscripted input ReceiptsDiffer = ⊥
-Unscripted input Illegal = ⊥
-Unscripted input OtherWords = ⊥
-Unscripted input (RefusedLine line) = ⊥
+-- why there is no script: what is read of the input is refused, so; or the input wasn't read, or want of memory
+abbrev pub NoScript : Option (List ℕ) → Option (List ℕ) → Unscripted → Type 0
+NoScript old new (Refused refusal) = (text : List ℕ) × IsRead old new text × ReadsScript (Err (fault.Refused refusal)) text
+NoScript old new (Input fault) = Unit {0}
+NoScript old new NoMemory = Unit {0}
 
 -- ---- who is asked
 
@@ -104,50 +103,44 @@ abbrev pub MakesEach : Script → TranscriptValue → Type 0
 MakesEach script transcript =
     (seat : ℕ) → seat < script.seats → map (λ (entry : Entry). nameless entry.call) (own_entries transcript.entries seat) ≡ calls_of seat (script.setup ++ script.steps)
 
--- a beginning of the transcript's text went out, which may be the whole text
-pub record Starts (transcript : TranscriptValue) (old new : Option (List ℕ)) : Type 0 where
-  pub front : List ℕ
-  pub rest : List ℕ
-  pub whole : text_of (lines transcript) ≡ front ++ rest
-  pub gone : Appends old new front
+-- the text of a transcript
+abbrev pub text_with : TranscriptValue → List ℕ
+text_with transcript = text_of (lines transcript)
 
--- what went out and the count of failures after a transcript was written, by the ending. Done: all of its text. Want of
--- memory, or a step that wasn't recorded: a beginning. A failed output, which the count tells: a beginning.
-abbrev pub Writes : TranscriptValue → Option (List ℕ) → Option (List ℕ) → ℕ → ℕ → Ending → Type 0
-Writes transcript old new before after Done = Appends old new (text_of (lines transcript)) × (after ≡ before)
-Writes transcript old new before after NoMemory = Starts transcript old new × (after ≡ before)
-Writes transcript old new before after Failed = Starts transcript old new × (after ≡ risen before)
-Writes transcript old new before after ReceiptsDiffer = ⊥
-Writes transcript old new before after (RefusedScript refusal) = ⊥
-Writes transcript old new before after Illegal = ⊥
-Writes transcript old new before after OtherWords = ⊥
-Writes transcript old new before after (RefusedLine line) = ⊥
+-- what came of a script with these tables that was run to its end: the transcript of a run was written, which tells of each
+-- step on a remove lock, and of each seat's steps that are calls
+abbrev pub RunsScript : Script → Tables → Option (List ℕ) → Option (List ℕ) → ℕ → ℕ → Type 0
+RunsScript script tables old new before after =
+    (transcript : TranscriptValue) × IsRun script tables transcript × TellsEach script transcript × MakesEach script transcript
+    × Written (text_with transcript) old new before after
 
--- the ending where a script was read and no transcript came of it
-abbrev pub Unrun : Ending → Type 0
-Unrun NoMemory = Unit {0}
-Unrun ReceiptsDiffer = Unit {0}
-Unrun Failed = ⊥
-Unrun Done = ⊥
-Unrun Illegal = ⊥
-Unrun OtherWords = ⊥
-Unrun (RefusedScript refusal) = ⊥
-Unrun (RefusedLine line) = ⊥
+-- the same where it wasn't: there is no transcript, and nothing went out; or the transcript of a run was written, but not of
+-- all steps; or a beginning of one went out
+abbrev pub BreaksOffRun : Script → Tables → Option (List ℕ) → Option (List ℕ) → ℕ → ℕ → Unfinished → Type 0
+BreaksOffRun script tables old new before after (NoTranscript fault) = IsQuiet old new before after
+BreaksOffRun script tables old new before after Stopped =
+    (transcript : TranscriptValue) × IsRun script tables transcript × Written (text_with transcript) old new before after
+BreaksOffRun script tables old new before after (Unwritten fault) =
+    (transcript : TranscriptValue) × IsRun script tables transcript × BreaksOff (text_with transcript) old new before after fault
 
--- what came of a script with these tables: no transcript, and nothing went out; or one, which was written, and which tells
--- of each step on a remove lock, and of each seat's steps that are calls, where all was done
-abbrev pub AfterScript : Script → Tables → Option (List ℕ) → Option (List ℕ) → ℕ → ℕ → Ending → Type 0
-AfterScript script tables old new before after ending =
-    (Unrun ending × Keeps old new × (after ≡ before))
-    ⊎ ((transcript : TranscriptValue) × IsRun script tables transcript × Writes transcript old new before after ending × (ending ≡ Done → TellsEach script transcript × MakesEach script transcript))
+-- what came of a script with these tables
+abbrev pub AfterScript : {T : Type 0} → Script → Tables → Option (List ℕ) → Option (List ℕ) → ℕ → ℕ → Result T Unfinished → Type 0
+AfterScript script tables old new before after (Ok done) = RunsScript script tables old new before after
+AfterScript script tables old new before after (Err fault) = BreaksOffRun script tables old new before after fault
 
--- what `run` did: where there is no script nothing went out, and else the input holds the script that was run
-abbrev pub AfterRun : Option (List ℕ) → Option (List ℕ) → Option (List ℕ) → ℕ → ℕ → Ending → Type 0
-AfterRun input old new before after ending =
-    (Unscripted input ending × Keeps old new × (after ≡ before))
-    ⊎ ((script : Script) × Holds input script × AfterScript script (tables_of script) old new before after ending)
+-- what `run` did where all was done: the input holds a script, which was run
+abbrev pub Runs : Option (List ℕ) → Option (List ℕ) → Option (List ℕ) → Option (List ℕ) → ℕ → ℕ → Type 0
+Runs input left old new before after =
+    (script : Script) × HoldsScript input left script × RunsScript script (tables_of script) old new before after
 
--- the ending, or want of memory where there is none
-abbrev pub ending_of : {E : Type 0} → Result Ending E → Ending
-ending_of (Ok ending) = ending
-ending_of (Err error) = NoMemory
+-- the same where it wasn't: there is no script, and nothing went out; or the input holds one, which wasn't run to
+-- its end
+abbrev pub Unran : Option (List ℕ) → Option (List ℕ) → Option (List ℕ) → Option (List ℕ) → ℕ → ℕ → RunFault → Type 0
+Unran input left old new before after (run_fault.Unread fault) = NoScript input left fault × IsQuiet old new before after
+Unran input left old new before after (run_fault.Unfinished fault) =
+    (script : Script) × HoldsScript input left script × BreaksOffRun script (tables_of script) old new before after fault
+
+-- what `run` did: the input holds a script, which was run to its end; or it wasn't
+abbrev pub AfterRun : {T : Type 0} → Option (List ℕ) → Option (List ℕ) → Option (List ℕ) → Option (List ℕ) → ℕ → ℕ → Result T RunFault → Type 0
+AfterRun input left old new before after (Ok done) = Runs input left old new before after
+AfterRun input left old new before after (Err fault) = Unran input left old new before after fault

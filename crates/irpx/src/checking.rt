@@ -1,54 +1,111 @@
 //! The word `check`: a transcript is read and judged, and the verdict is told.
 
-ghost use Rattle.std.specs.Prelude.{IfErr, IfOk, ◌≡◌};
-ghost use Rattle.irpx.specs.Checking.{Checks, IsInput, Judged, Judges, Tells, Unjudged, Unread, ending_of, verdict_line};
+ghost use Rattle.std.specs.Prelude.{IfErr, IfOk, OnOk, ◌≡◌};
+ghost use Rattle.irpx.specs.Checking.{Checks, HasVerdict, IsInput, Judges, NotRead, Told, Unjudgeable, Untold, most_taken, verdict_line};
+ghost use Rattle.irpx.specs.Input.{TakesAtMost};
 
-use crate::ending::Ending;
 use crate::input::{InputFault, read_up_to};
+use crate::writing::Unwritten;
 use irp_script::{Verdict, check as verdict_of};
 use irp_transcript_reader::{ReadFault, read_transcript};
 use irp_transcript_writer::{Out, put_all};
 use std::alloc::{AllocError, Global};
 use std::io::Read;
+use thiserror::Error;
 
 /// As many bytes as the text of a transcript may have that is checked.
 const MOST_BYTES: usize = 1_073_741_824;
 
-/// What is left of the input. The ending where it can't be read, or is too long.
-fn text_of<R: Read>(alloc: Global, input: &mut R) -> Result<Vec<u8>, Ending>
-    ensures ok { IfOk result (λ text. IsInput (R.remaining input.old) text.items) }
-    ensures err { IfErr result Unread }
-{
-    match read_up_to(alloc, input, MOST_BYTES + 1) {
-        Ok(text) if text.len() <= MOST_BYTES => Ok(text),
-        Ok(_) | Err(InputFault::Failed) => Err(Ending::Failed),
-        Err(InputFault::Memory) => Err(Ending::NoMemory),
+/// Why there is no verdict on a transcript.
+#[derive(Clone, Copy, Debug, PartialEq, Eq, Error)]
+pub enum Unjudged {
+    /// The input wasn't read. One that is too long counts as failed.
+    #[error("{0}")]
+    Input(InputFault),
+    /// The text isn't a transcript's: this line, from 1, is the first that is refused.
+    #[error("line {line} is refused")]
+    RefusedLine { line: u64 },
+    /// Memory ran out for the transcript or its verdict.
+    #[error("memory ran out")]
+    NoMemory,
+}
+
+impl From<InputFault> for Unjudged {
+    ghost use Rattle.irpx.specs.declared.checking.Unjudged.TheVariants.{Input};
+
+    ghost from_gives = { λ fault unjudged. unjudged ≡ Input fault };
+
+    fn from(fault: InputFault) -> Unjudged {
+        Unjudged::Input(fault)
     }
 }
 
-/// The verdict on the transcript of this text. The ending where the text is refused, or memory ran out.
-fn judged_text(alloc: Global, text: &[u8]) -> Result<Verdict, Ending>
+/// Why a transcript wasn't checked.
+#[derive(Clone, Copy, Debug, PartialEq, Eq, Error)]
+pub enum CheckFault {
+    /// There is no verdict.
+    #[error("{0}")]
+    Unjudged(Unjudged),
+    /// The verdict wasn't told.
+    #[error("{0}")]
+    Untold(Unwritten),
+}
+
+impl From<Unjudged> for CheckFault {
+    ghost use Rattle.irpx.specs.declared.checking.CheckFault.TheVariants.{Unjudged as NotJudged};
+
+    ghost from_gives = { λ fault unchecked. unchecked ≡ NotJudged fault };
+
+    fn from(fault: Unjudged) -> CheckFault {
+        CheckFault::Unjudged(fault)
+    }
+}
+
+impl From<Unwritten> for CheckFault {
+    ghost use Rattle.irpx.specs.declared.checking.CheckFault.TheVariants.{Untold as NotTold};
+
+    ghost from_gives = { λ fault unchecked. unchecked ≡ NotTold fault };
+
+    fn from(fault: Unwritten) -> CheckFault {
+        CheckFault::Untold(fault)
+    }
+}
+
+/// What is left of the input. It fails where it can't be read, or is too long.
+fn text_of<R: Read>(alloc: Global, input: &mut R) -> Result<Vec<u8>, InputFault>
+    ensures ok { IfOk result (λ text. IsInput (R.remaining input.old) (R.remaining input.new) text.items) }
+    ensures took { TakesAtMost most_taken (R.remaining input.old) (R.remaining input.new) }
+{
+    let text = read_up_to(alloc, input, MOST_BYTES + 1)?;
+    if text.len() > MOST_BYTES {
+        return Err(InputFault::Failed);
+    }
+    Ok(text)
+}
+
+/// The verdict on the transcript of this text. The fault where the text is refused, or memory ran out.
+fn judged_text(alloc: Global, text: &[u8]) -> Result<Verdict, Unjudged>
     ensures ok { IfOk result (Judges text.now) }
-    ensures err { IfErr result (Unjudged text.now) }
+    ensures err { IfErr result (Unjudgeable text.now) }
 {
     match read_transcript(alloc, text) {
         Ok(transcript) => match verdict_of(alloc, &transcript) {
             Ok(verdict) => Ok(verdict),
-            Err(_) => Err(Ending::NoMemory),
+            Err(_) => Err(Unjudged::NoMemory),
         },
-        Err(ReadFault::Line(line)) => Err(Ending::RefusedLine { line }),
-        Err(ReadFault::NoMemory) => Err(Ending::NoMemory),
+        Err(ReadFault::Line(line)) => Err(Unjudged::RefusedLine { line }),
+        Err(ReadFault::NoMemory) => Err(Unjudged::NoMemory),
     }
 }
 
-/// The verdict on the transcript that the input holds. The ending where there is none.
-fn judged<R: Read>(alloc: Global, input: &mut R) -> Result<Verdict, Ending>
-    ensures { Judged (R.remaining input.old) result }
+/// The verdict on the transcript that the input holds. The fault where there is none.
+fn judged<R: Read>(alloc: Global, input: &mut R) -> Result<Verdict, Unjudged>
+    ensures ok { IfOk result (HasVerdict (R.remaining input.old) (R.remaining input.new)) }
+    ensures err { IfErr result (NotRead (R.remaining input.old) (R.remaining input.new)) }
+    ensures took { TakesAtMost most_taken (R.remaining input.old) (R.remaining input.new) }
 {
-    match text_of(alloc, input) {
-        Ok(text) => judged_text(alloc, text.as_slice()),
-        Err(ending) => Err(ending),
-    }
+    let text = text_of(alloc, input)?;
+    judged_text(alloc, text.as_slice())
 }
 
 /// The line that tells a verdict.
@@ -61,42 +118,42 @@ fn line_of(alloc: Global, verdict: Verdict) -> Result<String, AllocError>
     }
 }
 
-/// The ending of a verdict that was told.
-fn ending_of(verdict: Verdict) -> Ending
-    ensures { result ≡ ending_of verdict }
-{
-    match verdict {
-        Verdict::Legal { .. } => Ending::Done,
-        Verdict::Illegal { .. } => Ending::Illegal,
-    }
-}
-
 /// Tells the output a verdict.
-fn tell<O: Out>(alloc: Global, output: &mut O, verdict: Verdict) -> Ending
-    ensures { Tells verdict (O.gone output.old) (O.gone output.new) (O.failures output.old) (O.failures output.new) result }
+fn tell<O: Out>(alloc: Global, output: &mut O, verdict: Verdict) -> Result<(), Unwritten>
+    ensures ok { OnOk result (Told verdict (O.gone output.old) (O.gone output.new) (O.failures output.old) (O.failures output.new)) }
+    ensures err { IfErr result (Untold verdict (O.gone output.old) (O.gone output.new) (O.failures output.old) (O.failures output.new)) }
 {
     let Ok(line) = line_of(alloc, verdict) else {
-        return Ending::NoMemory;
+        return Err(Unwritten::NoMemory);
     };
     match put_all(output, line.as_bytes()) {
-        Ok(()) => ending_of(verdict),
-        Err(_) => Ending::Failed,
+        Ok(()) => Ok(()),
+        Err(_) => Err(Unwritten::Failed),
     }
 }
 
 /// Reads a transcript from the input, up to its end, and puts a line into the output: `legal K` where the sequential
 /// manager could have made its history, of K entries, and else `illegal I`, where entry I, from 0, is the first that isn't
-/// legal (this project's own command line, README.md).
+/// legal (this project's own command line, README.md). The verdict that was told.
 ///
-/// The ending is `Done` for a legal history, `Illegal` for another, `RefusedLine` with the number of the first line that is
-/// refused where the input isn't the text of a transcript, `Failed` where the input or the output failed or the input has
-/// more than 1,073,741,824 bytes, and `NoMemory` where memory ran out.
-pub fn check<R: Read, O: Out>(alloc: Global, input: &mut R, output: &mut O) -> Ending
-    ensures { Checks (R.remaining input.old) (O.gone output.old) (O.gone output.new)
+/// All that is left of the input is taken, and at most 1,073,741,825 bytes of it: one more than the text may have.
+///
+/// # Errors
+///
+/// `Unjudged` where there is no verdict, and then nothing goes out: `RefusedLine` with the number of the first line that is
+/// refused, where the input isn't the text of a transcript; `Input` where the input failed, has more than 1,073,741,824
+/// bytes, or memory ran out for it; `NoMemory` where memory ran out later. `Untold` where there is one: `Failed` where the
+/// output failed, which its count of failures tells, after a beginning of the line; `NoMemory` before anything goes out.
+pub fn check<R: Read, O: Out>(
+    alloc: Global,
+    input: &mut R,
+    output: &mut O,
+) -> Result<Verdict, CheckFault>
+    ensures checks { Checks (R.remaining input.old) (R.remaining input.new) (O.gone output.old) (O.gone output.new)
         (O.failures output.old) (O.failures output.new) result }
+    ensures took { TakesAtMost most_taken (R.remaining input.old) (R.remaining input.new) }
 {
-    match judged(alloc, input) {
-        Ok(verdict) => tell(alloc, output, verdict),
-        Err(ending) => ending,
-    }
+    let verdict = judged(alloc, input)?;
+    tell(alloc, output, verdict)?;
+    Ok(verdict)
 }

@@ -1,16 +1,15 @@
 //! The demonstration: one device and one packet, from the first call to the printed history.
 
-ghost use Rattle.std.specs.Prelude.{◌≡◌, [], ◌∷◌, ◌++◌, IfSome, false};
+ghost use Rattle.std.specs.Prelude.{◌≡◌, [], ◌∷◌, ◌++◌, IfErr, IfSome, OnErr, OnOk, false};
 ghost use Rattle.irp_shared.specs.Sharing.{needs_token};
-ghost use Rattle.irp_transcript_writer.specs.Out.{risen};
 ghost use Rattle.irpx.specs.Demo.{calls_of, AreDemoCalls, IsDemoTranscript, WritesLegal, BeginsLegal};
-ghost use Rattle.irpx.specs.declared.ending.Ending.TheVariants.{Done, OtherWords, Failed};
+ghost use Rattle.irpx.specs.Writing.{count_after};
 
-use crate::ending::Ending;
+use crate::writing::{Unwritten, write};
 use irp_manager::KnowsNothing;
 use irp_routines::{Ask, Dispatch, Store};
 use irp_shared::{Seat, Session, Shared, Transcript, open};
-use irp_transcript_writer::{Cause, Out, write_transcript};
+use irp_transcript_writer::Out;
 use irp_types::{Call, DispatchId, DriverId, Known, LockNo, Party, Plan, Reply, Shown, Status};
 use std::alloc::{AllocError, Global};
 use std::marker::Brand;
@@ -118,31 +117,28 @@ fn transcript(rt: &impl Wait, alloc: Global, dispatch: Dispatch) -> Option<Trans
 /// and each waits for its turn.
 ///
 /// What goes out where all is done is the text of a header and of a history that the sequential manager could have
-/// made with the tables that the header tells. Where memory runs out or the output fails, at most a beginning of such
-/// a text goes out; the output's count of failures rises exactly where the answer is `Failed`.
-pub fn demo<O: Out>(rt: &impl Wait, alloc: Global, output: &mut O) -> Ending
-    ensures done { result ≡ Done → WritesLegal (O.gone output.old) (O.gone output.new) }
-    ensures begins { (result ≡ Done → ⊥) → BeginsLegal (O.gone output.old) (O.gone output.new) }
-    ensures words { result ≡ OtherWords → ⊥ }
-    ensures failed { result ≡ Failed → O.failures output.new ≡ risen (O.failures output.old) }
-    ensures calm { (result ≡ Failed → ⊥) → O.failures output.new ≡ O.failures output.old }
+/// made with the tables that the header tells.
+///
+/// # Errors
+///
+/// `Failed` where the output failed, and exactly then its count of failures rises; `NoMemory` where memory ran out. After
+/// either a beginning of such a text went out, and not the whole.
+pub fn demo<O: Out>(rt: &impl Wait, alloc: Global, output: &mut O) -> Result<(), Unwritten>
+    ensures done { OnOk result (WritesLegal (O.gone output.old) (O.gone output.new)) }
+    ensures begins { OnErr result (BeginsLegal (O.gone output.old) (O.gone output.new)) }
+    ensures calm { OnOk result (O.failures output.new ≡ O.failures output.old) }
+    ensures fault { IfErr result (λ fault. O.failures output.new ≡ count_after fault (O.failures output.old)) }
 {
     let finish = |_shown: Shown| Plan::Finish {
         status: Status::SUCCESS,
         information: 5,
     };
     let Ok(finish) = Box::new(alloc, finish) else {
-        return Ending::NoMemory;
+        return Err(Unwritten::NoMemory);
     };
     let dispatch = Dispatch::new(Known::NONE, finish);
     let Some(transcript) = transcript(rt, alloc, dispatch) else {
-        return Ending::NoMemory;
+        return Err(Unwritten::NoMemory);
     };
-    match write_transcript(alloc, output, &transcript) {
-        Ok(()) => Ending::Done,
-        Err(fault) => match fault.cause {
-            Cause::Io => Ending::Failed,
-            Cause::Memory => Ending::NoMemory,
-        },
-    }
+    write(alloc, output, &transcript)
 }

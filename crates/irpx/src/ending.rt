@@ -1,9 +1,15 @@
 //! How the program ends.
 
 ghost use Rattle.std.specs.Prelude.{◌≡◌};
-ghost use Rattle.irpx.specs.Ending.{status_of, has_line};
 ghost use Rattle.std.specs.Process.{exit_status};
+ghost use Rattle.irpx.specs.Ending.{has_line, of_check, of_input, of_judging, of_run, of_script, of_session, of_unfinished, of_verdict, of_words, of_writing, status_of};
 
+use crate::checking::{CheckFault, Unjudged};
+use crate::input::InputFault;
+use crate::orders::Unread;
+use crate::running::{RunFault, Unfinished, Unrun, Unscripted};
+use crate::writing::Unwritten;
+use irp_script::Verdict;
 use irp_script_reader::ScriptRefusal;
 use std::fmt;
 use std::process::ExitCode;
@@ -76,6 +82,119 @@ impl fmt::Display for Ending {
                 f.write_str("irpx: usage: irpx demo, run [--workers N] or check")
             }
             Ending::Failed => f.write_str("irpx: input or output failed"),
+        }
+    }
+}
+
+impl From<Unread> for Ending {
+    ghost from_gives = { λ given ending. ending ≡ of_words given };
+
+    fn from(given: Unread) -> Ending {
+        match given {
+            Unread::Usage => Ending::OtherWords,
+            Unread::Memory => Ending::NoMemory,
+        }
+    }
+}
+
+impl From<InputFault> for Ending {
+    ghost from_gives = { λ given ending. ending ≡ of_input given };
+
+    fn from(given: InputFault) -> Ending {
+        match given {
+            InputFault::Failed => Ending::Failed,
+            InputFault::Memory => Ending::NoMemory,
+        }
+    }
+}
+
+impl From<Unwritten> for Ending {
+    ghost from_gives = { λ given ending. ending ≡ of_writing given };
+
+    fn from(given: Unwritten) -> Ending {
+        match given {
+            Unwritten::Failed => Ending::Failed,
+            Unwritten::NoMemory => Ending::NoMemory,
+        }
+    }
+}
+
+impl From<Unscripted> for Ending {
+    ghost from_gives = { λ given ending. ending ≡ of_script given };
+
+    fn from(given: Unscripted) -> Ending {
+        match given {
+            Unscripted::Input(fault) => Ending::from(fault),
+            Unscripted::Refused { refusal } => Ending::RefusedScript { refusal },
+            Unscripted::NoMemory => Ending::NoMemory,
+        }
+    }
+}
+
+impl From<Unrun> for Ending {
+    ghost from_gives = { λ given ending. ending ≡ of_session given };
+
+    fn from(given: Unrun) -> Ending {
+        match given {
+            Unrun::ReceiptsDiffer => Ending::ReceiptsDiffer,
+            Unrun::NoMemory => Ending::NoMemory,
+        }
+    }
+}
+
+impl From<Unfinished> for Ending {
+    ghost from_gives = { λ given ending. ending ≡ of_unfinished given };
+
+    fn from(given: Unfinished) -> Ending {
+        match given {
+            Unfinished::NoTranscript(fault) => Ending::from(fault),
+            Unfinished::Stopped => Ending::NoMemory,
+            Unfinished::Unwritten(fault) => Ending::from(fault),
+        }
+    }
+}
+
+impl From<RunFault> for Ending {
+    ghost from_gives = { λ given ending. ending ≡ of_run given };
+
+    fn from(given: RunFault) -> Ending {
+        match given {
+            RunFault::Unread(fault) => Ending::from(fault),
+            RunFault::Unfinished(fault) => Ending::from(fault),
+        }
+    }
+}
+
+impl From<Unjudged> for Ending {
+    ghost from_gives = { λ given ending. ending ≡ of_judging given };
+
+    fn from(given: Unjudged) -> Ending {
+        match given {
+            Unjudged::Input(fault) => Ending::from(fault),
+            Unjudged::RefusedLine { line } => Ending::RefusedLine { line },
+            Unjudged::NoMemory => Ending::NoMemory,
+        }
+    }
+}
+
+impl From<CheckFault> for Ending {
+    ghost from_gives = { λ given ending. ending ≡ of_check given };
+
+    fn from(given: CheckFault) -> Ending {
+        match given {
+            CheckFault::Unjudged(fault) => Ending::from(fault),
+            CheckFault::Untold(fault) => Ending::from(fault),
+        }
+    }
+}
+
+impl From<Verdict> for Ending {
+    ghost from_gives = { λ given ending. ending ≡ of_verdict given };
+
+    fn from(given: Verdict) -> Ending {
+        match given {
+            Verdict::Legal { .. } => Ending::Done,
+            Verdict::Illegal { .. } => Ending::Illegal,
         }
     }
 }

@@ -1,25 +1,33 @@
 //! Reading an input up to a limit.
 
-ghost use Rattle.std.specs.Io.KnownBytes.{Consumes};
 ghost use Rattle.std.specs.Prelude.{◌≡◌, ◌≤◌, take, vec_len, IfOk, IfSome};
+ghost use Rattle.std.specs.Io.KnownBytes.{Consumes};
+ghost use Rattle.irpx.specs.Input.{TakesAtMost};
 
 use std::alloc::Global;
 use std::io::Read;
+use thiserror::Error;
 
 /// How many bytes are asked for in one turn, at most.
 const PIECE: usize = 65_536;
 
 /// Why an input was not read.
-#[derive(Clone, Copy, Debug, PartialEq, Eq)]
+#[derive(Clone, Copy, Debug, PartialEq, Eq, Error)]
 pub enum InputFault {
     /// A read failed, or was interrupted.
+    #[error("the input failed")]
     Failed,
     /// Memory ran out.
+    #[error("memory ran out")]
     Memory,
 }
 
 /// The first bytes of the input, at most so many; no more are taken from it. Each turn takes a byte or is the last, and an
 /// interrupted read is a failed one (this project's own rule).
+///
+/// # Errors
+///
+/// `Failed` where a read failed, and `Memory` where memory ran out. Then too at most so many bytes are taken from it.
 pub fn read_up_to<R: Read>(
     alloc: Global,
     reader: &mut R,
@@ -28,6 +36,7 @@ pub fn read_up_to<R: Read>(
     ensures bound { IfOk result (λ read. vec_len read ≤ limit) }
     ensures bytes { IfOk result (λ read. IfSome (R.remaining reader.old) (λ input. read.items ≡ take limit input)) }
     ensures took { IfOk result (λ read. Consumes (R.remaining reader.old) (R.remaining reader.new) read.items) }
+    ensures within { TakesAtMost limit (R.remaining reader.old) (R.remaining reader.new) }
 {
     let mut bytes = Vec::new(alloc);
     let mut buffer = [0u8; PIECE];

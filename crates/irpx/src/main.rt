@@ -8,6 +8,7 @@ mod input;
 mod orders;
 mod running;
 mod words;
+mod writing;
 
 ghost use Rattle.std.specs.Prelude.{IfOk};
 ghost use Rattle.irpx.specs.CommandLine.{IsOrder};
@@ -51,14 +52,22 @@ fn run<R: Read, O: Out, T: Threads + Wait + Sync>(
 ) -> Ending
     requires { IfOk order IsOrder }
     ensures read { ReadsFor order (R.remaining input.old) (R.remaining input.new) }
-    ensures obeys { Obeys order (R.remaining input.old) (O.gone output.old) (O.gone output.new) (O.failures output.old) (O.failures output.new) result }
+    ensures obeys { Obeys order (R.remaining input.old) (R.remaining input.new) (O.gone output.old) (O.gone output.new) (O.failures output.old) (O.failures output.new) result }
 {
     match order {
-        Ok(Order::Demo) => demo::demo(rt, alloc, output),
-        Ok(Order::Run { workers }) => running::run(rt, alloc, input, output, workers),
-        Ok(Order::Check) => checking::check(alloc, input, output),
-        Err(Unread::Usage) => Ending::OtherWords,
-        Err(Unread::Memory) => Ending::NoMemory,
+        Ok(Order::Demo) => match demo::demo(rt, alloc, output) {
+            Ok(()) => Ending::Done,
+            Err(fault) => Ending::from(fault),
+        },
+        Ok(Order::Run { workers }) => match running::run(rt, alloc, input, output, workers) {
+            Ok(()) => Ending::Done,
+            Err(fault) => Ending::from(fault),
+        },
+        Ok(Order::Check) => match checking::check(alloc, input, output) {
+            Ok(verdict) => Ending::from(verdict),
+            Err(fault) => Ending::from(fault),
+        },
+        Err(unread) => Ending::from(unread),
     }
 }
 

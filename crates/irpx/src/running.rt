@@ -3,44 +3,165 @@
 ghost use Rattle.std.specs.Prelude.{IfErr, IfOk, ◌≡◌, ◌<◌, false, map, true};
 ghost use Rattle.irp_types.specs.Rules.{is_allowed, is_plan_allowed};
 ghost use Rattle.irp_routines.specs.Guarded.{guarded_answer, guarded_plan};
+ghost use Rattle.irp_shared.specs.Transcripts.{IsTranscript};
 ghost use Rattle.irp_workers.specs.Behaviours.{answer_of, plan_of};
 ghost use Rattle.irp_workers.specs.Numbers.{EachAsOften};
+ghost use Rattle.irpx.specs.Input.{TakesAtMost};
 ghost use Rattle.irpx.specs.Running.{
   AfterRun,
   AfterScript,
-  Holds,
+  HoldsScript,
   IsRun,
   MakesEach,
+  NoScript,
   TellsEach,
-  Unrun,
-  Unscripted,
-  Writes,
   and_drivers,
-  ending_of,
+  most_taken,
   tables_of,
 };
-ghost use Rattle.irpx.specs.declared.ending.Ending.TheVariants.{Done};
 
-use crate::ending::Ending;
 use crate::input::{InputFault, read_up_to};
+use crate::writing::{Unwritten, write};
 use irp_routines::{CancelRoutine, Dispatch, Routine, Store, guarded_answer, guarded_plan};
-use irp_script_reader::{CompletionRoutine, Script, ScriptFault, read_script};
-use irp_shared::{Seat, Session, Transcript, TranscriptParts, open};
-use irp_transcript_writer::{Cause, Out, write_transcript};
+use irp_script_reader::{CompletionRoutine, Script, ScriptFault, ScriptRefusal, read_script};
+use irp_shared::{Seat, Session, Transcript, TranscriptParts, WordLine, open};
+use irp_transcript_writer::Out;
 use irp_types::{Answer, Known, Plan, Row, Shown};
 use irp_workers::{
     AlwaysOpen, ScriptSeat, cancel_rule, run_workers, script_seats, table_answer, table_cancel,
     table_plan,
 };
-use std::alloc::{AllocError, Global};
+use std::alloc::{AllocError, AllocFailed, Global};
 use std::io::Read;
 use std::marker::Brand;
 use std::sync::Wait;
 use std::sync::ledger::Blank;
 use std::thread::Threads;
+use thiserror::Error;
 
 /// One byte more than the text of a script may have.
 const TOO_MANY_BYTES: usize = 1_048_577;
+
+/// Why no script was read.
+#[derive(Clone, Copy, Debug, PartialEq, Eq, Error)]
+pub enum Unscripted {
+    /// The input wasn't read.
+    #[error("{0}")]
+    Input(InputFault),
+    /// The text is refused.
+    #[error("{refusal}")]
+    Refused { refusal: ScriptRefusal },
+    /// Memory ran out for the script.
+    #[error("memory ran out")]
+    NoMemory,
+}
+
+impl From<InputFault> for Unscripted {
+    ghost use Rattle.irpx.specs.declared.running.Unscripted.TheVariants.{Input};
+
+    ghost from_gives = { λ fault unscripted. unscripted ≡ Input fault };
+
+    fn from(fault: InputFault) -> Unscripted {
+        Unscripted::Input(fault)
+    }
+}
+
+/// Why a script that was read left no transcript.
+#[derive(Clone, Copy, Debug, PartialEq, Eq, Error)]
+pub enum Unrun {
+    /// The seats kept other entries than the history has.
+    #[error("receipts differ")]
+    ReceiptsDiffer,
+    /// Memory ran out.
+    #[error("memory ran out")]
+    NoMemory,
+}
+
+impl From<AllocError> for Unrun {
+    ghost use Rattle.irpx.specs.declared.running.Unrun.TheVariants.{NoMemory};
+
+    ghost from_gives = { λ _ unrun. unrun ≡ NoMemory };
+
+    fn from(_error: AllocError) -> Unrun {
+        Unrun::NoMemory
+    }
+}
+
+/// Why a script that was read wasn't run to its end, or its transcript not written whole.
+#[derive(Clone, Copy, Debug, PartialEq, Eq, Error)]
+pub enum Unfinished {
+    /// There is no transcript.
+    #[error("{0}")]
+    NoTranscript(Unrun),
+    /// A step found no memory or wasn't recorded. The transcript of what was recorded is written.
+    #[error("a step wasn't recorded")]
+    Stopped,
+    /// The transcript wasn't written whole.
+    #[error("{0}")]
+    Unwritten(Unwritten),
+}
+
+impl From<Unrun> for Unfinished {
+    ghost use Rattle.irpx.specs.declared.running.Unfinished.TheVariants.{NoTranscript};
+
+    ghost from_gives = { λ fault unfinished. unfinished ≡ NoTranscript fault };
+
+    fn from(fault: Unrun) -> Unfinished {
+        Unfinished::NoTranscript(fault)
+    }
+}
+
+impl<T: Drop> From<AllocFailed<T>> for Unfinished {
+    ghost use Rattle.irpx.specs.declared.running.Unfinished.TheVariants.{NoTranscript};
+    ghost use Rattle.irpx.specs.declared.running.Unrun.TheVariants.{NoMemory};
+
+    ghost from_gives = { λ _ unfinished. unfinished ≡ NoTranscript NoMemory };
+
+    fn from(_error: AllocFailed<T>) -> Unfinished {
+        Unfinished::NoTranscript(Unrun::NoMemory)
+    }
+}
+
+impl From<Unwritten> for Unfinished {
+    ghost use Rattle.irpx.specs.declared.running.Unfinished.TheVariants.{Unwritten as NotWritten};
+
+    ghost from_gives = { λ fault unfinished. unfinished ≡ NotWritten fault };
+
+    fn from(fault: Unwritten) -> Unfinished {
+        Unfinished::Unwritten(fault)
+    }
+}
+
+/// Why a script wasn't run, or not to its end.
+#[derive(Clone, Copy, Debug, PartialEq, Eq, Error)]
+pub enum RunFault {
+    /// There is no script.
+    #[error("{0}")]
+    Unread(Unscripted),
+    /// There is one, and it wasn't run to its end, or its transcript not written whole.
+    #[error("{0}")]
+    Unfinished(Unfinished),
+}
+
+impl From<Unscripted> for RunFault {
+    ghost use Rattle.irpx.specs.declared.running.RunFault.TheVariants.{Unread};
+
+    ghost from_gives = { λ fault unrun. unrun ≡ Unread fault };
+
+    fn from(fault: Unscripted) -> RunFault {
+        RunFault::Unread(fault)
+    }
+}
+
+impl From<Unfinished> for RunFault {
+    ghost use Rattle.irpx.specs.declared.running.RunFault.TheVariants.{Unfinished as NotFinished};
+
+    ghost from_gives = { λ fault unrun. unrun ≡ NotFinished fault };
+
+    fn from(fault: Unfinished) -> RunFault {
+        RunFault::Unfinished(fault)
+    }
+}
 
 /// How many workers run a script, at least one.
 #[derive(Clone, Copy)]
@@ -56,20 +177,17 @@ struct Finished {
     stopped: bool,
 }
 
-/// The script of the input. The ending where the input can't be read, or is no script.
-fn script_of<R: Read>(alloc: Global, input: &mut R) -> Result<Script, Ending>
-    ensures ok { IfOk result (Holds (R.remaining input.old)) }
-    ensures err { IfErr result (Unscripted (R.remaining input.old)) }
+/// The script of the input. The fault where the input can't be read, or is no script.
+fn script_of<R: Read>(alloc: Global, input: &mut R) -> Result<Script, Unscripted>
+    ensures ok { IfOk result (HoldsScript (R.remaining input.old) (R.remaining input.new)) }
+    ensures err { IfErr result (NoScript (R.remaining input.old) (R.remaining input.new)) }
+    ensures took { TakesAtMost most_taken (R.remaining input.old) (R.remaining input.new) }
 {
-    let text = match read_up_to(alloc, input, TOO_MANY_BYTES) {
-        Ok(text) => text,
-        Err(InputFault::Failed) => return Err(Ending::Failed),
-        Err(InputFault::Memory) => return Err(Ending::NoMemory),
-    };
+    let text = read_up_to(alloc, input, TOO_MANY_BYTES)?;
     match read_script(alloc, text.as_slice()) {
         Ok(script) => Ok(script),
-        Err(ScriptFault::Refused(refusal)) => Err(Ending::RefusedScript { refusal }),
-        Err(ScriptFault::NoMemory) => Err(Ending::NoMemory),
+        Err(ScriptFault::Refused(refusal)) => Err(Unscripted::Refused { refusal }),
+        Err(ScriptFault::NoMemory) => Err(Unscripted::NoMemory),
     }
 }
 
@@ -89,6 +207,25 @@ fn seats_of<L: Session>(
     Ok(seats)
 }
 
+/// The transcript with these word lines in place of its own. `ReceiptsDiffer` where it has no header.
+fn with_words(transcript: Transcript, words: Vec<WordLine>) -> Result<Transcript, Unrun>
+    ensures made { IfOk result (λ made. made ≡ record transcript { words = words.items }) }
+    ensures accepted { IfOk result IsTranscript }
+{
+    transcript.is_one();
+    let TranscriptParts {
+        header,
+        entries,
+        ..
+    } = transcript.into_parts();
+    let Some(header) = header else {
+        return Err(Unrun::ReceiptsDiffer);
+    };
+    let transcript = Transcript::new(header, entries, Row::from_vec(words));
+    transcript.is_one();
+    Ok(transcript)
+}
+
 /// So many workers run the script in a session of its locks and seats.
 fn session<L: Session + Send + Sync, T: Threads + Wait + Sync>(
     rt: &T,
@@ -97,7 +234,7 @@ fn session<L: Session + Send + Sync, T: Threads + Wait + Sync>(
     store: Store,
     script: &Script,
     workers: u32,
-) -> Result<Finished, Ending>
+) -> Result<Finished, Unrun>
     requires workers { 0 < workers }
     requires blank { (blank.name ≡ L.name) × (blank.parts ≡ L.parts) }
     requires seats { (L.parts ≡ script.now.seats) × (L.seats ≡ script.now.seats) }
@@ -105,67 +242,28 @@ fn session<L: Session + Send + Sync, T: Threads + Wait + Sync>(
     ensures run { IfOk result (λ run. IsRun script.now store.tables run.transcript) }
     ensures all_told { IfOk result (λ run. run.stopped ≡ false → TellsEach script.now run.transcript) }
     ensures all_made { IfOk result (λ run. run.stopped ≡ false → MakesEach script.now run.transcript) }
-    ensures unrun { IfErr result Unrun }
 {
     let Ok((shared, seats)) = open::<Store, L>(alloc, blank, store, script.locks, script.seats)
     else {
-        return Err(Ending::NoMemory);
+        return Err(Unrun::NoMemory);
     };
     let Ok((locks, removes)) = irp_remove::open(alloc, script.locks, script.seats) else {
-        return Err(Ending::NoMemory);
+        return Err(Unrun::NoMemory);
     };
-    let Ok(pairs) = script_seats(alloc, &locks, seats, removes) else {
-        return Err(Ending::NoMemory);
-    };
-    let Ok(worked) = run_workers(
-        rt,
-        alloc,
-        &shared,
-        &locks,
-        pairs,
-        script,
-        &AlwaysOpen,
-        workers,
-    ) else {
-        return Err(Ending::NoMemory);
-    };
+    let pairs = script_seats(alloc, &locks, seats, removes)?;
+    let gate = AlwaysOpen;
+    let worked = run_workers(rt, alloc, &shared, &locks, pairs, script, &gate, workers)?;
     let stopped = worked.stopped;
     let words = worked.words;
-    let Ok(seats) = seats_of(alloc, worked.seats) else {
-        return Err(Ending::NoMemory);
-    };
+    let seats = seats_of(alloc, worked.seats)?;
     let Ok(transcript) = shared.close(seats) else {
-        return Err(Ending::ReceiptsDiffer);
+        return Err(Unrun::ReceiptsDiffer);
     };
-    transcript.is_one();
-    let TranscriptParts {
-        header,
-        entries,
-        ..
-    } = transcript.into_parts();
-    let Some(header) = header else {
-        return Err(Ending::ReceiptsDiffer);
-    };
-    let transcript = Transcript::new(header, entries, Row::from_vec(words));
+    let transcript = with_words(transcript, words)?;
     Ok(Finished {
         transcript,
         stopped,
     })
-}
-
-/// Writes what a run left.
-fn wrote<O: Out>(alloc: Global, output: &mut O, run: &Finished) -> Ending
-    ensures after { Writes run.now.transcript (O.gone output.old) (O.gone output.new) (O.failures output.old) (O.failures output.new) result }
-    ensures done { result ≡ Done → run.now.stopped ≡ false }
-{
-    match write_transcript(alloc, output, &run.transcript) {
-        Ok(()) if run.stopped => Ending::NoMemory,
-        Ok(()) => Ending::Done,
-        Err(fault) => match fault.cause {
-            Cause::Io => Ending::Failed,
-            Cause::Memory => Ending::NoMemory,
-        },
-    }
 }
 
 /// Has so many workers run the script with this store, and writes the transcript.
@@ -176,14 +274,16 @@ fn with_store<O: Out, T: Threads + Wait + Sync>(
     script: &Script,
     workers: Workers,
     store: Store,
-) -> Ending
+) -> Result<(), Unfinished>
     ensures { AfterScript script.now store.tables (O.gone output.old) (O.gone output.new) (O.failures output.old) (O.failures output.new) result }
 {
     let blank = Blank::new(u64::from(script.seats));
-    match session::<Brand, T>(rt, alloc, blank, store, script, workers.number) {
-        Ok(run) => wrote(alloc, output, &run),
-        Err(ending) => ending,
+    let run = session::<Brand, T>(rt, alloc, blank, store, script, workers.number)?;
+    write(alloc, output, &run.transcript)?;
+    if run.stopped {
+        return Err(Unfinished::Stopped);
     }
+    Ok(())
 }
 
 /// Adds the script's drivers to a store that has all closures of the script, and goes on.
@@ -194,16 +294,16 @@ fn with_dispatches<O: Out, T: Threads + Wait + Sync>(
     script: &Script,
     workers: Workers,
     mut store: Store,
-) -> Ending
+) -> Result<(), Unfinished>
     ensures { AfterScript script.now (and_drivers script.now.drivers store.tables) (O.gone output.old) (O.gone output.new) (O.failures output.old) (O.failures output.new) result }
 {
     let drivers = script.drivers.as_slice();
     for driver in drivers {
         let Ok(handlers) = driver.as_slice().to_vec(alloc) else {
-            return Ending::NoMemory;
+            return Err(Unfinished::NoTranscript(Unrun::NoMemory));
         };
         let Ok(_driver) = store.add_driver(handlers) else {
-            return Ending::NoMemory;
+            return Err(Unfinished::NoTranscript(Unrun::NoMemory));
         };
     }
     with_store(rt, alloc, output, script, workers, store)
@@ -227,16 +327,16 @@ fn planned_so(known: Known, plan: Plan, shown: Shown) -> Plan
     guarded_plan(known, shown, table_plan(plan, shown))
 }
 
-/// Has so many workers run the script with a store that behaves as it says, and writes the transcript. The error where a
-/// closure found no memory. All closures are made here, since no function hands out what it makes of them.
+/// Has so many workers run the script with a store that behaves as it says, and writes the transcript. All closures are made
+/// here, since no function hands out what it makes of them.
 fn run_script<O: Out, T: Threads + Wait + Sync>(
     rt: &T,
     alloc: Global,
     output: &mut O,
     script: &Script,
     workers: Workers,
-) -> Result<Ending, AllocError>
-    ensures { AfterScript script.now (tables_of script.now) (O.gone output.old) (O.gone output.new) (O.failures output.old) (O.failures output.new) (ending_of result) }
+) -> Result<(), Unfinished>
+    ensures { AfterScript script.now (tables_of script.now) (O.gone output.old) (O.gone output.new) (O.failures output.old) (O.failures output.new) result }
 {
     let mut store = Store::new(alloc);
     let routines = script.completions.as_slice();
@@ -244,7 +344,7 @@ fn run_script<O: Out, T: Threads + Wait + Sync>(
         let routine = *routine;
         let answer = Box::new(alloc, move |shown: Shown| allowed_answer(routine, shown))?;
         let Ok(_routine) = store.add(Routine::new(routine.rule, answer)) else {
-            return Err(AllocError);
+            return Err(Unfinished::NoTranscript(Unrun::NoMemory));
         };
     }
     let answers = script.cancels.as_slice();
@@ -253,7 +353,7 @@ fn run_script<O: Out, T: Threads + Wait + Sync>(
         let answered = move |shown: Shown| table_cancel(answer, shown);
         let routine = CancelRoutine::new(cancel_rule(answer), Box::new(alloc, answered)?);
         let Ok(_cancel) = store.add_cancel(routine) else {
-            return Err(AllocError);
+            return Err(Unfinished::NoTranscript(Unrun::NoMemory));
         };
     }
     let known = store.tables().counts();
@@ -263,34 +363,37 @@ fn run_script<O: Out, T: Threads + Wait + Sync>(
         let planned = move |shown: Shown| planned_so(known, plan, shown);
         let planned = Box::new(alloc, planned)?;
         let Ok(_dispatch) = store.add_dispatch(Dispatch::new(known, planned)) else {
-            return Err(AllocError);
+            return Err(Unfinished::NoTranscript(Unrun::NoMemory));
         };
     }
-    Ok(with_dispatches(rt, alloc, output, script, workers, store))
+    with_dispatches(rt, alloc, output, script, workers, store)
 }
 
 /// Reads a script from the input, up to its end or to one byte more than a script may have, has so many workers run its
 /// steps, and writes the transcript (this project's own command line, README.md). The closures behave as the script says.
 ///
-/// The ending is `Done` where all was done; `RefusedScript` where the input is no script; `ReceiptsDiffer` where the seats
-/// kept other entries than the history has; `NoMemory` where memory ran out, or a step wasn't recorded: then what was
-/// recorded is written; `Failed` where the input or the output failed.
+/// The text of the script is what was left of the input, or its first 1,048,577 bytes; this is taken of it, and no more. At
+/// most so much is taken where reading fails.
+///
+/// # Errors
+///
+/// `Unread` where there is no script, and then nothing goes out: `Input` where the input failed or memory ran out for it,
+/// `Refused` where its text is no script, `NoMemory` where memory ran out later. Else `Unfinished`: `NoTranscript` where
+/// memory ran out, or the seats kept other entries than the history has, and then nothing goes out; `Stopped` where a step
+/// found no memory or wasn't recorded, and then what was recorded is written; `Unwritten` where the output failed, which its
+/// count of failures tells, or memory ran out, after a beginning of the transcript.
 pub fn run<R: Read, O: Out, T: Threads + Wait + Sync>(
     rt: &T,
     alloc: Global,
     input: &mut R,
     output: &mut O,
     workers: u32,
-) -> Ending
+) -> Result<(), RunFault>
     requires { 0 < workers }
-    ensures { AfterRun (R.remaining input.old) (O.gone output.old) (O.gone output.new) (O.failures output.old) (O.failures output.new) result }
+    ensures after { AfterRun (R.remaining input.old) (R.remaining input.new) (O.gone output.old) (O.gone output.new) (O.failures output.old) (O.failures output.new) result }
+    ensures took { TakesAtMost most_taken (R.remaining input.old) (R.remaining input.new) }
 {
-    let script = match script_of(alloc, input) {
-        Ok(script) => script,
-        Err(ending) => return ending,
-    };
-    match run_script(rt, alloc, output, &script, Workers { number: workers }) {
-        Ok(ending) => ending,
-        Err(_) => Ending::NoMemory,
-    }
+    let script = script_of(alloc, input)?;
+    run_script(rt, alloc, output, &script, Workers { number: workers })?;
+    Ok(())
 }

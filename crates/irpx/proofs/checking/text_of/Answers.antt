@@ -3,7 +3,11 @@ use Rattle.std.proofs.Common.{◌≤◌, length, rules}
 use Rattle.irpx.proofs.Pieces.{all_read}
 use Rattle.irpx.proofs.checking.text_of.Goals as goal
 
-pub returns-in-Ok-clause-ok : goal.returns-in-Ok-clause-ok
-returns-in-Ok-clause-ok g c =
-    let few : length c.in-Ok.text.items ≤ 1073741824 = search rules in
-    record { few = few; whole = all_read 1073741824 c.in-Ok.text.items (g.R.Read.remaining c.args.input.now) few c.in-Ok.ensures.bytes }
+pub returns-clause-ok : goal.returns-clause-ok
+returns-clause-ok g c =
+    let few : length c.in_ok-text.text.items ≤ 1073741824 = search rules in
+    record {
+      few = few;
+      whole = all_read 1073741824 c.in_ok-text.text.items (g.R.Read.remaining c.args.input.now) few c.in_ok-text.ensures.bytes;
+      took = c.in_ok-text.ensures.took;
+    }

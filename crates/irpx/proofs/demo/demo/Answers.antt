@@ -1,13 +1,18 @@
 -- Before anything went out, what went out is the beginning of any text, as of one with no entries.
-use Rattle.std.proofs.Common.{ℕ, ◌<◌, ◌≤◌, List, [], ◌∷◌, Option, length, subst, refl, arith}
+use Rattle.std.proofs.Common.{◌≡◌, ℕ, ◌<◌, ◌≤◌, List, [], ◌∷◌, Option, Some, length, subst, sym, ap₂, ◌∙◌, refl, arith}
 use Rattle.std.proofs.lemmas.List.Elements.{All-nil}
+use Rattle.std.proofs.lemmas.Result.{IfErr-weaker, on_ok_weaker}
+use Rattle.std.specs.Io.KnownBytes.{Appends}
 use Rattle.irp_types.specs.Histories.{IsLegal}
 use Rattle.irp_shared.specs.Headers.{fixed_of, IsHeader}
 use Rattle.irp_shared.specs.declared.header.Header.{Header}
 use Rattle.irp_shared.specs.declared.header.Form.TheVariants.{One}
 use Rattle.irp_transcript_writer.specs.Json.{line_text}
-use Rattle.irp_transcript_writer.specs.Lines.{header_json}
-use Rattle.irpx.specs.Demo.{text_with, BeginsLegal}
+use Rattle.irp_shared.specs.Transcripts.{TranscriptValue}
+use Rattle.irp_shared.specs.declared.word_line.WordLine.{WordLine}
+use Rattle.irp_transcript_writer.specs.Lines.{header_json, lines, text_of}
+use Rattle.irpx.specs.Demo.{text_with, BeginsLegal, IsDemoTranscript, WritesLegal}
+use Rattle.irpx.specs.Writing.{Begins}
 use Rattle.irp_types.specs.State.{no_routines, opening_state}
 use Rattle.irp_transcript_writer.proofs.Puts.{appends_none, text_one, line_some}
 use Rattle.irpx.proofs.demo.demo.Goals as goal
@@ -66,7 +71,42 @@ nothing_begins gone = record {
 }
 
 pub returns-in_default-clause-begins : goal.returns-in_default-clause-begins
-returns-in_default-clause-begins g c other = nothing_begins _
+returns-in_default-clause-begins g c = nothing_begins _
 
 pub returns-in_default-transcript-clause-begins : goal.returns-in_default-transcript-clause-begins
-returns-in_default-transcript-clause-begins g c other = nothing_begins _
+returns-in_default-transcript-clause-begins g c = nothing_begins _
+
+-- the text of a transcript of the demonstration is that of its header and its history
+same_text : (transcript : TranscriptValue) (header : Header) → transcript.header ≡ Some header → transcript.words ≡ [] → text_of (lines transcript) ≡ text_with header transcript.entries
+same_text transcript header told bare =
+    ap₂ (λ (head : Option Header) (words : List WordLine). text_of (lines (record { header = head; entries = transcript.entries; words = words }))) told bare
+
+writes_legal : (transcript : TranscriptValue) → IsDemoTranscript transcript → (old new : Option (List ℕ)) → Appends old new (text_of (lines transcript)) → WritesLegal old new
+writes_legal transcript is old new written = record {
+  header = is.header;
+  history = transcript.entries;
+  fits = is.fits;
+  legal = is.legal;
+  calls = is.calls;
+  written = subst (λ (text : List ℕ). Appends old new text) (same_text transcript is.header is.told is.no_words) written;
+}
+
+begins_legal : (transcript : TranscriptValue) → IsDemoTranscript transcript → (old new : Option (List ℕ)) → Begins (text_of (lines transcript)) old new → BeginsLegal old new
+begins_legal transcript is old new begins = record {
+  header = is.header;
+  history = transcript.entries;
+  fits = is.fits;
+  legal = is.legal;
+  front = begins.front;
+  rest = begins.rest;
+  whole = sym (same_text transcript is.header is.told is.no_words) ∙ begins.whole;
+  short = begins.short;
+  gone = begins.gone;
+}
+
+pub returns-clause-done : goal.returns-clause-done
+returns-clause-done g c = on_ok_weaker c.write.result (λ written. writes_legal c.in-Some.transcript c.in-Some.ensures _ _ written.0) c.write.ensures.ok
+
+pub returns-clause-begins : goal.returns-clause-begins
+returns-clause-begins g c =
+    IfErr-weaker c.write.result _ _ (λ fault broke. begins_legal c.in-Some.transcript c.in-Some.ensures _ _ broke.0) c.write.ensures.err

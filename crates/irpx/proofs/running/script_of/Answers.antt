@@ -5,10 +5,14 @@ use Rattle.irp_script_reader.specs.declared.refusal.ScriptFault.{ScriptFault}
 use Rattle.irpx.specs.Running.{IsRead}
 use Rattle.irpx.proofs.running.script_of.Goals as goal
 
-pub returns-in-Ok-read_script-clause-ok : goal.returns-in-Ok-read_script-clause-ok
-returns-in-Ok-read_script-clause-ok g c =
-    (c.as_slice.result.now, subst (λ (text : List ℕ). IsRead (g.R.Read.remaining c.args.input.now) text) (sym c.as_slice.ensures.value) c.in-Ok.ensures.bytes, c.in-Ok-read_script.ensures.reads)
+pub returns-in-Ok-clause-ok : goal.returns-in-Ok-clause-ok
+returns-in-Ok-clause-ok g c =
+    let read : IsRead (g.R.Read.remaining c.args.input.now) (g.R.Read.remaining c.read_up_to.new.reader) c.in_ok-text.text.items =
+    record { first = c.in_ok-text.ensures.bytes; took = c.in_ok-text.ensures.took } in
+    (c.as_slice.result.now, subst (λ (text : List ℕ). IsRead (g.R.Read.remaining c.args.input.now) (g.R.Read.remaining c.read_up_to.new.reader) text) (sym c.as_slice.ensures.value) read, c.in-Ok.ensures.reads)
 
 pub returns-in-Err-Refused-clause-err : goal.returns-in-Err-Refused-clause-err
 returns-in-Err-Refused-clause-err g c =
-    (c.as_slice.result.now, subst (λ (text : List ℕ). IsRead (g.R.Read.remaining c.args.input.now) text) (sym c.as_slice.ensures.value) c.in-Ok.ensures.bytes, subst (λ (fault : ScriptFault). ReadsScript (Err fault) c.as_slice.result.now) c.in-Err-Refused.field-0-is c.in-Err-Refused.ensures.reads)
+    let read : IsRead (g.R.Read.remaining c.args.input.now) (g.R.Read.remaining c.read_up_to.new.reader) c.in_ok-text.text.items =
+    record { first = c.in_ok-text.ensures.bytes; took = c.in_ok-text.ensures.took } in
+    (c.as_slice.result.now, subst (λ (text : List ℕ). IsRead (g.R.Read.remaining c.args.input.now) (g.R.Read.remaining c.read_up_to.new.reader) text) (sym c.as_slice.ensures.value) read, subst (λ (fault : ScriptFault). ReadsScript (Err fault) c.as_slice.result.now) c.in-Err-Refused.field-0-is c.in-Err-Refused.ensures.reads)

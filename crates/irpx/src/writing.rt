@@ -1,0 +1,46 @@
+//! Writing a transcript, and why it isn't written whole.
+
+ghost use Rattle.std.specs.Prelude.{IfErr, OnOk};
+ghost use Rattle.irp_transcript_writer.specs.Lines.{lines, text_of};
+ghost use Rattle.irpx.specs.Writing.{BreaksOff, Written};
+
+use irp_shared::Transcript;
+use irp_transcript_writer::{Cause, Out, write_transcript};
+use std::alloc::Global;
+use thiserror::Error;
+
+/// Why a text wasn't written whole.
+#[derive(Clone, Copy, Debug, PartialEq, Eq, Error)]
+pub enum Unwritten {
+    /// The output failed.
+    #[error("the output failed")]
+    Failed,
+    /// Memory ran out.
+    #[error("memory ran out")]
+    NoMemory,
+}
+
+/// Writes a transcript (this project's own format, docs/FORMATS.md).
+///
+/// # Errors
+///
+/// `Failed` where the output failed, and exactly then its count of failures rose; `NoMemory` where memory ran out. After
+/// either, a beginning of the text went out, and not the whole.
+pub fn write<O: Out>(
+    alloc: Global,
+    output: &mut O,
+    transcript: &Transcript,
+) -> Result<(), Unwritten>
+    ensures ok { OnOk result (Written (text_of (lines transcript.now)) (O.gone output.old) (O.gone output.new)
+        (O.failures output.old) (O.failures output.new)) }
+    ensures err { IfErr result (BreaksOff (text_of (lines transcript.now)) (O.gone output.old) (O.gone output.new)
+        (O.failures output.old) (O.failures output.new)) }
+{
+    match write_transcript(alloc, output, transcript) {
+        Ok(()) => Ok(()),
+        Err(fault) => match fault.cause {
+            Cause::Io => Err(Unwritten::Failed),
+            Cause::Memory => Err(Unwritten::NoMemory),
+        },
+    }
+}
