@@ -8,11 +8,12 @@ use irp_manager::{Book, DrainNote, KnowsNothing, Manager, NotRecorded, Receipt, 
 use irp_routines::{Ask, Dispatch, DispatchClosure, Store};
 use irp_types::{
     Answer, Asked, Call, CancelAnswer, CancelId, CancelRule, DeviceId, DispatchId, DriverId,
-    IrpRef, Known, LockNo, Owner, Party, Plan, Refusal, Reply, RoutineId, Rule, Seen, Shown,
-    Status,
+    IrpRef, Known, LockNo, Owner, Party, Plan, Refusal, Reply, RoutineId, Rule, Seen, Setting,
+    Shown, Status,
 };
 use place::Place;
 use std::alloc::Global;
+use std::process::Abort;
 use std::sync::Arc;
 use std::sync::atomic::{AtomicU32, Ordering};
 use std::test::Fail;
@@ -34,7 +35,39 @@ const CREATE: Call = Call::CreateDevice {
 
 const ALLOCATE: Call = Call::Allocate { size: 1 };
 
-const LOOK: Call = Call::Look { irp: IRP };
+const CANCELLED: Status = Status(3221225760);
+
+const PENDING: Reply = Reply::Status(Status(259));
+
+/// A second packet.
+const SECOND: IrpRef = IrpRef { slot: 1, use_no: 2 };
+
+const FIRST_WATCH: RoutineId = RoutineId {
+    rule: Rule::Watch,
+    no: 0,
+};
+
+/// The originator's Watch, which a cancelled packet alone asks.
+const ON_CANCEL: Setting = Setting {
+    routine: FIRST_WATCH,
+    context: 9,
+    on_success: false,
+    on_error: false,
+    on_cancel: true,
+};
+
+const fn look(irp: IrpRef) -> Call {
+    Call::Look { irp }
+}
+
+/// The originator sets a completion routine.
+const fn set(irp: IrpRef, setting: Setting) -> Call {
+    Call::SetRoutine {
+        party: ORIGINATOR,
+        irp,
+        setting,
+    }
+}
 
 const fn fill(irp: IrpRef, major: u8) -> Call {
     Call::SetNext {
@@ -73,10 +106,61 @@ const SHOWN: Shown = Shown {
 };
 
 /// What the one dispatch is shown of a read, and what it plans.
-fn asked_of(irp: IrpRef, plan: Plan) -> Asked {
+const fn asked_of(irp: IrpRef, plan: Plan) -> Asked {
     Asked::Dispatch {
         id: DispatchId(0),
         shown: Shown { irp, ..SHOWN },
         plan,
     }
+}
+
+/// The Watch, as the first packet asks it when it has been cancelled.
+const ASKED_ON_CANCEL: Asked = Asked::Completion {
+    id: FIRST_WATCH,
+    shown: Shown {
+        device: None,
+        status: CANCELLED,
+        pending_returned: true,
+        context: 9,
+        cancel: true,
+        ..SHOWN
+    },
+    answer: Answer {
+        keep: false,
+        mark: false,
+        replacement: None,
+    },
+};
+
+/// What a look tells of a packet that has ended.
+const fn seen(status: Status, information: u64, cancel: bool) -> Reply {
+    Reply::Seen(Seen {
+        owner: Owner::Ended,
+        current: 2,
+        status,
+        information,
+        cancel,
+        cancel_routine: None,
+        pending_returned: true,
+        marked: false,
+    })
+}
+
+/// A call, what it has to be answered, and what has to be asked.
+type Step<'a> = (Call, Reply, &'a [Asked]);
+
+/// Makes the calls through a book of this store.
+fn play(rt: &impl Abort, alloc: Global, store: Store, steps: &[Step<'_>]) -> Result<(), Fail> {
+    let Ok(mut book) = Book::new(Manager::new(alloc, store, 1)) else {
+        return Err(Fail::from("a book"));
+    };
+    let mut caller = Place::new(0);
+    for place in 0..steps.len() {
+        let (call, reply, asked) = steps[place];
+        let receipt = caller.record(alloc, &mut book, call)?;
+        assert_eq!(rt; receipt.reply(), reply);
+        let entry = book.entry(place).ok_or("no entry")?;
+        assert_eq!(rt; entry.asked.as_slice(), asked);
+    }
+    Ok(())
 }

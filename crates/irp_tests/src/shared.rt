@@ -116,6 +116,22 @@ fn a_seat_is_behind_what_it_learned(rt: HostRuntime) -> Result<(), Fail> {
     behind::<Brand, HostRuntime>(&rt, alloc, Blank::new(2), table, 1, 2, &receipt)
 }
 
+/// The seat learns of a receipt, where there is one, and calls, in a thread of its own.
+fn calls_elsewhere<L: Session + Send + Sync, R: Threads + Wait + Sync>(
+    rt: &R,
+    shared: &Shared<AnswerTable, L>,
+    mut seat: Seat<L>,
+    known: Option<Receipt>,
+) -> Option<Receipt> {
+    let calling = move || {
+        if let Some(receipt) = &known {
+            learn(&mut seat, receipt);
+        }
+        shared.call(rt, &mut seat, ALLOCATE, &KnowsNothing).ok()
+    };
+    thread::join(rt, calling, || ()).0
+}
+
 /// The first seat calls in a thread, which ends; the second learns of it in another thread, and calls. Both entries'
 /// numbers.
 fn learned_elsewhere<L: Session + Send + Sync, R: Threads + Wait + Sync>(
@@ -133,24 +149,11 @@ fn learned_elsewhere<L: Session + Send + Sync, R: Threads + Wait + Sync>(
     let Ok((shared, mut places)) = open::<AnswerTable, L>(alloc, blank, table, locks, seats) else {
         return None;
     };
-    let lent = &shared;
-    let second = places.pop()?;
-    let called = |seat: Seat<L>| {
-        let mut seat = seat;
-        lent.call(rt, &mut seat, ALLOCATE, &KnowsNothing).ok()
-    };
-    let mut first = thread::map_vec(rt, places, &called).ok()?;
-    let receipt = first.pop()??;
-    let learned = |seat: Seat<L>| {
-        let mut seat = seat;
-        learn(&mut seat, &receipt);
-        lent.call(rt, &mut seat, ALLOCATE, &KnowsNothing).ok()
-    };
-    let mut others = Vec::new(alloc);
-    others.push(second).ok()?;
-    let mut later = thread::map_vec(rt, others, &learned).ok()?;
-    let other = later.pop()??;
-    Some((receipt.number(), other.number()))
+    let (second, first) = (places.pop()?, places.pop()?);
+    let receipt = calls_elsewhere(rt, &shared, first, None)?;
+    let number = receipt.number();
+    let other = calls_elsewhere(rt, &shared, second, Some(receipt))?;
+    Some((number, other.number()))
 }
 
 #[test]

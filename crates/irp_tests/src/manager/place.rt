@@ -2,8 +2,8 @@
 
 ghost use Rattle.std.specs.Prelude.{◌≡◌};
 
-use irp_manager::{Book, DrainNote, NotRecorded, Receipt, Seat};
-use irp_routines::Ask;
+use irp_manager::{Book, KnowsNothing, NotRecorded, Receipt, Seat};
+use irp_routines::Store;
 use irp_types::Call;
 use std::alloc::Global;
 use std::marker::Brand;
@@ -17,20 +17,19 @@ pub struct Place {
 }
 
 /// Records a call in a new seat, the only one of its ledger.
-fn record_in_new_seat<L: Ledger, A: Ask, N: DrainNote>(
+fn record_in_new_seat<L: Ledger>(
     alloc: Global,
     blank: Blank,
-    book: &mut Book<A>,
+    book: &mut Book<Store>,
     place: &Place,
     call: Call,
-    note: &N,
 ) -> Result<Receipt, NotRecorded>
     requires { (blank.name ≡ L.name) × (blank.parts ≡ L.parts) × (blank.parts ≡ 1) }
 {
     let (_total, share) = blank.open::<L>();
     let mut seat = Seat::new(alloc, place.number, share);
     seat.saw(place.seen);
-    book.record(&seat, call, note)
+    book.record(&seat, call, &KnowsNothing)
 }
 
 impl Place {
@@ -40,15 +39,14 @@ impl Place {
     }
 
     /// Records a call, which it has then seen.
-    pub fn record<A: Ask, N: DrainNote>(
+    pub fn record(
         &mut self,
         alloc: Global,
-        book: &mut Book<A>,
+        book: &mut Book<Store>,
         call: Call,
-        note: &N,
     ) -> Result<Receipt, NotRecorded> {
         let blank = Blank::new(1);
-        let receipt = record_in_new_seat::<Brand, A, N>(alloc, blank, book, self, call, note)?;
+        let receipt = record_in_new_seat::<Brand>(alloc, blank, book, self, call)?;
         self.seen = receipt.number() + 1;
         Ok(receipt)
     }

@@ -79,7 +79,7 @@ fn takes(locks: &Locks, mut seat: RemoveSeat) -> (RemoveSeat, Result<(), Acquire
 }
 
 /// What a thread that was given both seats was answered, in the order of its calls.
-#[derive(Clone, Copy, PartialEq, Eq, Debug)]
+#[derive(Clone, Copy, PartialEq, Eq)]
 struct HandedOver {
     handed: Result<(), HandRefusal>,
     released_by_giver: Result<(), ReleaseRefusal>,
@@ -155,7 +155,7 @@ fn a_reference_goes_to_another_thread(rt: HostRuntime) -> Result<(), Fail> {
         released_by_taker: Ok(()),
         drained: Ok(()),
     };
-    assert_eq!(rt; answers, expected);
+    assert!(rt; answers == expected);
     Ok(())
 }
 
