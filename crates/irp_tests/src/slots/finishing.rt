@@ -181,7 +181,7 @@ fn cancels<L: Session>(
 }
 
 /// What the parties of the slot were answered.
-#[derive(Clone, Copy, PartialEq, Eq, Debug)]
+#[derive(Clone, Copy, PartialEq, Eq)]
 struct Told {
     published: Answer,
     spent: Option<usize>,
@@ -275,7 +275,7 @@ fn who_took_a_packet_from_its_slot_finishes_it_once(rt: HostRuntime) -> Result<(
         spent: Some(2),
         withdrawn: Answer::Lost,
     };
-    assert_eq!(rt; told, expected);
+    assert!(rt; told == expected, "what the slot's parties were answered");
     let (first, second, finished) = ([held(IRP)], [held(SECOND)], [looked_on()]);
     let entries: [(u32, Call, Reply, &[Asked]); 14] = [
         (0, CREATE, Reply::Device(DEVICE), &[]),
