@@ -4,8 +4,8 @@ mod counting;
 mod held;
 mod place;
 
-use irp_manager::{Book, DrainNote, KnowsNothing, Manager, NotRecorded, Receipt, Seat};
-use irp_routines::{Ask, Dispatch, DispatchClosure, Store};
+use irp_manager::{Book, Manager};
+use irp_routines::{Dispatch, DispatchClosure, Store};
 use irp_types::{
     Answer, Asked, Call, CancelAnswer, CancelId, CancelRule, DeviceId, DispatchId, DriverId,
     IrpRef, Known, LockNo, Owner, Party, Plan, Refusal, Reply, RoutineId, Rule, Seen, Setting,

@@ -7,7 +7,7 @@ ghost use Rattle.irp_types.specs.declared.routine.Rule.TheVariants.{Watch};
 ghost use Rattle.irp_types.specs.declared.routine.CancelRule.TheVariants.{MustFinish};
 
 use super::*;
-use irp_routines::{CancelClosure, CancelRoutine, CompletionClosure, Routine};
+use irp_routines::{CancelRoutine, Routine};
 use std::process::Abort;
 
 const fn cancel(irp: IrpRef) -> Call {
