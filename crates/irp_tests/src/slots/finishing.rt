@@ -17,6 +17,7 @@ use irp_types::{
 };
 use std::alloc::Global;
 use std::marker::Brand;
+use std::process::Abort;
 use std::sync::Wait;
 use std::sync::ledger::Blank;
 use std::test::Fail;
@@ -264,20 +265,10 @@ const FINISHED: Seen = Seen {
     marked: false,
 };
 
-#[test]
-fn who_took_a_packet_from_its_slot_finishes_it_once(rt: HostRuntime) -> Result<(), Fail> {
-    let alloc = rt.alloc();
-    let ask = holds_for_a_slot(alloc)?;
-    let opened = one_slot(alloc)?;
-    let (transcript, told) = session::<Brand>(&rt, alloc, Blank::new(2), ask, opened)?;
-    let expected = Told {
-        published: Answer::Standing,
-        spent: Some(2),
-        withdrawn: Answer::Lost,
-    };
-    assert!(rt; told == expected, "what the slot's parties were answered");
+/// The entries of the transcript are those of the example, each with its questions.
+fn tells_all(rt: &impl Abort, transcript: &Transcript) {
     let (first, second, finished) = ([held(IRP)], [held(SECOND)], [looked_on()]);
-    let entries: [(u32, Call, Reply, &[Asked]); 14] = [
+    let expected: [(u32, Call, Reply, &[Asked]); 14] = [
         (0, CREATE, Reply::Device(DEVICE), &[]),
         (0, ALLOCATE, Reply::Irp(IRP), &[]),
         (0, FILL, Reply::Done, &[]),
@@ -293,10 +284,26 @@ fn who_took_a_packet_from_its_slot_finishes_it_once(rt: HostRuntime) -> Result<(
         (1, finish(RIGHT), Reply::Done, &finished),
         (1, LOOK, Reply::Seen(FINISHED), &[]),
     ];
-    assert_eq!(rt; transcript.entries().len(), entries.len());
-    for (found, (seat, call, reply, asked)) in transcript.entries().iter().zip(entries) {
-        assert_eq!(rt; (found.seat, found.call, found.reply), (seat, call, reply));
-        assert_eq!(rt; found.asked.as_slice(), asked);
+    assert_eq!(rt; transcript.entries().len(), expected.len());
+    for (number, entry) in transcript.entries().iter().enumerate() {
+        let (seat, call, reply, asked) = expected[number];
+        let same = entry.seat == seat && entry.call == call && entry.reply == reply;
+        assert!(rt; same && entry.asked.as_slice() == asked, "entry {number}");
     }
+}
+
+#[test]
+fn who_took_a_packet_from_its_slot_finishes_it_once(rt: HostRuntime) -> Result<(), Fail> {
+    let alloc = rt.alloc();
+    let ask = holds_for_a_slot(alloc)?;
+    let opened = one_slot(alloc)?;
+    let (transcript, told) = session::<Brand>(&rt, alloc, Blank::new(2), ask, opened)?;
+    let expected = Told {
+        published: Answer::Standing,
+        spent: Some(2),
+        withdrawn: Answer::Lost,
+    };
+    assert!(rt; told == expected, "what the slot's parties were answered");
+    tells_all(&rt, &transcript);
     Ok(())
 }
