@@ -77,7 +77,8 @@ impl<'a, L: Session> Caller<'a, L> {
         self.seat
     }
 
-    /// Makes a call, with what it knows of the lock. The reply, or none where the call wasn't recorded.
+    /// Makes a call, with what it knows of the lock. The reply, or none where the call wasn't recorded. A call that needs a
+    /// token isn't made: that is for `Shared::finish_taken`.
     fn call<A: Ask>(&mut self, rt: &impl Wait, shared: &Shared<A, L>, call: Call) -> Option<Reply> {
         if needs_token(call) {
             return None;

@@ -166,6 +166,7 @@ impl<A: Ask, L: Session> Shared<A, L> {
         }
     }
 
+    /// Makes any call in a seat, and records it.
     fn record<N: DrainNote>(
         &self,
         rt: &impl Wait,
