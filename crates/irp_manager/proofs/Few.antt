@@ -38,7 +38,7 @@ use Rattle.irp_types.specs.declared.reply.Reply.TheVariants.{Refused}
 use Rattle.irp_unwind.proofs.Lists.{all_by_index}
 use Rattle.irp_unwind.proofs.Frames.{last_has}
 use Rattle.irp_manager.specs.Slots.{Slots}
-use Rattle.irp_manager.specs.Cores.{state_of, most_asked, Stepped}
+use Rattle.irp_manager.specs.Cores.{state_of, fixed_with, most_asked, Stepped}
 use Rattle.irp_manager.specs.Rooms.{within_reach, can_ask}
 use Rattle.irp_manager.specs.declared.sequential.Core.{Core}
 use Rattle.irp_manager.proofs.Named.{sound_named}
@@ -254,5 +254,5 @@ at_most counts state (Look irp) stands = omega arith
 pub few_stepped : {K : Type 0} (live : K → Slots) (tables : Tables) (drained : Bool) (old : Core K) (call : Call) (asked : List Asked) (reply : Reply) (new : Core K)
     → Stepped live tables drained old call asked reply new → StandingFacts tables.counts (state_of live old) → length asked ≤ can_ask (state_of live old) call
 few_stepped live tables drained old call asked reply new stepped stands =
-    let fixed : Fixed = record { locks = old.locks; tables = tables } in
-    few_step fixed (state_of live old) drained call asked reply (state_of live new) stands (stepped.step fixed refl refl)
+    let fixed : Fixed = fixed_with old tables in
+    few_step fixed (state_of live old) drained call asked reply (state_of live new) stands (stepped.step fixed refl (refl, refl))

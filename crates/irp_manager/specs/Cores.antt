@@ -19,13 +19,25 @@ use Rattle.irp_manager.specs.declared.sequential.Core.{Core}
 
 -- the state that a core stands for, by what its keep has
 abbrev pub state_of : {K : Type 0} → (K → Slots) → Core K → StateValue
-state_of live core = record { live = live core.keep; devices = core.stacks; next_use = core.next_use }
+state_of live core = record { live = live core.keep; devices = core.stacks.devices; next_use = core.next_use }
+
+-- what is fixed of a core whose asker has these tables
+abbrev pub fixed_with : {K : Type 0} → Core K → Tables → Fixed
+fixed_with core tables = record { locks = core.locks; tables = tables; limit = core.stacks.limit }
+
+-- what is fixed agrees with a core: it has its locks and its limit
+abbrev pub Agrees : {K : Type 0} → Fixed → Core K → Type 0
+Agrees fixed core = (fixed.locks ≡ core.locks) × (fixed.limit ≡ core.stacks.limit)
+
+-- locks and limit stay
+abbrev pub KeepsFixed : {K : Type 0} → Core K → Core K → Type 0
+KeepsFixed old new = (new.locks ≡ old.locks) × (new.stacks.limit ≡ old.stacks.limit)
 
 -- a call was answered by its step, and the standing facts are kept
 pub record Stepped {K : Type 0} (live : K → Slots) (tables : Tables) (drained : Bool) (old : Core K) (call : Call) (asked : List Asked) (reply : Reply) (new : Core K) : Type 0 where
-  pub step : (fixed : Fixed) → fixed.tables ≡ tables → fixed.locks ≡ old.locks → Step fixed (state_of live old) drained call asked reply (state_of live new)
+  pub step : (fixed : Fixed) → fixed.tables ≡ tables → Agrees fixed old → Step fixed (state_of live old) drained call asked reply (state_of live new)
   pub stands : StandingFacts tables.counts (state_of live new)
-  pub locks : new.locks ≡ old.locks
+  pub fixed : KeepsFixed old new
 
 -- so it was with any tables, where the standing facts held
 abbrev pub SteppedAny : {K : Type 0} → (K → Slots) → Core K → Call → List Asked → Reply → Core K → Type 0

@@ -2,18 +2,19 @@
 
 ghost use Rattle.std.specs.Prelude.{◌≡◌, ◌≤◌, length, None, IfOk, OnErr};
 ghost use Rattle.irp_types.specs.Histories.{lock_of};
+ghost use Rattle.irp_types.specs.declared.limit.Limit.TheVariants.{ThirtyTwo};
 ghost use Rattle.irp_types.specs.State.{opening_state};
 ghost use Rattle.irp_types.specs.Standing.{StandingFacts};
 ghost use Rattle.irp_routines.specs.Answers.{AreAnswered};
 ghost use Rattle.irp_manager.specs.Notes.{known_by};
 ghost use Rattle.irp_manager.specs.Keeps.{slabbed, IsNext};
-ghost use Rattle.irp_manager.specs.Cores.{state_of, most_asked, Stepped, SenderStays, SlotGranted};
+ghost use Rattle.irp_manager.specs.Cores.{state_of, most_asked, KeepsFixed, Stepped, SenderStays, SlotGranted};
 
 use crate::note::DrainNote;
 use crate::sequential::{Applied, Core};
 use crate::slab_keep::SlabKeep;
 use irp_routines::{Ask, FixedTables};
-use irp_types::Call;
+use irp_types::{Call, Limit};
 use std::alloc::{AllocError, Global};
 
 /// The sequential manager and whom it asks. It wishes for no slot, and keeps its packets in a slab (this project's own
@@ -41,16 +42,27 @@ impl<A: Ask> Manager<A> {
         FixedTables::told_by(self.core.alloc(), &self.ask)
     }
 
-    /// A manager without packets and devices, that asks so, with this many remove locks. It takes no memory.
+    /// A manager without packets and devices, that asks so, with this many remove locks. Packets have 32 locations at
+    /// most, and stacks 32 devices. It takes no memory.
     pub fn new(alloc: Global, ask: A, locks: u32) -> Manager<A>
         ensures ask { result.ask ≡ ask }
         ensures state { state_of slabbed result.core ≡ opening_state }
         ensures stands { StandingFacts (A.tables ask).counts (state_of slabbed result.core) }
-        ensures locks { result.core.locks ≡ locks }
+        ensures fixed { (result.core.locks ≡ locks) × (result.core.stacks.limit ≡ ThirtyTwo) }
+    {
+        Manager::with_limit(alloc, ask, locks, Limit::ThirtyTwo)
+    }
+
+    /// The same, with packets and stacks within this limit.
+    pub fn with_limit(alloc: Global, ask: A, locks: u32, limit: Limit) -> Manager<A>
+        ensures ask { result.ask ≡ ask }
+        ensures state { state_of slabbed result.core ≡ opening_state }
+        ensures stands { StandingFacts (A.tables ask).counts (state_of slabbed result.core) }
+        ensures fixed { (result.core.locks ≡ locks) × (result.core.stacks.limit ≡ limit) }
     {
         Manager {
             ask,
-            core: Core::new(alloc, SlabKeep::new(alloc), locks),
+            core: Core::with_limit(alloc, SlabKeep::new(alloc), locks, limit),
         }
     }
 
@@ -72,7 +84,7 @@ impl<A: Ask> Manager<A> {
         ensures lock { IfOk result (λ applied. applied.lock ≡ lock_of (state_of slabbed self.old.core) call) }
         ensures drained { IfOk result (λ applied. applied.drained ≡ known_by (N.knows_drained note.now) applied.lock) }
         ensures err { OnErr result (state_of slabbed self.new.core ≡ state_of slabbed self.old.core) }
-        ensures locks { self.new.core.locks ≡ self.old.core.locks }
+        ensures fixed { KeepsFixed self.old.core self.new.core }
     {
         self.core.apply(&self.ask, call, note, None)
     }

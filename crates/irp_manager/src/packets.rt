@@ -281,10 +281,10 @@ pub fn set_routine(
 
 /// Why a device is not sent the packet, if it is not.
 fn send_check(packet: &Packet, stacks: &Stacks, party: Party, target: DeviceId) -> Option<Refusal>
-    ensures refusal { result ≡ send_refusal stacks.now party packet.now target.0 }
-    ensures created { result ≡ None → target.0 < length stacks.now.facts }
+    ensures refusal { result ≡ send_refusal stacks.now.devices party packet.now target.0 }
+    ensures created { result ≡ None → target.0 < length stacks.now.devices.facts }
     ensures prepared { result ≡ None → is_nothing packet.now.preparation ≡ false }
-    ensures deep { result ≡ None → stack_size_of stacks.now target.0 < packet.now.current }
+    ensures deep { result ≡ None → stack_size_of stacks.now.devices target.0 < packet.now.current }
     ensures free { result ≡ None → packet.now.cancel_routine ≡ None }
 {
     let Some(facts) = stacks.facts(target) else {
@@ -310,7 +310,7 @@ fn send_check(packet: &Packet, stacks: &Stacks, party: Party, target: DeviceId) 
 
 /// Whether a device sends elsewhere than to the device below it.
 fn is_wrong_target(stacks: &Stacks, party: Party, target: DeviceId) -> bool
-    ensures { result ≡ is_wrong_target stacks.now party target.0 }
+    ensures { result ≡ is_wrong_target stacks.now.devices party target.0 }
 {
     match party {
         Party::Originator => false,
@@ -335,8 +335,8 @@ pub fn send<A: Ask>(
     requires empty { asked.old.items ≡ [] }
     requires room { vec_len asked.old + 2 * most_locations ≤ vec_capacity asked.old }
     ensures capacity { vec_capacity asked.new ≡ vec_capacity asked.old }
-    ensures goes { Goes (or_else (party_refusal_in (Some live.old) party irp) (send_refusal stacks.now party live.old.packet target.0))
-        (Sends (A.tables ask.now) irp stacks.now target.0 asked.new.items result live.old.packet) live.old live.new asked.new.items result }
+    ensures goes { Goes (or_else (party_refusal_in (Some live.old) party irp) (send_refusal stacks.now.devices party live.old.packet target.0))
+        (Sends (A.tables ask.now) irp stacks.now.devices target.0 asked.new.items result live.old.packet) live.old live.new asked.new.items result }
     ensures may { AreAnswered (A.may_plan ask.now) (A.may_answer ask.now) (A.may_cancel ask.now) asked.new.items }
     ensures stays { (status : Status) → result ≡ StatusIs status → StaysUp live.old.packet live.new.packet status }
     ensures sound { IsSound (A.tables ask.now).counts live.new.packet }

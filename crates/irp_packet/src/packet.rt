@@ -12,7 +12,7 @@ use std::alloc::Global;
 use std::marker::Model;
 
 /// How many locations a packet may have.
-const MOST_LOCATIONS: usize = 16;
+const MOST_LOCATIONS: usize = 32;
 
 /// The greatest major function code (WDK: "IRP Major Function Codes").
 const LAST_MAJOR: u8 = 0x1b;
@@ -26,7 +26,7 @@ const CLEARED: Location = Location {
     pending: false,
 };
 
-/// An I/O request packet: 1 to 16 stack locations, numbered from 1 at the bottom, and what stands beside them
+/// An I/O request packet: 1 to 32 stack locations, numbered from 1 at the bottom, and what stands beside them
 /// (WDK: "I/O Stack Locations"; owner and preparation are this project's own).
 ///
 /// Contracts see it as the record `PacketValue` of `irp_types`, whatever it is stored as.
@@ -81,7 +81,7 @@ impl Packet {
     ///
     /// # Errors
     ///
-    /// `BadSize` exactly where `size` is 0 or above 16 (this project's own rule).
+    /// `BadSize` exactly where `size` is 0 or above 32 (this project's own rule).
     pub fn new(alloc: Global, size: u8) -> Result<Packet, Refusal>
         ensures { result
             ≡ (if (size == 0) || nat_lt most_locations size then Err BadSize else Ok (new_packet size)) }
@@ -105,11 +105,11 @@ impl Packet {
         })
     }
 
-    /// How many locations it has, from 1 to 16.
+    /// How many locations it has, from 1 to 32.
     pub fn size(&self) -> u32
         ensures size { result ≡ size_of self.now }
         ensures some { 1 ≤ result }
-        ensures few { result ≤ 16 }
+        ensures few { result ≤ 32 }
     {
         self.locations.len() as u32
     }
@@ -120,7 +120,7 @@ impl Packet {
         ensures current { result ≡ self.now.current }
         ensures placed { 1 ≤ result }
         ensures within { result ≤ size_of self.now + 1 }
-        ensures few { result ≤ 17 }
+        ensures few { result ≤ 33 }
     {
         self.current
     }

@@ -12,7 +12,7 @@ pub enum Named {
     Irp(IrpRef),
 }
 
-/// What a step does: a call of the manager, or an act on a remove lock (this project's own format, docs/FORMATS.md).
+/// What a step does: a call of the manager, or an act on a remove lock or on a cancel slot (this project's own format, docs/FORMATS.md).
 #[derive(Clone, Copy, PartialEq, Eq, Debug)]
 pub enum StepAct {
     /// A new device of this driver (WDK: "IoCreateDevice").
@@ -123,6 +123,32 @@ pub enum StepAct {
     /// Asks whether removal has begun and nobody holds the lock (this project's own call).
     Drained {
         lock: LockNo,
+    },
+    /// Hands one acquisition with this tag to another seat (this project's own call). Only form 2 has it.
+    Hand {
+        lock: LockNo,
+        tag: u32,
+        to: u32,
+    },
+    /// Puts the use of a packet into a cancel slot (this project's own call). Only form 2 has it.
+    Publish {
+        slot: u32,
+        irp: Named,
+    },
+    /// Takes the seat's own use out of a cancel slot again (this project's own call). Only form 2 has it.
+    Withdraw {
+        slot: u32,
+    },
+    /// Takes what stands in a cancel slot, to cancel it (this project's own call). Only form 2 has it.
+    Request {
+        slot: u32,
+    },
+    /// Finishes a packet with the token that the seat took from the slot (this project's own call). Only form 2 has it.
+    FinishTaken {
+        irp: Named,
+        slot: u32,
+        status: Status,
+        information: u64,
     },
 }
 

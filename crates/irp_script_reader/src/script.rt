@@ -28,8 +28,14 @@ pub struct CompletionRoutine {
 /// Which steps a script may have, as its key `form` tells (this project's own format, docs/FORMATS.md).
 #[derive(Clone, Copy, PartialEq, Eq, Debug)]
 pub enum ScriptForm {
-    /// Calls of the manager, and acts on remove locks.
+    /// Calls of the manager, and acts on remove locks. Packets have 16 locations at most, and stacks 16 devices.
     One,
+    /// The same, with packets in cancel slots and acts on slots, and with references that are handed over. Packets have 32
+    /// locations at most, and stacks 32 devices.
+    Two {
+        /// How many cancel slots there are, at most 64 in a script that was read.
+        slots: u32,
+    },
 }
 
 /// What a script says, key by key (this project's own format, docs/FORMATS.md).
@@ -50,7 +56,7 @@ pub struct Script {
     pub dispatches: Row<Plan>,
     /// The drivers by number: major function codes and their dispatches, in the order of the text.
     pub drivers: Row<Row<(u8, DispatchId)>>,
-    /// The steps before the workers, none of them on a remove lock.
+    /// The steps before the workers, none of them on a remove lock or on a cancel slot.
     pub setup: Row<Step>,
     /// The steps of the workers.
     pub steps: Row<Step>,

@@ -15,6 +15,7 @@ counts_of header is = record {
   few_locks = is.few_locks;
   some_seats = is.some_seats;
   few_seats = is.few_seats;
+  few_slots = is.few_slots;
 }
 
 pub header_of : (header : Header) → HasCounts header → All (λ known. IsWithin known header.completions) header.dispatches
@@ -32,4 +33,5 @@ header_of header counts known drivers = record {
   few_locks = counts.few_locks;
   some_seats = counts.some_seats;
   few_seats = counts.few_seats;
+  few_slots = counts.few_slots;
 }

@@ -1,15 +1,34 @@
 -- Headers: what they fix, and which of them the formats accept.
-use Rattle.std.specs.Prelude.{◌≡◌, ◌≤◌, length}
+use Rattle.std.specs.Prelude.{ℕ, ◌≡◌, ◌≤◌, length}
 use Rattle.irp_types.specs.Limits.{most_locks, most_seats, most_drivers, most_dispatches}
 use Rattle.irp_types.specs.Rules.{IsWithin}
 use Rattle.irp_types.specs.State.{Fixed, AreTables, most_known}
+use Rattle.irp_types.specs.declared.limit.Limit.{Limit}
+use Rattle.irp_types.specs.declared.limit.Limit.TheVariants.{Sixteen, ThirtyTwo}
+use Rattle.irp_shared.specs.declared.header.Form.{Form}
+use Rattle.irp_shared.specs.declared.header.Form.TheVariants.{One, Two}
 use Rattle.irp_shared.specs.declared.header.Header.{Header}
+
+-- cancel slots that there may be
+abbrev pub most_slots : ℕ
+most_slots = 64
+
+-- the limit of a form
+abbrev pub limit_of : Form → Limit
+limit_of One = Sixteen
+limit_of (Two slots) = ThirtyTwo
+
+-- the cancel slots of a form
+abbrev pub slots_of : Form → ℕ
+slots_of One = 0
+slots_of (Two slots) = slots
 
 -- what is fixed while a manager lives, as a header tells it
 abbrev pub fixed_of : Header → Fixed
 fixed_of header = record {
   locks = header.locks;
   tables = record { counts = header.completions; drivers = header.drivers; dispatches = header.dispatches; cancel_rules = header.cancels };
+  limit = limit_of header.form;
 }
 
 -- as many of each thing as there may be, and as many cancel routines as are counted
@@ -22,6 +41,7 @@ pub record HasCounts (header : Header) : Type 0 where
   pub few_locks : header.locks ≤ most_locks
   pub some_seats : 1 ≤ header.seats
   pub few_seats : header.seats ≤ most_seats
+  pub few_slots : slots_of header.form ≤ most_slots
 
 -- a header that the formats accept: its tables agree with each other, and there are as many locks and seats as there may be
 pub record IsHeader (header : Header) : Type 0 where
@@ -30,3 +50,4 @@ pub record IsHeader (header : Header) : Type 0 where
   pub few_locks : header.locks ≤ most_locks
   pub some_seats : 1 ≤ header.seats
   pub few_seats : header.seats ≤ most_seats
+  pub few_slots : slots_of header.form ≤ most_slots

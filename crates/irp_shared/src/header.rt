@@ -6,9 +6,9 @@ ghost use Rattle.std.specs.List.Sorted.{IsStrictlyIncreasing};
 ghost use Rattle.irp_types.specs.Limits.{last_major};
 ghost use Rattle.irp_types.specs.Rules.{IsWithin};
 ghost use Rattle.irp_types.specs.State.{Entrance, IsDriver};
-ghost use Rattle.irp_shared.specs.Headers.{IsHeader, HasCounts, fixed_of};
+ghost use Rattle.irp_shared.specs.Headers.{IsHeader, HasCounts, fixed_of, limit_of, slots_of};
 
-use irp_types::{CancelRule, DispatchId, Known, Row};
+use irp_types::{CancelRule, DispatchId, Known, Limit, Row};
 
 /// The greatest major function code, IRP_MJ_PNP.
 const LAST_MAJOR: u8 = 0x1b;
@@ -26,14 +26,54 @@ const MOST_KNOWN: Known = Known {
 /// Which forms a transcript's lines have, as its header tells (this project's own format, docs/FORMATS.md).
 #[derive(Clone, Copy, PartialEq, Eq, Debug)]
 pub enum Form {
-    /// Entries of the manager's calls, and word lines of steps on remove locks.
+    /// Entries of the manager's calls, and word lines of steps on remove locks. Packets have 16 locations at most, and
+    /// stacks 16 devices.
     One,
+    /// The same, with packets in cancel slots and steps on slots, and with references that are handed over. Packets have 32
+    /// locations at most, and stacks 32 devices.
+    Two {
+        /// How many cancel slots there are, at most 64.
+        slots: u32,
+    },
+}
+
+impl Form {
+    /// The form of a session's transcript with this limit: it has no cancel slots.
+    pub fn with_limit(limit: Limit) -> Form
+        ensures limit { limit_of result ≡ limit }
+        ensures slots { slots_of result ≡ 0 }
+    {
+        match limit {
+            Limit::Sixteen => Form::One,
+            Limit::ThirtyTwo => Form::Two { slots: 0 },
+        }
+    }
+
+    /// The limit on packets and stacks in the manager whose calls the entries are.
+    pub fn limit(self) -> Limit
+        ensures { result ≡ limit_of self }
+    {
+        match self {
+            Form::One => Limit::Sixteen,
+            Form::Two { .. } => Limit::ThirtyTwo,
+        }
+    }
+
+    /// How many cancel slots there are: none in form 1.
+    pub fn slots(self) -> u32
+        ensures { result ≡ slots_of self }
+    {
+        match self {
+            Form::One => 0,
+            Form::Two { slots } => slots,
+        }
+    }
 }
 
 /// What a transcript was made with, as its first line says (this project's own format, docs/FORMATS.md).
 ///
-/// The formats accept a header whose tables agree with each other and are within the limits, with 1 to 64 remove locks
-/// and 1 to 64 seats.
+/// The formats accept a header whose tables agree with each other and are within the limits, with 1 to 64 remove locks,
+/// 1 to 64 seats and at most 64 cancel slots.
 #[derive(Drop)]
 pub struct Header {
     /// The rules of the cancel routines, by number. There are at most 256.
@@ -133,10 +173,11 @@ impl Header {
             && self.locks <= 64
             && 1 <= self.seats
             && self.seats <= 64
+            && self.form.slots() <= 64
     }
 
     /// Whether the formats accept it: its tables agree with each other and are within the limits, with 1 to 64 remove
-    /// locks and 1 to 64 seats (this project's own format, docs/FORMATS.md).
+    /// locks, 1 to 64 seats and at most 64 cancel slots (this project's own format, docs/FORMATS.md).
     pub fn is_accepted(&self) -> bool
         ensures { result ≡ true ↔ IsHeader self.now }
     {

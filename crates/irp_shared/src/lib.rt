@@ -16,6 +16,6 @@ pub use irp_manager::Seat;
 pub use mismatch::Mismatch;
 pub use open_refused::OpenRefused;
 pub use session::Session;
-pub use shared::{Shared, learn, needs_token, open};
+pub use shared::{Shared, learn, needs_token, open, open_with_limit};
 pub use transcript::{Transcript, TranscriptParts};
 pub use word_line::{Act, WordLine, WordReply};

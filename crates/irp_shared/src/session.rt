@@ -2,6 +2,7 @@
 
 ghost use Rattle.std.specs.Prelude.{ℕ};
 ghost use Rattle.irp_types.specs.State.{Fixed};
+ghost use Rattle.irp_types.specs.declared.limit.Limit.TheVariants.{Sixteen};
 ghost use Rattle.irp_routines.specs.Tables.{no_tables};
 
 use std::marker::Brand;
@@ -19,12 +20,12 @@ pub trait Session: Ledger {
     /// How many seats there are.
     ghost seats: { ℕ };
 
-    /// How many remove locks there are, and the tables of whom is asked.
+    /// How many remove locks there are, the tables of whom is asked, and the limit on packets and stacks.
     ghost fixed: { Fixed };
 }
 
 impl Session for Brand {
     ghost seats = { 0 };
 
-    ghost fixed = { record { locks = 0; tables = no_tables } };
+    ghost fixed = { record { locks = 0; tables = no_tables; limit = Sixteen } };
 }

@@ -3,6 +3,7 @@
 ghost use Rattle.std.specs.Prelude.{◌≡◌, ◌<◌, ◌+◌, [], ℕ, if◌then◌else◌, nat_lt, vec_len, slice_get, Some, IfSome, IfOk, IfErr, OnErr, Err, Option, false};
 ghost use mathlib.Core.Logic.{◌↔◌};
 ghost use Rattle.irp_types.specs.State.{Fixed};
+ghost use Rattle.irp_types.specs.declared.limit.Limit.TheVariants.{ThirtyTwo};
 ghost use Rattle.irp_types.specs.declared.entry.Entry.{Entry};
 ghost use Rattle.irp_manager.specs.Seats.{Seated};
 ghost use Rattle.irp_manager.specs.declared.not_recorded.NotRecorded.TheVariants.{Behind};
@@ -10,7 +11,7 @@ ghost use Rattle.irp_shared.specs.Opening.{IsBadCount, IsGoodCount, AreNew};
 ghost use Rattle.irp_types.specs.declared.call.Call.TheVariants.{FinishTaken};
 ghost use Rattle.irp_slots.specs.declared.answers.Token.{Token};
 ghost use Rattle.irp_shared.specs.Sharing.{Called, IsAsBefore, needs_token, is_done, given_back};
-ghost use Rattle.irp_shared.specs.Headers.{fixed_of};
+ghost use Rattle.irp_shared.specs.Headers.{fixed_of, slots_of};
 ghost use Rattle.irp_shared.specs.Closing.{AllHere, Kept, Closes, entry_at};
 ghost use Rattle.irp_shared.specs.declared.open_refused.OpenRefused.TheVariants.{BadCount};
 ghost use Rattle.irp_shared.specs.declared.mismatch.Mismatch.TheVariants.{Seats as OtherSeats, Entry as OtherEntry};
@@ -25,7 +26,7 @@ use crate::transcript::Transcript;
 use irp_manager::{Book, DrainNote, KnowsNothing, Manager, NotRecorded, Receipt, Recorded, Seat};
 use irp_routines::{Ask, FixedTables, Parts};
 use irp_slots::Token;
-use irp_types::{Call, Entry, IrpRef, Reply, Row, Status, history_completes_once};
+use irp_types::{Call, Entry, IrpRef, Limit, Reply, Row, Status, history_completes_once};
 use std::alloc::Global;
 use std::sync::ledger::{Blank, Ledger, Share};
 use std::sync::{Mutex, Wait};
@@ -58,9 +59,10 @@ fn seats_of<L: Ledger>(alloc: Global, share: &mut Share<L>, count: u32) -> Optio
     Some(seats)
 }
 
-/// Opens a session: a book over a manager in its opening state, with 1 to 64 remove locks and 1 to 64 seats, numbered from
-/// 0 in the order of the answer, that have seen nothing and have no entries. The blank names the ledger in which the seats
-/// count, and has a part for each seat; what `L` says of the session is so (this project's own rule).
+/// Opens a session: a book over a manager in its opening state, with packets of 32 locations and stacks of 32 devices at
+/// most. It has 1 to 64 remove locks and 1 to 64 seats, numbered from 0 in the order of the answer, that have seen
+/// nothing and have no entries. The blank names the ledger in which the seats count, and has a part for each seat; what
+/// `L` says of the session is so (this project's own rule).
 ///
 /// # Errors
 ///
@@ -75,7 +77,29 @@ pub fn open<A: Ask + Drop, L: Session>(
 ) -> Result<(Shared<A, L>, Vec<Seat<L>>), OpenRefused>
     requires blank { (blank.name ≡ L.name) × (blank.parts ≡ L.parts) }
     requires seats { (L.parts ≡ seats) × (L.seats ≡ seats) }
-    requires fixed { L.fixed ≡ record { locks = locks; tables = A.tables ask } }
+    requires fixed { L.fixed ≡ record { locks = locks; tables = A.tables ask; limit = ThirtyTwo } }
+    ensures bad_count { (result ≡ Err BadCount) ↔ IsBadCount locks seats }
+    ensures seats { IfOk result (λ opened. AreNew seats opened.1.items) }
+{
+    open_with_limit::<A, L>(alloc, blank, ask, locks, seats, Limit::ThirtyTwo)
+}
+
+/// The same, with packets and stacks within this limit (this project's own rule).
+///
+/// # Errors
+///
+/// Those of `open`.
+pub fn open_with_limit<A: Ask + Drop, L: Session>(
+    alloc: Global,
+    blank: Blank,
+    ask: A,
+    locks: u32,
+    seats: u32,
+    limit: Limit,
+) -> Result<(Shared<A, L>, Vec<Seat<L>>), OpenRefused>
+    requires blank { (blank.name ≡ L.name) × (blank.parts ≡ L.parts) }
+    requires seats { (L.parts ≡ seats) × (L.seats ≡ seats) }
+    requires fixed { L.fixed ≡ record { locks = locks; tables = A.tables ask; limit = limit } }
     ensures bad_count { (result ≡ Err BadCount) ↔ IsBadCount locks seats }
     ensures seats { IfOk result (λ opened. AreNew seats opened.1.items) }
 {
@@ -86,7 +110,7 @@ pub fn open<A: Ask + Drop, L: Session>(
     let Some(places) = seats_of(alloc, &mut spare, seats) else {
         return Err(OpenRefused::Memory);
     };
-    let Ok(book) = Book::new(Manager::new(alloc, ask, locks)) else {
+    let Ok(book) = Book::new(Manager::with_limit(alloc, ask, locks, limit)) else {
         return Err(OpenRefused::Memory);
     };
     let locked = Locked { book, total, spare };
@@ -209,9 +233,10 @@ pub fn learn<L: Ledger>(seat: &mut Seat<L>, receipt: &Receipt)
 }
 
 /// The header of a transcript that was made with these.
-fn header_of(locks: u32, tables: FixedTables, seats: u32) -> Header
-    ensures fixed { fixed_of result ≡ record { locks = locks; tables = tables } }
+fn header_of(locks: u32, tables: FixedTables, limit: Limit, seats: u32) -> Header
+    ensures fixed { fixed_of result ≡ record { locks = locks; tables = tables; limit = limit } }
     ensures seats { result.seats ≡ seats }
+    ensures slots { slots_of result.form ≡ 0 }
 {
     let Parts {
         counts,
@@ -224,7 +249,7 @@ fn header_of(locks: u32, tables: FixedTables, seats: u32) -> Header
         completions: counts,
         dispatches,
         drivers,
-        form: Form::One,
+        form: Form::with_limit(limit),
         locks,
         seats,
     }
@@ -287,6 +312,7 @@ impl<A: Drop, L: Session> Shared<A, L> {
         } = lock.into_inner();
         let Recorded {
             locks,
+            limit,
             tables,
             history,
         } = book.end();
@@ -297,7 +323,7 @@ impl<A: Drop, L: Session> Shared<A, L> {
         }
         tables.agree();
         history_completes_once();
-        let header = header_of(locks, tables, expected);
+        let header = header_of(locks, tables, limit, expected);
         let words = Row::from_vec(Vec::new(alloc));
         Ok(Transcript::new(header, Row::from_vec(history), words))
     }

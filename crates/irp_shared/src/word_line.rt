@@ -1,8 +1,8 @@
-//! Steps on remove locks, as a transcript tells them.
+//! Steps on remove locks and on cancel slots, as a transcript tells them.
 
 use irp_types::LockNo;
 
-/// What a step did on a remove lock (WDK: "Using Remove Locks").
+/// What a step did on a remove lock (WDK: "Using Remove Locks") or on a cancel slot (this project's own rule).
 #[derive(Clone, Copy, PartialEq, Eq, Debug)]
 pub enum Act {
     /// Acquires the lock with this tag (WDK: "IoAcquireRemoveLock").
@@ -14,9 +14,20 @@ pub enum Act {
     BeginRemove { lock: LockNo, tag: u32 },
     /// Asks whether removal has begun and nobody holds the lock (this project's own call).
     Drained { lock: LockNo },
+    /// Hands one acquisition with this tag to another seat, from 0 (this project's own call).
+    Hand { lock: LockNo, tag: u32, to: u32 },
+    /// Puts a use of a packet into the slot (this project's own call).
+    Publish { slot: u32 },
+    /// Takes the seat's own use out of the slot again (this project's own call).
+    Withdraw { slot: u32 },
+    /// Takes what stands in the slot, to cancel it (this project's own call).
+    Request { slot: u32 },
+    /// Finishes a packet with the token that the seat took from the slot, where it has none: with one, the call is an
+    /// entry (this project's own call).
+    FinishTaken { slot: u32 },
 }
 
-/// What a step on a remove lock was answered. Which act may have which answer is a matter of the word lines' forms
+/// What a step on a remove lock or on a cancel slot was answered. Which act may have which answer is a matter of the word lines' forms
 /// (this project's own format, docs/FORMATS.md).
 #[derive(Clone, Copy, PartialEq, Eq, Debug)]
 pub enum WordReply {
@@ -38,9 +49,25 @@ pub enum WordReply {
     Yes,
     /// The lock isn't drained, and this was its word.
     Busy { word: u64 },
+    /// The use stands in the slot.
+    Standing,
+    /// The seat took this use number out of the slot.
+    Taken { use_no: u64 },
+    /// Another seat took the use.
+    Lost,
+    /// The slot was empty.
+    Nothing,
+    /// The slot's owner has published before.
+    Used,
+    /// Nothing of the slot's owner stands.
+    NotStanding,
+    /// There is no such slot.
+    NoSlot,
+    /// The seat has no token from the slot, and nothing was called.
+    NoToken,
 }
 
-/// One step on a remove lock (this project's own format, docs/FORMATS.md).
+/// One step on a remove lock or on a cancel slot (this project's own format, docs/FORMATS.md).
 #[derive(Clone, Copy, PartialEq, Eq, Debug)]
 pub struct WordLine {
     /// The seat that made the step, from 0.

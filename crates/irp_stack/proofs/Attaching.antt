@@ -1,7 +1,9 @@
 -- What attach answers and leaves, from what it reads of the records.
 use Rattle.std.proofs.Common.{◌≡◌, ℕ, ◌+◌, ◌-◌, ◌<◌, ◌≤◌, ◌≢◌, true, false, List, [], ◌∷◌, ◌++◌, length, sym, ◌∙◌, ap, subst, arith, Some, None}
 use Rattle.std.proofs.lemmas.List.{get_or_default}
-use Rattle.irp_types.specs.Limits.{most_locations}
+use Rattle.irp_types.specs.declared.limit.Limit.{Limit}
+use Rattle.irp_types.specs.declared.limit.Limit.TheVariants.{Sixteen, ThirtyTwo}
+use Rattle.irp_types.specs.Limits.{most_locations, most_under}
 use Rattle.irp_types.specs.Stacks.{DevicesValue, regrouped, top_of, after_attach, device_checks, attach_checks}
 use Rattle.irp_types.specs.Checks.{first_failing}
 use Rattle.irp_types.specs.declared.names.DeviceId.{DeviceId}
@@ -56,31 +58,31 @@ answer_top R w t h =
     top_is R w t h ∙ ap id (get_or_default s (length s - 1) 0 t l)
 
 -- the refusals of attach
-pub out_target : {records : List Device} {devices : DevicesValue} {device : ℕ} (to : ℕ) {own : Device} {refusal : Refusal} → value_of records ≡ devices
+pub out_target : (limit : Limit) {records : List Device} {devices : DevicesValue} {device : ℕ} (to : ℕ) {own : Device} {refusal : Refusal} → value_of records ≡ devices
     → IsLiveRecord records device own → first_failing (device_checks (value_of records) to) ≡ Some refusal
-    → first_failing (attach_checks devices device to) ≡ Some refusal
-out_target {records = R} {devices = v} {device = d} t {own} {refusal = e} eq f h =
-    subst (λ v. first_failing (attach_checks v d t) ≡ Some e) eq (attach_target (value_of R) d t e (found_alive R d own f) h)
+    → first_failing (attach_checks limit devices device to) ≡ Some refusal
+out_target l {records = R} {devices = v} {device = d} t {own} {refusal = e} eq f h =
+    subst (λ v. first_failing (attach_checks l v d t) ≡ Some e) eq (attach_target l (value_of R) d t e (found_alive R d own f) h)
 
-pub out_same : {records : List Device} {devices : DevicesValue} {device to : ℕ} {own target : Device} → value_of records ≡ devices → IsTidy records
+pub out_same : (limit : Limit) {records : List Device} {devices : DevicesValue} {device to : ℕ} {own target : Device} → value_of records ≡ devices → IsTidy records
     → IsLiveRecord records device own → IsLiveRecord records to target → own.bottom.0 ≡ target.bottom.0
-    → first_failing (attach_checks devices device to) ≡ Some SameStack
-out_same {records = R} {devices = v} {device = d} {to = t} {own} {target} eq w f g e =
+    → first_failing (attach_checks limit devices device to) ≡ Some SameStack
+out_same l {records = R} {devices = v} {device = d} {to = t} {own} {target} eq w f g e =
     let b : (record_of R d).bottom.0 ≡ (record_of R t).bottom.0 = ap (λ (r : Device). r.bottom.0) (sym f.is) ∙ e
     ∙ ap (λ (r : Device). r.bottom.0) g.is in
-    subst (λ v. first_failing (attach_checks v d t) ≡ Some SameStack) eq
-    (attach_same (value_of R) d t (found_alive R d own f) (found_alive R t target g) (same_bottom R w d t f.known g.known b))
+    subst (λ v. first_failing (attach_checks l v d t) ≡ Some SameStack) eq
+    (attach_same l (value_of R) d t (found_alive R d own f) (found_alive R t target g) (same_bottom R w d t f.known g.known b))
 
 apart_at : (records : List Device) (device to : ℕ) (own target : Device) → IsLiveRecord records device own → IsLiveRecord records to target
     → (own.bottom.0 ≡ target.bottom.0 → ⊥) → (record_of records device).bottom.0 ≢ (record_of records to).bottom.0
 apart_at R d t own target f g ne e = ne (ap (λ (r : Device). r.bottom.0) f.is ∙ e ∙ ap (λ (r : Device). r.bottom.0) (sym g.is))
 
-pub out_still : {records : List Device} {devices : DevicesValue} {device to : ℕ} {own target : Device} → value_of records ≡ devices → IsTidy records
+pub out_still : (limit : Limit) {records : List Device} {devices : DevicesValue} {device to : ℕ} {own target : Device} → value_of records ≡ devices → IsTidy records
     → IsLiveRecord records device own → IsLiveRecord records to target → (own.bottom.0 ≡ target.bottom.0 → ⊥) → names_neighbour own ≡ true
-    → first_failing (attach_checks devices device to) ≡ Some StillAttached
-out_still {records = R} {devices = v} {device = d} {to = t} {own} {target} eq w f g ne some =
-    subst (λ v. first_failing (attach_checks v d t) ≡ Some StillAttached) eq
-    (attach_still (value_of R) d t (found_alive R d own f) (found_alive R t target g)
+    → first_failing (attach_checks limit devices device to) ≡ Some StillAttached
+out_still l {records = R} {devices = v} {device = d} {to = t} {own} {target} eq w f g ne some =
+    subst (λ v. first_failing (attach_checks l v d t) ≡ Some StillAttached) eq
+    (attach_still l (value_of R) d t (found_alive R d own f) (found_alive R t target g)
     (other_bottom R w d t f.known g.known (apart_at R d t own target f g ne)) (neighboured R w d own f some))
 
 end_size : (records : List Device) → IsTidy records → (to : ℕ) (target base end : Device) → IsLiveRecord records to target
@@ -89,51 +91,56 @@ end_size R w t target base end g b e =
     ap (λ (r : Device). r.size) e ∙ ap (λ (r : Device). (record_of R r.top.0).size) b
     ∙ ap (λ (r : Device). (record_of R (record_of R r.bottom.0).top.0).size) g.is ∙ depth_at R w t g.known
 
-pub out_deep : {records : List Device} {devices : DevicesValue} {device to : ℕ} {own target base end : Device} → value_of records ≡ devices
+pub out_deep : (limit : Limit) {records : List Device} {devices : DevicesValue} {device to : ℕ} {own target base end : Device} → value_of records ≡ devices
     → IsTidy records → IsLiveRecord records device own → IsLiveRecord records to target → (own.bottom.0 ≡ target.bottom.0 → ⊥)
-    → names_neighbour own ≡ false → base ≡ record_of records target.bottom.0 → end ≡ record_of records base.top.0 → most_locations ≤ end.size
-    → first_failing (attach_checks devices device to) ≡ Some TooDeep
-out_deep {records = R} {devices = v} {device = d} {to = t} {own} {target} {base} {end} eq w f g ne lone b e deep =
+    → names_neighbour own ≡ false → base ≡ record_of records target.bottom.0 → end ≡ record_of records base.top.0 → most_under limit ≤ end.size
+    → first_failing (attach_checks limit devices device to) ≡ Some TooDeep
+out_deep l {records = R} {devices = v} {device = d} {to = t} {own} {target} {base} {end} eq w f g ne lone b e deep =
     let one = lone_at R w d own f lone in
     let few : length (list_of (lists_of R) d) ≤ 1 = omega (arith, one) in
     let size = end_size R w t target base end g b e in
-    let deep2 : most_locations ≤ length (list_of (lists_of R) t) = omega (arith, deep, size) in
-    subst (λ v. first_failing (attach_checks v d t) ≡ Some TooDeep) eq
-    (attach_deep (value_of R) d t (found_alive R d own f) (found_alive R t target g)
+    let deep2 : most_under l ≤ length (list_of (lists_of R) t) = omega (arith, deep, size) in
+    subst (λ v. first_failing (attach_checks l v d t) ≡ Some TooDeep) eq
+    (attach_deep l (value_of R) d t (found_alive R d own f) (found_alive R t target g)
     (other_bottom R w d t f.known g.known (apart_at R d t own target f g ne)) few deep2)
 
 base_top : (records : List Device) (to : ℕ) (target base : Device) → IsLiveRecord records to target → base ≡ record_of records target.bottom.0
     → base.top ≡ (record_of records (record_of records to).bottom.0).top
 base_top R t target base g b = ap (λ (r : Device). r.top) b ∙ ap (λ (r : Device). (record_of R r.bottom.0).top) g.is
 
+-- no limit allows more than there may be
+under : (limit : Limit) → most_under limit ≤ most_locations
+under Sixteen = omega arith
+under ThirtyTwo = omega arith
+
 -- what is to be shown of an attach that is not refused
-pub record IsAttached (records : List Device) (devices : DevicesValue) (device to : ℕ) (top bottom : DeviceId) (size : ℕ) : Type 0 where
-  pub fine : first_failing (attach_checks devices device to) ≡ None
+pub record IsAttached (limit : Limit) (records : List Device) (devices : DevicesValue) (device to : ℕ) (top bottom : DeviceId) (size : ℕ) : Type 0 where
+  pub fine : first_failing (attach_checks limit devices device to) ≡ None
   pub answer : top ≡ id (top_of devices to)
   pub value : value_of (put_above records (id device) top bottom size) ≡ after_attach devices device to
   pub tidied : IsTidy (put_above records (id device) top bottom size)
   pub long : length (put_above records (id device) top bottom size) ≡ length records
 
-pub out_fine : {records : List Device} {devices : DevicesValue} {device to : ℕ} {own target base end : Device} → value_of records ≡ devices
+pub out_fine : (limit : Limit) {records : List Device} {devices : DevicesValue} {device to : ℕ} {own target base end : Device} → value_of records ≡ devices
     → IsTidy records → IsLiveRecord records device own → IsLiveRecord records to target → (own.bottom.0 ≡ target.bottom.0 → ⊥)
-    → names_neighbour own ≡ false → base ≡ record_of records target.bottom.0 → end ≡ record_of records base.top.0 → end.size < most_locations
-    → IsAttached records devices device to base.top target.bottom (end.size + 1)
-out_fine {records = R} {devices = v} {device = d} {to = t} {own} {target} {base} {end} eq w f g ne lone b e room =
+    → names_neighbour own ≡ false → base ≡ record_of records target.bottom.0 → end ≡ record_of records base.top.0 → end.size < most_under limit
+    → IsAttached limit records devices device to base.top target.bottom (end.size + 1)
+out_fine l {records = R} {devices = v} {device = d} {to = t} {own} {target} {base} {end} eq w f g ne lone b e room =
     let one = lone_at R w d own f lone in
     let few : length (list_of (lists_of R) d) ≤ 1 = omega (arith, one) in
     let size = end_size R w t target base end g b e in
-    let room2 : length (list_of (lists_of R) t) < most_locations = omega (arith, room, size) in
+    let room2 : length (list_of (lists_of R) t) < most_under l = omega (arith, room, size) in
     let top = base_top R t target base g b in
     let bottom : target.bottom ≡ (record_of R t).bottom = ap (λ (r : Device). r.bottom) g.is in
     let j = joining R w d t f.known g.known (apart_at R d t own target f g ne)
     (ap (λ (r : Device). r.lower) (sym f.is) ∙ no_lower own lone) (ap (λ (r : Device). r.upper) (sym f.is) ∙ no_upper own lone)
-    (live_at R d own f) (live_at R t target g) (omega (arith, room2, depth_at R w t g.known)) in
+    (live_at R d own f) (live_at R t target g) (omega (arith, room2, under l, depth_at R w t g.known)) in
     let spot : put_above R (id d) base.top target.bottom (end.size + 1)
     ≡ put_above R (id d) (record_of R (record_of R t).bottom.0).top (record_of R t).bottom (length (list_of (lists_of R) t) + 1) =
     λ i. put_above R (id d) (top i) (bottom i) (size i + 1) in
     record {
-      fine = subst (λ v. first_failing (attach_checks v d t) ≡ None) eq
-          (attach_fine (value_of R) d t (found_alive R d own f) (found_alive R t target g)
+      fine = subst (λ v. first_failing (attach_checks l v d t) ≡ None) eq
+          (attach_fine l (value_of R) d t (found_alive R d own f) (found_alive R t target g)
           (other_bottom R w d t f.known g.known (apart_at R d t own target f g ne)) few room2);
       answer = top ∙ answer_top R w t g.known ∙ ap (λ v. id (top_of v t)) eq;
       value = ap value_of spot ∙ attached_value R d t (record_of R (record_of R t).bottom.0).top.0 (record_of R t).bottom.0 j

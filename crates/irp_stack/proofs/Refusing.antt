@@ -5,7 +5,8 @@ use Rattle.std.specs.List.{list_any}
 use Rattle.std.proofs.lemmas.Bool.{cond-true, cond-false, lt-ltb, le-ltb, eq-eqb, ne_eqb, le-leb, lt-leb}
 use Rattle.std.proofs.lemmas.List.{length-map, get_or-map}
 use Rattle.irp_types.specs.Stacks.{DevicesValue, DeviceFacts, is_created, is_live, has_neighbour, stack_of, upper_of, no_facts, device_checks, attach_checks, detach_checks, delete_checks}
-use Rattle.irp_types.specs.Limits.{most_locations}
+use Rattle.irp_types.specs.declared.limit.Limit.{Limit}
+use Rattle.irp_types.specs.Limits.{most_under}
 use Rattle.irp_types.specs.Checks.{Check, first_failing}
 use Rattle.irp_types.specs.declared.refusal.Refusal.{Refusal}
 use Rattle.irp_types.specs.declared.refusal.Refusal.TheVariants.{NoDevice, DeviceGone, StillAttached, SameStack, TooDeep, NothingAttached}
@@ -84,51 +85,51 @@ any_out (x ∷ s) t out =
     ∙ any_out s t (λ k h. out (suc k) (omega (arith, h)))
 
 -- the checks of attach after those of the two devices
-abbrev deep_on : DevicesValue → ℕ → List Check
-deep_on v t = (nat_le most_locations (length (stack_of v t)), TooDeep) ∷ []
+abbrev deep_on : Limit → DevicesValue → ℕ → List Check
+deep_on l v t = (nat_le (most_under l) (length (stack_of v t)), TooDeep) ∷ []
 
-abbrev still_on : DevicesValue → ℕ → ℕ → List Check
-still_on v d t = (has_neighbour v d, StillAttached) ∷ deep_on v t
+abbrev still_on : Limit → DevicesValue → ℕ → ℕ → List Check
+still_on l v d t = (has_neighbour v d, StillAttached) ∷ deep_on l v t
 
-pub attach_target : (devices : DevicesValue) (device to : ℕ) (refusal : Refusal) → IsAlive devices device
-    → first_failing (device_checks devices to) ≡ Some refusal → first_failing (attach_checks devices device to) ≡ Some refusal
-attach_target v d t e a h =
+pub attach_target : (limit : Limit) (devices : DevicesValue) (device to : ℕ) (refusal : Refusal) → IsAlive devices device
+    → first_failing (device_checks devices to) ≡ Some refusal → first_failing (attach_checks limit devices device to) ≡ Some refusal
+attach_target l v d t e a h =
     let rest = (list_any (λ x. x == t) (stack_of v d), SameStack) ∷ (has_neighbour v d, StillAttached) ∷
-    (nat_le most_locations (length (stack_of v t)), TooDeep) ∷ [] in
+    (nat_le (most_under l) (length (stack_of v t)), TooDeep) ∷ [] in
     passes v d (device_checks v t ++ rest) a ∙ stops v t rest e h
 
-attach_both : (devices : DevicesValue) (device to : ℕ) → IsAlive devices device → IsAlive devices to → first_failing (attach_checks devices device to)
-    ≡ first_failing ((list_any (λ member. member == to) (stack_of devices device), SameStack) ∷ (has_neighbour devices device, StillAttached) ∷ (nat_le most_locations (length (stack_of devices to)), TooDeep) ∷ [])
-attach_both v d t a b =
+attach_both : (limit : Limit) (devices : DevicesValue) (device to : ℕ) → IsAlive devices device → IsAlive devices to → first_failing (attach_checks limit devices device to)
+    ≡ first_failing ((list_any (λ member. member == to) (stack_of devices device), SameStack) ∷ (has_neighbour devices device, StillAttached) ∷ (nat_le (most_under limit) (length (stack_of devices to)), TooDeep) ∷ [])
+attach_both l v d t a b =
     let rest = (list_any (λ x. x == t) (stack_of v d), SameStack) ∷ (has_neighbour v d, StillAttached) ∷
-    (nat_le most_locations (length (stack_of v t)), TooDeep) ∷ [] in
+    (nat_le (most_under l) (length (stack_of v t)), TooDeep) ∷ [] in
     passes v d (device_checks v t ++ rest) a ∙ passes v t rest b
 
-pub attach_same : (devices : DevicesValue) (device to : ℕ) → IsAlive devices device → IsAlive devices to → IsIn (stack_of devices device) to
-    → first_failing (attach_checks devices device to) ≡ Some SameStack
-attach_same v d t a b w = attach_both v d t a b ∙ hits (list_any (λ x. x == t) (stack_of v d)) SameStack (still_on v d t) (any_in (stack_of v d) t w)
+pub attach_same : (limit : Limit) (devices : DevicesValue) (device to : ℕ) → IsAlive devices device → IsAlive devices to → IsIn (stack_of devices device) to
+    → first_failing (attach_checks limit devices device to) ≡ Some SameStack
+attach_same l v d t a b w = attach_both l v d t a b ∙ hits (list_any (λ x. x == t) (stack_of v d)) SameStack (still_on l v d t) (any_in (stack_of v d) t w)
 
-pub attach_still : (devices : DevicesValue) (device to : ℕ) → IsAlive devices device → IsAlive devices to → IsOut (stack_of devices device) to
-    → 1 < length (stack_of devices device) → first_failing (attach_checks devices device to) ≡ Some StillAttached
-attach_still v d t a b w n =
-    attach_both v d t a b ∙ skips (list_any (λ x. x == t) (stack_of v d)) SameStack (still_on v d t) (any_out (stack_of v d) t w)
-    ∙ hits (has_neighbour v d) StillAttached (deep_on v t) (lt-ltb 1 (length (stack_of v d)) n)
+pub attach_still : (limit : Limit) (devices : DevicesValue) (device to : ℕ) → IsAlive devices device → IsAlive devices to → IsOut (stack_of devices device) to
+    → 1 < length (stack_of devices device) → first_failing (attach_checks limit devices device to) ≡ Some StillAttached
+attach_still l v d t a b w n =
+    attach_both l v d t a b ∙ skips (list_any (λ x. x == t) (stack_of v d)) SameStack (still_on l v d t) (any_out (stack_of v d) t w)
+    ∙ hits (has_neighbour v d) StillAttached (deep_on l v t) (lt-ltb 1 (length (stack_of v d)) n)
 
-attach_last : (devices : DevicesValue) (device to : ℕ) → IsAlive devices device → IsAlive devices to → IsOut (stack_of devices device) to
+attach_last : (limit : Limit) (devices : DevicesValue) (device to : ℕ) → IsAlive devices device → IsAlive devices to → IsOut (stack_of devices device) to
     → length (stack_of devices device) ≤ 1
-    → first_failing (attach_checks devices device to) ≡ first_failing ((nat_le most_locations (length (stack_of devices to)), TooDeep) ∷ [])
-attach_last v d t a b w n =
-    attach_both v d t a b ∙ skips (list_any (λ x. x == t) (stack_of v d)) SameStack (still_on v d t) (any_out (stack_of v d) t w)
-    ∙ skips (has_neighbour v d) StillAttached (deep_on v t) (le-ltb 1 (length (stack_of v d)) n)
+    → first_failing (attach_checks limit devices device to) ≡ first_failing ((nat_le (most_under limit) (length (stack_of devices to)), TooDeep) ∷ [])
+attach_last l v d t a b w n =
+    attach_both l v d t a b ∙ skips (list_any (λ x. x == t) (stack_of v d)) SameStack (still_on l v d t) (any_out (stack_of v d) t w)
+    ∙ skips (has_neighbour v d) StillAttached (deep_on l v t) (le-ltb 1 (length (stack_of v d)) n)
 
-pub attach_deep : (devices : DevicesValue) (device to : ℕ) → IsAlive devices device → IsAlive devices to → IsOut (stack_of devices device) to
-    → length (stack_of devices device) ≤ 1 → most_locations ≤ length (stack_of devices to)
-    → first_failing (attach_checks devices device to) ≡ Some TooDeep
-attach_deep v d t a b w n deep = attach_last v d t a b w n ∙ hits (nat_le most_locations (length (stack_of v t))) TooDeep [] (le-leb most_locations (length (stack_of v t)) deep)
+pub attach_deep : (limit : Limit) (devices : DevicesValue) (device to : ℕ) → IsAlive devices device → IsAlive devices to → IsOut (stack_of devices device) to
+    → length (stack_of devices device) ≤ 1 → most_under limit ≤ length (stack_of devices to)
+    → first_failing (attach_checks limit devices device to) ≡ Some TooDeep
+attach_deep l v d t a b w n deep = attach_last l v d t a b w n ∙ hits (nat_le (most_under l) (length (stack_of v t))) TooDeep [] (le-leb (most_under l) (length (stack_of v t)) deep)
 
-pub attach_fine : (devices : DevicesValue) (device to : ℕ) → IsAlive devices device → IsAlive devices to → IsOut (stack_of devices device) to
-    → length (stack_of devices device) ≤ 1 → length (stack_of devices to) < most_locations → first_failing (attach_checks devices device to) ≡ None
-attach_fine v d t a b w n room = attach_last v d t a b w n ∙ skips (nat_le most_locations (length (stack_of v t))) TooDeep [] (lt-leb most_locations (length (stack_of v t)) room)
+pub attach_fine : (limit : Limit) (devices : DevicesValue) (device to : ℕ) → IsAlive devices device → IsAlive devices to → IsOut (stack_of devices device) to
+    → length (stack_of devices device) ≤ 1 → length (stack_of devices to) < most_under limit → first_failing (attach_checks limit devices device to) ≡ None
+attach_fine l v d t a b w n room = attach_last l v d t a b w n ∙ skips (nat_le (most_under l) (length (stack_of v t))) TooDeep [] (lt-leb (most_under l) (length (stack_of v t)) room)
 
 -- the checks of delete and detach after those of the device
 some_map : (given : Option ℕ) → is_some given ≡ is_some (option_map id given)

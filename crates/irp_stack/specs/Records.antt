@@ -4,6 +4,7 @@ use Rattle.std.specs.Option.{option_map_or}
 use Rattle.irp_types.specs.Limits.{most_locations}
 use Rattle.irp_types.specs.Checks.{first_failing}
 use Rattle.irp_types.specs.Stacks.{DevicesValue, DeviceFacts, device_checks}
+use Rattle.irp_types.specs.declared.limit.Limit.{Limit}
 use Rattle.irp_types.specs.declared.names.DeviceId.{DeviceId}
 use Rattle.irp_types.specs.declared.names.DriverId.{DriverId}
 use Rattle.irp_types.specs.declared.names.LockNo.{LockNo}
@@ -65,6 +66,11 @@ lists_of records = map (λ (own : Device). walk most_locations records own.botto
 -- the devices that the records stand for
 abbrev pub value_of : List Device → DevicesValue
 value_of records = record { facts = map facts_in records; stacks = lists_of records }
+
+-- what callers see of all devices: the devices with their stacks, and the limit on their stacks
+pub record StacksValue : Type 0 where
+  pub devices : DevicesValue
+  pub limit : Limit
 
 -- the records of the members of a stack describe it
 pub record DescribesStack (records : List Device) (stack : List ℕ) : Type 0 where

@@ -7,8 +7,8 @@ ghost use Rattle.irp_stack.specs.Records.{FoundLive, walk, renumbered, put_above
 
 use irp_types::{DeviceId, DriverId, LockNo, Refusal};
 
-/// How many devices a stack may have: a packet to its top needs a location for each.
-pub const MOST_IN_STACK: u32 = 16;
+/// How many devices a stack may have, whatever the limit: a packet to its top needs a location for each.
+pub const MOST_IN_STACK: u32 = 32;
 
 /// A device and its neighbours.
 #[derive(Clone, Copy)]

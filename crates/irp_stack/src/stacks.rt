@@ -5,14 +5,13 @@ ghost use Rattle.std.specs.Option.{option_map};
 ghost use Rattle.irp_types.specs.Limits.{most_locations};
 ghost use Rattle.irp_types.specs.Checks.{first_failing, answer_unless, value_unless};
 ghost use Rattle.irp_types.specs.Stacks.{no_devices, AreStacks, create_checks, attach_checks, detach_checks, delete_checks, after_create, after_attach, after_detach, after_delete, top_of, cut_off_by, lower_of, stack_size_of};
+ghost use Rattle.irp_types.specs.declared.limit.Limit.TheVariants.{ThirtyTwo};
 ghost use Rattle.irp_types.specs.declared.refusal.Refusal.TheVariants.{Full};
 ghost use Rattle.irp_stack.specs.Records.{id, facts_shown};
 ghost use Rattle.irp_stack.specs.declared.stacks.NotCreated.TheVariants.{Full as NotCreated_Full, Memory as NotCreated_Memory};
 
-use crate::device::{
-    Device, MOST_IN_STACK, cut_between, live_device, put_above, record_at, renumber, retire,
-};
-use irp_types::{DeviceId, DriverId, LockNo, Refusal};
+use crate::device::{Device, cut_between, live_device, put_above, record_at, renumber, retire};
+use irp_types::{DeviceId, DriverId, Limit, LockNo, Refusal};
 use std::alloc::Global;
 use std::marker::Model;
 
@@ -22,24 +21,25 @@ const MOST_DEVICES: usize = 64;
 /// Every device that was ever created, and the stacks in which they stand (WDK: "WDM Device Stacks").
 ///
 /// Devices are numbered from 0 in the order of their creation, and no number comes again. Each stands in exactly one
-/// stack, alone until it is attached; a stack has 1 to 16 devices, and the members of a longer one are live.
+/// stack, alone until it is attached; a stack has 1 device at least, and as many as the limit allows at most; the members
+/// of a longer one are live.
 ///
-/// Contracts see it as the record `DevicesValue` of `irp_types`: the facts of each device, and beside it its whole
-/// stack, bottom first.
+/// Contracts see it as the record `StacksValue`: the facts of each device, beside it its whole stack, bottom first, and the
+/// limit.
 #[derive(Drop)]
 pub struct Stacks {
     devices: Vec<Device>,
+    limit: Limit,
 }
 
 impl Model for Stacks {
     ghost use Rattle.std.specs.Prelude.{◌≤◌, length};
     ghost use Rattle.irp_types.specs.Limits.{most_devices};
-    ghost use Rattle.irp_types.specs.Stacks.{DevicesValue};
-    ghost use Rattle.irp_stack.specs.Records.{value_of, IsTidy};
+    ghost use Rattle.irp_stack.specs.Records.{StacksValue, value_of, IsTidy};
 
-    ghost Value = { DevicesValue };
+    ghost Value = { StacksValue };
 
-    ghost view = { λ stacks. value_of stacks.devices.items };
+    ghost view = { λ stacks. record { devices = value_of stacks.devices.items; limit = stacks.limit } };
 
     ghost invariant = { λ stacks. (length stacks.devices.items ≤ most_devices) × IsTidy stacks.devices.items };
 }
@@ -64,12 +64,20 @@ pub enum NotCreated {
 }
 
 impl Stacks {
-    /// No devices. It takes no memory until one is created.
+    /// No devices, with stacks of 32 at most. It takes no memory until one is created.
     pub fn new(alloc: Global) -> Stacks
-        ensures { result ≡ no_devices }
+        ensures { result ≡ record { devices = no_devices; limit = ThirtyTwo } }
+    {
+        Stacks::with_limit(alloc, Limit::ThirtyTwo)
+    }
+
+    /// No devices, with stacks of as many as the limit allows. It takes no memory until one is created.
+    pub fn with_limit(alloc: Global, limit: Limit) -> Stacks
+        ensures { result ≡ record { devices = no_devices; limit = limit } }
     {
         Stacks {
             devices: Vec::new(alloc),
+            limit,
         }
     }
 
@@ -80,9 +88,9 @@ impl Stacks {
     /// The error is `Full` exactly where 64 devices were created before, deleted ones among them. It is `Memory` only
     /// where there was room. Either changes nothing.
     pub fn create(&mut self, driver: DriverId, lock: LockNo) -> Result<DeviceId, NotCreated>
-        ensures created { IfOk result (λ device. (device.0 ≡ length self.old.facts) × (first_failing (create_checks self.old) ≡ None) × (self.new ≡ after_create self.old driver lock)) }
+        ensures created { IfOk result (λ device. (device.0 ≡ length self.old.devices.facts) × (first_failing (create_checks self.old.devices) ≡ None) × (self.new ≡ record self.old { devices = after_create self.old.devices driver lock })) }
         ensures refused { OnErr result (self.new ≡ self.old) }
-        ensures full { IfErr result (λ error. (error ≡ NotCreated_Full → first_failing (create_checks self.old) ≡ Some Full) × (error ≡ NotCreated_Memory → first_failing (create_checks self.old) ≡ None)) }
+        ensures full { IfErr result (λ error. (error ≡ NotCreated_Full → first_failing (create_checks self.old.devices) ≡ Some Full) × (error ≡ NotCreated_Memory → first_failing (create_checks self.old.devices) ≡ None)) }
     {
         let count = self.devices.len();
         if count >= MOST_DEVICES {
@@ -111,10 +119,11 @@ impl Stacks {
     /// It is refused, and changes nothing, with the first of these that holds (this project's own rule): `NoDevice` if
     /// `device` was never created, `DeviceGone` if it was deleted; both likewise of `to`; `SameStack` if the two are in
     /// one stack, as a device is with itself; `StillAttached` if `device` has a neighbour; `TooDeep` if the stack of
-    /// `to` has 16 devices. It takes constant time.
+    /// `to` has as many devices as the limit allows. It takes constant time.
     pub fn attach(&mut self, device: DeviceId, to: DeviceId) -> Result<DeviceId, Refusal>
-        ensures answer { result ≡ answer_unless (first_failing (attach_checks self.old device.0 to.0)) (id (top_of self.old to.0)) }
-        ensures changed { self.new ≡ value_unless (first_failing (attach_checks self.old device.0 to.0)) self.old (after_attach self.old device.0 to.0) }
+        ensures answer { result ≡ answer_unless (first_failing (attach_checks self.old.limit self.old.devices device.0 to.0)) (id (top_of self.old.devices to.0)) }
+        ensures changed { self.new.devices ≡ value_unless (first_failing (attach_checks self.old.limit self.old.devices device.0 to.0)) self.old.devices (after_attach self.old.devices device.0 to.0) }
+        ensures limit { self.new.limit ≡ self.old.limit }
     {
         let own = live_device(&self.devices, device)?;
         let target = live_device(&self.devices, to)?;
@@ -126,7 +135,7 @@ impl Stacks {
         }
         let top = record_at(&self.devices, target.bottom).top;
         let depth = record_at(&self.devices, top).size;
-        if depth >= MOST_IN_STACK {
+        if depth >= self.limit.locations() {
             return Err(Refusal::TooDeep);
         }
         put_above(&mut self.devices, device, top, target.bottom, depth + 1);
@@ -141,8 +150,9 @@ impl Stacks {
     /// `lower` was never created, `DeviceGone` if it was deleted, `NothingAttached` if it is the top of its stack. It
     /// goes once over the devices above the cut.
     pub fn detach(&mut self, lower: DeviceId) -> Result<DeviceId, Refusal>
-        ensures answer { result ≡ answer_unless (first_failing (detach_checks self.old lower.0)) (id (cut_off_by self.old lower.0)) }
-        ensures changed { self.new ≡ value_unless (first_failing (detach_checks self.old lower.0)) self.old (after_detach self.old lower.0) }
+        ensures answer { result ≡ answer_unless (first_failing (detach_checks self.old.devices lower.0)) (id (cut_off_by self.old.devices lower.0)) }
+        ensures changed { self.new.devices ≡ value_unless (first_failing (detach_checks self.old.devices lower.0)) self.old.devices (after_detach self.old.devices lower.0) }
+        ensures limit { self.new.limit ≡ self.old.limit }
     {
         let below = live_device(&self.devices, lower)?;
         let Some(upper) = below.upper else {
@@ -160,8 +170,9 @@ impl Stacks {
     /// the device was never created, `DeviceGone` if it was deleted before, `StillAttached` if it has a neighbour. It
     /// doesn't look at packets or remove locks.
     pub fn delete(&mut self, device: DeviceId) -> Result<(), Refusal>
-        ensures answer { result ≡ answer_unless (first_failing (delete_checks self.old device.0)) tt }
-        ensures changed { self.new ≡ value_unless (first_failing (delete_checks self.old device.0)) self.old (after_delete self.old device.0) }
+        ensures answer { result ≡ answer_unless (first_failing (delete_checks self.old.devices device.0)) tt }
+        ensures changed { self.new.devices ≡ value_unless (first_failing (delete_checks self.old.devices device.0)) self.old.devices (after_delete self.old.devices device.0) }
+        ensures limit { self.new.limit ≡ self.old.limit }
     {
         let found = live_device(&self.devices, device)?;
         if found.has_neighbour() {
@@ -173,7 +184,7 @@ impl Stacks {
 
     /// Why [`delete`](Stacks::delete) refuses the device, or `None` where it would delete it (this project's own rule).
     pub fn delete_refusal(&self, device: DeviceId) -> Option<Refusal>
-        ensures { result ≡ first_failing (delete_checks self.now device.0) }
+        ensures { result ≡ first_failing (delete_checks self.now.devices device.0) }
     {
         let own = match live_device(&self.devices, device) {
             Ok(own) => own,
@@ -188,16 +199,16 @@ impl Stacks {
     /// The device just below (WDK: "IoGetLowerDeviceObject"). `None` if nothing stands below, or if the device was
     /// never created. It takes constant time.
     pub fn lower(&self, device: DeviceId) -> Option<DeviceId>
-        ensures { result ≡ option_map id (lower_of self.now device.0) }
+        ensures { result ≡ option_map id (lower_of self.now.devices device.0) }
     {
         self.devices.get(device.0 as usize)?.lower
     }
 
-    /// The position in its stack of a device that was created, from 1 at the bottom to 16 at most: how many locations
+    /// The position in its stack of a device that was created, from 1 at the bottom to 32 at most: how many locations
     /// a packet that is sent to it needs (WDK: "IoAttachDeviceToDeviceStack"). It takes constant time.
     pub fn stack_size(&self, device: DeviceId) -> u32
-        requires { device.0 < length self.now.facts }
-        ensures size { result ≡ stack_size_of self.now device.0 }
+        requires { device.0 < length self.now.devices.facts }
+        ensures size { result ≡ stack_size_of self.now.devices device.0 }
         ensures some { 1 ≤ result }
         ensures few { result ≤ most_locations }
     {
@@ -207,7 +218,7 @@ impl Stacks {
     /// Driver and remove lock of a device, and whether it is live. `None` exactly if the device was never created
     /// (this project's own rule).
     pub fn facts(&self, device: DeviceId) -> Option<Facts>
-        ensures { result ≡ option_map facts_shown (slice_get self.now.facts device.0) }
+        ensures { result ≡ option_map facts_shown (slice_get self.now.devices.facts device.0) }
     {
         let found = self.devices.get(device.0 as usize)?;
         Some(Facts {
@@ -217,10 +228,17 @@ impl Stacks {
         })
     }
 
-    /// Tells that each device is at one place of one stack, that no stack has more than 16 devices, and that the
+    /// The limit on stacks, as it was given (this project's own rule).
+    pub fn limit(&self) -> Limit
+        ensures { result ≡ self.now.limit }
+    {
+        self.limit
+    }
+
+    /// Tells that each device is at one place of one stack, that no stack has more than 32 devices, and that the
     /// members of longer ones are live. It changes nothing and answers nothing (this project's own rule).
     pub fn are_stacks(&self)
-        ensures { AreStacks self.now }
+        ensures { AreStacks self.now.devices }
     {
         let _ = &self.devices;
     }

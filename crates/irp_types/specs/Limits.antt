@@ -1,9 +1,16 @@
 -- How many there may be.
 use Rattle.std.specs.Prelude.{ℕ, ◌^◌}
+use Rattle.irp_types.specs.declared.limit.Limit.{Limit}
+use Rattle.irp_types.specs.declared.limit.Limit.TheVariants.{Sixteen, ThirtyTwo}
 
--- locations of a packet, and devices of a stack
+-- locations of a packet, and devices of a stack, whatever the limit
 abbrev pub most_locations : ℕ
-most_locations = 16
+most_locations = 32
+
+-- locations of a packet, and devices of a stack, under a limit
+abbrev pub most_under : Limit → ℕ
+most_under Sixteen = 16
+most_under ThirtyTwo = 32
 
 -- devices that were ever created
 abbrev pub most_devices : ℕ

@@ -3,7 +3,7 @@ use Rattle.std.specs.Prelude.{ℕ, ◌-◌, ◌==◌, Bool, true, false, not, �
 use Rattle.std.specs.List.{list_any}
 use Rattle.std.specs.Option.{option_map_or}
 use Rattle.std.specs.FinMap as fin
-use Rattle.irp_types.specs.Limits.{most_locations, most_live, use_limit}
+use Rattle.irp_types.specs.Limits.{most_under, most_live, use_limit}
 use Rattle.irp_types.specs.Status.{is_completable}
 use Rattle.irp_types.specs.Checks.{Check, first_failing, or_else}
 use Rattle.irp_types.specs.Rules.{is_known}
@@ -142,14 +142,14 @@ use_check state = (nat_le use_limit state.next_use, Full)
 abbrev pub first_refusal : Fixed → StateValue → Bool → Call → Option Refusal
 first_refusal fixed state drained (CreateDevice driver lock) = first_failing (
     (nat_le (length fixed.tables.drivers) driver.0, NoDriver) ∷ (nat_le fixed.locks lock.0, NoLock) ∷ create_checks state.devices)
-first_refusal fixed state drained (Attach device to) = first_failing (attach_checks state.devices device.0 to.0)
+first_refusal fixed state drained (Attach device to) = first_failing (attach_checks fixed.limit state.devices device.0 to.0)
 first_refusal fixed state drained (Detach lower) = first_failing (detach_checks state.devices lower.0)
 first_refusal fixed state drained (Delete device) = first_failing (
     delete_checks state.devices device.0
     ++ (is_in_flight state device.0, InFlight)
     ∷ (not drained, NotDrained) ∷ [])
 first_refusal fixed state drained (Allocate size) = first_failing (
-    ((size == 0) || nat_lt most_locations size, BadSize)
+    ((size == 0) || nat_lt (most_under fixed.limit) size, BadSize)
     ∷ (nat_le most_live (fin.len state.live) || nat_le use_limit state.next_use, Full) ∷ [])
 first_refusal fixed state drained (Free irp) = or_else (packet_refusal state irp) (first_failing (flight_check (packet_of state irp) ∷ []))
 first_refusal fixed state drained (Reuse irp status) =

@@ -2,7 +2,8 @@
 -- it is in, so that equal devices are equal values.
 use Rattle.std.specs.Prelude.{ℕ, ◌≡◌, ◌+◌, ◌-◌, ◌<◌, ◌≤◌, ◌==◌, Bool, true, false, not, if◌then◌else◌, nat_lt, nat_le, is_some, List, [], ◌∷◌, ◌++◌, length, take, drop, fold, position, slice_get, slice_set, slice_index_or, Option, None, unwrap_or}
 use Rattle.std.specs.List.{list_any}
-use Rattle.irp_types.specs.Limits.{most_locations, most_devices}
+use Rattle.irp_types.specs.declared.limit.Limit.{Limit}
+use Rattle.irp_types.specs.Limits.{most_locations, most_under, most_devices}
 use Rattle.irp_types.specs.Checks.{Check}
 use Rattle.irp_types.specs.declared.names.LockNo.{LockNo}
 use Rattle.irp_types.specs.declared.names.DriverId.{DriverId}
@@ -81,12 +82,12 @@ abbrev pub create_checks : DevicesValue → List Check
 create_checks devices = (nat_le most_devices (length devices.facts), Full) ∷ []
 
 -- the checks of an attachment of a device to the stack of another
-abbrev pub attach_checks : DevicesValue → ℕ → ℕ → List Check
-attach_checks devices device to =
+abbrev pub attach_checks : Limit → DevicesValue → ℕ → ℕ → List Check
+attach_checks limit devices device to =
     device_checks devices device ++ device_checks devices to
     ++ (list_any (λ member. member == to) (stack_of devices device), SameStack)
     ∷ (has_neighbour devices device, StillAttached)
-    ∷ (nat_le most_locations (length (stack_of devices to)), TooDeep) ∷ []
+    ∷ (nat_le (most_under limit) (length (stack_of devices to)), TooDeep) ∷ []
 
 -- the checks of a detachment of what stands on a device
 abbrev pub detach_checks : DevicesValue → ℕ → List Check

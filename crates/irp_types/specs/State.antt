@@ -8,6 +8,7 @@ use Rattle.irp_types.specs.Limits.{last_major, most_drivers, most_routines, most
 use Rattle.irp_types.specs.Rules.{IsWithin}
 use Rattle.irp_types.specs.Packet.{PacketValue, new_packet}
 use Rattle.irp_types.specs.Stacks.{DevicesValue, no_devices}
+use Rattle.irp_types.specs.declared.limit.Limit.{Limit}
 use Rattle.irp_types.specs.declared.routine.Known.{Known}
 use Rattle.irp_types.specs.declared.routine.CancelRule.{CancelRule}
 use Rattle.irp_types.specs.declared.names.IrpRef.{IrpRef}
@@ -75,10 +76,11 @@ pub record AreTables (tables : Tables) : Type 0 where
   pub few_dispatches : length tables.dispatches ≤ most_dispatches
   pub few_drivers : length tables.drivers ≤ most_drivers
 
--- what is fixed while a manager lives: the number of remove locks, and the tables
+-- what is fixed while a manager lives: the number of remove locks, the tables, and the limit
 pub record Fixed : Type 0 where
   pub locks : ℕ
   pub tables : Tables
+  pub limit : Limit
 
 -- the dispatch of a driver for a major function code
 abbrev pub dispatch_for : Tables → DriverId → ℕ → Option DispatchId

@@ -33,7 +33,7 @@ pub enum Call {
     Delete {
         device: DeviceId,
     },
-    /// A new packet with this many locations, 1 to 16 (WDK: "IoAllocateIrp").
+    /// A new packet with this many locations, from 1 to the limit (WDK: "IoAllocateIrp").
     Allocate {
         size: u8,
     },

@@ -7,6 +7,7 @@ mod asked;
 mod call;
 mod entry;
 mod laws;
+mod limit;
 mod location;
 mod names;
 mod refusal;
@@ -24,6 +25,7 @@ pub use laws::{
     entry_settles_next_state, history_completes_once, history_goes_on, history_settles_states,
     standing_facts_stay,
 };
+pub use limit::Limit;
 pub use location::{Location, Owner, Preparation};
 pub use names::{CancelId, DeviceId, DispatchId, DriverId, IrpRef, LockNo};
 pub use refusal::Refusal;

@@ -25,14 +25,14 @@ fn descend_from<A: Ask>(
     target: DeviceId,
     asked: &mut Vec<Asked>,
 ) -> Sent
-    requires stacked { AreStacks stacks.now }
-    requires created { target.0 < length stacks.now.facts }
-    requires deep { stack_size_of stacks.now target.0 < packet.old.current }
+    requires stacked { AreStacks stacks.now.devices }
+    requires created { target.0 < length stacks.now.devices.facts }
+    requires deep { stack_size_of stacks.now.devices target.0 < packet.old.current }
     requires within { packet.old.current ≤ size_of packet.old + 1 }
     requires placed { HasDevices packet.old packet.old.current }
     requires routines { HasRoutines (A.tables ask.now).counts packet.old (packet.old.current - 1) }
-    requires room { vec_len asked.old + stack_size_of stacks.now target.0 + size_of packet.old ≤ vec_capacity asked.old }
-    ensures descends { Descends (IsAnswered (A.may_plan ask.now) (A.may_answer ask.now) (A.may_cancel ask.now)) (A.tables ask.now) irp stacks.now packet.old target.0 packet.new asked.old.items asked.new.items result }
+    requires room { vec_len asked.old + stack_size_of stacks.now.devices target.0 + size_of packet.old ≤ vec_capacity asked.old }
+    ensures descends { Descends (IsAnswered (A.may_plan ask.now) (A.may_answer ask.now) (A.may_cancel ask.now)) (A.tables ask.now) irp stacks.now.devices packet.old target.0 packet.new asked.old.items asked.new.items result }
     ensures capacity { vec_capacity asked.new ≡ vec_capacity asked.old }
 {
     packet.enter(target);
@@ -77,12 +77,12 @@ pub fn descend<A: Ask>(
     target: DeviceId,
     asked: &mut Vec<Asked>,
 ) -> Sent
-    requires created { target.0 < length stacks.now.facts }
-    requires deep { stack_size_of stacks.now target.0 < packet.old.current }
+    requires created { target.0 < length stacks.now.devices.facts }
+    requires deep { stack_size_of stacks.now.devices target.0 < packet.old.current }
     requires placed { HasDevices packet.old packet.old.current }
     requires routines { HasRoutines (A.tables ask.now).counts packet.old (packet.old.current - 1) }
-    requires room { vec_len asked.old + stack_size_of stacks.now target.0 + size_of packet.old ≤ vec_capacity asked.old }
-    ensures descends { Descends (IsAnswered (A.may_plan ask.now) (A.may_answer ask.now) (A.may_cancel ask.now)) (A.tables ask.now) irp stacks.now packet.old target.0 packet.new asked.old.items asked.new.items result }
+    requires room { vec_len asked.old + stack_size_of stacks.now.devices target.0 + size_of packet.old ≤ vec_capacity asked.old }
+    ensures descends { Descends (IsAnswered (A.may_plan ask.now) (A.may_answer ask.now) (A.may_cancel ask.now)) (A.tables ask.now) irp stacks.now.devices packet.old target.0 packet.new asked.old.items asked.new.items result }
     ensures capacity { vec_capacity asked.new ≡ vec_capacity asked.old }
     ensures stays { StaysUp packet.old packet.new result.status }
     ensures sound { packet.old.cancel_routine ≡ None → is_nothing packet.old.preparation ≡ false → IsSound (A.tables ask.now).counts packet.old → IsSound (A.tables ask.now).counts packet.new }

@@ -42,7 +42,7 @@ pub(crate) fn marks_location(plan: Option<Plan>) -> bool
 /// What the dispatch of a device is shown in the current location.
 fn shown_here(packet: &Packet, irp: IrpRef, stacks: &Stacks, device: DeviceId) -> Shown
     requires { packet.now.current ≤ size_of packet.now }
-    ensures { result ≡ shown_here irp packet.now stacks.now device.0 }
+    ensures { result ≡ shown_here irp packet.now stacks.now.devices device.0 }
 {
     let number = packet.current();
     let here = packet.location_at(number);
@@ -63,8 +63,8 @@ fn shown_here(packet: &Packet, irp: IrpRef, stacks: &Stacks, device: DeviceId) -
 
 /// The driver of a device that was created.
 fn driver_of(stacks: &Stacks, device: DeviceId) -> DriverId
-    requires { device.0 < length stacks.now.facts }
-    ensures { result ≡ (facts_of stacks.now device.0).driver }
+    requires { device.0 < length stacks.now.devices.facts }
+    ensures { result ≡ (facts_of stacks.now.devices device.0).driver }
 {
     match stacks.facts(device) {
         Some(facts) => facts.driver,
@@ -82,9 +82,9 @@ pub(crate) fn ask_plan<A: Ask>(
     asked: &mut Vec<Asked>,
 ) -> Option<Plan>
     requires placed { packet.now.current ≤ size_of packet.now }
-    requires created { device.0 < length stacks.now.facts }
+    requires created { device.0 < length stacks.now.devices.facts }
     requires room { vec_len asked.old < vec_capacity asked.old }
-    ensures planned { IsPlannedHere (IsAnswered (A.may_plan ask.now) (A.may_answer ask.now) (A.may_cancel ask.now)) (A.tables ask.now) irp stacks.now packet.now (frame_at packet.now device.0 result) asked.old.items asked.new.items }
+    ensures planned { IsPlannedHere (IsAnswered (A.may_plan ask.now) (A.may_answer ask.now) (A.may_cancel ask.now)) (A.tables ask.now) irp stacks.now.devices packet.now (frame_at packet.now device.0 result) asked.old.items asked.new.items }
     ensures length { vec_len asked.new ≤ vec_len asked.old + 1 }
     ensures capacity { vec_capacity asked.new ≡ vec_capacity asked.old }
 {
@@ -97,8 +97,8 @@ pub(crate) fn ask_plan<A: Ask>(
 
 /// The device below, which is there.
 pub(crate) fn device_below(stacks: &Stacks, device: DeviceId) -> DeviceId
-    requires { is_some (lower_of stacks.now device.0) ≡ true }
-    ensures { lower_of stacks.now device.0 ≡ Some result.0 }
+    requires { is_some (lower_of stacks.now.devices device.0) ≡ true }
+    ensures { lower_of stacks.now.devices device.0 ≡ Some result.0 }
 {
     match stacks.lower(device) {
         Some(lower) => lower,

@@ -39,7 +39,7 @@ pub(super) fn copied(asked: &Vec<Asked>, room: Vec<Asked>) -> Vec<Asked>
 impl<K: Keep> Core<K> {
     /// The position of a device in its stack, from 1 at the bottom, and 1 where it was never created.
     fn depth(&self, device: DeviceId) -> u32
-        ensures depth { result ≡ stack_size_of self.now.stacks device.0 }
+        ensures depth { result ≡ stack_size_of self.now.stacks.devices device.0 }
         ensures few { result ≤ most_locations }
     {
         self.stacks.are_stacks();

@@ -4,6 +4,7 @@ use Rattle.irp_types.specs.Status.{pending}
 use Rattle.irp_types.specs.Packet.{new_packet, after_skip, set_next_refusal}
 use Rattle.irp_types.specs.State.{Fixed, opening_state}
 use Rattle.irp_types.specs.Refusals.{first_refusal, send_refusal, complete_refusal}
+use Rattle.irp_types.specs.declared.limit.Limit.TheVariants.{Sixteen}
 use Rattle.irp_types.specs.declared.names.DeviceId.{DeviceId}
 use Rattle.irp_types.specs.declared.call.Party.TheVariants.{Originator, Device}
 use Rattle.irp_types.specs.declared.call.Call.TheVariants.{CreateDevice, Allocate}
@@ -20,6 +21,7 @@ one_driver_one_lock = record {
     dispatches = [];
     cancel_rules = [];
   };
+  limit = Sixteen;
 }
 
 abbrev device : ℕ → DeviceId

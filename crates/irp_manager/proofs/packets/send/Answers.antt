@@ -13,7 +13,7 @@ pub returns-clause-goes : goal.returns-clause-goes
 returns-clause-goes g c =
     let tables = g.A.Ask.tables c.args.ask.now in
     let irp = c.args.irp in
-    let devices = c.args.stacks.now in
+    let devices = c.args.stacks.now.devices in
     let target = c.args.target.0 in
     let old : LivePacket = record { packet = c.live.inside.packet; use_no = c.live.inside.use_no } in
     let new : LivePacket = record { packet = c.descend-sent.new.packet; use_no = c.live.inside.use_no } in

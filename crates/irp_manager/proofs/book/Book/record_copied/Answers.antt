@@ -10,7 +10,7 @@ use Rattle.irp_types.proofs.LongerLists.{get_last}
 use Rattle.irp_routines.specs.Answers.{AreAnswered}
 use Rattle.irp_manager.specs.Passing.{PassesPlan, PassesAnswer, PassesCancel}
 use Rattle.irp_manager.specs.Keeps.{slabbed}
-use Rattle.irp_manager.specs.Cores.{state_of, most_asked}
+use Rattle.irp_manager.specs.Cores.{state_of, fixed_with, most_asked}
 use Rattle.irp_manager.specs.Booked.{Receipted}
 use Rattle.irp_manager.specs.Rooms.{can_ask}
 use Rattle.irp_manager.proofs.Few.{few_stepped}
@@ -39,14 +39,14 @@ place g c = search rules
 
 -- what is fixed, before the call
 before : (g : Over) → goal.After-history_goes_on g → Fixed
-before g c = record { locks = c.self.inside.core.locks; tables = c.self.inside.held.tables }
+before g c = fixed_with c.self.inside.core c.self.inside.held.tables
 
 -- the step that is recorded
 stepped : (g : Over) (c : goal.After-history_goes_on g) → Step (before g c) (state_of slabbed c.self.inside.core) c.in-Ok-apply.applied.drained c.args.call c.from_vec.result c.in-Ok-apply.applied.reply (state_of slabbed c.apply.new.self)
 unfolding before
 stepped g c =
     subst (λ (asked : List Asked). Step (before g c) (state_of slabbed c.self.inside.core) c.in-Ok-apply.applied.drained c.args.call asked c.in-Ok-apply.applied.reply (state_of slabbed c.apply.new.self))
-    (sym c.from_vec.ensures) (c.in-Ok-apply.ensures.stepped.step (before g c) refl refl)
+    (sym c.from_vec.ensures) (c.in-Ok-apply.ensures.stepped.step (before g c) refl (refl, refl))
 
 leads : (g : Over) (c : goal.After-history_goes_on g) → LeadsTo (before g c) c.push_reserved.new.self.items (state_of slabbed c.apply.new.self)
 unfolding entry before
@@ -63,11 +63,13 @@ leads g c =
     leads_more c.history_goes_on.ensures (before g c) c.self.inside.history.items c.push_reserved.new.self.items old new (entry g c) c.self.invariant.leads holds (grown g c)
 
 -- the same, with what is fixed after the call
-leads_on : (g : Over) (c : goal.After-history_goes_on g) → LeadsTo (record { locks = c.apply.new.self.locks; tables = c.self.inside.held.tables }) c.push_reserved.new.self.items (state_of slabbed c.apply.new.self)
+leads_on : (g : Over) (c : goal.After-history_goes_on g) → LeadsTo (fixed_with c.apply.new.self c.self.inside.held.tables) c.push_reserved.new.self.items (state_of slabbed c.apply.new.self)
 unfolding before
 leads_on g c =
     let tables = c.self.inside.held.tables in
-    subst (λ (locks : ℕ). LeadsTo (record { locks = locks; tables = tables }) c.push_reserved.new.self.items (state_of slabbed c.apply.new.self)) (sym c.in-Ok-apply.ensures.stepped.locks) (leads g c)
+    let kept = c.in-Ok-apply.ensures.stepped.fixed in
+    subst (λ (fixed : Fixed). LeadsTo fixed c.push_reserved.new.self.items (state_of slabbed c.apply.new.self))
+    (λ i. record { locks = sym kept.0 i; tables = tables; limit = sym kept.1 i }) (leads g c)
 
 pub invariant_of-self-2 : goal.invariant_of-self-2
 invariant_of-self-2 g c =
@@ -81,7 +83,7 @@ invariant_of-self-2 g c =
 
 pub returns-clause-legal : goal.returns-clause-legal
 returns-clause-legal g c =
-    let fixed : Fixed = record { locks = c.apply.new.self.locks; tables = c.self.inside.held.tables } in
+    let fixed : Fixed = fixed_with c.apply.new.self c.self.inside.held.tables in
     legal fixed c.push_reserved.new.self.items (state_of slabbed c.apply.new.self) (leads_on g c)
 
 pub returns-clause-recorded : goal.returns-clause-recorded

@@ -21,4 +21,4 @@ returns-clause-few g c =
 pub returns-clause-stepped : goal.returns-clause-stepped
 returns-clause-stepped g c =
     let stepped = c.in_ok-reply.ensures.stepped in
-    rw c.copied-kept.ensures (record { step = stepped.step; stands = stepped.stands; locks = stepped.locks })
+    rw c.copied-kept.ensures (record { step = stepped.step; stands = stepped.stands; fixed = stepped.fixed })

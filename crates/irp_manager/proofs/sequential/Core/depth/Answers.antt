@@ -8,7 +8,7 @@ use Rattle.irp_manager.proofs.sequential.Core.depth.Goals as goal
 
 pub returns-in-None-clause-depth : goal.returns-in-None-clause-depth
 returns-in-None-clause-depth g c =
-    let devices = c.args.self.now.stacks in
+    let devices = c.args.self.now.stacks.devices in
     let device = c.args.device.0 in
     let past : length devices.facts ≤ device =
     elim ((slice_get_cases devices.facts device).1) as (λ _. length devices.facts ≤ device) [

@@ -24,12 +24,12 @@ returns-clause-stepped g c drained =
     let goes = c.finish_taken.ensures.goes in
     let here = packet_refusal_in (Some live) irp in
     record {
-      step = λ fixed same locks. taken_step fixed drained state irp c.args.token c.args.status c.args.information asked reply (record state { live = slots })
+      step = λ fixed same agrees. taken_step fixed drained state irp c.args.token c.args.status c.args.information asked reply (record state { live = slots })
           (goes_on state irp (packet_refusal state irp) here (λ packet. take_refusal packet irp.use_no c.args.token c.args.status) (Takes irp c.args.status c.args.information asked reply) live new asked reply slots
           (packet_checked state irp live at) at put goes);
       stands = stands_on tables.counts state irp.slot (or_else here (take_refusal live.packet irp.use_no c.args.token c.args.status)) (Takes irp c.args.status c.args.information asked reply live.packet) live new asked reply slots at put goes
           c.finish_taken.ensures.sound c.requires.stands;
-      locks = refl;
+      fixed = (refl, refl);
     }
 
 pub finish_taken-requires-clause-sound : goal.finish_taken-requires-clause-sound

@@ -16,9 +16,9 @@ returns g c tables drained stands =
     let new : StateValue = record state { live = g.K.Keep.live c.take-gone.new.self } in
     let left : new ≡ record state { live = fin.remove state.live irp.slot } = λ i. record state { live = c.take-gone.ensures.others i } in
     record {
-      step = λ fixed same locks.
+      step = λ fixed same agrees.
           subst (λ (given : Option Refusal). MatchOption given (Unasked [] Done new Done (record state { live = fin.remove state.live irp.slot })) (λ refusal. Unasked [] Done new (Refused refusal) state))
           (sym (sym c.flight_refusal.ensures ∙ c.in_default.is)) (refl, refl, left);
       stands = subst (StandingFacts tables.counts) (sym left) (stands_without tables.counts state irp.slot stands);
-      locks = refl;
+      fixed = (refl, refl);
     }

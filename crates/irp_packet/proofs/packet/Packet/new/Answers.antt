@@ -6,4 +6,4 @@ use Rattle.irp_types.specs.Packet.{cleared}
 use Rattle.irp_packet.proofs.packet.Packet.new.Goals as goal
 
 pub returns : goal.returns
-returns c = grind (arith, common_steps, take-replicate c.args.size 16 cleared)
+returns c = grind (arith, common_steps, take-replicate c.args.size 32 cleared)

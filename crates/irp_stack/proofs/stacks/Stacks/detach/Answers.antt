@@ -10,32 +10,32 @@ use Rattle.irp_stack.proofs.stacks.Stacks.detach.Goals as goal
 
 pub returns-in_default-clause-answer : goal.returns-in_default-clause-answer
 returns-in_default-clause-answer c =
-    let e = out_nothing c.self.view_is c.self.invariant.1 c.in_ok-below.ensures c.in_default.is in
-    ap (λ o. answer_unless o (id (unwrap_or (upper_of c.args.self.now c.args.lower.0) 0))) (sym e)
+    let e = out_nothing (ap (λ s. s.devices) c.self.view_is) c.self.invariant.1 c.in_ok-below.ensures c.in_default.is in
+    ap (λ o. answer_unless o (id (unwrap_or (upper_of c.args.self.now.devices c.args.lower.0) 0))) (sym e)
 
 pub returns-in_default-clause-changed : goal.returns-in_default-clause-changed
 returns-in_default-clause-changed c =
-    let e = out_nothing c.self.view_is c.self.invariant.1 c.in_ok-below.ensures c.in_default.is in
-    ap (λ o. value_unless o c.args.self.now (after_detach c.args.self.now c.args.lower.0)) (sym e)
+    let e = out_nothing (ap (λ s. s.devices) c.self.view_is) c.self.invariant.1 c.in_ok-below.ensures c.in_default.is in
+    ap (λ o. value_unless o c.args.self.now.devices (after_detach c.args.self.now.devices c.args.lower.0)) (sym e)
 
 pub renumber-requires-clause-known : goal.renumber-requires-clause-known
 renumber-requires-clause-known c =
-    let e = out_cut c.self.view_is c.self.invariant.1 c.in_ok-below.ensures c.in-Some.is c.record_at.ensures in
+    let e = out_cut (ap (λ s. s.devices) c.self.view_is) c.self.invariant.1 c.in_ok-below.ensures c.in-Some.is c.record_at.ensures in
     subst (λ M. AllByRecursion (λ d. d < length M) (walk most_locations M c.in-Some.upper.0)) (sym c.cut_between.ensures) e.known
 
 pub invariant_of-self : goal.invariant_of-self
 invariant_of-self c =
-    let e = out_cut c.self.view_is c.self.invariant.1 c.in_ok-below.ensures c.in-Some.is c.record_at.ensures in
+    let e = out_cut (ap (λ s. s.devices) c.self.view_is) c.self.invariant.1 c.in_ok-below.ensures c.in-Some.is c.record_at.ensures in
     let same = c.renumber.ensures ∙ ap (λ M. renumbered c.in-Some.upper 1 (walk most_locations M c.in-Some.upper.0) M) c.cut_between.ensures in
     (omega (arith, c.self.invariant.0, e.long, ap length same), subst IsTidy (sym same) e.tidied)
 
 pub returns-clause-answer : goal.returns-clause-answer
 returns-clause-answer c =
-    let e = out_cut c.self.view_is c.self.invariant.1 c.in_ok-below.ensures c.in-Some.is c.record_at.ensures in
-    ap Ok e.answer ∙ ap (λ o. answer_unless o (id (unwrap_or (upper_of c.args.self.now c.args.lower.0) 0))) (sym e.fine)
+    let e = out_cut (ap (λ s. s.devices) c.self.view_is) c.self.invariant.1 c.in_ok-below.ensures c.in-Some.is c.record_at.ensures in
+    ap Ok e.answer ∙ ap (λ o. answer_unless o (id (unwrap_or (upper_of c.args.self.now.devices c.args.lower.0) 0))) (sym e.fine)
 
 pub returns-clause-changed : goal.returns-clause-changed
 returns-clause-changed c =
-    let e = out_cut c.self.view_is c.self.invariant.1 c.in_ok-below.ensures c.in-Some.is c.record_at.ensures in
+    let e = out_cut (ap (λ s. s.devices) c.self.view_is) c.self.invariant.1 c.in_ok-below.ensures c.in-Some.is c.record_at.ensures in
     let same = c.renumber.ensures ∙ ap (λ M. renumbered c.in-Some.upper 1 (walk most_locations M c.in-Some.upper.0) M) c.cut_between.ensures in
-    ap value_of same ∙ e.value ∙ ap (λ o. value_unless o c.args.self.now (after_detach c.args.self.now c.args.lower.0)) (sym e.fine)
+    ap value_of same ∙ e.value ∙ ap (λ o. value_unless o c.args.self.now.devices (after_detach c.args.self.now.devices c.args.lower.0)) (sym e.fine)

@@ -10,4 +10,4 @@ returns c =
     let found = c.in_ok-get.ensures.lookup.3 in
     let known : c.args.device.0 < length c.self.inside.devices.items = subst (λ l. c.args.device.0 < length l) c.deref.ensures.value found.0 in
     ap (λ (r : Device). r.lower) (found.1 blank ∙ ap (λ l. record_of l c.args.device.0) c.deref.ensures.value)
-    ∙ lower_read c.self.inside.devices.items c.args.self.now c.args.device.0 c.self.view_is c.self.invariant.1 known
+    ∙ lower_read c.self.inside.devices.items c.args.self.now.devices c.args.device.0 (ap (λ s. s.devices) c.self.view_is) c.self.invariant.1 known
