@@ -1,28 +1,51 @@
 -- What closing a session gives is a transcript of a run, once the word lines are put in.
-use Rattle.std.proofs.Common.{◌≡◌, ℕ, List, map, IfSome, sym, subst, ◌∙◌}
+use Rattle.std.proofs.Common.{◌≡◌, ◌≤◌, ℕ, List, Some, map, IfSome, refl, sym, subst, ap, ◌∙◌}
+use Rattle.std.specs.Option.{option_map}
 use Rattle.irp_types.specs.Histories.{IsLegal, CompletesOnce}
 use Rattle.irp_types.specs.State.{Fixed, Tables}
 use Rattle.irp_manager.specs.Seats.{Seated}
 use Rattle.irp_shared.specs.Closing.{AreSeated, Closes}
-use Rattle.irp_shared.specs.Headers.{IsHeader}
+use Rattle.irp_shared.specs.Headers.{IsHeader, fixed_of, limit_of, most_slots, slots_of}
+use Rattle.irp_shared.specs.declared.header.Header.{Header}
 use Rattle.irp_shared.specs.Transcripts.{TranscriptValue}
 use Rattle.irp_shared.specs.declared.word_line.WordLine.{WordLine}
 use Rattle.irp_script_reader.specs.declared.script.Script.{Script}
+use Rattle.irp_script_reader.specs.declared.script.ScriptForm.{ScriptForm}
 use Rattle.irp_workers.specs.Numbers.{NoneMoreOften}
 use Rattle.irp_workers.specs.Words.{AreInOrder, lock_steps, told_by}
-use Rattle.irpx.specs.Running.{IsRun}
+use Rattle.irpx.specs.Running.{IsRun, finished, fixed_for, form_of}
 
--- the transcript that was closed, with these word lines
-pub closed_is_run : (script : Script) (tables : Tables) (fixed : Fixed) (expected : ℕ) (seats : List Seated) (closed : TranscriptValue) (words : List WordLine) → Closes fixed expected seats closed → fixed ≡ record { locks = script.locks; tables = tables } → expected ≡ script.seats → IfSome closed.header IsHeader → AreInOrder words → NoneMoreOften (lock_steps script.steps) (map told_by words) → IsRun script tables (record closed { words = words })
-closed_is_run script tables fixed expected seats closed words closes fixed_is seats_are fits in_order few = record {
-  header = closes.header;
-  told = closes.told;
-  seats = closes.seats_told ∙ seats_are;
-  fixed = closes.tables ∙ fixed_is;
-  fits = subst (λ told. IfSome told IsHeader) closes.told fits;
-  legal = subst (λ this. IsLegal this closed.entries) (sym closes.tables) closes.legal;
-  once = subst (λ this. CompletesOnce this closed.entries) (sym closes.tables) closes.once;
-  seated = subst (λ this. AreSeated this closed.entries) seats_are closes.seated;
-  words = in_order;
-  told_steps = few;
+-- the form of the transcript, once it is put in, has the limit that is fixed
+in_form : (script : Script) (tables : Tables) (header : Header) → fixed_of header ≡ fixed_for script tables → fixed_of (record header { form = form_of script.form }) ≡ fixed_for script tables
+in_form script tables header is = ap (λ (fixed : Fixed). record fixed { limit = limit_of (form_of script.form) }) is
+
+-- a header that the formats accept is accepted in another form too, where that has few slots
+pub fits_in_form : (form : ScriptForm) (header : Header) → slots_of (form_of form) ≤ most_slots → IsHeader header → IsHeader (record header { form = form_of form })
+fits_in_form form header few fits = record {
+  tables = fits.tables;
+  some_locks = fits.some_locks;
+  few_locks = fits.few_locks;
+  some_seats = fits.some_seats;
+  few_seats = fits.few_seats;
+  few_slots = few;
 }
+
+-- the transcript that was closed, with the script's form and these word lines
+pub closed_is_run : (script : Script) (tables : Tables) (fixed : Fixed) (expected : ℕ) (seats : List Seated) (closed : TranscriptValue) (words : List WordLine) → Closes fixed expected seats closed → fixed ≡ fixed_for script tables → expected ≡ script.seats → IfSome (finished script.form words closed).header IsHeader → AreInOrder words → NoneMoreOften (lock_steps script.steps) (map told_by words) → IsRun script tables (finished script.form words closed)
+closed_is_run script tables fixed expected seats closed words closes fixed_is seats_are fits in_order few =
+    let header : Header = record closes.header { form = form_of script.form } in
+    let told : (finished script.form words closed).header ≡ Some header = ap (λ given. option_map (λ (header : Header). record header { form = form_of script.form }) given) closes.told in
+    let is : fixed_of header ≡ fixed_for script tables = in_form script tables closes.header (closes.tables ∙ fixed_is) in
+    record {
+      header = header;
+      told = told;
+      form = refl;
+      seats = closes.seats_told ∙ seats_are;
+      fixed = is;
+      fits = subst (λ given. IfSome given IsHeader) told fits;
+      legal = subst (λ this. IsLegal this closed.entries) (fixed_is ∙ sym is) closes.legal;
+      once = subst (λ this. CompletesOnce this closed.entries) (fixed_is ∙ sym is) closes.once;
+      seated = subst (λ this. AreSeated this closed.entries) seats_are closes.seated;
+      words = in_order;
+      told_steps = few;
+    }

@@ -3,6 +3,9 @@ use Rattle.std.specs.Prelude.{ℕ, List, ◌++◌, codes, Bool, true, false, Opt
 use Rattle.std.specs.Fmt.{decimal}
 use Rattle.irp_script.specs.declared.checker.Verdict.{Verdict}
 use Rattle.irp_script.specs.declared.checker.Verdict.TheVariants as verdict
+use Rattle.irp_script_reader.specs.declared.refusal.Fault.TheVariants.{BadField}
+use Rattle.irp_script_reader.specs.declared.refusal.ScriptRefusal.TheVariants.{At}
+use Rattle.irp_script_reader.specs.declared.refusal.Section.TheVariants.{Steps}
 use Rattle.irpx.specs.declared.checking.CheckFault.{CheckFault}
 use Rattle.irpx.specs.declared.checking.CheckFault.TheVariants as unchecked
 use Rattle.irpx.specs.declared.checking.Unjudged.{Unjudged}
@@ -61,6 +64,7 @@ of_unfinished (unfinished.Unwritten fault) = of_writing fault
 -- a fault of `run`
 abbrev pub of_run : RunFault → Ending
 of_run (run_fault.Unread fault) = of_script fault
+of_run (run_fault.HandsBetween step) = RefusedScript (At BadField Steps step)
 of_run (run_fault.Unfinished fault) = of_unfinished fault
 
 -- no verdict

@@ -22,11 +22,11 @@ ObeysDemo old new before after ending =
     ((ending ≡ Done) × WritesLegal old new × (after ≡ before))
     ⊎ ((fault : Unwritten) × (ending ≡ of_writing fault) × BeginsLegal old new × (after ≡ count_after fault before))
 
--- the script of the input was run to its end, or a fault ended it
-abbrev pub ObeysRun : Option (List ℕ) → Option (List ℕ) → Option (List ℕ) → Option (List ℕ) → ℕ → ℕ → Ending → Type 0
-ObeysRun input left old new before after ending =
-    ((ending ≡ Done) × Runs input left old new before after)
-    ⊎ ((fault : RunFault) × (ending ≡ of_run fault) × Unran input left old new before after fault)
+-- so many workers ran the script of the input to its end, or a fault ended it
+abbrev pub ObeysRun : ℕ → Option (List ℕ) → Option (List ℕ) → Option (List ℕ) → Option (List ℕ) → ℕ → ℕ → Ending → Type 0
+ObeysRun workers input left old new before after ending =
+    ((ending ≡ Done) × Runs workers input left old new before after)
+    ⊎ ((fault : RunFault) × (ending ≡ of_run fault) × Unran workers input left old new before after fault)
 
 -- the verdict on the input's transcript was told, or a fault ended it
 abbrev pub ObeysCheck : Option (List ℕ) → Option (List ℕ) → Option (List ℕ) → Option (List ℕ) → ℕ → ℕ → Ending → Type 0
@@ -44,6 +44,6 @@ ReadsFor (Err unread) old new = new ≡ old
 -- what was done, by what the words ask for
 abbrev pub Obeys : Result Order Unread → Option (List ℕ) → Option (List ℕ) → Option (List ℕ) → Option (List ℕ) → ℕ → ℕ → Ending → Type 0
 Obeys (Ok Demo) input left old new before after ending = ObeysDemo old new before after ending
-Obeys (Ok (Run workers)) input left old new before after ending = ObeysRun input left old new before after ending
+Obeys (Ok (Run workers)) input left old new before after ending = ObeysRun workers input left old new before after ending
 Obeys (Ok Check) input left old new before after ending = ObeysCheck input left old new before after ending
 Obeys (Err unread) input left old new before after ending = (ending ≡ of_words unread) × IsQuiet old new before after

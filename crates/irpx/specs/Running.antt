@@ -1,22 +1,29 @@
 -- What running a script leaves and writes.
-use Rattle.std.specs.Prelude.{ℕ, ◌≡◌, ◌<◌, ◌+◌, List, ◌++◌, length, map, take, Option, Some, IfSome, Result, Ok, Err}
+use Rattle.std.specs.Prelude.{ℕ, ◌≡◌, ◌<◌, ◌+◌, List, ◌++◌, length, map, position, take, Option, Some, None, IfSome, Result, Ok, Err}
 use Rattle.std.specs.Io.KnownBytes.{Consumes}
+use Rattle.std.specs.Option.{option_map}
 use Rattle.irp_types.specs.Histories.{IsLegal, CompletesOnce, own_entries}
-use Rattle.irp_types.specs.State.{Tables, Entrance}
+use Rattle.irp_types.specs.State.{Fixed, Tables, Entrance}
 use Rattle.irp_types.specs.declared.answer.CancelAnswer.{CancelAnswer}
 use Rattle.irp_types.specs.declared.answer.Plan.{Plan}
 use Rattle.irp_types.specs.declared.entry.Entry.{Entry}
 use Rattle.irp_routines.specs.Tables.{by_major, no_tables}
-use Rattle.irp_shared.specs.Headers.{fixed_of, IsHeader}
+use Rattle.irp_shared.specs.Headers.{fixed_of, limit_of, IsHeader}
 use Rattle.irp_shared.specs.Closing.{AreSeated}
 use Rattle.irp_shared.specs.Transcripts.{TranscriptValue}
+use Rattle.irp_shared.specs.declared.header.Form.{Form}
+use Rattle.irp_shared.specs.declared.header.Form.TheVariants.{One, Two}
 use Rattle.irp_shared.specs.declared.header.Header.{Header}
+use Rattle.irp_shared.specs.declared.word_line.WordLine.{WordLine}
 use Rattle.irp_script_reader.specs.Scripts.{ReadsScript}
 use Rattle.irp_script_reader.specs.Sound.{with_all}
 use Rattle.irp_script_reader.specs.declared.refusal.ScriptFault.TheVariants as fault
 use Rattle.irp_script_reader.specs.declared.script.CompletionRoutine.{CompletionRoutine}
 use Rattle.irp_script_reader.specs.declared.script.Script.{Script}
+use Rattle.irp_script_reader.specs.declared.script.ScriptForm.{ScriptForm}
+use Rattle.irp_script_reader.specs.declared.script.ScriptForm.TheVariants as script_form
 use Rattle.irp_workers.specs.Behaviours.{cancel_rule_of}
+use Rattle.irp_workers.specs.Between.{hands_between}
 use Rattle.irp_workers.specs.Made.{calls_of, nameless}
 use Rattle.irp_workers.specs.Numbers.{EachAsOften, NoneMoreOften}
 use Rattle.irp_workers.specs.Words.{AreInOrder, lock_steps, told_by}
@@ -78,14 +85,25 @@ tables_of script =
 
 -- ---- the output
 
--- a transcript of a run of the script with these tables: its header tells the script's seats and locks, and the tables, and
--- the formats accept it; its history is legal, completes each use of a packet at most once, and has entries of the script's
--- seats alone; its word lines are in order, and tell of no step on a remove lock more often than it stands in the script
+-- the form of a script's transcript: the same, with as many cancel slots
+abbrev pub form_of : ScriptForm → Form
+form_of script_form.One = One
+form_of (script_form.Two slots) = Two slots
+
+-- what is fixed while the script is run with these tables
+abbrev pub fixed_for : Script → Tables → Fixed
+fixed_for script tables = record { locks = script.locks; tables = tables; limit = limit_of (form_of script.form) }
+
+-- a transcript of a run of the script with these tables: its header tells the script's form, seats and locks, and the
+-- tables, and the formats accept it; its history is legal, completes each use of a packet at most once, and has entries
+-- of the script's seats alone; its word lines are in order, and tell of no step on a remove lock more often than it
+-- stands in the script
 pub record IsRun (script : Script) (tables : Tables) (transcript : TranscriptValue) : Type 0 where
   pub header : Header
   pub told : transcript.header ≡ Some header
+  pub form : header.form ≡ form_of script.form
   pub seats : header.seats ≡ script.seats
-  pub fixed : fixed_of header ≡ record { locks = script.locks; tables = tables }
+  pub fixed : fixed_of header ≡ fixed_for script tables
   pub fits : IsHeader header
   pub legal : IsLegal (fixed_of header) transcript.entries
   pub once : CompletesOnce (fixed_of header) transcript.entries
@@ -102,6 +120,13 @@ TellsEach script transcript = EachAsOften (lock_steps script.steps) (map told_by
 abbrev pub MakesEach : Script → TranscriptValue → Type 0
 MakesEach script transcript =
     (seat : ℕ) → seat < script.seats → map (λ (entry : Entry). nameless entry.call) (own_entries transcript.entries seat) ≡ calls_of seat (script.setup ++ script.steps)
+
+-- a transcript of a session, with the form of the script that was run, and these word lines
+abbrev pub finished : ScriptForm → List WordLine → TranscriptValue → TranscriptValue
+finished form words transcript = record transcript {
+  header = option_map (λ (header : Header). record header { form = form_of form }) transcript.header;
+  words = words;
+}
 
 -- the text of a transcript
 abbrev pub text_with : TranscriptValue → List ℕ
@@ -128,19 +153,28 @@ abbrev pub AfterScript : {T : Type 0} → Script → Tables → Option (List ℕ
 AfterScript script tables old new before after (Ok done) = RunsScript script tables old new before after
 AfterScript script tables old new before after (Err fault) = BreaksOffRun script tables old new before after fault
 
--- what `run` did where all was done: the input holds a script, which was run
-abbrev pub Runs : Option (List ℕ) → Option (List ℕ) → Option (List ℕ) → Option (List ℕ) → ℕ → ℕ → Type 0
-Runs input left old new before after =
-    (script : Script) × HoldsScript input left script × RunsScript script (tables_of script) old new before after
+-- the first step that hands a reference between seats that fall to different of so many workers is this one, or there is
+-- none; and the input holds the script
+abbrev pub HandsFirst : ℕ → Option ℕ → Option (List ℕ) → Option (List ℕ) → Script → Type 0
+HandsFirst workers place input left script =
+    HoldsScript input left script × (position (hands_between workers) script.steps ≡ place)
 
--- the same where it wasn't: there is no script, and nothing went out; or the input holds one, which wasn't run to
--- its end
-abbrev pub Unran : Option (List ℕ) → Option (List ℕ) → Option (List ℕ) → Option (List ℕ) → ℕ → ℕ → RunFault → Type 0
-Unran input left old new before after (run_fault.Unread fault) = NoScript input left fault × IsQuiet old new before after
-Unran input left old new before after (run_fault.Unfinished fault) =
-    (script : Script) × HoldsScript input left script × BreaksOffRun script (tables_of script) old new before after fault
+-- what `run` did with so many workers where all was done: the input holds a script that hands nothing between workers,
+-- which was run
+abbrev pub Runs : ℕ → Option (List ℕ) → Option (List ℕ) → Option (List ℕ) → Option (List ℕ) → ℕ → ℕ → Type 0
+Runs workers input left old new before after =
+    (script : Script) × HandsFirst workers None input left script × RunsScript script (tables_of script) old new before after
+
+-- the same where it wasn't: there is no script, or one that hands a reference between workers, and nothing went out; or
+-- the input holds another, which wasn't run to its end
+abbrev pub Unran : ℕ → Option (List ℕ) → Option (List ℕ) → Option (List ℕ) → Option (List ℕ) → ℕ → ℕ → RunFault → Type 0
+Unran workers input left old new before after (run_fault.Unread fault) = NoScript input left fault × IsQuiet old new before after
+Unran workers input left old new before after (run_fault.HandsBetween step) =
+    (script : Script) × HandsFirst workers (Some step) input left script × IsQuiet old new before after
+Unran workers input left old new before after (run_fault.Unfinished fault) =
+    (script : Script) × HandsFirst workers None input left script × BreaksOffRun script (tables_of script) old new before after fault
 
 -- what `run` did: the input holds a script, which was run to its end; or it wasn't
-abbrev pub AfterRun : {T : Type 0} → Option (List ℕ) → Option (List ℕ) → Option (List ℕ) → Option (List ℕ) → ℕ → ℕ → Result T RunFault → Type 0
-AfterRun input left old new before after (Ok done) = Runs input left old new before after
-AfterRun input left old new before after (Err fault) = Unran input left old new before after fault
+abbrev pub AfterRun : {T : Type 0} → ℕ → Option (List ℕ) → Option (List ℕ) → Option (List ℕ) → Option (List ℕ) → ℕ → ℕ → Result T RunFault → Type 0
+AfterRun workers input left old new before after (Ok done) = Runs workers input left old new before after
+AfterRun workers input left old new before after (Err fault) = Unran workers input left old new before after fault

@@ -1,6 +1,7 @@
 //! The demonstration: one device and one packet, from the first call to the printed history.
 
 ghost use Rattle.std.specs.Prelude.{◌≡◌, [], ◌∷◌, ◌++◌, IfErr, IfSome, OnErr, OnOk, false};
+ghost use Rattle.irp_types.specs.declared.limit.Limit.TheVariants.{Sixteen};
 ghost use Rattle.irp_shared.specs.Sharing.{needs_token};
 ghost use Rattle.irpx.specs.Demo.{calls_of, AreDemoCalls, IsDemoTranscript, WritesLegal, BeginsLegal};
 ghost use Rattle.irpx.specs.Writing.{count_after};
@@ -8,9 +9,11 @@ ghost use Rattle.irpx.specs.Writing.{count_after};
 use crate::writing::{Unwritten, write};
 use irp_manager::KnowsNothing;
 use irp_routines::{Ask, Dispatch, Store};
-use irp_shared::{Seat, Session, Shared, Transcript, open};
+use irp_shared::{Seat, Session, Shared, Transcript, open_with_limit};
 use irp_transcript_writer::Out;
-use irp_types::{Call, DispatchId, DriverId, Known, LockNo, Party, Plan, Reply, Shown, Status};
+use irp_types::{
+    Call, DispatchId, DriverId, Known, Limit, LockNo, Party, Plan, Reply, Shown, Status,
+};
 use std::alloc::{AllocError, Global};
 use std::marker::Brand;
 use std::sync::Wait;
@@ -81,10 +84,12 @@ fn session<L: Session>(
 ) -> Option<Transcript>
     requires blank { (blank.name ≡ L.name) × (blank.parts ≡ L.parts) }
     requires seats { (L.parts ≡ 1) × (L.seats ≡ 1) }
-    requires fixed { L.fixed ≡ record { locks = 1; tables = store.tables } }
+    requires fixed { L.fixed ≡ record { locks = 1; tables = store.tables; limit = Sixteen } }
     ensures { IfSome result IsDemoTranscript }
 {
-    let Ok((shared, mut seats)) = open::<Store, L>(alloc, blank, store, 1, 1) else {
+    let limit = Limit::Sixteen;
+    let Ok((shared, mut seats)) = open_with_limit::<Store, L>(alloc, blank, store, 1, 1, limit)
+    else {
         return None;
     };
     let mut seat = seats.pop()?;

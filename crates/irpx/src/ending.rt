@@ -10,7 +10,7 @@ use crate::orders::Unread;
 use crate::running::{RunFault, Unfinished, Unrun, Unscripted};
 use crate::writing::Unwritten;
 use irp_script::Verdict;
-use irp_script_reader::ScriptRefusal;
+use irp_script_reader::{Fault, ScriptRefusal, Section};
 use std::fmt;
 use std::process::ExitCode;
 
@@ -160,6 +160,13 @@ impl From<RunFault> for Ending {
     fn from(given: RunFault) -> Ending {
         match given {
             RunFault::Unread(fault) => Ending::from(fault),
+            RunFault::HandsBetween { step } => Ending::RefusedScript {
+                refusal: ScriptRefusal::At {
+                    fault: Fault::BadField,
+                    section: Section::Steps,
+                    index: step,
+                },
+            },
             RunFault::Unfinished(fault) => Ending::from(fault),
         }
     }

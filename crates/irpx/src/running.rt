@@ -1,8 +1,9 @@
 //! The word `run`: a script is read and run by workers, and the transcript is written.
 
-ghost use Rattle.std.specs.Prelude.{IfErr, IfOk, ◌≡◌, ◌<◌, false, map, true};
+ghost use Rattle.std.specs.Prelude.{IfErr, IfOk, ◌≡◌, ◌≤◌, ◌<◌, false, map, true};
 ghost use Rattle.irp_types.specs.Rules.{is_allowed, is_plan_allowed};
 ghost use Rattle.irp_routines.specs.Guarded.{guarded_answer, guarded_plan};
+ghost use Rattle.irp_shared.specs.Headers.{most_slots, slots_of};
 ghost use Rattle.irp_shared.specs.Transcripts.{IsTranscript};
 ghost use Rattle.irp_workers.specs.Behaviours.{answer_of, plan_of};
 ghost use Rattle.irp_workers.specs.Numbers.{EachAsOften};
@@ -16,6 +17,9 @@ ghost use Rattle.irpx.specs.Running.{
   NoScript,
   TellsEach,
   and_drivers,
+  finished,
+  fixed_for,
+  form_of,
   most_taken,
   tables_of,
 };
@@ -23,13 +27,17 @@ ghost use Rattle.irpx.specs.Running.{
 use crate::input::{InputFault, read_up_to};
 use crate::writing::{Unwritten, write};
 use irp_routines::{CancelRoutine, Dispatch, Routine, Store, guarded_answer, guarded_plan};
-use irp_script_reader::{CompletionRoutine, Script, ScriptFault, ScriptRefusal, read_script};
-use irp_shared::{Seat, Session, Transcript, TranscriptParts, WordLine, open};
+use irp_script_reader::{
+    CompletionRoutine, Script, ScriptFault, ScriptForm, ScriptRefusal, read_script,
+};
+use irp_shared::{
+    Form, Seat, Session, Transcript, TranscriptParts, WordLine, open_with_limit,
+};
 use irp_transcript_writer::Out;
 use irp_types::{Answer, Known, Plan, Row, Shown};
 use irp_workers::{
-    AlwaysOpen, ScriptSeat, cancel_rule, run_workers, script_seats, table_answer, table_cancel,
-    table_plan,
+    AlwaysOpen, ScriptSeat, cancel_rule, hand_between, run_workers, script_seats, table_answer,
+    table_cancel, table_plan,
 };
 use std::alloc::{AllocError, AllocFailed, Global};
 use std::io::Read;
@@ -138,6 +146,9 @@ pub enum RunFault {
     /// There is no script.
     #[error("{0}")]
     Unread(Unscripted),
+    /// There is one, and this is the first of its steps that hands a reference between seats of different workers.
+    #[error("step {step} hands a reference to another worker")]
+    HandsBetween { step: usize },
     /// There is one, and it wasn't run to its end, or its transcript not written whole.
     #[error("{0}")]
     Unfinished(Unfinished),
@@ -207,9 +218,25 @@ fn seats_of<L: Session>(
     Ok(seats)
 }
 
-/// The transcript with these word lines in place of its own. `ReceiptsDiffer` where it has no header.
-fn with_words(transcript: Transcript, words: Vec<WordLine>) -> Result<Transcript, Unrun>
-    ensures made { IfOk result (λ made. made ≡ record transcript { words = words.items }) }
+/// The form of the transcript of a script of this form.
+fn form_of(form: ScriptForm) -> Form
+    ensures { result ≡ form_of form }
+{
+    match form {
+        ScriptForm::One => Form::One,
+        ScriptForm::Two { slots } => Form::Two { slots },
+    }
+}
+
+/// The transcript of a session with the form of the script that was run, and with these word lines, on condition that the
+/// form has at most 64 slots. `ReceiptsDiffer` where it has no header.
+fn finished(
+    transcript: Transcript,
+    form: ScriptForm,
+    words: Vec<WordLine>,
+) -> Result<Transcript, Unrun>
+    requires few { slots_of (form_of form) ≤ most_slots }
+    ensures made { IfOk result (λ made. made ≡ finished form words.items transcript) }
     ensures accepted { IfOk result IsTranscript }
 {
     transcript.is_one();
@@ -218,9 +245,10 @@ fn with_words(transcript: Transcript, words: Vec<WordLine>) -> Result<Transcript
         entries,
         ..
     } = transcript.into_parts();
-    let Some(header) = header else {
+    let Some(mut header) = header else {
         return Err(Unrun::ReceiptsDiffer);
     };
+    header.form = form_of(form);
     let transcript = Transcript::new(header, entries, Row::from_vec(words));
     transcript.is_one();
     Ok(transcript)
@@ -238,13 +266,20 @@ fn session<L: Session + Send + Sync, T: Threads + Wait + Sync>(
     requires workers { 0 < workers }
     requires blank { (blank.name ≡ L.name) × (blank.parts ≡ L.parts) }
     requires seats { (L.parts ≡ script.now.seats) × (L.seats ≡ script.now.seats) }
-    requires fixed { L.fixed ≡ record { locks = script.now.locks; tables = store.tables } }
+    requires fixed { L.fixed ≡ fixed_for script.now store.tables }
     ensures run { IfOk result (λ run. IsRun script.now store.tables run.transcript) }
     ensures all_told { IfOk result (λ run. run.stopped ≡ false → TellsEach script.now run.transcript) }
     ensures all_made { IfOk result (λ run. run.stopped ≡ false → MakesEach script.now run.transcript) }
 {
-    let Ok((shared, seats)) = open::<Store, L>(alloc, blank, store, script.locks, script.seats)
-    else {
+    let form = form_of(script.form);
+    let Ok((shared, seats)) = open_with_limit::<Store, L>(
+        alloc,
+        blank,
+        store,
+        script.locks,
+        script.seats,
+        form.limit(),
+    ) else {
         return Err(Unrun::NoMemory);
     };
     let Ok((locks, removes)) = irp_remove::open(alloc, script.locks, script.seats) else {
@@ -259,7 +294,7 @@ fn session<L: Session + Send + Sync, T: Threads + Wait + Sync>(
     let Ok(transcript) = shared.close(seats) else {
         return Err(Unrun::ReceiptsDiffer);
     };
-    let transcript = with_words(transcript, words)?;
+    let transcript = finished(transcript, script.form, words)?;
     Ok(Finished {
         transcript,
         stopped,
@@ -378,7 +413,8 @@ fn run_script<O: Out, T: Threads + Wait + Sync>(
 /// # Errors
 ///
 /// `Unread` where there is no script, and then nothing goes out: `Input` where the input failed or memory ran out for it,
-/// `Refused` where its text is no script, `NoMemory` where memory ran out later. Else `Unfinished`: `NoTranscript` where
+/// `Refused` where its text is no script, `NoMemory` where memory ran out later. `HandsBetween` where there is one that
+/// hands a reference between seats of different workers: the first such step, and nothing goes out. Else `Unfinished`: `NoTranscript` where
 /// memory ran out, or the seats kept other entries than the history has, and then nothing goes out; `Stopped` where a step
 /// found no memory or wasn't recorded, and then what was recorded is written; `Unwritten` where the output failed, which its
 /// count of failures tells, or memory ran out, after a beginning of the transcript.
@@ -390,10 +426,13 @@ pub fn run<R: Read, O: Out, T: Threads + Wait + Sync>(
     workers: u32,
 ) -> Result<(), RunFault>
     requires { 0 < workers }
-    ensures after { AfterRun (R.remaining input.old) (R.remaining input.new) (O.gone output.old) (O.gone output.new) (O.failures output.old) (O.failures output.new) result }
+    ensures after { AfterRun workers (R.remaining input.old) (R.remaining input.new) (O.gone output.old) (O.gone output.new) (O.failures output.old) (O.failures output.new) result }
     ensures took { TakesAtMost most_taken (R.remaining input.old) (R.remaining input.new) }
 {
     let script = script_of(alloc, input)?;
+    if let Some(step) = hand_between(&script, workers) {
+        return Err(RunFault::HandsBetween { step });
+    }
     run_script(rt, alloc, output, &script, Workers { number: workers })?;
     Ok(())
 }
