@@ -4,6 +4,7 @@ pub mod Routines
 pub mod Plans
 pub mod Acts
 pub mod Forms
+pub mod Between
 pub mod Members
 pub mod Scripts
 pub mod Sound

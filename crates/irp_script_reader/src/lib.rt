@@ -3,6 +3,7 @@
 
 mod act;
 mod acts;
+mod between;
 mod labels;
 mod lists;
 mod plans;
