@@ -20,10 +20,10 @@ impl Step {
 }
 
 impl Script {
-    /// The place in `steps`, from 0, of the first step that hands a reference between seats that fall to different workers,
-    /// where there are so many workers and seat s falls to worker s modulo their number; None where there is no such step.
-    /// What is handed over goes to its new seat without any wait, so both must be one worker's
-    /// (this project's own rule, docs/FORMATS.md).
+    /// The place in `steps`, from 0, of the first step that hands a reference between seats that fall to different
+    /// workers; None where there is no such step. Of so many workers, at least 1, seat s falls to worker s modulo their
+    /// number. Such a step can't be run, since a worker has only its own seats at hand (this project's own rule,
+    /// docs/FORMATS.md).
     pub fn hand_between(&self, workers: u32) -> Option<usize>
         requires { 0 < workers }
         ensures { result ≡ position (hands_between workers) self.now.steps }
