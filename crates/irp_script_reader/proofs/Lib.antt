@@ -1,2 +1,3 @@
+pub mod Firsts
 pub mod Rests
 pub mod Sounds

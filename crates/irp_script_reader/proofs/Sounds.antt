@@ -1,9 +1,10 @@
 -- A script that is read is sound: what each member keeps is kept by its list.
-use Rattle.std.proofs.Common.{◌≡◌, ℕ, ◌+◌, ◌<◌, ◌≤◌, List, [], ◌∷◌, ◌++◌, length, Bool, true, false, not, ◌&&◌, nat_lt, Option, Some, None, Result, Ok, Err, refl, sym, ap, ◌∙◌, subst, arith, if◌then◌else◌, codes, ltb, inr}
+use Rattle.std.proofs.Common.{◌≡◌, ℕ, ◌+◌, ◌<◌, ◌≤◌, List, [], ◌∷◌, ◌++◌, length, Bool, true, false, not, ◌&&◌, ◌||◌, nat_le, nat_lt, Option, Some, None, Result, Ok, Err, refl, sym, ap, ◌∙◌, subst, arith, if◌then◌else◌, codes, ltb, inr}
 use Rattle.std.specs.Prelude.{IfOk, IsUtf8}
 use Rattle.std.specs.List.{All}
+use Rattle.std.specs.Option.{option_and_then}
 use Rattle.std.proofs.lemmas.List.Elements.{All-nil, All-push}
-use Rattle.std.proofs.lemmas.Bool.{and_parts, ltb-true, not-true}
+use Rattle.std.proofs.lemmas.Bool.{and_parts, leb-true, ltb-true}
 use Rattle.std.proofs.lemmas.Grind.{common_steps}
 use Rattle.serde_json.specs.Data.{Data, Items, no_items, item}
 use Rattle.serde_json.specs.Find.{get, as_array}
@@ -18,12 +19,13 @@ use Rattle.irp_types.specs.declared.routine.Known.{Known}
 use Rattle.irp_types.specs.declared.routine.Rule.{Rule}
 use Rattle.irp_types.specs.declared.routine.Rule.TheVariants.{Watch, Change, Keeper, KeepOnError, Free}
 use Rattle.irp_script_reader.specs.Acts.{step_at}
+use Rattle.irp_script_reader.specs.Forms.{may_do, may_plan, slots_of, suits_setup}
 use Rattle.irp_script_reader.specs.Labels.{label_at, place_among, with_labels}
-use Rattle.irp_script_reader.specs.Members.{in_room, is_on_lock, may_have, takes_cancel, takes_completion, takes_dispatch, takes_driver, takes_step}
+use Rattle.irp_script_reader.specs.Members.{in_room, may_have, takes_cancel, takes_completion, takes_dispatch, takes_driver, takes_step}
 use Rattle.irp_script_reader.specs.Plans.{is_driver, is_plan_sound, names_known}
 use Rattle.irp_script_reader.specs.Routines.{completion_at, counted, obeys_its_rule, one_more}
-use Rattle.irp_script_reader.specs.Scripts.{cancels_at, completions_at, count_at, dispatches_at, drivers_at, form_at, keys_at, ReadsScript, list_at, script_at, steps_at, under}
-use Rattle.irp_script_reader.specs.Sound.{IsSound, known_of, with_all, with_one}
+use Rattle.irp_script_reader.specs.Scripts.{cancels_at, completions_at, count_at, dispatches_at, drivers_at, form_at, keys_at, ReadsScript, list_at, script_at, steps_at, under, with_slots, count_of, no_steps}
+use Rattle.irp_script_reader.specs.Sound.{IsPlan, IsSound, IsStep, known_of, with_all, with_one}
 use Rattle.irp_script_reader.specs.Taking.{◌>>=◌, Tells, formed, if_list, list_of, members_at, told, unless, with_item}
 use Rattle.irp_script_reader.specs.declared.act.Step.{Step}
 use Rattle.irp_script_reader.specs.declared.lists.Cancels.{Cancels}
@@ -36,10 +38,15 @@ use Rattle.irp_script_reader.specs.declared.refusal.Fault.TheVariants.{BadField,
 use Rattle.irp_script_reader.specs.declared.refusal.ScriptFault.{ScriptFault}
 use Rattle.irp_script_reader.specs.declared.refusal.ScriptFault.TheVariants.{Refused, NoMemory}
 use Rattle.irp_script_reader.specs.declared.refusal.ScriptRefusal.{ScriptRefusal}
+use Rattle.irp_script_reader.specs.declared.refusal.ScriptRefusal.TheVariants.{At}
 use Rattle.irp_script_reader.specs.declared.refusal.Section.{Section}
 use Rattle.irp_script_reader.specs.declared.refusal.Section.TheVariants as section
 use Rattle.irp_script_reader.specs.declared.script.CompletionRoutine.{CompletionRoutine}
 use Rattle.irp_script_reader.specs.declared.script.Script.{Script}
+use Rattle.irp_script_reader.specs.declared.script.ScriptForm.{ScriptForm}
+use Rattle.irp_script_reader.specs.declared.script.ScriptForm.TheVariants as forms
+use Rattle.irp_script_reader.specs.declared.read.FormKey.{FormKey}
+use Rattle.irp_script_reader.specs.declared.read.FormKey.TheVariants as keys
 
 -- ---- one after another
 
@@ -161,20 +168,26 @@ cancel_kept counts list form has =
 
 -- ---- dispatches
 
-abbrev ArePlans : Known → Dispatches → Type 0
-ArePlans known list = (list.known ≡ known) × All (λ plan. (is_plan_sound plan ≡ true) × (names_known known plan ≡ true)) list.plans
+abbrev ArePlans : ScriptForm → Known → Dispatches → Type 0
+ArePlans form known list = (list.form ≡ form) × (list.known ≡ known) × All (IsPlan form known) list.plans
 
-dispatch_kept : (known : Known) (list : Dispatches) (form : Data) → ArePlans known list → IfOk (takes_dispatch list form) (ArePlans known)
+dispatch_kept : (form : ScriptForm) (known : Known) (list : Dispatches) (given : Data) → ArePlans form known list
+    → IfOk (takes_dispatch list given) (ArePlans form known)
 unfolding takes_dispatch
-dispatch_kept known list form has =
-    then_any (formed (plan_at form)) _ (ArePlans known) (λ plan read.
-    then_if (is_plan_sound plan) RuleBroken _ (ArePlans known) (λ sound.
-    then_if (names_known list.known plan) NoRoutine _ (ArePlans known) (λ names.
-    then_if (nat_lt (length list.plans) 256) TooMany _ (ArePlans known) (λ room. (
+dispatch_kept form known list given has =
+    then_any (formed (plan_at given)) _ (ArePlans form known) (λ plan read.
+    then_if (may_plan list.form plan) BadField _ (ArePlans form known) (λ may.
+    then_if (is_plan_sound plan) RuleBroken _ (ArePlans form known) (λ sound.
+    then_if (names_known list.known plan) NoRoutine _ (ArePlans form known) (λ names.
+    then_if (nat_lt (length list.plans) 256) TooMany _ (ArePlans form known) (λ room. (
       has.0,
-      All-push (λ given. (is_plan_sound given ≡ true) × (names_known known given ≡ true)) list.plans plan has.1
-          (sound, ap (λ given. names_known given plan) (sym has.0) ∙ names),
-    )))))
+      has.1,
+      All-push (IsPlan form known) list.plans plan has.2 (
+        ap (λ given. may_plan given plan) (sym has.0) ∙ may,
+        sound,
+        ap (λ given. names_known given plan) (sym has.1) ∙ names,
+      ),
+    ))))))
 
 -- ---- drivers
 
@@ -194,52 +207,82 @@ driver_kept dispatches list form has =
 
 -- ---- steps
 
-abbrev AreSteps : ℕ → Bool → Steps → Type 0
-AreSteps seats in_setup list = (list.seats ≡ seats) × (list.in_setup ≡ in_setup)
-    × All (λ step. (step.seat < seats) × (in_setup && is_on_lock step.act ≡ false)) list.steps
+-- what a list of steps has, in `setup` or else in `steps`
+abbrev IsListed : ScriptForm → ℕ → Bool → Step → Type 0
+IsListed form seats in_setup step = IsStep form seats step × (not in_setup || suits_setup step.act ≡ true)
 
-may_is : (list : Steps) (step : Step) → may_have list step ≡ true → (step.seat < list.seats) × (list.in_setup && is_on_lock step.act ≡ false)
+abbrev AreSteps : ScriptForm → ℕ → Bool → Steps → Type 0
+AreSteps form seats in_setup list =
+    (list.form ≡ form) × (list.seats ≡ seats) × (list.in_setup ≡ in_setup) × All (IsListed form seats in_setup) list.steps
+
+may_is : (list : Steps) (step : Step) → may_have list step ≡ true → IsListed list.form list.seats list.in_setup step
 may_is list step may =
-    let both = and_parts (nat_lt step.seat list.seats) (not (list.in_setup && is_on_lock step.act)) may in
-    (ltb-true step.seat list.seats both.0, not-true (list.in_setup && is_on_lock step.act) both.1)
+    let seated = and_parts (nat_lt step.seat list.seats) _ may in
+    let both = and_parts (not list.in_setup || suits_setup step.act) (may_do list.form list.seats step.seat step.act) seated.1 in
+    ((ltb-true step.seat list.seats seated.0, both.1), both.0)
 
-step_kept : (seats : ℕ) (in_setup : Bool) (list : Steps) (form : Data) → AreSteps seats in_setup list → IfOk (takes_step list form) (AreSteps seats in_setup)
+step_kept : (form : ScriptForm) (seats : ℕ) (in_setup : Bool) (list : Steps) (given : Data) → AreSteps form seats in_setup list
+    → IfOk (takes_step list given) (AreSteps form seats in_setup)
 unfolding takes_step
-step_kept seats in_setup list form has =
-    then_any (formed (step_at (place_among list.labels (label_at form)) form)) _ (AreSteps seats in_setup) (λ step read.
-    then_if (may_have list step) BadField _ (AreSteps seats in_setup) (λ may.
-    then_any (with_labels list.labels (label_at form)) _ (AreSteps seats in_setup) (λ labels named. (
+step_kept form seats in_setup list given has =
+    then_any (formed (step_at (place_among list.labels (label_at given)) given)) _ (AreSteps form seats in_setup) (λ step read.
+    then_if (may_have list step) BadField _ (AreSteps form seats in_setup) (λ may.
+    then_any (with_labels list.labels (label_at given)) _ (AreSteps form seats in_setup) (λ labels named. (
       has.0,
       has.1,
-      All-push (λ given. (given.seat < seats) × (in_setup && is_on_lock given.act ≡ false)) list.steps step has.2
-          (subst (λ given. (step.seat < given) × (in_setup && is_on_lock step.act ≡ false)) has.0
-          (subst (λ given. (step.seat < list.seats) × (given && is_on_lock step.act ≡ false)) has.1 (may_is list step may))),
+      has.2,
+      All-push (IsListed form seats in_setup) list.steps step has.3
+          (subst (λ to. IsListed to seats in_setup step) has.0
+          (subst (λ to. IsListed list.form to in_setup step) has.1
+          (subst (λ to. IsListed list.form list.seats to step) has.2 (may_is list step may)))),
     ))))
 
-steps_kept : (seats : ℕ) (whole : Data)
-    → IfOk (steps_at seats whole) (λ steps. All (λ step. (step.seat < seats) × (is_on_lock step.act ≡ false)) steps.0 × AreSteps seats false steps.1)
+steps_kept : (form : ScriptForm) (seats : ℕ) (whole : Data)
+    → IfOk (steps_at form seats whole) (λ steps. All (IsListed form seats true) steps.0 × AreSteps form seats false steps.1)
 unfolding steps_at list_at
-steps_kept seats whole =
-    then_from (under takes_step section.Setup (record { seats = seats; in_setup = true; labels = []; steps = [] }) (get (codes "setup") whole)) _
-    (AreSteps seats true) _
-    (list_kept takes_step section.Setup (AreSteps seats true) (step_kept seats true)
-    (record { seats = seats; in_setup = true; labels = []; steps = [] }) (get (codes "setup") whole) (refl, refl, All-nil _))
+steps_kept form seats whole =
+    then_from (under takes_step section.Setup (no_steps form seats true []) (get (codes "setup") whole)) _
+    (AreSteps form seats true) _
+    (list_kept takes_step section.Setup (AreSteps form seats true) (step_kept form seats true)
+    (no_steps form seats true []) (get (codes "setup") whole) (refl, refl, refl, All-nil _))
     (λ setup seated.
-    then_from (under takes_step section.Steps (record { seats = seats; in_setup = false; labels = setup.labels; steps = [] }) (get (codes "steps") whole)) _
-    (AreSteps seats false) _
-    (list_kept takes_step section.Steps (AreSteps seats false) (step_kept seats false)
-    (record { seats = seats; in_setup = false; labels = setup.labels; steps = [] }) (get (codes "steps") whole) (refl, refl, All-nil _))
-    (λ steps others. (seated.2, others)))
+    then_from (under takes_step section.Steps (no_steps form seats false setup.labels) (get (codes "steps") whole)) _
+    (AreSteps form seats false) _
+    (list_kept takes_step section.Steps (AreSteps form seats false) (step_kept form seats false)
+    (no_steps form seats false setup.labels) (get (codes "steps") whole) (refl, refl, refl, All-nil _))
+    (λ steps others. (seated.3, others)))
+
+-- ---- cancel slots
+
+few_kept : (part : Section) (given : ℕ) (first second : Bool) → second ≡ nat_le given 64
+    → IfOk (if first && second then Ok given else Err (At BadField part 0)) (λ count. count ≤ 64)
+few_kept part given true true is = leb-true given 64 (sym is)
+few_kept part given true false is = tt
+few_kept part given false second is = tt
+
+count_kept : (part : Section) (least : ℕ) (given : Option ℕ) → IfOk (count_of part least given) (λ count. count ≤ 64)
+count_kept part least None = tt
+count_kept part least (Some given) = few_kept part given (nat_le least given) (nat_le given 64) refl
+
+slots_kept : (given : FormKey) (whole : Data) → IfOk (with_slots given whole) (λ form. slots_of form ≤ 64)
+unfolding with_slots count_at
+slots_kept keys.One whole = omega arith
+slots_kept keys.Two whole =
+    then_from (count_of section.Slots 0 (option_and_then parts.u32_at (get (codes "slots") whole))) _ (λ count. count ≤ 64) (λ form. slots_of form ≤ 64)
+    (count_kept section.Slots 0 (option_and_then parts.u32_at (get (codes "slots") whole)))
+    (λ count few. few)
 
 -- ---- the whole
 
 script_sound : (whole : Data) → IfOk (script_at whole) IsSound
 unfolding script_at completions_at cancels_at dispatches_at drivers_at list_at
 script_sound whole =
-    then_any (form_at whole) _ IsSound (λ form read.
-    then_any (keys_at whole) _ IsSound (λ keys there.
-    then_any (count_at section.Seats (codes "seats") whole) _ IsSound (λ seats first.
-    then_any (count_at section.Locks (codes "locks") whole) _ IsSound (λ locks second.
+    then_any (form_at whole) _ IsSound (λ given read.
+    then_any (keys_at given whole) _ IsSound (λ its there.
+    then_any (count_at section.Seats 1 (codes "seats") whole) _ IsSound (λ seats first.
+    then_any (count_at section.Locks 1 (codes "locks") whole) _ IsSound (λ locks second.
+    then_from (with_slots given whole) _ (λ form. slots_of form ≤ 64) IsSound (slots_kept given whole)
+    (λ form few.
     then_from (completions_at whole) _ AreCompletions IsSound
     (list_kept takes_completion section.Completions AreCompletions completion_kept
     (record { routines = []; counts = no_routines }) (get (codes "completions") whole) (refl, All-nil _))
@@ -249,29 +292,30 @@ script_sound whole =
     (record { answers = []; counts = completions.counts }) (get (codes "cancels") whole)
     (ap (λ n. record completions.counts { cancel = n }) (plus_none completions.counts.cancel)))
     (λ cancels counted.
-    then_from (dispatches_at cancels.counts whole) _ (ArePlans cancels.counts) IsSound
-    (list_kept takes_dispatch section.Dispatches (ArePlans cancels.counts) (dispatch_kept cancels.counts)
-    (record { known = cancels.counts; plans = [] }) (get (codes "dispatches") whole) (refl, All-nil _))
+    then_from (dispatches_at form cancels.counts whole) _ (ArePlans form cancels.counts) IsSound
+    (list_kept takes_dispatch section.Dispatches (ArePlans form cancels.counts) (dispatch_kept form cancels.counts)
+    (record { form = form; known = cancels.counts; plans = [] }) (get (codes "dispatches") whole) (refl, refl, All-nil _))
     (λ dispatches plans.
     then_from (drivers_at (length dispatches.plans) whole) _ (AreDrivers (length dispatches.plans)) IsSound
     (list_kept takes_driver section.Drivers (AreDrivers (length dispatches.plans)) (driver_kept (length dispatches.plans))
     (record { dispatches = length dispatches.plans; tables = [] }) (get (codes "drivers") whole) (refl, All-nil _))
     (λ drivers tables.
-    then_from (steps_at seats whole) _
-    (λ steps. All (λ step. (step.seat < seats) × (is_on_lock step.act ≡ false)) steps.0 × AreSteps seats false steps.1) IsSound
-    (steps_kept seats whole)
+    then_from (steps_at form seats whole) _
+    (λ steps. All (IsListed form seats true) steps.0 × AreSteps form seats false steps.1) IsSound
+    (steps_kept form seats whole)
     (λ steps seated. record {
+      slots = few;
       completions = obey.1;
-      dispatches = subst (λ known. All (λ plan. (is_plan_sound plan ≡ true) × (names_known known plan ≡ true)) dispatches.plans)
+      dispatches = subst (λ known. All (IsPlan form known) dispatches.plans)
           (counted
           ∙ ap (λ (given : Known). record given { cancel = given.cancel + length cancels.answers }) obey.0
           ∙ ap (λ n. record (with_all no_routines completions.routines) { cancel = n + length cancels.answers }) (all_cancel no_routines completions.routines)
           ∙ ap (λ n. record (with_all no_routines completions.routines) { cancel = n }) (none_plus (length cancels.answers)))
-          plans.1;
+          plans.2;
       drivers = tables.1;
       setup = seated.0;
-      steps = λ k step within. (seated.1.2 k step within).0;
-    })))))))))
+      steps = λ k step within. (seated.1.3 k step within).0;
+    }))))))))))
 
 pub told_sound : (result : Result Script ScriptFault) (whole : Data) → Tells result (script_at whole) → IfOk result IsSound
 told_sound (Ok script) whole is = subst (λ given. IfOk given IsSound) is (script_sound whole)

@@ -8,6 +8,7 @@ use Rattle.irp_forms.specs.Values.{cancel_or_null_at, device_at, driver_at, lock
 use Rattle.irp_types.specs.declared.call.Party.{Party}
 use Rattle.irp_types.specs.declared.names.LockNo.{LockNo}
 use Rattle.irp_script_reader.specs.Labels.{is_label, named_at}
+use Rattle.irp_script_reader.specs.SlotActs.{slot_act_named}
 use Rattle.irp_script_reader.specs.declared.act.Named.{Named}
 use Rattle.irp_script_reader.specs.declared.act.Step.{Step}
 use Rattle.irp_script_reader.specs.declared.act.StepAct.{StepAct}
@@ -169,7 +170,8 @@ or_else None other = other
 unfoldable pub act_named : ℕ → List ℕ → Data → Option StepAct
 act_named place name form =
     or_else (device_act_named name form) (or_else (packet_act_named place name form)
-    (or_else (preparing_act_named place name form) (or_else (owner_act_named place name form) (lock_act_named name form))))
+    (or_else (preparing_act_named place name form) (or_else (owner_act_named place name form)
+    (or_else (lock_act_named name form) (slot_act_named place name form)))))
 
 -- by the name under `do`, where a label that it names has this place
 unfoldable pub act_at : ℕ → Data → Option StepAct

@@ -2,7 +2,10 @@ pub mod Labels
 pub mod Taking
 pub mod Routines
 pub mod Plans
+pub mod SlotActs
 pub mod Acts
+pub mod Forms
+pub mod Between
 pub mod Members
 pub mod Scripts
 pub mod Sound

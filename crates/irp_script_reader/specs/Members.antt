@@ -1,18 +1,17 @@
 -- The lists of a script, and what each takes as its next member. A member's form (S4) is looked at before its rule (S5),
 -- then what it names (S6, S7), then the limits (S8).
-use Rattle.std.specs.Prelude.{◌&&◌, length, Bool, true, false, not, nat_lt, Option, Some, None, Result, Ok, Err}
+use Rattle.std.specs.Prelude.{◌&&◌, ◌||◌, length, Bool, not, nat_lt, Option, Some, None, Result, Ok, Err}
 use Rattle.serde_json.specs.Data.{Data}
 use Rattle.irp_forms.specs.Parts.{list_at}
 use Rattle.irp_forms.specs.Values.{cancel_answer_at, handler_at, plan_at}
 use Rattle.irp_types.specs.Limits.{most_dispatches, most_drivers}
 use Rattle.irp_script_reader.specs.Acts.{step_at}
+use Rattle.irp_script_reader.specs.Forms.{may_do, may_plan, suits_setup}
 use Rattle.irp_script_reader.specs.Labels.{label_at, place_among, with_labels}
 use Rattle.irp_script_reader.specs.Plans.{is_driver, is_plan_sound, names_known}
 use Rattle.irp_script_reader.specs.Routines.{completion_at, counted, obeys_its_rule, one_more}
 use Rattle.irp_script_reader.specs.Taking.{◌>>=◌, formed, unless, with_item}
 use Rattle.irp_script_reader.specs.declared.act.Step.{Step}
-use Rattle.irp_script_reader.specs.declared.act.StepAct.{StepAct}
-use Rattle.irp_script_reader.specs.declared.act.StepAct.TheVariants as act
 use Rattle.irp_script_reader.specs.declared.lists.Cancels.{Cancels}
 use Rattle.irp_script_reader.specs.declared.lists.Completions.{Completions}
 use Rattle.irp_script_reader.specs.declared.lists.Dispatches.{Dispatches}
@@ -41,14 +40,15 @@ takes_cancel list form = do
   count ← in_room (one_more list.counts.cancel)
   Ok (record { answers = with_item list.answers answer; counts = record list.counts { cancel = count } })
 
--- a plan, which is sound and names no routine that isn't there
+-- a plan that the form has, which is sound and names no routine that isn't there
 unfoldable pub takes_dispatch : Dispatches → Data → Result Dispatches Fault
 takes_dispatch list form = do
   plan ← formed (plan_at form)
+  may ← unless (may_plan list.form plan) BadField
   sound ← unless (is_plan_sound plan) RuleBroken
   known ← unless (names_known list.known plan) NoRoutine
   room ← unless (nat_lt (length list.plans) most_dispatches) TooMany
-  Ok (record { known = list.known; plans = with_item list.plans plan })
+  Ok (record { form = list.form; known = list.known; plans = with_item list.plans plan })
 
 -- a driver's major function codes and dispatches
 unfoldable pub takes_driver : Drivers → Data → Result Drivers Fault
@@ -58,33 +58,10 @@ takes_driver list form = do
   room ← unless (nat_lt (length list.tables) most_drivers) TooMany
   Ok (record { dispatches = list.dispatches; tables = with_item list.tables handlers })
 
--- an act on a remove lock
-abbrev pub is_on_lock : StepAct → Bool
-is_on_lock (act.CreateDevice driver lock) = false
-is_on_lock (act.Attach device to) = false
-is_on_lock (act.Detach lower) = false
-is_on_lock (act.Delete device) = false
-is_on_lock (act.Allocate size label) = false
-is_on_lock (act.Free irp) = false
-is_on_lock (act.Reuse irp status) = false
-is_on_lock (act.SetNext party irp major word) = false
-is_on_lock (act.CopyToNext party irp) = false
-is_on_lock (act.Skip party irp) = false
-is_on_lock (act.SetRoutine party irp setting) = false
-is_on_lock (act.MarkPending party irp) = false
-is_on_lock (act.CallDriver party irp target) = false
-is_on_lock (act.Complete party irp status information) = false
-is_on_lock (act.SetCancelRoutine party irp cancel) = false
-is_on_lock (act.Cancel irp) = false
-is_on_lock (act.Look irp) = false
-is_on_lock (act.Acquire lock tag) = true
-is_on_lock (act.Release lock tag) = true
-is_on_lock (act.BeginRemove lock tag) = true
-is_on_lock (act.Drained lock) = true
-
--- whether a list may have the step: its seat is there, and `setup` has none on a remove lock
+-- whether a list may have the step: its seat is there, `setup` may have it, and the seat may do it
 abbrev pub may_have : Steps → Step → Bool
-may_have list step = nat_lt step.seat list.seats && not (list.in_setup && is_on_lock step.act)
+may_have list step =
+    nat_lt step.seat list.seats && ((not list.in_setup || suits_setup step.act) && may_do list.form list.seats step.seat step.act)
 
 -- a step, and the label that it names
 unfoldable pub takes_step : Steps → Data → Result Steps Fault
@@ -92,4 +69,4 @@ takes_step list form = do
   step ← formed (step_at (place_among list.labels (label_at form)) form)
   may ← unless (may_have list step) BadField
   labels ← with_labels list.labels (label_at form)
-  Ok (record { seats = list.seats; in_setup = list.in_setup; labels = labels; steps = with_item list.steps step })
+  Ok (record { form = list.form; seats = list.seats; in_setup = list.in_setup; labels = labels; steps = with_item list.steps step })

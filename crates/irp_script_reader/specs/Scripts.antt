@@ -1,6 +1,6 @@
 -- Whole scripts. The first fault is told: the text's length, whether it is JSON, its form, its keys, and then the parts in
 -- order.
-use Rattle.std.specs.Prelude.{◌≡◌, ◌⊎◌, ℕ, ◌<◌, ◌≤◌, ◌==◌, ◌&&◌, List, [], ◌∷◌, length, codes, IsUtf8, true, false, nat_le, Option, Some, None, Result, Ok, Err, if◌then◌else◌}
+use Rattle.std.specs.Prelude.{◌≡◌, ◌⊎◌, ℕ, ◌<◌, ◌≤◌, ◌==◌, ◌&&◌, Bool, List, [], ◌∷◌, length, codes, IsUtf8, true, false, nat_le, Option, Some, None, Result, Ok, Err, if◌then◌else◌}
 use Rattle.std.specs.Option.{option_and_then}
 use Rattle.serde_json.specs.Data.{Data}
 use Rattle.serde_json.specs.Find.{get}
@@ -16,6 +16,8 @@ use Rattle.irp_script_reader.specs.declared.lists.Completions.{Completions}
 use Rattle.irp_script_reader.specs.declared.lists.Dispatches.{Dispatches}
 use Rattle.irp_script_reader.specs.declared.lists.Drivers.{Drivers}
 use Rattle.irp_script_reader.specs.declared.lists.Steps.{Steps}
+use Rattle.irp_script_reader.specs.declared.read.FormKey.{FormKey}
+use Rattle.irp_script_reader.specs.declared.read.FormKey.TheVariants as keys
 use Rattle.irp_script_reader.specs.declared.refusal.Fault.{Fault}
 use Rattle.irp_script_reader.specs.declared.refusal.Fault.TheVariants.{BadField}
 use Rattle.irp_script_reader.specs.declared.refusal.ScriptFault.{ScriptFault}
@@ -26,32 +28,50 @@ use Rattle.irp_script_reader.specs.declared.refusal.Section.{Section}
 use Rattle.irp_script_reader.specs.declared.refusal.Section.TheVariants as section
 use Rattle.irp_script_reader.specs.declared.script.Script.{Script}
 use Rattle.irp_script_reader.specs.declared.script.ScriptForm.{ScriptForm}
-use Rattle.irp_script_reader.specs.declared.script.ScriptForm.TheVariants.{One}
+use Rattle.irp_script_reader.specs.declared.script.ScriptForm.TheVariants as forms
 
 -- the form that has this number
-abbrev pub form_of : Option ℕ → Result ScriptForm ScriptRefusal
+abbrev pub form_of : Option ℕ → Result FormKey ScriptRefusal
 form_of None = Err BadForm
-form_of (Some given) = if given == 1 then Ok One else Err BadForm
+form_of (Some given) = if given == 1 then Ok keys.One else (if given == 2 then Ok keys.Two else Err BadForm)
 
--- the form of a script; only an object has one
-unfoldable pub form_at : Data → Result ScriptForm ScriptRefusal
+-- what a script has under `form`; only an object has that
+unfoldable pub form_at : Data → Result FormKey ScriptRefusal
 form_at whole = form_of (option_and_then u32_at (get (codes "form") whole))
 
 -- the keys of a script of form 1, and no others
-unfoldable pub keys_at : Data → Result (Unit {0}) ScriptRefusal
-keys_at whole =
-    if has_keys (codes "cancels" ∷ codes "completions" ∷ codes "dispatches" ∷ codes "drivers" ∷ codes "form" ∷ codes "locks"
+unfoldable pub has_keys_of_one : Data → Bool
+has_keys_of_one whole =
+    has_keys (codes "cancels" ∷ codes "completions" ∷ codes "dispatches" ∷ codes "drivers" ∷ codes "form" ∷ codes "locks"
     ∷ codes "seats" ∷ codes "setup" ∷ codes "steps" ∷ []) whole
-    then Ok tt else Err (At BadField section.Top 0)
 
--- from 1 to 64
-abbrev pub count_of : Section → Option ℕ → Result ℕ ScriptRefusal
-count_of part None = Err (At BadField part 0)
-count_of part (Some given) = if nat_le 1 given && nat_le given 64 then Ok given else Err (At BadField part 0)
+-- the keys of a script of form 2, and no others
+unfoldable pub has_keys_of_two : Data → Bool
+has_keys_of_two whole =
+    has_keys (codes "cancels" ∷ codes "completions" ∷ codes "dispatches" ∷ codes "drivers" ∷ codes "form" ∷ codes "locks"
+    ∷ codes "seats" ∷ codes "setup" ∷ codes "slots" ∷ codes "steps" ∷ []) whole
+
+-- the keys of a script of this form, and no others
+abbrev pub has_its_keys : FormKey → Data → Bool
+has_its_keys keys.One whole = has_keys_of_one whole
+has_its_keys keys.Two whole = has_keys_of_two whole
+
+unfoldable pub keys_at : FormKey → Data → Result (Unit {0}) ScriptRefusal
+keys_at given whole = if has_its_keys given whole then Ok tt else Err (At BadField section.Top 0)
+
+-- from the least number to 64
+abbrev pub count_of : Section → ℕ → Option ℕ → Result ℕ ScriptRefusal
+count_of part least None = Err (At BadField part 0)
+count_of part least (Some given) = if nat_le least given && nat_le given 64 then Ok given else Err (At BadField part 0)
 
 -- the number under a key
-unfoldable pub count_at : Section → List ℕ → Data → Result ℕ ScriptRefusal
-count_at part key whole = count_of part (option_and_then u32_at (get key whole))
+unfoldable pub count_at : Section → ℕ → List ℕ → Data → Result ℕ ScriptRefusal
+count_at part least key whole = count_of part least (option_and_then u32_at (get key whole))
+
+-- the form, with the number of cancel slots where it has these
+unfoldable pub with_slots : FormKey → Data → Result ScriptForm ScriptRefusal
+with_slots keys.One whole = Ok forms.One
+with_slots keys.Two whole = count_at section.Slots 0 (codes "slots") whole >>= λ slots. Ok (forms.Two slots)
 
 -- the list under a key that is there
 abbrev pub under : {L : Type 0} → (L → Data → Result L Fault) → Section → L → Option Data → Result L ScriptRefusal
@@ -71,34 +91,39 @@ unfoldable pub cancels_at : Known → Data → Result Cancels ScriptRefusal
 cancels_at counts whole =
     list_at takes_cancel section.Cancels (codes "cancels") (record { answers = []; counts = counts }) whole
 
--- the dispatches, who may name so many routines
-unfoldable pub dispatches_at : Known → Data → Result Dispatches ScriptRefusal
-dispatches_at known whole =
-    list_at takes_dispatch section.Dispatches (codes "dispatches") (record { known = known; plans = [] }) whole
+-- the dispatches in a script of this form, who may name so many routines
+unfoldable pub dispatches_at : ScriptForm → Known → Data → Result Dispatches ScriptRefusal
+dispatches_at form known whole =
+    list_at takes_dispatch section.Dispatches (codes "dispatches") (record { form = form; known = known; plans = [] }) whole
 
 -- the drivers, who may name so many dispatches
 unfoldable pub drivers_at : ℕ → Data → Result Drivers ScriptRefusal
 drivers_at dispatches whole = list_at takes_driver section.Drivers (codes "drivers") (record { dispatches = dispatches; tables = [] }) whole
 
--- the steps of `setup` and those of `steps`, of so many seats. They share their labels.
-unfoldable pub steps_at : ℕ → Data → Result (List Step × Steps) ScriptRefusal
-steps_at seats whole = do
-  setup ← list_at takes_step section.Setup (codes "setup") (record { seats = seats; in_setup = true; labels = []; steps = [] }) whole
-  steps ← list_at takes_step section.Steps (codes "steps") (record { seats = seats; in_setup = false; labels = setup.labels; steps = [] }) whole
+-- nothing read yet of `setup`, or else of `steps`, after these labels
+abbrev pub no_steps : ScriptForm → ℕ → Bool → List (List ℕ) → Steps
+no_steps form seats in_setup labels = record { form = form; seats = seats; in_setup = in_setup; labels = labels; steps = [] }
+
+-- the steps of `setup` and those of `steps`, in a script of this form with so many seats. They share their labels.
+unfoldable pub steps_at : ScriptForm → ℕ → Data → Result (List Step × Steps) ScriptRefusal
+steps_at form seats whole = do
+  setup ← list_at takes_step section.Setup (codes "setup") (no_steps form seats true []) whole
+  steps ← list_at takes_step section.Steps (codes "steps") (no_steps form seats false setup.labels) whole
   Ok (setup.steps, steps)
 
 -- the script that a JSON value is, or its first fault
 unfoldable pub script_at : Data → Result Script ScriptRefusal
 script_at whole = do
-  form ← form_at whole
-  keys ← keys_at whole
-  seats ← count_at section.Seats (codes "seats") whole
-  locks ← count_at section.Locks (codes "locks") whole
+  given ← form_at whole
+  its ← keys_at given whole
+  seats ← count_at section.Seats 1 (codes "seats") whole
+  locks ← count_at section.Locks 1 (codes "locks") whole
+  form ← with_slots given whole
   completions ← completions_at whole
   cancels ← cancels_at completions.counts whole
-  dispatches ← dispatches_at cancels.counts whole
+  dispatches ← dispatches_at form cancels.counts whole
   drivers ← drivers_at (length dispatches.plans) whole
-  steps ← steps_at seats whole
+  steps ← steps_at form seats whole
   Ok (record {
     form = form;
     seats = seats;

@@ -7,12 +7,13 @@ use Rattle.irp_types.specs.declared.names.DispatchId.{DispatchId}
 use Rattle.irp_types.specs.declared.routine.Known.{Known}
 use Rattle.irp_types.specs.declared.routine.Rule.{Rule}
 use Rattle.irp_types.specs.declared.routine.Rule.TheVariants.{Watch, Change, Keeper, KeepOnError, Free}
-use Rattle.irp_script_reader.specs.Members.{is_on_lock}
+use Rattle.irp_script_reader.specs.Forms.{may_do, may_plan, most_slots, slots_of, suits_setup}
 use Rattle.irp_script_reader.specs.Plans.{is_driver, is_plan_sound, names_known}
 use Rattle.irp_script_reader.specs.Routines.{obeys_its_rule}
 use Rattle.irp_script_reader.specs.declared.act.Step.{Step}
 use Rattle.irp_script_reader.specs.declared.script.CompletionRoutine.{CompletionRoutine}
 use Rattle.irp_script_reader.specs.declared.script.Script.{Script}
+use Rattle.irp_script_reader.specs.declared.script.ScriptForm.{ScriptForm}
 
 -- the counts with one more completion routine of a rule
 abbrev pub with_one : Known → Rule → Known
@@ -31,11 +32,21 @@ with_all counts (first ∷ others) = with_all (with_one counts first.rule) other
 abbrev pub known_of : Script → Known
 known_of script = record (with_all no_routines script.completions) { cancel = length script.cancels }
 
--- Behaviours are those of their rules; plans are sound, and name only routines that the script has; drivers name only
--- dispatches that it has; each step's seat is there, and `setup` has none on a remove lock.
+-- what a script's dispatch may plan: what the form has, sound, and with routines that the script has
+abbrev pub IsPlan : ScriptForm → Known → Plan → Type 0
+IsPlan form known plan = (may_plan form plan ≡ true) × (is_plan_sound plan ≡ true) × (names_known known plan ≡ true)
+
+-- what a step of a script does: its seat is there, and may do it
+abbrev pub IsStep : ScriptForm → ℕ → Step → Type 0
+IsStep form seats step = (step.seat < seats) × (may_do form seats step.seat step.act ≡ true)
+
+-- There are no more cancel slots than there may be; behaviours are those of their rules; plans are those that the form
+-- has, sound, and name only routines that the script has; drivers name only dispatches that it has; each step's seat is
+-- there and may do it; and `setup` has no step on a remove lock or on a cancel slot.
 pub record IsSound (script : Script) : Type 0 where
+  pub slots : slots_of script.form ≤ most_slots
   pub completions : All (λ routine. obeys_its_rule routine ≡ true) script.completions
-  pub dispatches : All (λ plan. (is_plan_sound plan ≡ true) × (names_known (known_of script) plan ≡ true)) script.dispatches
+  pub dispatches : All (IsPlan script.form (known_of script)) script.dispatches
   pub drivers : All (λ handlers. is_driver (length script.dispatches) handlers ≡ true) script.drivers
-  pub setup : All (λ step. (step.seat < script.seats) × (is_on_lock step.act ≡ false)) script.setup
-  pub steps : All (λ step. step.seat < script.seats) script.steps
+  pub setup : All (λ step. IsStep script.form script.seats step × (suits_setup step.act ≡ true)) script.setup
+  pub steps : All (IsStep script.form script.seats) script.steps

@@ -32,6 +32,7 @@ ghost use Rattle.irp_script_reader.specs.Acts.{
 
 use crate::act::{Named, Step, StepAct};
 use crate::labels::{is_label, named_at};
+use crate::slot_acts::slot_act_named;
 use irp_forms::{
     cancel_or_null_at, device_at, driver_at, has_keys, lock_at, party_at, setting_at, status_at,
     u8_at, u32_at, u64_at,
@@ -383,7 +384,10 @@ fn act_named(place: usize, name: &str, value: &Value) -> Option<StepAct>
     if let Some(act) = owner_act_named(place, name, value) {
         return Some(act);
     }
-    lock_act_named(name, value)
+    if let Some(act) = lock_act_named(name, value) {
+        return Some(act);
+    }
+    slot_act_named(place, name, value)
 }
 
 /// What a step does, where a label that it names has this place.

@@ -3,6 +3,8 @@
 
 mod act;
 mod acts;
+mod between;
+mod forms;
 mod labels;
 mod lists;
 mod plans;
@@ -10,6 +12,7 @@ mod read;
 mod refusal;
 mod routines;
 mod script;
+mod slot_acts;
 mod taking;
 
 pub use act::{Named, Step, StepAct};

@@ -6,7 +6,6 @@ ghost use Rattle.irp_forms.specs.Parts.{list_at};
 ghost use Rattle.irp_forms.specs.Values.{handler_at};
 ghost use Rattle.irp_script_reader.specs.Members.{
   in_room,
-  is_on_lock,
   may_have,
   takes_cancel,
   takes_completion,
@@ -16,13 +15,13 @@ ghost use Rattle.irp_script_reader.specs.Members.{
 };
 ghost use Rattle.irp_script_reader.specs.Taking.{Gives, formed};
 
-use crate::act::{Step, StepAct};
+use crate::act::Step;
 use crate::acts::step_at;
 use crate::labels::Labels;
 use crate::plans::{is_driver, is_plan_sound, names_known};
 use crate::refusal::Fault;
 use crate::routines::{completion_at, counted, one_more};
-use crate::script::CompletionRoutine;
+use crate::script::{CompletionRoutine, ScriptForm};
 use crate::taking::{Stop, Taking, formed, unless, with_item};
 use irp_forms::{Unread, cancel_answer_at, list_at, plan_at};
 use irp_types::{CancelAnswer, DispatchId, Known, Plan, Row};
@@ -49,9 +48,10 @@ pub struct Cancels {
     pub counts: Known,
 }
 
-/// What the dispatches plan, who may name so many routines.
+/// What the dispatches of a script of this form plan, who may name so many routines.
 #[derive(Drop)]
 pub struct Dispatches {
+    pub form: ScriptForm,
     pub known: Known,
     pub plans: Row<Plan>,
 }
@@ -63,9 +63,11 @@ pub struct Drivers {
     pub tables: Row<Row<(u8, DispatchId)>>,
 }
 
-/// The steps of `setup`, or else those of `steps`, of so many seats, and the labels that were named so far.
+/// The steps of `setup`, or else those of `steps`, in a script of this form with so many seats, and the labels that
+/// were named so far.
 #[derive(Drop)]
 pub struct Steps {
+    pub form: ScriptForm,
     pub seats: u32,
     pub in_setup: bool,
     pub labels: Labels,
@@ -117,18 +119,19 @@ impl Taking for Cancels {
 impl Taking for Dispatches {
     ghost takes = { takes_dispatch };
 
-    /// `BadField` where it is no plan, `RuleBroken` where the plan isn't sound, `NoRoutine` where it names a routine that
+    /// `BadField` where it is no plan or one that the form doesn't have, `RuleBroken` where the plan isn't sound, `NoRoutine` where it names a routine that
     /// isn't there, `TooMany` where there are as many as there may be.
     #[tactic(auto, unfolding(crate::specs::Members::takes_dispatch))]
     fn take(self, _alloc: Global, value: &Value) -> Result<Self, Stop> {
         let plan = formed(plan_at(value))?;
-        let known = self.known;
+        let Dispatches { form, known, plans } = self;
+        unless(form.may_plan(plan), Fault::BadField)?;
         unless(is_plan_sound(plan), Fault::RuleBroken)?;
         unless(names_known(known, plan), Fault::NoRoutine)?;
-        let room = self.plans.as_slice().len() < MOST_DISPATCHES;
+        let room = plans.as_slice().len() < MOST_DISPATCHES;
         unless(room, Fault::TooMany)?;
-        let plans = with_item(self.plans, plan)?;
-        Ok(Dispatches { known, plans })
+        let plans = with_item(plans, plan)?;
+        Ok(Dispatches { form, known, plans })
     }
 }
 
@@ -160,27 +163,14 @@ impl Taking for Drivers {
     }
 }
 
-impl StepAct {
-    /// Whether it is an act on a remove lock, and no call of the manager.
-    fn is_on_lock(self) -> bool
-        ensures { result ≡ is_on_lock self }
-    {
-        matches!(
-            self,
-            StepAct::Acquire { .. }
-                | StepAct::Release { .. }
-                | StepAct::BeginRemove { .. }
-                | StepAct::Drained { .. }
-        )
-    }
-}
-
 impl Steps {
-    /// Whether it may have the step: its seat is there, and `setup` has none on a remove lock.
+    /// Whether it may have the step: its seat is there, `setup` may have it, and the seat may do it.
     fn may_have(&self, step: Step) -> bool
         ensures { result ≡ may_have self.now step }
     {
-        step.seat < self.seats && !(self.in_setup && step.act.is_on_lock())
+        step.seat < self.seats
+            && (!self.in_setup || step.act.suits_setup())
+            && self.form.may_do(self.seats, step.seat, step.act)
     }
 }
 
@@ -193,6 +183,7 @@ impl Taking for Steps {
         let step = formed(step_at(self.labels.place_in(value), value))?;
         unless(self.may_have(step), Fault::BadField)?;
         let Steps {
+            form,
             seats,
             in_setup,
             labels,
@@ -201,6 +192,7 @@ impl Taking for Steps {
         let labels = labels.with_label_in(alloc, value)?;
         let steps = with_item(steps, step)?;
         Ok(Steps {
+            form,
             seats,
             in_setup,
             labels,

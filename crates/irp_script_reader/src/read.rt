@@ -12,10 +12,14 @@ ghost use Rattle.irp_script_reader.specs.Scripts.{
   dispatches_at,
   drivers_at,
   form_at,
+  has_its_keys,
+  has_keys_of_one,
+  has_keys_of_two,
   keys_at,
   list_at,
   script_at,
   steps_at,
+  with_slots,
 };
 ghost use Rattle.irp_forms.specs.Parts.{u32_at};
 ghost use Rattle.irp_script_reader.specs.Sound.{IsSound};
@@ -42,23 +46,32 @@ fn number_under(key: &str, value: &Value) -> Option<u32>
     u32_at(value.get(key)?)
 }
 
+/// What a script has under `form`, before the rest of it is read.
+#[derive(Clone, Copy, PartialEq, Eq, Debug)]
+enum FormKey {
+    /// The number 1.
+    One,
+    /// The number 2.
+    Two,
+}
+
 /// The form of a script.
 #[tactic(auto, unfolding(crate::specs::Scripts::form_at))]
-fn form_at(value: &Value) -> Result<ScriptForm, ScriptFault>
+fn form_at(value: &Value) -> Result<FormKey, ScriptFault>
     ensures { Tells result (form_at (view value.now)) }
 {
     match number_under("form", value) {
-        Some(1) => Ok(ScriptForm::One),
+        Some(1) => Ok(FormKey::One),
+        Some(2) => Ok(FormKey::Two),
         _ => Err(ScriptFault::Refused(ScriptRefusal::BadForm)),
     }
 }
 
-/// The keys of a script.
-#[tactic(auto, unfolding(crate::specs::Scripts::keys_at))]
-fn keys_at(value: &Value) -> Result<(), ScriptFault>
-    ensures { Tells result (keys_at (view value.now)) }
+/// Whether it has the keys of form 1.
+fn has_keys_of_one(value: &Value) -> bool
+    ensures { result ≡ has_keys_of_one (view value.now) }
 {
-    if has_keys(
+    has_keys(
         value,
         &[
             "cancels",
@@ -71,27 +84,82 @@ fn keys_at(value: &Value) -> Result<(), ScriptFault>
             "setup",
             "steps",
         ],
-    ) {
+    )
+}
+
+/// Whether it has the keys of form 2.
+fn has_keys_of_two(value: &Value) -> bool
+    ensures { result ≡ has_keys_of_two (view value.now) }
+{
+    has_keys(
+        value,
+        &[
+            "cancels",
+            "completions",
+            "dispatches",
+            "drivers",
+            "form",
+            "locks",
+            "seats",
+            "setup",
+            "slots",
+            "steps",
+        ],
+    )
+}
+
+impl FormKey {
+    /// Whether a script has the keys of this form.
+    fn has_its_keys(self, value: &Value) -> bool
+        ensures { result ≡ has_its_keys self (view value.now) }
+    {
+        match self {
+            FormKey::One => has_keys_of_one(value),
+            FormKey::Two => has_keys_of_two(value),
+        }
+    }
+}
+
+/// The keys of a script of this form.
+#[tactic(auto, unfolding(crate::specs::Scripts::keys_at))]
+fn keys_at(given: FormKey, value: &Value) -> Result<(), ScriptFault>
+    ensures { Tells result (keys_at given (view value.now)) }
+{
+    if given.has_its_keys(value) {
         Ok(())
     } else {
         Err(refused(Fault::BadField, Section::Top, 0))
     }
 }
 
-/// The number under a key, from 1 to 64.
+/// The number under a key, from the least one to 64.
 #[tactic(auto, unfolding(crate::specs::Scripts::count_at))]
-fn count_at(section: Section, key: &str, value: &Value) -> Result<u32, ScriptFault>
-    ensures { Tells result (count_at section key.now (view value.now)) }
+fn count_at(section: Section, least: u32, key: &str, value: &Value) -> Result<u32, ScriptFault>
+    ensures { Tells result (count_at section least key.now (view value.now)) }
 {
     match number_under(key, value) {
         Some(count) => {
-            if count >= 1 && count <= 64 {
+            if count >= least && count <= 64 {
                 Ok(count)
             } else {
                 Err(refused(Fault::BadField, section, 0))
             }
         }
         None => Err(refused(Fault::BadField, section, 0)),
+    }
+}
+
+/// The form, with the number of cancel slots where it has these.
+#[tactic(auto, unfolding(crate::specs::Scripts::with_slots))]
+fn with_slots(given: FormKey, value: &Value) -> Result<ScriptForm, ScriptFault>
+    ensures { Tells result (with_slots given (view value.now)) }
+{
+    match given {
+        FormKey::One => Ok(ScriptForm::One),
+        FormKey::Two => {
+            let slots = count_at(Section::Slots, 0, "slots", value)?;
+            Ok(ScriptForm::Two { slots })
+        }
     }
 }
 
@@ -136,12 +204,18 @@ fn cancels_at(alloc: Global, counts: Known, value: &Value) -> Result<Cancels, Sc
     list_at(alloc, Section::Cancels, "cancels", empty, value)
 }
 
-/// The dispatches, who may name so many routines.
+/// The dispatches in a script of this form, who may name so many routines.
 #[tactic(auto, unfolding(crate::specs::Scripts::dispatches_at))]
-fn dispatches_at(alloc: Global, known: Known, value: &Value) -> Result<Dispatches, ScriptFault>
-    ensures { Tells result (dispatches_at known (view value.now)) }
+fn dispatches_at(
+    alloc: Global,
+    form: ScriptForm,
+    known: Known,
+    value: &Value,
+) -> Result<Dispatches, ScriptFault>
+    ensures { Tells result (dispatches_at form known (view value.now)) }
 {
     let empty = Dispatches {
+        form,
         known,
         plans: Row::from_vec(Vec::new(alloc)),
     };
@@ -160,12 +234,18 @@ fn drivers_at(alloc: Global, dispatches: usize, value: &Value) -> Result<Drivers
     list_at(alloc, Section::Drivers, "drivers", empty, value)
 }
 
-/// The steps of `setup` and those of `steps`, of so many seats.
+/// The steps of `setup` and those of `steps`, in a script of this form with so many seats.
 #[tactic(auto, unfolding(crate::specs::Scripts::steps_at))]
-fn steps_at(alloc: Global, seats: u32, value: &Value) -> Result<(Row<Step>, Steps), ScriptFault>
-    ensures { Tells result (steps_at seats (view value.now)) }
+fn steps_at(
+    alloc: Global,
+    form: ScriptForm,
+    seats: u32,
+    value: &Value,
+) -> Result<(Row<Step>, Steps), ScriptFault>
+    ensures { Tells result (steps_at form seats (view value.now)) }
 {
     let empty = Steps {
+        form,
         seats,
         in_setup: true,
         labels: Labels::new(alloc),
@@ -174,6 +254,7 @@ fn steps_at(alloc: Global, seats: u32, value: &Value) -> Result<(Row<Step>, Step
     let setup = list_at(alloc, Section::Setup, "setup", empty, value)?;
     let Steps { labels, steps, .. } = setup;
     let empty = Steps {
+        form,
         seats,
         in_setup: false,
         labels,
@@ -188,15 +269,16 @@ fn steps_at(alloc: Global, seats: u32, value: &Value) -> Result<(Row<Step>, Step
 fn script_at(alloc: Global, value: &Value) -> Result<Script, ScriptFault>
     ensures { Tells result (script_at (view value.now)) }
 {
-    let form = form_at(value)?;
-    keys_at(value)?;
-    let seats = count_at(Section::Seats, "seats", value)?;
-    let locks = count_at(Section::Locks, "locks", value)?;
+    let given = form_at(value)?;
+    keys_at(given, value)?;
+    let seats = count_at(Section::Seats, 1, "seats", value)?;
+    let locks = count_at(Section::Locks, 1, "locks", value)?;
+    let form = with_slots(given, value)?;
     let completions = completions_at(alloc, value)?;
     let cancels = cancels_at(alloc, completions.counts, value)?;
-    let dispatches = dispatches_at(alloc, cancels.counts, value)?;
+    let dispatches = dispatches_at(alloc, form, cancels.counts, value)?;
     let drivers = drivers_at(alloc, dispatches.plans.as_slice().len(), value)?;
-    let (setup, steps) = steps_at(alloc, seats, value)?;
+    let (setup, steps) = steps_at(alloc, form, seats, value)?;
     Ok(Script {
         form,
         seats,
@@ -216,9 +298,9 @@ fn script_at(alloc: Global, value: &Value) -> Result<Script, ScriptFault>
 /// # Errors
 ///
 /// `Refused` with the first fault, in this order: the text is longer than 1,048,576 bytes; `serde_json` reads no value
-/// from it; the value is no object, or its `form` isn't known; a key is missing or unknown; then the faults of `seats`,
-/// `locks`, `completions`, `cancels`, `dispatches`, `drivers`, `setup` and `steps`, in a list by place. `NoMemory` where
-/// memory runs out: never for an empty text, or for one that is too long.
+/// from it; the value is no object, or its `form` isn't known; a key is missing or unknown (`slots` is a key of form 2
+/// alone); then the faults of `seats`, `locks`, `slots`, `completions`, `cancels`, `dispatches`, `drivers`, `setup` and
+/// `steps`, in a list by place. `NoMemory` where memory runs out: never for an empty text, or for one that is too long.
 #[tactic(auto, using(crate::proofs::Sounds::told_sound, crate::proofs::Sounds::told_reads))]
 pub fn read_script(alloc: Global, bytes: &[u8]) -> Result<Script, ScriptFault>
     ensures reads { ReadsScript result bytes.now }

@@ -5,7 +5,9 @@ use thiserror::Error;
 /// What is wrong with a part of a script, with its number in the formats (this project's own format, docs/FORMATS.md).
 #[derive(Clone, Copy, PartialEq, Eq, Debug, Error)]
 pub enum Fault {
-    /// A key is missing, unknown or of a wrong shape or range; or a seat is not below `seats`.
+    /// A key is missing, unknown or of a wrong shape or range; a seat is not below `seats`; a step on a remove lock or on
+    /// a cancel slot stands in `setup`; or what only form 2 has stands in form 1. In form 2 also a hand to the step's own
+    /// seat, and a publish in a slot, or a withdraw from one, that isn't there or isn't the seat's own.
     #[error("S4")]
     BadField,
     /// A behaviour, the status of a finish or the setting of a forward is against its rule.
@@ -34,6 +36,9 @@ pub enum Section {
     /// The number of remove locks.
     #[error("locks")]
     Locks,
+    /// The number of cancel slots, in form 2.
+    #[error("slots")]
+    Slots,
     /// The completion routines.
     #[error("completions")]
     Completions,
