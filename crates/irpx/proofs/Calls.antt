@@ -19,9 +19,9 @@ use Rattle.irp_manager.specs.Seats.{Seated}
 use Rattle.irp_remove.specs.Seats.{Holder}
 use Rattle.irp_shared.specs.Closing.{AllHere, IsKept}
 use Rattle.irp_shared.specs.Opening.{AreNew}
-use Rattle.irp_script_reader.specs.declared.act.Step.{Step}
 use Rattle.irp_workers.specs.Made.{SeatCalls, NoneTwice, calls_of, nameless, once_made, seat_calls}
 use Rattle.irp_workers.specs.Numbers.{EachAsOften}
+use Rattle.irp_workers.specs.Outcomes.{Outcome}
 use Rattle.irp_workers.specs.Pairs.{Pair, pair_of}
 use Rattle.irp_workers.proofs.Carried.{carried}
 use Rattle.irp_workers.proofs.Numbers.{count_map}
@@ -97,11 +97,11 @@ new_once number count seats new = once_from number 0 seats (λ k d lt. let own =
 
 -- ---- what each has made
 
-abbrev MadeOwn : List Step → SeatCalls → Type 0
-MadeOwn steps told = told.calls ≡ calls_of told.pair.seat steps
+abbrev MadeOwn : List Outcome → SeatCalls → Type 0
+MadeOwn outs told = told.calls ≡ calls_of told.pair.seat outs
 
-abbrev SeatMade : List Step → Seated → Type 0
-SeatMade steps seat = calls_in seat.entries ≡ calls_of seat.number steps
+abbrev SeatMade : List Outcome → Seated → Type 0
+SeatMade outs seat = calls_in seat.entries ≡ calls_of seat.number outs
 
 unmapped : {A B : Type 0} (P : B → Type 0) (f : A → B) (xs : List A) → All P (map f xs) → All (λ x. P (f x)) xs
 unmapped P f [] each = All-nil (λ x. P (f x))
@@ -110,8 +110,8 @@ unmapped P f (x ∷ xs) each = All-cons (λ x. P (f x)) x xs (All-head P (f x) (
 every : {A : Type 0} (P Q : A → Type 0) (xs : List A) → ((x : A) → P x → Q x) → All P xs → All Q xs
 every P Q xs step each k d lt = step (get_or xs k d) (each k d lt)
 
-made_new : (steps : List Step) (seat : Seated) (remove : Holder) → IsEmpty seat → MadeOwn steps (once_made steps (seat_calls seat remove))
-made_new steps seat remove empty = ap (λ (entries : List Entry). calls_in entries ++ calls_of seat.number steps) empty
+made_new : (outs : List Outcome) (seat : Seated) (remove : Holder) → IsEmpty seat → MadeOwn outs (once_made outs (seat_calls seat remove))
+made_new outs seat remove empty = ap (λ (entries : List Entry). calls_in entries ++ calls_of seat.number outs) empty
 
 -- the seat with this number is among them
 found : (P : Seated → Type 0) (number : ℕ) (seats : List Seated) → list_any (λ (seat : Seated). seat.number == number) seats ≡ true → All P seats → (seat : Seated) × (seat.number ≡ number) × P seat
@@ -123,16 +123,16 @@ found P number seats there each =
     (seat, (Decides-eqb seat.number number).0 any.4, subst P this (each k seat any.2))
 
 -- new seats that were paired, worked and came back have made the calls of their own steps, and so has the history
-pub each_made : {S : Type 0} (seat : S → Seated) (remove : S → Holder) (steps : List Step) (count : ℕ) (opened closing : List Seated) (paired worked : List S) (entries : List Entry)
+pub each_made : {S : Type 0} (seat : S → Seated) (remove : S → Holder) (outs : List Outcome) (count : ℕ) (opened closing : List Seated) (paired worked : List S) (entries : List Entry)
     → AreNew count opened
     → EachAsOften opened (map seat paired)
     → (NoneTwice (map (λ own. pair_of (seat own) (remove own)) paired)
-    → EachAsOften (map (λ own. once_made steps (seat_calls (seat own) (remove own))) paired) (map (λ own. seat_calls (seat own) (remove own)) worked))
+    → EachAsOften (map (λ own. once_made outs (seat_calls (seat own) (remove own))) paired) (map (λ own. seat_calls (seat own) (remove own)) worked))
     → EachAsOften (map seat worked) closing
     → AllHere closing count
     → All (IsKept entries) closing
-    → (number : ℕ) → number < count → calls_in (own_entries entries number) ≡ calls_of number steps
-each_made seat remove steps count opened closing paired worked entries new whole called back here kept number lt =
+    → (number : ℕ) → number < count → calls_in (own_entries entries number) ≡ calls_of number outs
+each_made seat remove outs count opened closing paired worked entries new whole called back here kept number lt =
     let empty = unmapped IsEmpty seat paired (carried IsEmpty (λ (one : Seated). has_none one.entries) (λ one. none_tells one.entries) opened (map seat paired) whole (new_empty count opened new)) in
     let none_twice : NoneTwice (map (λ own. pair_of (seat own) (remove own)) paired) =
     (λ other.
@@ -141,9 +141,9 @@ each_made seat remove steps count opened closing paired worked entries new whole
     let same = whole (λ (one : Seated). one.number == other) in
     let once = new_once other count opened new in
     omega (arith, pairs, seats, same, once)) in
-    let made = All-map (MadeOwn steps) (λ own. once_made steps (seat_calls (seat own) (remove own))) paired (every (λ own. IsEmpty (seat own)) (λ own. MadeOwn steps (once_made steps (seat_calls (seat own) (remove own)))) paired (λ own. made_new steps (seat own) (remove own)) empty) in
-    let told = carried (MadeOwn steps) (λ (told : SeatCalls). same_calls told.calls (calls_of told.pair.seat steps)) (λ told. same_tells told.calls (calls_of told.pair.seat steps)) _ _ (called none_twice) made in
-    let came = All-map (SeatMade steps) seat worked (unmapped (MadeOwn steps) (λ own. seat_calls (seat own) (remove own)) worked told) in
-    let closed = carried (SeatMade steps) (λ (one : Seated). same_calls (calls_in one.entries) (calls_of one.number steps)) (λ one. same_tells (calls_in one.entries) (calls_of one.number steps)) (map seat worked) closing back came in
-    let at = found (λ one. IsKept entries one × SeatMade steps one) number closing (here.1 number lt) (λ k d within. (kept k d within, closed k d within)) in
-    ap (λ k. calls_in (own_entries entries k)) (sym at.1) ∙ ap calls_in at.2.0 ∙ at.2.1 ∙ ap (λ k. calls_of k steps) at.1
+    let made = All-map (MadeOwn outs) (λ own. once_made outs (seat_calls (seat own) (remove own))) paired (every (λ own. IsEmpty (seat own)) (λ own. MadeOwn outs (once_made outs (seat_calls (seat own) (remove own)))) paired (λ own. made_new outs (seat own) (remove own)) empty) in
+    let told = carried (MadeOwn outs) (λ (told : SeatCalls). same_calls told.calls (calls_of told.pair.seat outs)) (λ told. same_tells told.calls (calls_of told.pair.seat outs)) _ _ (called none_twice) made in
+    let came = All-map (SeatMade outs) seat worked (unmapped (MadeOwn outs) (λ own. seat_calls (seat own) (remove own)) worked told) in
+    let closed = carried (SeatMade outs) (λ (one : Seated). same_calls (calls_in one.entries) (calls_of one.number outs)) (λ one. same_tells (calls_in one.entries) (calls_of one.number outs)) (map seat worked) closing back came in
+    let at = found (λ one. IsKept entries one × SeatMade outs one) number closing (here.1 number lt) (λ k d within. (kept k d within, closed k d within)) in
+    ap (λ k. calls_in (own_entries entries k)) (sym at.1) ∙ ap calls_in at.2.0 ∙ at.2.1 ∙ ap (λ k. calls_of k outs) at.1

@@ -1,4 +1,5 @@
 pub mod Adding
+pub mod AtSlots
 pub mod Calls
 pub mod CommandLine
 pub mod OneSeat

@@ -12,7 +12,8 @@ use Rattle.irp_shared.specs.declared.word_line.WordLine.{WordLine}
 use Rattle.irp_script_reader.specs.declared.script.Script.{Script}
 use Rattle.irp_script_reader.specs.declared.script.ScriptForm.{ScriptForm}
 use Rattle.irp_workers.specs.Numbers.{NoneMoreOften}
-use Rattle.irp_workers.specs.Words.{AreInOrder, lock_steps, told_by}
+use Rattle.irp_workers.specs.Outcomes.{Test, outcomes}
+use Rattle.irp_workers.specs.Words.{AreInOrder, told_by, word_steps}
 use Rattle.irpx.specs.Running.{IsRun, finished, fixed_for, form_of}
 
 -- the form of the transcript, once it is put in, has the limit that is fixed
@@ -31,8 +32,8 @@ fits_in_form form header few fits = record {
 }
 
 -- the transcript that was closed, with the script's form and these word lines
-pub closed_is_run : (script : Script) (tables : Tables) (fixed : Fixed) (expected : ℕ) (seats : List Seated) (closed : TranscriptValue) (words : List WordLine) → Closes fixed expected seats closed → fixed ≡ fixed_for script tables → expected ≡ script.seats → IfSome (finished script.form words closed).header IsHeader → AreInOrder words → NoneMoreOften (lock_steps script.steps) (map told_by words) → IsRun script tables (finished script.form words closed)
-closed_is_run script tables fixed expected seats closed words closes fixed_is seats_are fits in_order few =
+pub closed_is_run : (script : Script) (tables : Tables) (fixed : Fixed) (expected : ℕ) (seats : List Seated) (closed : TranscriptValue) (words : List WordLine) → Closes fixed expected seats closed → fixed ≡ fixed_for script tables → expected ≡ script.seats → IfSome (finished script.form words closed).header IsHeader → AreInOrder words → (tokenless : Test) → NoneMoreOften (word_steps (outcomes tokenless script.steps)) (map told_by words) → IsRun script tables (finished script.form words closed)
+closed_is_run script tables fixed expected seats closed words closes fixed_is seats_are fits in_order tokenless few =
     let header : Header = record closes.header { form = form_of script.form } in
     let told : (finished script.form words closed).header ≡ Some header = ap (λ given. option_map (λ (header : Header). record header { form = form_of script.form }) given) closes.told in
     let is : fixed_of header ≡ fixed_for script tables = in_form script tables closes.header (closes.tables ∙ fixed_is) in
@@ -47,5 +48,6 @@ closed_is_run script tables fixed expected seats closed words closes fixed_is se
       once = subst (λ this. CompletesOnce this closed.entries) (fixed_is ∙ sym is) closes.once;
       seated = subst (λ this. AreSeated this closed.entries) seats_are closes.seated;
       words = in_order;
+      tokenless = tokenless;
       told_steps = few;
     }

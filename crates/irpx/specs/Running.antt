@@ -26,7 +26,8 @@ use Rattle.irp_workers.specs.Behaviours.{cancel_rule_of}
 use Rattle.irp_workers.specs.Between.{hands_between}
 use Rattle.irp_workers.specs.Made.{calls_of, nameless}
 use Rattle.irp_workers.specs.Numbers.{EachAsOften, NoneMoreOften}
-use Rattle.irp_workers.specs.Words.{AreInOrder, lock_steps, told_by}
+use Rattle.irp_workers.specs.Outcomes.{Outcome, Test, outcomes}
+use Rattle.irp_workers.specs.Words.{AreInOrder, told_by, word_steps}
 use Rattle.irp_transcript_writer.specs.Lines.{lines, text_of}
 use Rattle.irpx.specs.Writing.{BreaksOff, IsQuiet, Written}
 use Rattle.irpx.specs.declared.running.RunFault.{RunFault}
@@ -96,8 +97,8 @@ fixed_for script tables = record { locks = script.locks; tables = tables; limit 
 
 -- a transcript of a run of the script with these tables: its header tells the script's form, seats and locks, and the
 -- tables, and the formats accept it; its history is legal, completes each use of a packet at most once, and has entries
--- of the script's seats alone; its word lines are in order, and tell of no step on a remove lock more often than it
--- stands in the script
+-- of the script's seats alone; its word lines are in order, and tell of no step more often than it has a line, where some
+-- finishes of taken packets found no token
 pub record IsRun (script : Script) (tables : Tables) (transcript : TranscriptValue) : Type 0 where
   pub header : Header
   pub told : transcript.header ≡ Some header
@@ -109,17 +110,23 @@ pub record IsRun (script : Script) (tables : Tables) (transcript : TranscriptVal
   pub once : CompletesOnce (fixed_of header) transcript.entries
   pub seated : AreSeated script.seats transcript.entries
   pub words : AreInOrder transcript.words
-  pub told_steps : NoneMoreOften (lock_steps script.steps) (map told_by transcript.words)
+  pub tokenless : Test
+  pub told_steps : NoneMoreOften (word_steps (outcomes tokenless script.steps)) (map told_by transcript.words)
 
--- the transcript's word lines tell of each step of the script on a remove lock, as often as it stands there
-abbrev pub TellsEach : Script → TranscriptValue → Type 0
-TellsEach script transcript = EachAsOften (lock_steps script.steps) (map told_by transcript.words)
+-- the calls of each seat's entries are those of its own among these, in order: each once and no other, but for the packets
+-- and the tokens that they name
+abbrev pub MakesCalls : ℕ → List Outcome → List Entry → Type 0
+MakesCalls seats outs entries =
+    (seat : ℕ) → seat < seats → map (λ (entry : Entry). nameless entry.call) (own_entries entries seat) ≡ calls_of seat outs
 
--- the calls of each seat's entries are those of its own steps, the setup's and then the others, in order: each once and no
--- other, but for the packets that they name
-abbrev pub MakesEach : Script → TranscriptValue → Type 0
-MakesEach script transcript =
-    (seat : ℕ) → seat < script.seats → map (λ (entry : Entry). nameless entry.call) (own_entries transcript.entries seat) ≡ calls_of seat (script.setup ++ script.steps)
+-- a transcript shows each step of the script, where some finishes of taken packets found no token. The word lines tell of
+-- each step that has one, as often as it stands in the script: of acts on locks and slots, and of those finishes. The
+-- entries are the calls of all other steps, the setup's and then the others
+pub record ShowsEach (script : Script) (transcript : TranscriptValue) : Type 0 where
+  pub tokenless_first : Test
+  pub tokenless : Test
+  pub told : EachAsOften (word_steps (outcomes tokenless script.steps)) (map told_by transcript.words)
+  pub made : MakesCalls script.seats (outcomes tokenless_first script.setup ++ outcomes tokenless script.steps) transcript.entries
 
 -- a transcript of a session, with the form of the script that was run, and these word lines
 abbrev pub finished : ScriptForm → List WordLine → TranscriptValue → TranscriptValue
@@ -132,11 +139,11 @@ finished form words transcript = record transcript {
 abbrev pub text_with : TranscriptValue → List ℕ
 text_with transcript = text_of (lines transcript)
 
--- what came of a script with these tables that was run to its end: the transcript of a run was written, which tells of each
--- step on a remove lock, and of each seat's steps that are calls
+-- what came of a script with these tables that was run to its end: the transcript of a run was written, which shows each
+-- step
 abbrev pub RunsScript : Script → Tables → Option (List ℕ) → Option (List ℕ) → ℕ → ℕ → Type 0
 RunsScript script tables old new before after =
-    (transcript : TranscriptValue) × IsRun script tables transcript × TellsEach script transcript × MakesEach script transcript
+    (transcript : TranscriptValue) × IsRun script tables transcript × ShowsEach script transcript
     × Written (text_with transcript) old new before after
 
 -- the same where it wasn't: there is no transcript, and nothing went out; or the transcript of a run was written, but not of

@@ -13,9 +13,8 @@ ghost use Rattle.irpx.specs.Running.{
   AfterScript,
   HoldsScript,
   IsRun,
-  MakesEach,
   NoScript,
-  TellsEach,
+  ShowsEach,
   and_drivers,
   finished,
   fixed_for,
@@ -254,7 +253,7 @@ fn finished(
     Ok(transcript)
 }
 
-/// So many workers run the script in a session of its locks and seats.
+/// So many workers run the script in a session of its locks, seats and cancel slots.
 fn session<L: Session + Send + Sync, T: Threads + Wait + Sync>(
     rt: &T,
     alloc: Global,
@@ -268,8 +267,7 @@ fn session<L: Session + Send + Sync, T: Threads + Wait + Sync>(
     requires seats { (L.parts ≡ script.now.seats) × (L.seats ≡ script.now.seats) }
     requires fixed { L.fixed ≡ fixed_for script.now store.tables }
     ensures run { IfOk result (λ run. IsRun script.now store.tables run.transcript) }
-    ensures all_told { IfOk result (λ run. run.stopped ≡ false → TellsEach script.now run.transcript) }
-    ensures all_made { IfOk result (λ run. run.stopped ≡ false → MakesEach script.now run.transcript) }
+    ensures shows { IfOk result (λ run. run.stopped ≡ false → ShowsEach script.now run.transcript) }
 {
     let form = form_of(script.form);
     let Ok((shared, seats)) = open_with_limit::<Store, L>(
@@ -285,9 +283,12 @@ fn session<L: Session + Send + Sync, T: Threads + Wait + Sync>(
     let Ok((locks, removes)) = irp_remove::open(alloc, script.locks, script.seats) else {
         return Err(Unrun::NoMemory);
     };
-    let pairs = script_seats(alloc, &locks, seats, removes)?;
+    let Ok((slots, owners, cancellers)) = irp_slots::open(alloc, form.slots(), script.seats) else {
+        return Err(Unrun::NoMemory);
+    };
+    let pairs = script_seats(alloc, &locks, &slots, seats, removes, cancellers, owners)?;
     let gate = AlwaysOpen;
-    let worked = run_workers(rt, alloc, &shared, &locks, pairs, script, &gate, workers)?;
+    let worked = run_workers(rt, alloc, &shared, &locks, &slots, pairs, script, &gate, workers)?;
     let stopped = worked.stopped;
     let words = worked.words;
     let seats = seats_of(alloc, worked.seats)?;
