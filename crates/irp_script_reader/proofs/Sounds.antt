@@ -1,5 +1,5 @@
 -- A script that is read is sound: what each member keeps is kept by its list.
-use Rattle.std.proofs.Common.{◌≡◌, ℕ, ◌+◌, ◌<◌, ◌≤◌, List, [], ◌∷◌, ◌++◌, length, Bool, true, false, not, ◌&&◌, ◌||◌, nat_le, nat_lt, Option, Some, None, Result, Ok, Err, refl, sym, ap, ◌∙◌, subst, arith, if◌then◌else◌, codes, ltb, inr}
+use Rattle.std.proofs.Common.{◌≡◌, ℕ, ◌+◌, ◌≤◌, List, [], ◌∷◌, ◌++◌, length, Bool, true, false, not, ◌&&◌, ◌||◌, nat_le, nat_lt, Option, Some, None, Result, Ok, Err, refl, sym, ap, ◌∙◌, subst, arith, if◌then◌else◌, codes, inr}
 use Rattle.std.specs.Prelude.{IfOk, IsUtf8}
 use Rattle.std.specs.List.{All}
 use Rattle.std.specs.Option.{option_and_then}
@@ -13,8 +13,6 @@ use Rattle.irp_forms.specs.Parts as parts
 use Rattle.irp_forms.proofs.Texts.{some_text}
 use Rattle.irp_forms.specs.Values.{cancel_answer_at, handler_at, plan_at}
 use Rattle.irp_types.specs.State.{no_routines}
-use Rattle.irp_types.specs.declared.answer.Plan.{Plan}
-use Rattle.irp_types.specs.declared.names.DispatchId.{DispatchId}
 use Rattle.irp_types.specs.declared.routine.Known.{Known}
 use Rattle.irp_types.specs.declared.routine.Rule.{Rule}
 use Rattle.irp_types.specs.declared.routine.Rule.TheVariants.{Watch, Change, Keeper, KeepOnError, Free}
@@ -25,8 +23,8 @@ use Rattle.irp_script_reader.specs.Members.{in_room, may_have, takes_cancel, tak
 use Rattle.irp_script_reader.specs.Plans.{is_driver, is_plan_sound, names_known}
 use Rattle.irp_script_reader.specs.Routines.{completion_at, counted, obeys_its_rule, one_more}
 use Rattle.irp_script_reader.specs.Scripts.{cancels_at, completions_at, count_at, dispatches_at, drivers_at, form_at, keys_at, ReadsScript, list_at, script_at, steps_at, under, with_slots, count_of, no_steps}
-use Rattle.irp_script_reader.specs.Sound.{IsPlan, IsSound, IsStep, known_of, with_all, with_one}
-use Rattle.irp_script_reader.specs.Taking.{◌>>=◌, Tells, formed, if_list, list_of, members_at, told, unless, with_item}
+use Rattle.irp_script_reader.specs.Sound.{IsPlan, IsSound, IsStep, with_all, with_one}
+use Rattle.irp_script_reader.specs.Taking.{◌>>=◌, Tells, formed, if_list, list_of, members_at, told, unless}
 use Rattle.irp_script_reader.specs.declared.act.Step.{Step}
 use Rattle.irp_script_reader.specs.declared.lists.Cancels.{Cancels}
 use Rattle.irp_script_reader.specs.declared.lists.Completions.{Completions}
@@ -44,7 +42,6 @@ use Rattle.irp_script_reader.specs.declared.refusal.Section.TheVariants as secti
 use Rattle.irp_script_reader.specs.declared.script.CompletionRoutine.{CompletionRoutine}
 use Rattle.irp_script_reader.specs.declared.script.Script.{Script}
 use Rattle.irp_script_reader.specs.declared.script.ScriptForm.{ScriptForm}
-use Rattle.irp_script_reader.specs.declared.script.ScriptForm.TheVariants as forms
 use Rattle.irp_script_reader.specs.declared.read.FormKey.{FormKey}
 use Rattle.irp_script_reader.specs.declared.read.FormKey.TheVariants as keys
 

@@ -119,8 +119,8 @@ impl Taking for Cancels {
 impl Taking for Dispatches {
     ghost takes = { takes_dispatch };
 
-    /// `BadField` where it is no plan or one that the form doesn't have, `RuleBroken` where the plan isn't sound, `NoRoutine` where it names a routine that
-    /// isn't there, `TooMany` where there are as many as there may be.
+    /// `BadField` where it is no plan or one that the form doesn't have, `RuleBroken` where the plan isn't sound,
+    /// `NoRoutine` where it names a routine that isn't there, `TooMany` where there are as many as there may be.
     #[tactic(auto, unfolding(crate::specs::Members::takes_dispatch))]
     fn take(self, _alloc: Global, value: &Value) -> Result<Self, Stop> {
         let plan = formed(plan_at(value))?;
