@@ -1,3 +1,2 @@
-pub mod Firsts
 pub mod Rests
 pub mod Sounds

@@ -2,17 +2,10 @@
 use Rattle.std.specs.Prelude.{ℕ, ◌%◌, ◌==◌, ◌&&◌, Bool, true, false, not, nat_lt}
 use Rattle.irp_types.specs.declared.answer.Plan.{Plan}
 use Rattle.irp_types.specs.declared.answer.Plan.TheVariants.{HoldSlot}
-use Rattle.irp_types.specs.declared.limit.Limit.{Limit}
-use Rattle.irp_types.specs.declared.limit.Limit.TheVariants.{Sixteen, ThirtyTwo}
 use Rattle.irp_script_reader.specs.declared.act.StepAct.{StepAct}
 use Rattle.irp_script_reader.specs.declared.act.StepAct.TheVariants as act
 use Rattle.irp_script_reader.specs.declared.script.ScriptForm.{ScriptForm}
 use Rattle.irp_script_reader.specs.declared.script.ScriptForm.TheVariants.{One, Two}
-
--- the limit on packets and stacks
-abbrev pub limit_of : ScriptForm → Limit
-limit_of One = Sixteen
-limit_of (Two slots) = ThirtyTwo
 
 -- how many cancel slots there are
 abbrev pub slots_of : ScriptForm → ℕ

@@ -5,7 +5,6 @@ pub mod Plans
 pub mod SlotActs
 pub mod Acts
 pub mod Forms
-pub mod Between
 pub mod Members
 pub mod Scripts
 pub mod Sound

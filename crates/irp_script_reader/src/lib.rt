@@ -3,7 +3,6 @@
 
 mod act;
 mod acts;
-mod between;
 mod forms;
 mod labels;
 mod lists;
