@@ -138,11 +138,12 @@ unfoldable pub plan_named : List ℕ → Data → Option Plan
 plan_named name form =
     if bytes_eq name (codes "finish") then finish_at form else
     (if bytes_eq name (codes "hold") then hold_at form else
+    (if bytes_eq name (codes "hold_slot") then (if has_items 1 form then Some plans.HoldSlot else None) else
     (if bytes_eq name (codes "skip") then (if has_items 1 form then Some plans.Skip else None) else
     (if bytes_eq name (codes "forward") then forward_at form else
-    (if bytes_eq name (codes "forward_pend") then forward_pend_at form else None))))
+    (if bytes_eq name (codes "forward_pend") then forward_pend_at form else None)))))
 
--- a plan: its name, which stands first, and what it names
+-- a plan, also the one that only form 2 has: its name, which stands first, and what it names
 unfoldable pub plan_at : Data → Option Plan
 plan_at form = at 0 form >>= λ first. as_str first >>= λ name. plan_named name form
 

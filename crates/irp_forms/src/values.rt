@@ -319,6 +319,12 @@ fn plan_named(name: &str, value: &Value) -> Option<Plan>
         finish_at(value)
     } else if name == "hold" {
         hold_at(value)
+    } else if name == "hold_slot" {
+        if has_items(value, 1) {
+            Some(Plan::HoldSlot)
+        } else {
+            None
+        }
     } else if name == "skip" {
         if has_items(value, 1) {
             Some(Plan::Skip)
@@ -334,7 +340,8 @@ fn plan_named(name: &str, value: &Value) -> Option<Plan>
     }
 }
 
-/// A plan: its name, which stands first, and what it names (this project's own format, docs/FORMATS.md).
+/// A plan: its name, which stands first, and what it names. `Plan::HoldSlot` is a plan of form 2 alone, and is read in
+/// either form: a reader of form 1 refuses it (this project's own format, docs/FORMATS.md).
 #[tactic(auto, unfolding(crate::specs::Values::plan_at))]
 pub fn plan_at(value: &Value) -> Option<Plan>
     ensures { result ≡ plan_at (view value.now) }

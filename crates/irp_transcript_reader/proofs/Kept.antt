@@ -4,6 +4,7 @@ use Rattle.std.proofs.lemmas.Option.{none-some, same_Some}
 use Rattle.serde_json.specs.Data.{Data}
 use Rattle.irp_forms.specs.Parts.{◌>>=◌}
 use Rattle.irp_shared.specs.Transcripts.{TranscriptValue, IsTranscript}
+use Rattle.irp_shared.specs.declared.header.Form.{Form}
 use Rattle.irp_shared.specs.declared.header.Header.{Header}
 use Rattle.irp_transcript_reader.specs.Reading.{IsNext, IsNextUnder, is_entry, most_entries, seated_entry_at, seated_word_at, with_entry, with_line, with_word}
 
@@ -18,32 +19,32 @@ guarded : (known : Option Header) (test : Bool) (made : Option TranscriptValue) 
 guarded known true made after same is = same is
 guarded known false made after same is = absurd (none-some after is)
 
-entry_keeps : (seats : ℕ) (before after : TranscriptValue) (form : Data) → with_entry seats before form ≡ Some after → after.header ≡ before.header
+entry_keeps : (kind : Form) (seats : ℕ) (before after : TranscriptValue) (form : Data) → with_entry kind seats before form ≡ Some after → after.header ≡ before.header
 unfolding with_entry
-entry_keeps seats before after form is =
+entry_keeps kind seats before after form is =
     guarded before.header ((length before.words == 0) && nat_lt (length before.entries) most_entries) _ after
-    (stays before.header (seated_entry_at seats form) _ after (λ _. refl)) is
+    (stays before.header (seated_entry_at kind seats form) _ after (λ _. refl)) is
 
-word_keeps : (seats : ℕ) (before after : TranscriptValue) (form : Data) → with_word seats before form ≡ Some after → after.header ≡ before.header
+word_keeps : (kind : Form) (seats : ℕ) (before after : TranscriptValue) (form : Data) → with_word kind seats before form ≡ Some after → after.header ≡ before.header
 unfolding with_word
-word_keeps seats before after form is = stays before.header (seated_word_at seats form) _ after (λ _. refl) is
+word_keeps kind seats before after form is = stays before.header (seated_word_at kind seats form) _ after (λ _. refl) is
 
 chosen : (known : Option Header) (test : Bool) (one other : Option TranscriptValue) (after : TranscriptValue)
     → (one ≡ Some after → after.header ≡ known) → (other ≡ Some after → after.header ≡ known) → (if test then one else other) ≡ Some after → after.header ≡ known
 chosen known true one other after first second is = first is
 chosen known false one other after first second is = second is
 
-line_keeps : (seats : ℕ) (before after : TranscriptValue) (form : Data) → with_line seats before form ≡ Some after → after.header ≡ before.header
+line_keeps : (kind : Form) (seats : ℕ) (before after : TranscriptValue) (form : Data) → with_line kind seats before form ≡ Some after → after.header ≡ before.header
 unfolding with_line
-line_keeps seats before after form is =
-    chosen before.header (is_entry form) (with_entry seats before form) (with_word seats before form) after
-    (entry_keeps seats before after form) (word_keeps seats before after form) is
+line_keeps kind seats before after form is =
+    chosen before.header (is_entry form) (with_entry kind seats before form) (with_word kind seats before form) after
+    (entry_keeps kind seats before after form) (word_keeps kind seats before after form) is
 
 kept_under : (known : Option Header) (before after : TranscriptValue) (form : Data) → before.header ≡ known → IsTranscript before
     → IsNextUnder known before form after → IsTranscript after
 kept_under None before after form is one next = rw next.3 record { accepted = next.2; bare = λ none. absurd (none-some next.0 (sym none)) }
 kept_under (Some header) before after form is one next =
-    let same : after.header ≡ Some header = line_keeps header.seats before after form next ∙ is in
+    let same : after.header ≡ Some header = line_keeps header.form header.seats before after form next ∙ is in
     let accepted = rw is at one.accepted in
     record { accepted = rw same accepted; bare = λ none. absurd (none-some header (sym none ∙ same)) }
 

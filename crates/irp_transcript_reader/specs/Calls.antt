@@ -55,14 +55,27 @@ reuse_at form = if has_keys (codes "do" ∷ codes "irp" ∷ codes "status" ∷ [
 unfoldable pub irp_alone_at : Data → Option IrpRef
 irp_alone_at form = if has_keys (codes "do" ∷ codes "irp" ∷ []) form then get (codes "irp") form >>= irp_at else None
 
+-- the keys of a call that finishes a packet which was taken from a cancel slot
+unfoldable pub finish_taken_keys : List (List ℕ)
+finish_taken_keys = codes "do" ∷ codes "information" ∷ codes "irp" ∷ codes "status" ∷ codes "token" ∷ []
+
+unfoldable pub finish_taken_at : Data → Option Call
+finish_taken_at form = if has_keys finish_taken_keys form then (do
+  irp ← get (codes "irp") form >>= irp_at
+  token ← get (codes "token") form >>= u64_at
+  status ← get (codes "status") form >>= status_at
+  information ← get (codes "information") form >>= u64_at
+  Some (calls.FinishTaken irp token status information)) else None
+
 -- a call on a packet that no party makes, by its name
 unfoldable pub packet_call_named : List ℕ → Data → Option Call
 packet_call_named name form =
     if bytes_eq name (codes "allocate") then allocate_at form else
     (if bytes_eq name (codes "free") then (irp_alone_at form >>= λ irp. Some (calls.Free irp)) else
     (if bytes_eq name (codes "reuse") then reuse_at form else
+    (if bytes_eq name (codes "finish_taken") then finish_taken_at form else
     (if bytes_eq name (codes "cancel") then (irp_alone_at form >>= λ irp. Some (calls.Cancel irp)) else
-    (if bytes_eq name (codes "look") then (irp_alone_at form >>= λ irp. Some (calls.Look irp)) else None))))
+    (if bytes_eq name (codes "look") then (irp_alone_at form >>= λ irp. Some (calls.Look irp)) else None)))))
 
 -- ---- calls of a party on its packet
 

@@ -40,31 +40,44 @@ entry_at form = if has_keys (codes "asked" ∷ codes "call" ∷ codes "n" ∷ co
     reply = recorded.reply;
   })) else None
 
--- the form that has this number
-unfoldable pub form_numbered : ℕ → Option Form
-form_numbered count = if count == 1 then Some forms.One else None
+-- the keys of a header of form 1
+unfoldable pub header_keys : List (List ℕ)
+header_keys = codes "cancels" ∷ codes "completions" ∷ codes "dispatches" ∷ codes "drivers" ∷ codes "form" ∷ codes "locks" ∷ codes "seats" ∷ []
 
--- a header's numbers: the counts of completion routines, the form, the locks and the seats
+-- form 1, by its number
+unfoldable pub form_one_at : Data → Option Form
+form_one_at form = get (codes "form") form >>= u32_at >>= λ count. if count == 1 then Some forms.One else None
+
+-- form 2, by its number, with its cancel slots
+unfoldable pub form_two_at : Data → Option Form
+form_two_at form = do
+  count ← get (codes "form") form >>= u32_at
+  slots ← get (codes "slots") form >>= u32_at
+  if count == 2 then Some (forms.Two slots) else None
+
+-- a header's form, by its keys: those of form 1; or these and `slots`, in form 2
+unfoldable pub header_form_at : Data → Option Form
+header_form_at form =
+    if has_keys header_keys form then form_one_at form else
+    (if has_keys (codes "slots" ∷ header_keys) form then form_two_at form else None)
+
+-- a header's other numbers: the counts of completion routines, the locks and the seats
 unfoldable pub counts_at : Data → Option Counts
 counts_at form = do
   completions ← get (codes "completions") form >>= completions_at
-  kind ← get (codes "form") form >>= u32_at >>= form_numbered
   locks ← get (codes "locks") form >>= u32_at
   seats ← get (codes "seats") form >>= u32_at
-  Some (record { completions = completions; form = kind; locks = locks; seats = seats })
+  Some (record { completions = completions; locks = locks; seats = seats })
 
 -- the list under a key
 abbrev pub list_under : {T : Type 0} → (Data → Option T) → List ℕ → Data → Option (List T)
 list_under reads key form = get key form >>= list_at reads
 
--- the keys of a header
-unfoldable pub header_keys : List (List ℕ)
-header_keys = codes "cancels" ∷ codes "completions" ∷ codes "dispatches" ∷ codes "drivers" ∷ codes "form" ∷ codes "locks" ∷ codes "seats" ∷ []
-
--- a header: the rules of at most 256 cancel routines, which it counts by their list, the other counts, what each dispatch
+-- a header: its form, the rules of at most 256 cancel routines, which it counts by their list, the other counts, what each dispatch
 -- may name, and each driver's dispatches
 unfoldable pub header_at : Data → Option Header
-header_at form = if has_keys header_keys form then (do
+header_at form = do
+  kind ← header_form_at form
   counts ← counts_at form
   cancels ← list_under cancel_rule_at (codes "cancels") form
   dispatches ← list_under known_at (codes "dispatches") form
@@ -75,7 +88,7 @@ header_at form = if has_keys header_keys form then (do
     completions = record counts.completions { cancel = cancel };
     dispatches = dispatches;
     drivers = drivers;
-    form = counts.form;
+    form = kind;
     locks = counts.locks;
     seats = counts.seats;
-  })) else None
+  })

@@ -1,16 +1,20 @@
 -- Transcripts as the formats read them from bytes, line after line.
-use Rattle.std.specs.Prelude.{◌≡◌, ℕ, zero, suc, ◌+◌, ◌<◌, ◌≤◌, ◌==◌, ◌&&◌, nat_lt, List, [], ◌∷◌, ◌++◌, length, codes, Bool, is_some, IsUtf8, Option, Some, None, Result, Ok, Err, if◌then◌else◌}
+use Rattle.std.specs.Prelude.{◌≡◌, ℕ, zero, suc, ◌+◌, ◌<◌, ◌≤◌, ◌==◌, ◌&&◌, nat_lt, List, [], ◌∷◌, ◌++◌, length, codes, Bool, true, is_some, IsUtf8, Option, Some, None, Result, Ok, Err, if◌then◌else◌}
 use Rattle.serde_json.specs.Data.{Data}
 use Rattle.serde_json.specs.Find.{get}
 use Rattle.serde_json.specs.Read.{read}
 use Rattle.irp_forms.specs.Parts.{◌>>=◌}
 use Rattle.irp_forms.specs.declared.unread.Unread.{Unread}
-use Rattle.irp_forms.specs.declared.unread.Unread.TheVariants.{Form, NoMemory}
+use Rattle.irp_forms.specs.declared.unread.Unread.TheVariants as unread
 use Rattle.irp_types.specs.declared.entry.Entry.{Entry}
 use Rattle.irp_shared.specs.Headers.{IsHeader}
 use Rattle.irp_shared.specs.Transcripts.{TranscriptValue}
 use Rattle.irp_shared.specs.declared.header.Header.{Header}
+use Rattle.irp_shared.specs.declared.header.Form.{Form}
+use Rattle.irp_shared.specs.declared.word_line.Act.{Act}
+use Rattle.irp_shared.specs.declared.word_line.Act.TheVariants as acts
 use Rattle.irp_shared.specs.declared.word_line.WordLine.{WordLine}
+use Rattle.irp_transcript_reader.specs.Forms.{has_entry, has_word}
 use Rattle.irp_transcript_reader.specs.Lines.{entry_at, header_at}
 use Rattle.irp_transcript_reader.specs.WordLines.{word_line_at}
 use Rattle.irp_transcript_reader.specs.declared.read_fault.ReadFault.{ReadFault}
@@ -30,34 +34,40 @@ most_entries = 1000000
 abbrev pub is_entry : Data → Bool
 is_entry form = is_some (get (codes "call") form)
 
--- an entry of one of these seats
-unfoldable pub seated_entry_at : ℕ → Data → Option Entry
-seated_entry_at seats form = entry_at form >>= λ entry. if nat_lt entry.seat seats then Some entry else None
+-- an entry of one of these seats, which the form has
+unfoldable pub seated_entry_at : Form → ℕ → Data → Option Entry
+seated_entry_at kind seats form = entry_at form >>= λ entry. if nat_lt entry.seat seats && has_entry kind entry then Some entry else None
 
--- a word line of one of these seats
-unfoldable pub seated_word_at : ℕ → Data → Option WordLine
-seated_word_at seats form = word_line_at form >>= λ line. if nat_lt line.seat seats then Some line else None
+-- a step hands over to one of these seats, if it hands over
+abbrev pub hands_within : ℕ → Act → Bool
+hands_within seats (acts.Hand lock tag receiver) = nat_lt receiver seats
+hands_within seats other = true
+
+-- a word line of one of these seats, which the form has
+unfoldable pub seated_word_at : Form → ℕ → Data → Option WordLine
+seated_word_at kind seats form = word_line_at form >>= λ line.
+    if (nat_lt line.seat seats && hands_within seats line.act) && has_word kind line then Some line else None
 
 -- the transcript with one more entry, before the word lines and where there are not too many
-unfoldable pub with_entry : ℕ → TranscriptValue → Data → Option TranscriptValue
-with_entry seats before form =
+unfoldable pub with_entry : Form → ℕ → TranscriptValue → Data → Option TranscriptValue
+with_entry kind seats before form =
     if (length before.words == 0) && nat_lt (length before.entries) most_entries
-    then (seated_entry_at seats form >>= λ entry. Some (record before { entries = before.entries ++ entry ∷ [] }))
+    then (seated_entry_at kind seats form >>= λ entry. Some (record before { entries = before.entries ++ entry ∷ [] }))
     else None
 
 -- the transcript with one more word line
-unfoldable pub with_word : ℕ → TranscriptValue → Data → Option TranscriptValue
-with_word seats before form = seated_word_at seats form >>= λ line. Some (record before { words = before.words ++ line ∷ [] })
+unfoldable pub with_word : Form → ℕ → TranscriptValue → Data → Option TranscriptValue
+with_word kind seats before form = seated_word_at kind seats form >>= λ line. Some (record before { words = before.words ++ line ∷ [] })
 
 -- the transcript with the entry or the word line that the value is
-unfoldable pub with_line : ℕ → TranscriptValue → Data → Option TranscriptValue
-with_line seats before form = if is_entry form then with_entry seats before form else with_word seats before form
+unfoldable pub with_line : Form → ℕ → TranscriptValue → Data → Option TranscriptValue
+with_line kind seats before form = if is_entry form then with_entry kind seats before form else with_word kind seats before form
 
 -- the next value makes the one transcript of the other: first a header that the formats accept, and then entries and
--- word lines of its seats
+-- word lines of its form and its seats
 abbrev pub IsNextUnder : Option Header → TranscriptValue → Data → TranscriptValue → Type 0
 IsNextUnder None before form after = (header : Header) × (header_at form ≡ Some header) × IsHeader header × (after ≡ record before { header = Some header })
-IsNextUnder (Some header) before form after = with_line header.seats before form ≡ Some after
+IsNextUnder (Some header) before form after = with_line header.form header.seats before form ≡ Some after
 
 abbrev pub IsNext : TranscriptValue → Data → TranscriptValue → Type 0
 IsNext before form after = IsNextUnder before.header before form after
@@ -130,23 +140,23 @@ so_far reading = record { header = reading.header; entries = reading.entries.ite
 -- a header that the formats accept is what the value reads as, unless memory ran out
 abbrev pub GivesHeader : Result Header Unread → Data → Type 0
 GivesHeader (Ok header) form = (header_at form ≡ Some header) × IsHeader header
-GivesHeader (Err Form) form = (header : Header) → header_at form ≡ Some header → IsHeader header → ⊥
-GivesHeader (Err NoMemory) form = Unit {0}
+GivesHeader (Err unread.Form) form = (header : Header) → header_at form ≡ Some header → IsHeader header → ⊥
+GivesHeader (Err unread.NoMemory) form = Unit {0}
 
 -- what the next value made of it, unless memory ran out
 abbrev pub TakesValue : Result (Unit {0}) Unread → TranscriptValue → Data → TranscriptValue → Type 0
 TakesValue (Ok done) before form after = IsNext before form after
-TakesValue (Err Form) before form after = (other : TranscriptValue) → IsNext before form other → ⊥
-TakesValue (Err NoMemory) before form after = Unit {0}
+TakesValue (Err unread.Form) before form after = (other : TranscriptValue) → IsNext before form other → ⊥
+TakesValue (Err unread.NoMemory) before form after = Unit {0}
 
 -- what the next entry or word line made of it
 abbrev pub GivesLine : Result (Unit {0}) Unread → Option TranscriptValue → TranscriptValue → Type 0
 GivesLine (Ok done) made after = made ≡ Some after
-GivesLine (Err Form) made after = made ≡ None
-GivesLine (Err NoMemory) made after = Unit {0}
+GivesLine (Err unread.Form) made after = made ≡ None
+GivesLine (Err unread.NoMemory) made after = Unit {0}
 
 -- what the next line made of it
 abbrev pub TakesLine : Result (Unit {0}) Unread → TranscriptValue → List ℕ → TranscriptValue → Type 0
 TakesLine (Ok done) before line after = Takes before line after
-TakesLine (Err Form) before line after = Refuses before line
-TakesLine (Err NoMemory) before line after = TakesMemory line
+TakesLine (Err unread.Form) before line after = Refuses before line
+TakesLine (Err unread.NoMemory) before line after = TakesMemory line

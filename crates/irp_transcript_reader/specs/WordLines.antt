@@ -1,4 +1,4 @@
--- What a JSON value reads as: a step on a remove lock, and what it was answered. None where the value has another form.
+-- What a JSON value reads as: a step on a remove lock or a cancel slot, and what it was answered. None where the value has another form.
 use Rattle.std.specs.Prelude.{ℕ, List, [], ◌∷◌, ◌==◌, codes, Option, Some, None, if◌then◌else◌}
 use Rattle.std.proofs.Common.{bytes_eq}
 use Rattle.serde_json.specs.Data.{Data, string}
@@ -11,10 +11,11 @@ use Rattle.irp_shared.specs.declared.word_line.Act.TheVariants as acts
 use Rattle.irp_shared.specs.declared.word_line.WordLine.{WordLine}
 use Rattle.irp_shared.specs.declared.word_line.WordReply.{WordReply}
 use Rattle.irp_shared.specs.declared.word_line.WordReply.TheVariants as word_replies
+use Rattle.irp_transcript_reader.specs.Replies.{or_else}
 
--- a step's answer by its name
-unfoldable pub word_reply_named : List ℕ → Option WordReply
-word_reply_named name =
+-- the answer of a step on a remove lock by its name
+unfoldable pub lock_reply_named : List ℕ → Option WordReply
+lock_reply_named name =
     if bytes_eq name (codes "ok") then Some word_replies.Done else
     (if bytes_eq name (codes "seat_full") then Some word_replies.SeatFull else
     (if bytes_eq name (codes "not_held") then Some word_replies.NotHeld else
@@ -22,18 +23,38 @@ word_reply_named name =
     (if bytes_eq name (codes "no_lock") then Some word_replies.NoLock else
     (if bytes_eq name (codes "yes") then Some word_replies.Yes else None)))))
 
+-- the answer of a step on a cancel slot by its name
+unfoldable pub slot_reply_named : List ℕ → Option WordReply
+slot_reply_named name =
+    if bytes_eq name (codes "standing") then Some word_replies.Standing else
+    (if bytes_eq name (codes "lost") then Some word_replies.Lost else
+    (if bytes_eq name (codes "nothing") then Some word_replies.Nothing else
+    (if bytes_eq name (codes "used") then Some word_replies.Used else
+    (if bytes_eq name (codes "not_standing") then Some word_replies.NotStanding else
+    (if bytes_eq name (codes "no_slot") then Some word_replies.NoSlot else
+    (if bytes_eq name (codes "no_token") then Some word_replies.NoToken else None))))))
+
+-- a step's answer by its name
+unfoldable pub word_reply_named : List ℕ → Option WordReply
+word_reply_named name = or_else (lock_reply_named name) (slot_reply_named name)
+
 -- the status of an acquire: success, or that removal has begun
 unfoldable pub word_status : ℕ → Option WordReply
 word_status status =
     if status == 0 then Some word_replies.Acquired else
     (if status == 0xc0000056 then Some word_replies.DeletePending else None)
 
+-- a step's answer that has a value, which stands under its name
+unfoldable pub valued_reply_at : Data → Option WordReply
+valued_reply_at form =
+    if has_keys (codes "status" ∷ []) form then get (codes "status") form >>= u32_at >>= word_status else
+    (if has_keys (codes "busy" ∷ []) form then (get (codes "busy") form >>= u64_at >>= λ word. Some (word_replies.Busy word)) else
+    (if has_keys (codes "taken" ∷ []) form then (get (codes "taken") form >>= u64_at >>= λ use_no. Some (word_replies.Taken use_no)) else None))
+
 -- what a step was answered: its name, or its one value under its name
 unfoldable pub word_reply_at : Data → Option WordReply
 word_reply_at (string name) = word_reply_named name
-word_reply_at form =
-    if has_keys (codes "status" ∷ []) form then get (codes "status") form >>= u32_at >>= word_status else
-    (if has_keys (codes "busy" ∷ []) form then (get (codes "busy") form >>= u64_at >>= λ word. Some (word_replies.Busy word)) else None)
+word_reply_at form = valued_reply_at form
 
 -- a step that has a tag, by its name
 unfoldable pub tagged_act : List ℕ → LockNo → ℕ → Option Act
@@ -55,11 +76,38 @@ drained_at form = if has_keys (codes "do" ∷ codes "lock" ∷ codes "reply" ∷
   lock ← get (codes "lock") form >>= lock_at
   Some (acts.Drained lock)) else None
 
+-- the keys of a step that hands a reference to another seat
+unfoldable pub hand_keys : List (List ℕ)
+hand_keys = codes "do" ∷ codes "lock" ∷ codes "reply" ∷ codes "seat" ∷ codes "step" ∷ codes "tag" ∷ codes "to" ∷ []
+
+-- what a step did that hands a reference to another seat
+unfoldable pub hand_at : Data → Option Act
+hand_at form = if has_keys hand_keys form then (do
+  lock ← get (codes "lock") form >>= lock_at
+  tag ← get (codes "tag") form >>= u32_at
+  receiver ← get (codes "to") form >>= u32_at
+  Some (acts.Hand lock tag receiver)) else None
+
+-- a step on a cancel slot, by its name
+unfoldable pub slot_act : List ℕ → ℕ → Option Act
+slot_act name slot =
+    if bytes_eq name (codes "publish") then Some (acts.Publish slot) else
+    (if bytes_eq name (codes "withdraw") then Some (acts.Withdraw slot) else
+    (if bytes_eq name (codes "request") then Some (acts.Request slot) else
+    (if bytes_eq name (codes "finish_taken") then Some (acts.FinishTaken slot) else None)))
+
+-- what a step on a cancel slot did
+unfoldable pub slot_act_at : List ℕ → Data → Option Act
+slot_act_at name form = if has_keys (codes "do" ∷ codes "reply" ∷ codes "seat" ∷ codes "slot" ∷ codes "step" ∷ []) form then (do
+  slot ← get (codes "slot") form >>= u32_at
+  slot_act name slot) else None
+
 -- what a step did, by the name under `do`
 unfoldable pub act_at : Data → Option Act
 act_at form = do
   name ← get (codes "do") form >>= as_str
-  if bytes_eq name (codes "drained") then drained_at form else tagged_act_at name form
+  if bytes_eq name (codes "drained") then drained_at form else
+      (if bytes_eq name (codes "hand") then hand_at form else or_else (tagged_act_at name form) (slot_act_at name form))
 
 -- a word line: what the step did, what it was answered, its seat and its place
 unfoldable pub word_line_at : Data → Option WordLine

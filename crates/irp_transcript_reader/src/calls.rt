@@ -2,6 +2,7 @@
 
 ghost use Rattle.std.specs.Prelude.{◌≡◌};
 ghost use Rattle.serde_json.specs.View.{view};
+ghost use Rattle.irp_forms.specs.Parts.{has_keys};
 ghost use Rattle.irp_transcript_reader.specs.Calls.{
   allocate_at,
   attach_at,
@@ -12,6 +13,8 @@ ghost use Rattle.irp_transcript_reader.specs.Calls.{
   device_call_named,
   entry_call_at,
   entry_call_named,
+  finish_taken_at,
+  finish_taken_keys,
   irp_alone_at,
   packet_call_named,
   reuse_at,
@@ -19,7 +22,7 @@ ghost use Rattle.irp_transcript_reader.specs.Calls.{
 
 use crate::party_calls::{party_call_named, plain_call_named};
 use irp_forms::{
-    device_at, driver_at, has_keys, irp_at, lock_at, lock_or_null_at, status_at, u8_at,
+    device_at, driver_at, has_keys, irp_at, lock_at, lock_or_null_at, status_at, u8_at, u64_at,
 };
 use irp_types::{Call, IrpRef, LockNo};
 use serde_json::Value;
@@ -122,6 +125,34 @@ fn irp_alone_at(value: &Value) -> Option<IrpRef>
     irp_at(value.get("irp")?)
 }
 
+/// Whether it has the keys of a call that finishes a packet which was taken from a cancel slot.
+#[tactic(auto, unfolding(crate::specs::Calls::finish_taken_keys))]
+fn has_finish_taken_keys(value: &Value) -> bool
+    ensures { result ≡ has_keys finish_taken_keys (view value.now) }
+{
+    has_keys(value, &["do", "information", "irp", "status", "token"])
+}
+
+/// A call that finishes a packet which was taken from a cancel slot.
+#[tactic(auto, unfolding(crate::specs::Calls::finish_taken_at))]
+fn finish_taken_at(value: &Value) -> Option<Call>
+    ensures { result ≡ finish_taken_at (view value.now) }
+{
+    if !has_finish_taken_keys(value) {
+        return None;
+    }
+    let irp = irp_at(value.get("irp")?)?;
+    let token = u64_at(value.get("token")?)?;
+    let status = status_at(value.get("status")?)?;
+    let information = u64_at(value.get("information")?)?;
+    Some(Call::FinishTaken {
+        irp,
+        token,
+        status,
+        information,
+    })
+}
+
 /// A call on a packet that no party makes, by its name.
 #[tactic(auto, unfolding(crate::specs::Calls::packet_call_named))]
 fn packet_call_named(name: &str, value: &Value) -> Option<Call>
@@ -134,6 +165,8 @@ fn packet_call_named(name: &str, value: &Value) -> Option<Call>
         Some(Call::Free { irp })
     } else if name == "reuse" {
         reuse_at(value)
+    } else if name == "finish_taken" {
+        finish_taken_at(value)
     } else if name == "cancel" {
         let irp = irp_alone_at(value)?;
         Some(Call::Cancel { irp })

@@ -1,9 +1,17 @@
 //! Headers.
 
-ghost use Rattle.std.specs.Prelude.{◌≡◌};
+ghost use Rattle.std.specs.Prelude.{◌≡◌, ◌∷◌, codes};
 ghost use Rattle.serde_json.specs.View.{view};
 ghost use Rattle.irp_forms.specs.Parts.{Gives, has_keys};
-ghost use Rattle.irp_transcript_reader.specs.Lines.{counts_at, form_numbered, header_at, header_keys, list_under};
+ghost use Rattle.irp_transcript_reader.specs.Lines.{
+  counts_at,
+  form_one_at,
+  form_two_at,
+  header_at,
+  header_form_at,
+  header_keys,
+  list_under,
+};
 
 use irp_forms::{FromJson, Unread, completions_at, form_of, has_keys, list_at, u32_at};
 use irp_shared::{Form, Header};
@@ -11,35 +19,24 @@ use irp_types::{Known, Row};
 use serde_json::Value;
 use std::alloc::Global;
 
-/// A header's numbers.
+/// A header's numbers but for its form.
 #[derive(Clone, Copy)]
 pub struct Counts {
     pub completions: Known,
-    pub form: Form,
     pub locks: u32,
     pub seats: u32,
 }
 
-/// The form that has this number.
-#[tactic(auto, unfolding(crate::specs::Lines::form_numbered))]
-fn form_numbered(number: u32) -> Option<Form>
-    ensures { result ≡ form_numbered number }
-{
-    if number == 1 { Some(Form::One) } else { None }
-}
-
-/// A header's numbers: the counts of completion routines, the form, the locks and the seats.
+/// A header's other numbers: the counts of completion routines, the locks and the seats.
 #[tactic(auto, unfolding(crate::specs::Lines::counts_at))]
 fn counts_at(value: &Value) -> Option<Counts>
     ensures { result ≡ counts_at (view value.now) }
 {
     let completions = completions_at(value.get("completions")?)?;
-    let form = form_numbered(u32_at(value.get("form")?)?)?;
     let locks = u32_at(value.get("locks")?)?;
     let seats = u32_at(value.get("seats")?)?;
     Some(Counts {
         completions,
-        form,
         locks,
         seats,
     })
@@ -55,7 +52,7 @@ fn list_under<T: FromJson + Drop>(alloc: Global, key: &str, value: &Value) -> Re
     }
 }
 
-/// Whether it has the keys of a header.
+/// Whether it has the keys of a header of form 1.
 #[tactic(auto, unfolding(crate::specs::Lines::header_keys))]
 fn has_header_keys(value: &Value) -> bool
     ensures { result ≡ has_keys header_keys (view value.now) }
@@ -74,6 +71,63 @@ fn has_header_keys(value: &Value) -> bool
     )
 }
 
+/// Whether it has the keys of a header of form 2.
+#[tactic(auto, unfolding(crate::specs::Lines::header_keys))]
+fn has_two_header_keys(value: &Value) -> bool
+    ensures { result ≡ has_keys (codes "slots" ∷ header_keys) (view value.now) }
+{
+    has_keys(
+        value,
+        &[
+            "slots",
+            "cancels",
+            "completions",
+            "dispatches",
+            "drivers",
+            "form",
+            "locks",
+            "seats",
+        ],
+    )
+}
+
+/// Form 1, by its number.
+#[tactic(auto, unfolding(crate::specs::Lines::form_one_at))]
+fn form_one_at(value: &Value) -> Option<Form>
+    ensures { result ≡ form_one_at (view value.now) }
+{
+    let number = u32_at(value.get("form")?)?;
+    if number == 1 { Some(Form::One) } else { None }
+}
+
+/// Form 2, by its number, with its cancel slots.
+#[tactic(auto, unfolding(crate::specs::Lines::form_two_at))]
+fn form_two_at(value: &Value) -> Option<Form>
+    ensures { result ≡ form_two_at (view value.now) }
+{
+    let number = u32_at(value.get("form")?)?;
+    let slots = u32_at(value.get("slots")?)?;
+    if number == 2 {
+        Some(Form::Two { slots })
+    } else {
+        None
+    }
+}
+
+/// A header's form, by its keys and its number.
+#[tactic(auto, unfolding(crate::specs::Lines::header_form_at))]
+fn header_form_at(value: &Value) -> Option<Form>
+    ensures { result ≡ header_form_at (view value.now) }
+{
+    if has_header_keys(value) {
+        form_one_at(value)
+    } else if has_two_header_keys(value) {
+        form_two_at(value)
+    } else {
+        None
+    }
+}
+
 /// A header, which counts its cancel routines by their list. Whether the formats accept it is not asked.
 ///
 /// # Errors
@@ -83,9 +137,7 @@ fn has_header_keys(value: &Value) -> bool
 pub fn header_at(alloc: Global, value: &Value) -> Result<Header, Unread>
     ensures { Gives result (header_at (view value.now)) }
 {
-    if !has_header_keys(value) {
-        return Err(Unread::Form);
-    }
+    let form = form_of(header_form_at(value))?;
     let counts = form_of(counts_at(value))?;
     let cancels = list_under(alloc, "cancels", value)?;
     let dispatches = list_under(alloc, "dispatches", value)?;
@@ -102,7 +154,7 @@ pub fn header_at(alloc: Global, value: &Value) -> Result<Header, Unread>
         },
         dispatches,
         drivers,
-        form: counts.form,
+        form,
         locks: counts.locks,
         seats: counts.seats,
     })

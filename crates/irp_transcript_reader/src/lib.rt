@@ -3,6 +3,7 @@
 
 mod calls;
 mod entries;
+mod forms;
 mod headers;
 mod party_calls;
 mod read;

@@ -9,6 +9,7 @@ ghost use Rattle.irp_transcript_reader.specs.Reading.{
   GivesLine,
   TakesLine,
   TakesValue,
+  hands_within,
   seated_entry_at,
   seated_word_at,
   so_far,
@@ -18,10 +19,11 @@ ghost use Rattle.irp_transcript_reader.specs.Reading.{
 };
 
 use crate::entries::entry_at;
+use crate::forms::{has_entry, has_word};
 use crate::headers::header_at;
 use crate::word_lines::word_line_at;
 use irp_forms::{Unread, form_of};
-use irp_shared::{Header, WordLine};
+use irp_shared::{Act, Form, Header, WordLine};
 use irp_types::Entry;
 use serde_json::Value;
 use std::alloc::Global;
@@ -40,26 +42,40 @@ pub struct Reading {
     pub words: Vec<WordLine>,
 }
 
-/// An entry of one of these seats.
+/// An entry of one of these seats, which the form has.
 #[tactic(auto, unfolding(crate::specs::Reading::seated_entry_at))]
-fn seated_entry_at(alloc: Global, seats: u32, value: &Value) -> Result<Entry, Unread>
-    ensures { Gives result (seated_entry_at seats (view value.now)) }
+fn seated_entry_at(alloc: Global, form: Form, seats: u32, value: &Value) -> Result<Entry, Unread>
+    ensures { Gives result (seated_entry_at form seats (view value.now)) }
 {
     let entry = entry_at(alloc, value)?;
-    if entry.seat < seats {
+    if entry.seat < seats && has_entry(form, &entry) {
         Ok(entry)
     } else {
         Err(Unread::Form)
     }
 }
 
-/// A word line of one of these seats.
+/// Whether a step hands over to one of these seats, if it hands over.
+fn hands_within(seats: u32, act: Act) -> bool
+    ensures { result ≡ hands_within seats act }
+{
+    match act {
+        Act::Hand { to, .. } => to < seats,
+        _ => true,
+    }
+}
+
+/// A word line of one of these seats, which the form has.
 #[tactic(auto, unfolding(crate::specs::Reading::seated_word_at))]
-fn seated_word_at(seats: u32, value: &Value) -> Option<WordLine>
-    ensures { result ≡ seated_word_at seats (view value.now) }
+fn seated_word_at(form: Form, seats: u32, value: &Value) -> Option<WordLine>
+    ensures { result ≡ seated_word_at form seats (view value.now) }
 {
     let line = word_line_at(value)?;
-    if line.seat < seats { Some(line) } else { None }
+    if line.seat < seats && hands_within(seats, line.act) && has_word(form, line) {
+        Some(line)
+    } else {
+        None
+    }
 }
 
 /// A header that the formats accept.
@@ -88,13 +104,19 @@ impl Reading {
 
     /// Takes an entry, before the word lines and where there are not too many.
     #[tactic(auto, unfolding(crate::specs::Reading::with_entry))]
-    fn take_entry(&mut self, alloc: Global, seats: u32, value: &Value) -> Result<(), Unread>
-        ensures { GivesLine result (with_entry seats (so_far self.old) (view value.now)) (so_far self.new) }
+    fn take_entry(
+        &mut self,
+        alloc: Global,
+        form: Form,
+        seats: u32,
+        value: &Value,
+    ) -> Result<(), Unread>
+        ensures { GivesLine result (with_entry form seats (so_far self.old) (view value.now)) (so_far self.new) }
     {
         if !self.words.is_empty() || self.entries.len() >= MOST_ENTRIES {
             return Err(Unread::Form);
         }
-        let entry = seated_entry_at(alloc, seats, value)?;
+        let entry = seated_entry_at(alloc, form, seats, value)?;
         match self.entries.push(entry) {
             Ok(()) => Ok(()),
             Err(_) => Err(Unread::NoMemory),
@@ -103,10 +125,10 @@ impl Reading {
 
     /// Takes a word line.
     #[tactic(auto, unfolding(crate::specs::Reading::with_word))]
-    fn take_word(&mut self, seats: u32, value: &Value) -> Result<(), Unread>
-        ensures { GivesLine result (with_word seats (so_far self.old) (view value.now)) (so_far self.new) }
+    fn take_word(&mut self, form: Form, seats: u32, value: &Value) -> Result<(), Unread>
+        ensures { GivesLine result (with_word form seats (so_far self.old) (view value.now)) (so_far self.new) }
     {
-        let line = form_of(seated_word_at(seats, value))?;
+        let line = form_of(seated_word_at(form, seats, value))?;
         match self.words.push(line) {
             Ok(()) => Ok(()),
             Err(_) => Err(Unread::NoMemory),
@@ -115,13 +137,19 @@ impl Reading {
 
     /// Takes an entry or a word line.
     #[tactic(auto, unfolding(crate::specs::Reading::with_line))]
-    fn take_line_of(&mut self, alloc: Global, seats: u32, value: &Value) -> Result<(), Unread>
-        ensures { GivesLine result (with_line seats (so_far self.old) (view value.now)) (so_far self.new) }
+    fn take_line_of(
+        &mut self,
+        alloc: Global,
+        form: Form,
+        seats: u32,
+        value: &Value,
+    ) -> Result<(), Unread>
+        ensures { GivesLine result (with_line form seats (so_far self.old) (view value.now)) (so_far self.new) }
     {
         if value.get("call").is_some() {
-            self.take_entry(alloc, seats, value)
+            self.take_entry(alloc, form, seats, value)
         } else {
-            self.take_word(seats, value)
+            self.take_word(form, seats, value)
         }
     }
 
@@ -136,8 +164,9 @@ impl Reading {
                 Ok(())
             }
             Some(header) => {
+                let form = header.form;
                 let seats = header.seats;
-                self.take_line_of(alloc, seats, value)
+                self.take_line_of(alloc, form, seats, value)
             }
         }
     }

@@ -2,11 +2,19 @@
 
 ghost use Rattle.std.specs.Prelude.{◌≡◌};
 ghost use Rattle.serde_json.specs.View.{view};
+ghost use Rattle.irp_forms.specs.Parts.{has_keys};
 ghost use Rattle.irp_transcript_reader.specs.WordLines.{
   act_at,
   drained_at,
+  hand_at,
+  hand_keys,
+  lock_reply_named,
+  slot_act,
+  slot_act_at,
+  slot_reply_named,
   tagged_act,
   tagged_act_at,
+  valued_reply_at,
   word_line_at,
   word_reply_at,
   word_reply_named,
@@ -18,10 +26,10 @@ use irp_shared::{Act, WordLine, WordReply};
 use irp_types::LockNo;
 use serde_json::Value;
 
-/// A step's answer by its name.
-#[tactic(auto, unfolding(crate::specs::WordLines::word_reply_named))]
-fn word_reply_named(name: &str) -> Option<WordReply>
-    ensures { result ≡ word_reply_named name.now }
+/// The answer of a step on a remove lock by its name.
+#[tactic(auto, unfolding(crate::specs::WordLines::lock_reply_named))]
+fn lock_reply_named(name: &str) -> Option<WordReply>
+    ensures { result ≡ lock_reply_named name.now }
 {
     if name == "ok" {
         Some(WordReply::Done)
@@ -40,6 +48,41 @@ fn word_reply_named(name: &str) -> Option<WordReply>
     }
 }
 
+/// The answer of a step on a cancel slot by its name.
+#[tactic(auto, unfolding(crate::specs::WordLines::slot_reply_named))]
+fn slot_reply_named(name: &str) -> Option<WordReply>
+    ensures { result ≡ slot_reply_named name.now }
+{
+    if name == "standing" {
+        Some(WordReply::Standing)
+    } else if name == "lost" {
+        Some(WordReply::Lost)
+    } else if name == "nothing" {
+        Some(WordReply::Nothing)
+    } else if name == "used" {
+        Some(WordReply::Used)
+    } else if name == "not_standing" {
+        Some(WordReply::NotStanding)
+    } else if name == "no_slot" {
+        Some(WordReply::NoSlot)
+    } else if name == "no_token" {
+        Some(WordReply::NoToken)
+    } else {
+        None
+    }
+}
+
+/// A step's answer by its name.
+#[tactic(auto, unfolding(crate::specs::WordLines::word_reply_named))]
+fn word_reply_named(name: &str) -> Option<WordReply>
+    ensures { result ≡ word_reply_named name.now }
+{
+    match lock_reply_named(name) {
+        Some(reply) => Some(reply),
+        None => slot_reply_named(name),
+    }
+}
+
 /// The status of an acquire: success, or that removal has begun.
 #[tactic(auto, unfolding(crate::specs::WordLines::word_status))]
 fn word_status(status: u32) -> Option<WordReply>
@@ -54,21 +97,32 @@ fn word_status(status: u32) -> Option<WordReply>
     }
 }
 
-/// What a step was answered: its name, or its one value under its name.
-#[tactic(auto, unfolding(crate::specs::WordLines::word_reply_at))]
-fn word_reply_at(value: &Value) -> Option<WordReply>
-    ensures { result ≡ word_reply_at (view value.now) }
+/// A step's answer that has a value, which stands under its name.
+#[tactic(auto, unfolding(crate::specs::WordLines::valued_reply_at))]
+fn valued_reply_at(value: &Value) -> Option<WordReply>
+    ensures { result ≡ valued_reply_at (view value.now) }
 {
-    if let Value::String(name) = value {
-        return word_reply_named(name.as_str());
-    }
     if has_keys(value, &["status"]) {
         word_status(u32_at(value.get("status")?)?)
     } else if has_keys(value, &["busy"]) {
         let word = u64_at(value.get("busy")?)?;
         Some(WordReply::Busy { word })
+    } else if has_keys(value, &["taken"]) {
+        let use_no = u64_at(value.get("taken")?)?;
+        Some(WordReply::Taken { use_no })
     } else {
         None
+    }
+}
+
+/// What a step was answered: its name, or its one value under its name.
+#[tactic(auto, unfolding(crate::specs::WordLines::word_reply_at))]
+fn word_reply_at(value: &Value) -> Option<WordReply>
+    ensures { result ≡ word_reply_at (view value.now) }
+{
+    match value {
+        Value::String(name) => word_reply_named(name.as_str()),
+        _ => valued_reply_at(value),
     }
 }
 
@@ -113,6 +167,58 @@ fn drained_at(value: &Value) -> Option<Act>
     Some(Act::Drained { lock })
 }
 
+/// Whether it has the keys of a step that hands a reference to another seat.
+#[tactic(auto, unfolding(crate::specs::WordLines::hand_keys))]
+fn has_hand_keys(value: &Value) -> bool
+    ensures { result ≡ has_keys hand_keys (view value.now) }
+{
+    has_keys(value, &["do", "lock", "reply", "seat", "step", "tag", "to"])
+}
+
+/// What a step did that hands a reference to another seat.
+#[tactic(auto, unfolding(crate::specs::WordLines::hand_at))]
+fn hand_at(value: &Value) -> Option<Act>
+    ensures { result ≡ hand_at (view value.now) }
+{
+    if !has_hand_keys(value) {
+        return None;
+    }
+    let lock = lock_at(value.get("lock")?)?;
+    let tag = u32_at(value.get("tag")?)?;
+    let to = u32_at(value.get("to")?)?;
+    Some(Act::Hand { lock, tag, to })
+}
+
+/// A step on a cancel slot, by its name.
+#[tactic(auto, unfolding(crate::specs::WordLines::slot_act))]
+fn slot_act(name: &str, slot: u32) -> Option<Act>
+    ensures { result ≡ slot_act name.now slot }
+{
+    if name == "publish" {
+        Some(Act::Publish { slot })
+    } else if name == "withdraw" {
+        Some(Act::Withdraw { slot })
+    } else if name == "request" {
+        Some(Act::Request { slot })
+    } else if name == "finish_taken" {
+        Some(Act::FinishTaken { slot })
+    } else {
+        None
+    }
+}
+
+/// What a step on a cancel slot did.
+#[tactic(auto, unfolding(crate::specs::WordLines::slot_act_at))]
+fn slot_act_at(name: &str, value: &Value) -> Option<Act>
+    ensures { result ≡ slot_act_at name.now (view value.now) }
+{
+    if !has_keys(value, &["do", "reply", "seat", "slot", "step"]) {
+        return None;
+    }
+    let slot = u32_at(value.get("slot")?)?;
+    slot_act(name, slot)
+}
+
 /// What a step did, by the name under `do`.
 #[tactic(auto, unfolding(crate::specs::WordLines::act_at))]
 fn act_at(value: &Value) -> Option<Act>
@@ -120,9 +226,14 @@ fn act_at(value: &Value) -> Option<Act>
 {
     let name = value.get("do")?.as_str()?;
     if name == "drained" {
-        drained_at(value)
-    } else {
-        tagged_act_at(name, value)
+        return drained_at(value);
+    }
+    if name == "hand" {
+        return hand_at(value);
+    }
+    match tagged_act_at(name, value) {
+        Some(act) => Some(act),
+        None => slot_act_at(name, value),
     }
 }
 

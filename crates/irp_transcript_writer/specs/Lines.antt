@@ -289,18 +289,23 @@ handler_json handler = list (natural handler.0 ∷ dispatch_json handler.1 ∷ [
 abbrev pub driver_json : List (ℕ × DispatchId) → Data
 driver_json handlers = list (map handler_json handlers)
 
--- the number of a header's form
-abbrev pub form_number : Form → ℕ
-form_number form.One = 1
+-- the members of a header's line, but for the number of cancel slots, with the number of its form
+abbrev pub header_members : ℕ → Header → List (List ℕ × Data) → List (List ℕ × Data)
+header_members number header others =
+    (codes "cancels", list (map cancel_rule_json header.cancels)) ∷ (codes "completions", completions_json header.completions)
+    ∷ (codes "dispatches", list (map known_json header.dispatches)) ∷ (codes "drivers", list (map driver_json header.drivers))
+    ∷ (codes "form", natural number) ∷ (codes "locks", natural header.locks) ∷ (codes "seats", natural header.seats) ∷ others
+
+-- the line of a header of this form, which tells the number of cancel slots in form 2 alone
+abbrev pub line_of_form : Form → Header → Data
+line_of_form form.One header = fields (header_members 1 header [])
+line_of_form (form.Two slots) header = fields (header_members 2 header ((codes "slots", natural slots) ∷ []))
 
 -- the first line: what the transcript was made with
 abbrev pub header_json : Header → Data
-header_json header =
-    fields ((codes "cancels", list (map cancel_rule_json header.cancels)) ∷ (codes "completions", completions_json header.completions)
-    ∷ (codes "dispatches", list (map known_json header.dispatches)) ∷ (codes "drivers", list (map driver_json header.drivers))
-    ∷ (codes "form", natural (form_number header.form)) ∷ (codes "locks", natural header.locks) ∷ (codes "seats", natural header.seats) ∷ [])
+header_json header = line_of_form header.form header
 
--- what a step on a remove lock was answered
+-- what a step on a remove lock or on a cancel slot was answered
 abbrev pub word_reply_json : WordReply → Data
 word_reply_json word_reply.Acquired = fields ((codes "status", natural 0) ∷ [])
 word_reply_json word_reply.DeletePending = fields ((codes "status", natural 0xc0000056) ∷ [])
@@ -311,12 +316,33 @@ word_reply_json word_reply.AlreadyRemoving = string (codes "already_removing")
 word_reply_json word_reply.NoLock = string (codes "no_lock")
 word_reply_json word_reply.Yes = string (codes "yes")
 word_reply_json (word_reply.Busy word) = fields ((codes "busy", natural word) ∷ [])
+word_reply_json word_reply.Standing = string (codes "standing")
+word_reply_json (word_reply.Taken use_no) = fields ((codes "taken", natural use_no) ∷ [])
+word_reply_json word_reply.Lost = string (codes "lost")
+word_reply_json word_reply.Nothing = string (codes "nothing")
+word_reply_json word_reply.Used = string (codes "used")
+word_reply_json word_reply.NotStanding = string (codes "not_standing")
+word_reply_json word_reply.NoSlot = string (codes "no_slot")
+word_reply_json word_reply.NoToken = string (codes "no_token")
 
 -- the line of a step that has a tag, by its name
 abbrev pub tagged_json : List ℕ → LockNo → ℕ → WordLine → Data
 tagged_json name lock tag line =
     fields ((codes "do", string name) ∷ (codes "lock", lock_json lock) ∷ (codes "reply", word_reply_json line.reply)
     ∷ (codes "seat", natural line.seat) ∷ (codes "step", natural line.step) ∷ (codes "tag", natural tag) ∷ [])
+
+-- the line of a step that hands a reference to another seat
+abbrev pub hand_json : LockNo → ℕ → ℕ → WordLine → Data
+hand_json lock tag receiver line =
+    fields ((codes "do", string (codes "hand")) ∷ (codes "lock", lock_json lock) ∷ (codes "reply", word_reply_json line.reply)
+    ∷ (codes "seat", natural line.seat) ∷ (codes "step", natural line.step) ∷ (codes "tag", natural tag)
+    ∷ (codes "to", natural receiver) ∷ [])
+
+-- the line of a step on a cancel slot, by its name
+abbrev pub slot_json : List ℕ → ℕ → WordLine → Data
+slot_json name slot line =
+    fields ((codes "do", string name) ∷ (codes "reply", word_reply_json line.reply) ∷ (codes "seat", natural line.seat)
+    ∷ (codes "slot", natural slot) ∷ (codes "step", natural line.step) ∷ [])
 
 -- the line of a step that did this
 abbrev pub line_of_act : Act → WordLine → Data
@@ -326,6 +352,11 @@ line_of_act (act.BeginRemove lock tag) line = tagged_json (codes "begin_remove")
 line_of_act (act.Drained lock) line =
     fields ((codes "do", string (codes "drained")) ∷ (codes "lock", lock_json lock) ∷ (codes "reply", word_reply_json line.reply)
     ∷ (codes "seat", natural line.seat) ∷ (codes "step", natural line.step) ∷ [])
+line_of_act (act.Hand lock tag receiver) line = hand_json lock tag receiver line
+line_of_act (act.Publish slot) line = slot_json (codes "publish") slot line
+line_of_act (act.Withdraw slot) line = slot_json (codes "withdraw") slot line
+line_of_act (act.Request slot) line = slot_json (codes "request") slot line
+line_of_act (act.FinishTaken slot) line = slot_json (codes "finish_taken") slot line
 
 -- a word line: what the step did, its seat and place, and what it was answered
 abbrev pub word_json : WordLine → Data

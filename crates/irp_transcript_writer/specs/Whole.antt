@@ -1,10 +1,10 @@
 -- No form has a fraction in it, so the text of each is known. These stand here since the impls' laws cite them.
-use Rattle.std.specs.Prelude.{◌≡◌, List, [], ◌∷◌, Bool, ◌||◌, map, false, refl, Option, Some, None}
+use Rattle.std.specs.Prelude.{◌≡◌, ℕ, List, [], ◌∷◌, Bool, ◌||◌, map, codes, false, refl, Option, Some, None}
 use Rattle.std.proofs.Common.{ap, ◌∙◌}
 use Rattle.serde_json.specs.Data.{Data}
 use Rattle.serde_json.specs.Written.{has_float}
-use Rattle.irp_transcript_writer.specs.Json.{list, or_null}
-use Rattle.irp_transcript_writer.specs.Lines.{party_json, owner_json, cancel_json, device_json, lock_json, setting_json, plan_json, replacement_json, answer_json, cancel_answer_json, shown_json, asked_json, call_json, seen_json, reply_json, entry_json, cancel_rule_json, known_json, handler_json, driver_json, header_json, word_reply_json, line_of_act, word_json}
+use Rattle.irp_transcript_writer.specs.Json.{natural, fields, list, or_null}
+use Rattle.irp_transcript_writer.specs.Lines.{party_json, owner_json, cancel_json, device_json, lock_json, setting_json, plan_json, replacement_json, answer_json, cancel_answer_json, shown_json, asked_json, call_json, seen_json, reply_json, entry_json, cancel_rule_json, known_json, handler_json, driver_json, header_members, line_of_form, header_json, word_reply_json, line_of_act, word_json}
 use Rattle.irp_types.specs.declared.answer.Answer.{Answer}
 use Rattle.irp_types.specs.declared.answer.CancelAnswer.{CancelAnswer}
 use Rattle.irp_types.specs.declared.answer.CancelAnswer.TheVariants as cancel_answer
@@ -24,6 +24,8 @@ use Rattle.irp_types.specs.declared.reply.Reply.{Reply}
 use Rattle.irp_types.specs.declared.reply.Reply.TheVariants as reply
 use Rattle.irp_types.specs.declared.reply.Seen.{Seen}
 use Rattle.irp_types.specs.declared.shown.Shown.{Shown}
+use Rattle.irp_shared.specs.declared.header.Form.{Form}
+use Rattle.irp_shared.specs.declared.header.Form.TheVariants as form
 use Rattle.irp_shared.specs.declared.header.Header.{Header}
 use Rattle.irp_shared.specs.declared.word_line.Act.{Act}
 use Rattle.irp_shared.specs.declared.word_line.Act.TheVariants as act
@@ -129,14 +131,21 @@ pub entry_whole : (entry : Entry) → IsWhole (entry_json entry)
 entry_whole entry =
     or_whole _ _ (each_whole asked_json asked_whole entry.asked) (or_whole _ _ (call_whole entry.call entry.lock entry.drained) (or_whole _ _ (reply_whole entry.reply) refl))
 
--- a header has a whole form
-pub header_whole : (header : Header) → IsWhole (header_json header)
-header_whole header =
+members_whole : (number : ℕ) (header : Header) (others : List (List ℕ × Data)) → IsWhole (fields others) → IsWhole (fields (header_members number header others))
+members_whole number header others whole =
     or_whole _ _ (each_whole cancel_rule_json (λ _. refl) header.cancels)
     (or_whole _ _ (each_whole known_json (λ _. refl) header.dispatches)
-    (or_whole _ _ (each_whole driver_json (each_whole handler_json (λ _. refl)) header.drivers) refl))
+    (or_whole _ _ (each_whole driver_json (each_whole handler_json (λ _. refl)) header.drivers) whole))
 
--- a reply of a remove lock has a whole form
+form_whole : (kind : Form) (header : Header) → IsWhole (line_of_form kind header)
+form_whole form.One header = members_whole 1 header [] refl
+form_whole (form.Two slots) header = members_whole 2 header ((codes "slots", natural slots) ∷ []) refl
+
+-- a header has a whole form
+pub header_whole : (header : Header) → IsWhole (header_json header)
+header_whole header = form_whole header.form header
+
+-- a reply of a remove lock or a cancel slot has a whole form
 pub word_reply_whole : (reply : WordReply) → IsWhole (word_reply_json reply)
 word_reply_whole word_reply.Acquired = refl
 word_reply_whole word_reply.DeletePending = refl
@@ -147,12 +156,25 @@ word_reply_whole word_reply.AlreadyRemoving = refl
 word_reply_whole word_reply.NoLock = refl
 word_reply_whole word_reply.Yes = refl
 word_reply_whole (word_reply.Busy word) = refl
+word_reply_whole word_reply.Standing = refl
+word_reply_whole (word_reply.Taken use_no) = refl
+word_reply_whole word_reply.Lost = refl
+word_reply_whole word_reply.Nothing = refl
+word_reply_whole word_reply.Used = refl
+word_reply_whole word_reply.NotStanding = refl
+word_reply_whole word_reply.NoSlot = refl
+word_reply_whole word_reply.NoToken = refl
 
 act_whole : (act : Act) (line : WordLine) → IsWhole (line_of_act act line)
 act_whole (act.Acquire lock tag) line = or_whole _ _ (word_reply_whole line.reply) refl
 act_whole (act.Release lock tag) line = or_whole _ _ (word_reply_whole line.reply) refl
 act_whole (act.BeginRemove lock tag) line = or_whole _ _ (word_reply_whole line.reply) refl
 act_whole (act.Drained lock) line = or_whole _ _ (word_reply_whole line.reply) refl
+act_whole (act.Hand lock tag receiver) line = or_whole _ _ (word_reply_whole line.reply) refl
+act_whole (act.Publish slot) line = or_whole _ _ (word_reply_whole line.reply) refl
+act_whole (act.Withdraw slot) line = or_whole _ _ (word_reply_whole line.reply) refl
+act_whole (act.Request slot) line = or_whole _ _ (word_reply_whole line.reply) refl
+act_whole (act.FinishTaken slot) line = or_whole _ _ (word_reply_whole line.reply) refl
 
 -- a word line has a whole form
 pub word_whole : (line : WordLine) → IsWhole (word_json line)

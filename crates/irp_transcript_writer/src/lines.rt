@@ -3,7 +3,9 @@
 ghost use Rattle.std.specs.Prelude.{◌≡◌, IfOk};
 ghost use Rattle.serde_json.specs.View.{view};
 ghost use Rattle.irp_types.specs.declared.asked.Asked.TheVariants as asked;
-ghost use Rattle.irp_transcript_writer.specs.Lines.{asked_json, completions_json, entry_json, form_number, header_json, reply_json};
+ghost use Rattle.irp_shared.specs.declared.header.Form.TheVariants as form;
+ghost use Rattle.irp_transcript_writer.specs.Lines.{asked_json, completions_json, entry_json, header_json, line_of_form, reply_json};
+ghost use Rattle.irp_transcript_writer.specs.Lists.{AreLists};
 ghost use Rattle.irp_transcript_writer.specs.Whole.{asked_whole, entry_whole, header_whole, reply_whole};
 
 use crate::calls::form_of_call;
@@ -134,30 +136,75 @@ fn completions_of(alloc: Global, known: Known) -> Result<Value, AllocError>
     json!(in alloc; [watch, change, keeper, keep_on_error, free])
 }
 
-/// The number of a header's form.
-fn number_of_form(form: Form) -> u8
-    ensures { result ≡ form_number form }
+/// The forms of a header's lists.
+#[derive(Drop)]
+pub struct Lists {
+    pub cancels: Value,
+    pub completions: Value,
+    pub dispatches: Value,
+    pub drivers: Value,
+}
+
+/// The forms of the header's lists.
+fn lists_of(alloc: Global, header: &Header) -> Result<Lists, AllocError>
+    ensures { IfOk result (AreLists header.now) }
 {
-    match form {
-        Form::One => 1,
-    }
+    let cancels = header.cancels.to_json(alloc)?;
+    let completions = completions_of(alloc, header.completions)?;
+    let dispatches = header.dispatches.to_json(alloc)?;
+    let drivers = header.drivers.to_json(alloc)?;
+    Ok(Lists {
+        cancels,
+        completions,
+        dispatches,
+        drivers,
+    })
+}
+
+/// The line of a header of form 1.
+fn line_of_one(alloc: Global, header: &Header) -> Result<Value, AllocError>
+    ensures { IfOk result (λ value. view value ≡ line_of_form form.One header.now) }
+{
+    let Lists {
+        cancels,
+        completions,
+        dispatches,
+        drivers,
+    } = lists_of(alloc, header)?;
+    let locks = header.locks;
+    let seats = header.seats;
+    json!(in alloc; {
+        "cancels": cancels, "completions": completions, "dispatches": dispatches, "drivers": drivers,
+        "form": 1u8, "locks": locks, "seats": seats
+    })
+}
+
+/// The line of a header of form 2, with its cancel slots.
+fn line_of_two(alloc: Global, header: &Header, slots: u32) -> Result<Value, AllocError>
+    ensures { IfOk result (λ value. view value ≡ line_of_form (form.Two slots) header.now) }
+{
+    let Lists {
+        cancels,
+        completions,
+        dispatches,
+        drivers,
+    } = lists_of(alloc, header)?;
+    let locks = header.locks;
+    let seats = header.seats;
+    json!(in alloc; {
+        "cancels": cancels, "completions": completions, "dispatches": dispatches, "drivers": drivers,
+        "form": 2u8, "locks": locks, "seats": seats, "slots": slots
+    })
 }
 
 impl ToJson for Header {
     ghost json = { header_json };
 
     fn to_json(&self, alloc: Global) -> Result<Value, AllocError> {
-        let cancels = self.cancels.to_json(alloc)?;
-        let completions = completions_of(alloc, self.completions)?;
-        let dispatches = self.dispatches.to_json(alloc)?;
-        let drivers = self.drivers.to_json(alloc)?;
-        let form = number_of_form(self.form);
-        let locks = self.locks;
-        let seats = self.seats;
-        json!(in alloc; {
-            "cancels": cancels, "completions": completions, "dispatches": dispatches, "drivers": drivers,
-            "form": form, "locks": locks, "seats": seats
-        })
+        match self.form {
+            Form::One => line_of_one(alloc, self),
+            Form::Two { slots } => line_of_two(alloc, self, slots),
+        }
     }
 
     ghost whole = { header_whole };

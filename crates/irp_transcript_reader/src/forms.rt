@@ -1,0 +1,96 @@
+//! What each form of transcripts has.
+
+ghost use Rattle.std.specs.Prelude.{◌≡◌};
+ghost use Rattle.std.specs.List.{list_all};
+ghost use Rattle.irp_transcript_reader.specs.Forms.{
+  has_entry,
+  has_word,
+  one_has_act,
+  one_has_asked,
+  one_has_entry,
+  one_has_plan,
+  one_has_reply,
+};
+
+use irp_shared::{Act, Form, WordLine, WordReply, needs_token};
+use irp_types::{Asked, Entry, Plan};
+
+/// Whether form 1 has this plan: it holds no packet in a cancel slot.
+fn one_has_plan(plan: Plan) -> bool
+    ensures { result ≡ one_has_plan plan }
+{
+    !matches!(plan, Plan::HoldSlot)
+}
+
+/// Whether form 1 has this question.
+fn one_has_asked(asked: &Asked) -> bool
+    ensures { result ≡ one_has_asked asked.now }
+{
+    match *asked {
+        Asked::Dispatch { plan, .. } => one_has_plan(plan),
+        _ => true,
+    }
+}
+
+/// Whether form 1 has all of these questions.
+fn one_has_each(asked: &[Asked]) -> bool
+    ensures { result ≡ list_all one_has_asked asked.now }
+{
+    asked.iter().all(|question| one_has_asked(question))
+}
+
+/// Whether form 1 has this entry: its call finishes no packet that was taken from a cancel slot.
+fn one_has_entry(entry: &Entry) -> bool
+    ensures { result ≡ one_has_entry entry.now }
+{
+    !needs_token(entry.call) && one_has_each(entry.asked.as_slice())
+}
+
+/// Whether form 1 has this step: on a remove lock, and no hand.
+fn one_has_act(act: Act) -> bool
+    ensures { result ≡ one_has_act act }
+{
+    match act {
+        Act::Acquire { .. } | Act::Release { .. } | Act::BeginRemove { .. } | Act::Drained { .. } =>
+            { true }
+        _ => false,
+    }
+}
+
+/// Whether form 1 has this answer: one of remove locks.
+fn one_has_reply(reply: WordReply) -> bool
+    ensures { result ≡ one_has_reply reply }
+{
+    match reply {
+        WordReply::Acquired
+        | WordReply::DeletePending
+        | WordReply::Done
+        | WordReply::SeatFull
+        | WordReply::NotHeld
+        | WordReply::AlreadyRemoving
+        | WordReply::NoLock
+        | WordReply::Yes
+        | WordReply::Busy { .. } => true,
+        _ => false,
+    }
+}
+
+/// Whether the form has this entry.
+pub fn has_entry(form: Form, entry: &Entry) -> bool
+    ensures { result ≡ has_entry form entry.now }
+{
+    match form {
+        Form::One => one_has_entry(entry),
+        Form::Two { .. } => true,
+    }
+}
+
+/// Whether the form has this word line.
+pub fn has_word(form: Form, line: WordLine) -> bool
+    ensures { result ≡ has_word form line }
+{
+    match form {
+        Form::One => one_has_act(line.act) && one_has_reply(line.reply),
+        Form::Two { .. } => true,
+    }
+}
