@@ -73,8 +73,8 @@ counts_at form = do
 abbrev pub list_under : {T : Type 0} → (Data → Option T) → List ℕ → Data → Option (List T)
 list_under reads key form = get key form >>= list_at reads
 
--- a header: its form, the rules of at most 256 cancel routines, which it counts by their list, the other counts, what each dispatch
--- may name, and each driver's dispatches
+-- a header: its form, the rules of at most 256 cancel routines, which it counts by their list, the other counts, what
+-- each dispatch may name, and each driver's dispatches
 unfoldable pub header_at : Data → Option Header
 header_at form = do
   kind ← header_form_at form

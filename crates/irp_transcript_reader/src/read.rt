@@ -41,17 +41,18 @@ fn transcript_of(alloc: Global, reading: Reading) -> Transcript
     }
 }
 
-/// Reads a transcript: the header's line, then a line for each entry, then the word lines, each in order; no lines are
-/// the transcript without entries (this project's own format, docs/FORMATS.md). It holds one line's JSON value at a time.
+/// Reads a transcript: the header's line, then a line for each entry, then the word lines, each in order; no lines
+/// are the transcript without entries (this project's own format, docs/FORMATS.md). It holds one line's JSON value at a
+/// time.
 ///
 /// # Errors
 ///
 /// `ReadFault::Line` with the number, from 1, of the first line that is refused. A line is refused where it is longer
-/// than 65,536 bytes without its newline, isn't JSON, has none of the lines' forms (in form 1, also where it has one that
-/// only form 2 has), is a header that the formats don't accept (`Header::is_accepted`), names a seat that the header
-/// doesn't count, is an entry after a word line or past 1,000,000 entries, or ends without a newline.
-/// `ReadFault::NoMemory` where memory ran out at a line behind lines that are all taken: never before the first line, for
-/// a line that is empty or too long, or for one without its newline.
+/// than 65,536 bytes without its newline, isn't JSON, has none of the lines' forms (in form 1, also where it has one
+/// that only form 2 has), is a header that the formats don't accept (`Header::is_accepted`), names a seat that the
+/// header doesn't count, is an entry after a word line or past 1,000,000 entries, or ends without a newline.
+/// `ReadFault::NoMemory` where memory ran out at a line behind lines that are all taken: never before the first line,
+/// for a line that is empty or too long, or for one without its newline.
 pub fn read_transcript(alloc: Global, bytes: &[u8]) -> Result<Transcript, ReadFault>
     ensures { ReadsFrom no_lines 0 result (cut bytes.now) }
 {

@@ -111,7 +111,8 @@ impl Reading {
         seats: u32,
         value: &Value,
     ) -> Result<(), Unread>
-        ensures { GivesLine result (with_entry form seats (so_far self.old) (view value.now)) (so_far self.new) }
+        ensures { GivesLine result (with_entry form seats (so_far self.old) (view value.now))
+            (so_far self.new) }
     {
         if !self.words.is_empty() || self.entries.len() >= MOST_ENTRIES {
             return Err(Unread::Form);
@@ -126,7 +127,8 @@ impl Reading {
     /// Takes a word line.
     #[tactic(auto, unfolding(crate::specs::Reading::with_word))]
     fn take_word(&mut self, form: Form, seats: u32, value: &Value) -> Result<(), Unread>
-        ensures { GivesLine result (with_word form seats (so_far self.old) (view value.now)) (so_far self.new) }
+        ensures { GivesLine result (with_word form seats (so_far self.old) (view value.now))
+            (so_far self.new) }
     {
         let line = form_of(seated_word_at(form, seats, value))?;
         match self.words.push(line) {
@@ -144,7 +146,8 @@ impl Reading {
         seats: u32,
         value: &Value,
     ) -> Result<(), Unread>
-        ensures { GivesLine result (with_line form seats (so_far self.old) (view value.now)) (so_far self.new) }
+        ensures { GivesLine result (with_line form seats (so_far self.old) (view value.now))
+            (so_far self.new) }
     {
         if value.get("call").is_some() {
             self.take_entry(alloc, form, seats, value)
