@@ -53,7 +53,7 @@ pub enum WordReply {
     Standing,
     /// The seat took this use number out of the slot.
     Taken { use_no: u64 },
-    /// Another seat took the use.
+    /// A request took the use, perhaps one of the seat's own; or the use was 0, which nobody takes.
     Lost,
     /// The slot was empty.
     Nothing,
