@@ -6,7 +6,7 @@ use Rattle.std.proofs.lemmas.List.Sums.{sum_by-append, sum_by-cons}
 use Rattle.std.proofs.lemmas.Bool.Decides.{nat_tests, eqb_tells}
 use Rattle.std.specs.List.{cons_option, count_by, enumerate_from, filter_map}
 use Rattle.std.specs.Option.{option_to_list}
-use Rattle.irp_shared.specs.declared.word_line.Act.{Act}
+use Rattle.irp_workers.specs.declared.lock_act.LockAct.{LockAct}
 use Rattle.irp_shared.specs.declared.word_line.WordLine.{WordLine}
 use Rattle.irp_script_reader.specs.declared.act.Step.{Step}
 use Rattle.irp_workers.specs.Words.{LockStep, Ran, if_on_lock, is_own, lock_step_at, lock_step_of, lock_steps, own_steps, told_by}
@@ -54,11 +54,11 @@ run_more number workers before steps i d old new n w lt so_far same_number same_
     ∙ ap (λ all. before ++ all) (sym whole)
 
 -- a step of the worker's own, and of another
-pub own_yes : (number workers place seat : ℕ) (act : Option Act) → (seat % workers == number) ≡ true → own_steps number workers (option_to_list (if_on_lock place seat act)) ≡ option_to_list (if_on_lock place seat act)
+pub own_yes : (number workers place seat : ℕ) (act : Option LockAct) → (seat % workers == number) ≡ true → own_steps number workers (option_to_list (if_on_lock place seat act)) ≡ option_to_list (if_on_lock place seat act)
 own_yes number workers place seat None is = refl
 own_yes number workers place seat (Some act) is = ap (λ test. cond test (option_to_list (if_on_lock place seat (Some act))) []) is
 
-pub own_no : (number workers place seat : ℕ) (act : Option Act) → (seat % workers == number) ≡ false → own_steps number workers (option_to_list (if_on_lock place seat act)) ≡ []
+pub own_no : (number workers place seat : ℕ) (act : Option LockAct) → (seat % workers == number) ≡ false → own_steps number workers (option_to_list (if_on_lock place seat act)) ≡ []
 own_no number workers place seat None is = refl
 own_no number workers place seat (Some act) is = ap (λ test. cond test (option_to_list (if_on_lock place seat (Some act))) []) is
 

@@ -11,7 +11,7 @@ use Rattle.std.proofs.lemmas.Option.{get_or_from_slice_get, none-some, slice_get
 use Rattle.irp_manager.specs.Seats.{Seated}
 use Rattle.irp_remove.specs.Seats.{Holder}
 use Rattle.irp_shared.specs.Sharing.{IsAsBefore}
-use Rattle.irp_shared.specs.declared.word_line.Act.{Act}
+use Rattle.irp_workers.specs.declared.lock_act.LockAct.{LockAct}
 use Rattle.irp_shared.specs.declared.word_line.WordLine.{WordLine}
 use Rattle.irp_script_reader.specs.declared.act.Step.{Step}
 use Rattle.irp_script_reader.specs.declared.act.StepAct.{StepAct}
@@ -27,7 +27,7 @@ use Rattle.irp_workers.proofs.Telling.{enumerate-append}
 roomless_same : (before after : Seated) → IsAsBefore before after → roomless after ≡ roomless before
 roomless_same before after same = λ i. record { number = same.number i; seen = same.seen i; entries = same.entries i; room = 0 }
 
-roomless_calls : (locked : Option Act) (act : StepAct) (remove : Holder) (before after : Seated) → CallsUnlessActs locked act remove before after
+roomless_calls : (locked : Option LockAct) (act : StepAct) (remove : Holder) (before after : Seated) → CallsUnlessActs locked act remove before after
     → CallsUnlessActs locked act remove (roomless before) (roomless after)
 roomless_calls None act remove before after calls =
     let kept = calls.recorded.kept in

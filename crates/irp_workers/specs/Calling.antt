@@ -10,7 +10,7 @@ use Rattle.irp_remove.specs.Seats.{Holder}
 use Rattle.irp_script_reader.specs.declared.act.Named.TheVariants.{Irp}
 use Rattle.irp_script_reader.specs.declared.act.StepAct.{StepAct}
 use Rattle.irp_shared.specs.Sharing.{Called}
-use Rattle.irp_shared.specs.declared.word_line.Act.{Act}
+use Rattle.irp_workers.specs.declared.lock_act.LockAct.{LockAct}
 use Rattle.irp_workers.specs.Deeds.{call_of, named_by}
 
 -- which locks a remove seat found drained
@@ -31,6 +31,6 @@ pub record CallsFor (act : StepAct) (remove : Holder) (before after : Seated) : 
   pub recorded : Called before call (found_drained remove) receipt after
 
 -- the same of a step that may have an act on a remove lock: then it makes no call
-abbrev pub CallsUnlessActs : Option Act → StepAct → Holder → Seated → Seated → Type 0
+abbrev pub CallsUnlessActs : Option LockAct → StepAct → Holder → Seated → Seated → Type 0
 CallsUnlessActs None act remove before after = CallsFor act remove before after
 CallsUnlessActs (Some acted) act remove before after = after ≡ before

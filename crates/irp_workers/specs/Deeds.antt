@@ -5,6 +5,8 @@ use Rattle.irp_types.specs.declared.call.Call.{Call}
 use Rattle.irp_types.specs.declared.call.Call.TheVariants as call
 use Rattle.irp_shared.specs.declared.word_line.Act.{Act}
 use Rattle.irp_shared.specs.declared.word_line.Act.TheVariants as act
+use Rattle.irp_workers.specs.declared.lock_act.LockAct.{LockAct}
+use Rattle.irp_workers.specs.declared.lock_act.LockAct.TheVariants as on_lock
 use Rattle.irp_script_reader.specs.declared.act.Named.{Named}
 use Rattle.irp_script_reader.specs.declared.act.StepAct.{StepAct}
 use Rattle.irp_script_reader.specs.declared.act.StepAct.TheVariants.{CreateDevice, Attach, Detach, Delete, Allocate, Free, Reuse, SetNext, CopyToNext, Skip, SetRoutine, MarkPending, CallDriver, Complete, SetCancelRoutine, Cancel, Look, Acquire, Release, BeginRemove, Drained}
@@ -25,13 +27,20 @@ named_by (Cancel irp) = Some irp
 named_by (Look irp) = Some irp
 named_by other = None
 
--- the act on a remove lock
-abbrev pub lock_act_of : StepAct → Option Act
-lock_act_of (Acquire lock tag) = Some (act.Acquire lock tag)
-lock_act_of (Release lock tag) = Some (act.Release lock tag)
-lock_act_of (BeginRemove lock tag) = Some (act.BeginRemove lock tag)
-lock_act_of (Drained lock) = Some (act.Drained lock)
+-- the act on a remove lock in the step's own seat
+abbrev pub lock_act_of : StepAct → Option LockAct
+lock_act_of (Acquire lock tag) = Some (on_lock.Acquire lock tag)
+lock_act_of (Release lock tag) = Some (on_lock.Release lock tag)
+lock_act_of (BeginRemove lock tag) = Some (on_lock.BeginRemove lock tag)
+lock_act_of (Drained lock) = Some (on_lock.Drained lock)
 lock_act_of other = None
+
+-- the act that a word line tells of
+abbrev pub told_act : LockAct → Act
+told_act (on_lock.Acquire lock tag) = act.Acquire lock tag
+told_act (on_lock.Release lock tag) = act.Release lock tag
+told_act (on_lock.BeginRemove lock tag) = act.BeginRemove lock tag
+told_act (on_lock.Drained lock) = act.Drained lock
 
 -- the call of the manager, of this packet where the act names one
 abbrev pub plain_call_of : StepAct → IrpRef → Option Call

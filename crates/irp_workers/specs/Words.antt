@@ -5,7 +5,8 @@ use Rattle.std.specs.List.Sorted.{IsNonDecreasingBy}
 use Rattle.irp_shared.specs.declared.word_line.Act.{Act}
 use Rattle.irp_shared.specs.declared.word_line.WordLine.{WordLine}
 use Rattle.irp_script_reader.specs.declared.act.Step.{Step}
-use Rattle.irp_workers.specs.Deeds.{lock_act_of}
+use Rattle.irp_workers.specs.declared.lock_act.LockAct.{LockAct}
+use Rattle.irp_workers.specs.Deeds.{lock_act_of, told_act}
 
 -- a line's place in the order: by its seat, and of one seat by its step, which is below 2 ^ 32
 abbrev pub order_of : WordLine → ℕ
@@ -26,9 +27,9 @@ abbrev pub told_by : WordLine → LockStep
 told_by line = record { seat = line.seat; place = line.step; act = line.act }
 
 -- the step of this place, if it is one on a remove lock
-abbrev pub if_on_lock : ℕ → ℕ → Option Act → Option LockStep
+abbrev pub if_on_lock : ℕ → ℕ → Option LockAct → Option LockStep
 if_on_lock place seat None = None
-if_on_lock place seat (Some act) = Some (record { seat = seat; place = place; act = act })
+if_on_lock place seat (Some act) = Some (record { seat = seat; place = place; act = told_act act })
 
 abbrev pub lock_step_of : ℕ → Step → Option LockStep
 lock_step_of place step = if_on_lock place step.seat (lock_act_of step.act)

@@ -1,8 +1,9 @@
 //! What a step asks for, once the packet that it names is known.
 
 ghost use Rattle.std.specs.Prelude.{◌≡◌};
-ghost use Rattle.irp_workers.specs.Deeds.{call_of, lock_act_of, named_by, owners_call_of, plain_call_of, preparing_call_of};
+ghost use Rattle.irp_workers.specs.Deeds.{call_of, lock_act_of, named_by, owners_call_of, plain_call_of, preparing_call_of, told_act};
 
+use crate::lock_act::LockAct;
 use irp_script_reader::{Named, StepAct};
 use irp_shared::Act;
 use irp_types::{Call, IrpRef};
@@ -28,16 +29,28 @@ pub fn named_by(act: StepAct) -> Option<Named>
     }
 }
 
-/// The act on a remove lock. None for a call of the manager.
-pub fn lock_act_of(act: StepAct) -> Option<Act>
+/// The act on a remove lock in the step's own seat. None for any other step.
+pub fn lock_act_of(act: StepAct) -> Option<LockAct>
     ensures { result ≡ lock_act_of act }
 {
     match act {
-        StepAct::Acquire { lock, tag } => Some(Act::Acquire { lock, tag }),
-        StepAct::Release { lock, tag } => Some(Act::Release { lock, tag }),
-        StepAct::BeginRemove { lock, tag } => Some(Act::BeginRemove { lock, tag }),
-        StepAct::Drained { lock } => Some(Act::Drained { lock }),
+        StepAct::Acquire { lock, tag } => Some(LockAct::Acquire { lock, tag }),
+        StepAct::Release { lock, tag } => Some(LockAct::Release { lock, tag }),
+        StepAct::BeginRemove { lock, tag } => Some(LockAct::BeginRemove { lock, tag }),
+        StepAct::Drained { lock } => Some(LockAct::Drained { lock }),
         _ => None,
+    }
+}
+
+/// The act that a word line tells of.
+pub fn told_act(act: LockAct) -> Act
+    ensures { result ≡ told_act act }
+{
+    match act {
+        LockAct::Acquire { lock, tag } => Act::Acquire { lock, tag },
+        LockAct::Release { lock, tag } => Act::Release { lock, tag },
+        LockAct::BeginRemove { lock, tag } => Act::BeginRemove { lock, tag },
+        LockAct::Drained { lock } => Act::Drained { lock },
     }
 }
 

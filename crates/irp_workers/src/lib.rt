@@ -5,6 +5,7 @@ mod behaviours;
 mod deed;
 mod gate;
 mod labels;
+mod lock_act;
 mod meeting;
 mod run;
 mod script_seat;

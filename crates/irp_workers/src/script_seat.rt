@@ -12,12 +12,13 @@ ghost use Rattle.irp_workers.specs.Made.{once_made, seat_calls};
 ghost use Rattle.irp_workers.specs.Pairs.{pair_of};
 ghost use Rattle.irp_workers.specs.Words.{lock_step_of, told_by};
 
-use crate::deed::{call_of, lock_act_of};
+use crate::deed::{call_of, lock_act_of, told_act};
+use crate::lock_act::LockAct;
 use crate::workplace::Workplace;
 use irp_remove::{AcquireRefusal, BeginRefusal, DrainRefusal, Locks, ReleaseRefusal, RemoveSeat};
 use irp_routines::Ask;
 use irp_script_reader::Step;
-use irp_shared::{Act, Seat, Session, WordLine, WordReply};
+use irp_shared::{Seat, Session, WordLine, WordReply};
 use irp_types::LockNo;
 use std::sync::Wait;
 
@@ -87,7 +88,7 @@ impl<'a, L: Session> ScriptSeat<'a, L> {
     fn acquire(&mut self, lock: LockNo, tag: u32) -> WordReply
         ensures seat { self.new.seat ≡ self.old.seat }
         ensures remove { IsSameSeat self.old.remove self.new.remove }
-        ensures acts { Acts (lock_count self.old.locks.now) (Act.Acquire lock tag) self.old.remove self.new.remove result }
+        ensures acts { Acts (lock_count self.old.locks.now) (LockAct.Acquire lock tag) self.old.remove self.new.remove result }
     {
         match self.locks.acquire(&mut self.remove, lock, tag) {
             Ok(()) => WordReply::Acquired,
@@ -100,7 +101,7 @@ impl<'a, L: Session> ScriptSeat<'a, L> {
     fn release(&mut self, lock: LockNo, tag: u32) -> WordReply
         ensures seat { self.new.seat ≡ self.old.seat }
         ensures remove { IsSameSeat self.old.remove self.new.remove }
-        ensures acts { Acts (lock_count self.old.locks.now) (Act.Release lock tag) self.old.remove self.new.remove result }
+        ensures acts { Acts (lock_count self.old.locks.now) (LockAct.Release lock tag) self.old.remove self.new.remove result }
     {
         match self.locks.release(&mut self.remove, lock, tag) {
             Ok(()) => WordReply::Done,
@@ -112,7 +113,7 @@ impl<'a, L: Session> ScriptSeat<'a, L> {
     fn begin_remove(&mut self, lock: LockNo, tag: u32) -> WordReply
         ensures seat { self.new.seat ≡ self.old.seat }
         ensures remove { IsSameSeat self.old.remove self.new.remove }
-        ensures acts { Acts (lock_count self.old.locks.now) (Act.BeginRemove lock tag) self.old.remove self.new.remove result }
+        ensures acts { Acts (lock_count self.old.locks.now) (LockAct.BeginRemove lock tag) self.old.remove self.new.remove result }
     {
         match self.locks.begin_remove(&mut self.remove, lock, tag) {
             Ok(()) => WordReply::Done,
@@ -125,7 +126,7 @@ impl<'a, L: Session> ScriptSeat<'a, L> {
     fn drained(&mut self, lock: LockNo) -> WordReply
         ensures seat { self.new.seat ≡ self.old.seat }
         ensures remove { IsSameSeat self.old.remove self.new.remove }
-        ensures acts { Acts (lock_count self.old.locks.now) (Act.Drained lock) self.old.remove self.new.remove result }
+        ensures acts { Acts (lock_count self.old.locks.now) (LockAct.Drained lock) self.old.remove self.new.remove result }
     {
         match self.locks.drained(&mut self.remove, lock) {
             Ok(()) => WordReply::Yes,
@@ -135,16 +136,16 @@ impl<'a, L: Session> ScriptSeat<'a, L> {
     }
 
     /// Acts on a remove lock once, and answers what a word line tells of it: what the lock answered.
-    fn act(&mut self, act: Act) -> WordReply
+    fn act(&mut self, act: LockAct) -> WordReply
         ensures seat { self.new.seat ≡ self.old.seat }
         ensures remove { IsSameSeat self.old.remove self.new.remove }
         ensures acts { Acts L.fixed.locks act self.old.remove self.new.remove result }
     {
         match act {
-            Act::Acquire { lock, tag } => self.acquire(lock, tag),
-            Act::Release { lock, tag } => self.release(lock, tag),
-            Act::BeginRemove { lock, tag } => self.begin_remove(lock, tag),
-            Act::Drained { lock } => self.drained(lock),
+            LockAct::Acquire { lock, tag } => self.acquire(lock, tag),
+            LockAct::Release { lock, tag } => self.release(lock, tag),
+            LockAct::BeginRemove { lock, tag } => self.begin_remove(lock, tag),
+            LockAct::Drained { lock } => self.drained(lock),
         }
     }
 
@@ -178,7 +179,7 @@ impl<'a, L: Session> ScriptSeat<'a, L> {
         words.push_reserved(WordLine {
             seat: step.seat,
             step: index,
-            act,
+            act: told_act(act),
             reply,
         });
         Some(())
