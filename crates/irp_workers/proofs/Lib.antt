@@ -1,9 +1,11 @@
+pub mod Accounted
 pub mod Carried
+pub mod Chains
 pub mod Making
 pub mod Numbers
+pub mod Outcomes
 pub mod Pairs
 pub mod Places
-pub mod Telling
-pub mod Together
-pub mod Working
+pub mod Shares
 pub mod Tokenless
+pub mod Working
