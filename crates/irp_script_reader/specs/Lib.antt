@@ -3,6 +3,7 @@ pub mod Taking
 pub mod Routines
 pub mod Plans
 pub mod Acts
+pub mod Forms
 pub mod Members
 pub mod Scripts
 pub mod Sound

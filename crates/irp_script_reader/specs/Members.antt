@@ -81,6 +81,11 @@ is_on_lock (act.Acquire lock tag) = true
 is_on_lock (act.Release lock tag) = true
 is_on_lock (act.BeginRemove lock tag) = true
 is_on_lock (act.Drained lock) = true
+is_on_lock (act.Hand lock tag to) = true
+is_on_lock (act.Publish slot irp) = false
+is_on_lock (act.Withdraw slot) = false
+is_on_lock (act.Request slot) = false
+is_on_lock (act.FinishTaken irp slot status information) = false
 
 -- whether a list may have the step: its seat is there, and `setup` has none on a remove lock
 abbrev pub may_have : Steps → Step → Bool

@@ -171,6 +171,7 @@ impl StepAct {
                 | StepAct::Release { .. }
                 | StepAct::BeginRemove { .. }
                 | StepAct::Drained { .. }
+                | StepAct::Hand { .. }
         )
     }
 }

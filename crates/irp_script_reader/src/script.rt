@@ -1,7 +1,10 @@
 //! Scripts.
 
+ghost use Rattle.std.specs.Prelude.{◌≡◌};
+ghost use Rattle.irp_script_reader.specs.Forms.{limit_of, slots_of};
+
 use crate::act::Step;
-use irp_types::{CancelAnswer, DispatchId, Plan, Replacement, Row, Rule};
+use irp_types::{CancelAnswer, DispatchId, Limit, Plan, Replacement, Row, Rule};
 
 /// What a completion routine of a script does (this project's own format, docs/FORMATS.md).
 #[derive(Clone, Copy, PartialEq, Eq, Debug)]
@@ -36,6 +39,29 @@ pub enum ScriptForm {
         /// How many cancel slots there are, at most 64 in a script that was read.
         slots: u32,
     },
+}
+
+impl ScriptForm {
+    /// The limit on packets and stacks in the manager that the script is run with: 16 in form 1, 32 in form 2
+    /// (this project's own format, docs/FORMATS.md).
+    pub fn limit(self) -> Limit
+        ensures { result ≡ limit_of self }
+    {
+        match self {
+            ScriptForm::One => Limit::Sixteen,
+            ScriptForm::Two { .. } => Limit::ThirtyTwo,
+        }
+    }
+
+    /// How many cancel slots there are: none in form 1 (this project's own format, docs/FORMATS.md).
+    pub fn slots(self) -> u32
+        ensures { result ≡ slots_of self }
+    {
+        match self {
+            ScriptForm::One => 0,
+            ScriptForm::Two { slots } => slots,
+        }
+    }
 }
 
 /// What a script says, key by key (this project's own format, docs/FORMATS.md).
