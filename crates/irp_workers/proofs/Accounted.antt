@@ -83,8 +83,8 @@ apart_told count workers steps ready after lines stopped work each share some te
     sum_at_most (λ (one : Left). count_by (λ line. test (told_by line)) one.work.lines) (λ number. sum_by w (own_placed number workers steps)) 0 work.left (λ k one lt.
     let within : k < workers = omega (arith, lt, work.many.1) in
     let here = share k within in
-    let words = share_words k workers steps (get_or work.dealt k []) (get_or work.left k nothing_left) each here test in
-    let most = first_at_most w (is_own_placed k workers) here.reached steps in
+    let words : count_by (λ line. test (told_by line)) (get_or work.left k nothing_left).work.lines ≡ sum_by w (own_placed k workers (take here.reached steps)) = share_words k workers steps (get_or work.dealt k []) (get_or work.left k nothing_left) each here test in
+    let most : sum_by w (own_placed k workers (take here.reached steps)) ≤ sum_by w (own_placed k workers steps) = first_at_most w (is_own_placed k workers) here.reached steps in
     let same : get_or work.left k one ≡ get_or work.left k nothing_left = get_or_any work.left k one nothing_left lt in
     let count : count_by (λ line. test (told_by line)) (get_or work.left k one).work.lines ≡ count_by (λ line. test (told_by line)) (get_or work.left k nothing_left).work.lines = ap (λ (one : Left). count_by (λ line. test (told_by line)) one.work.lines) same in
     let place : sum_by w (own_placed (0 + k) workers steps) ≡ sum_by w (own_placed k workers steps) = ap (λ n. sum_by w (own_placed n workers steps)) (at_this k) in
@@ -178,11 +178,11 @@ alone_all (x ∷ xs) =
     none_left n = omega arith
 
 -- the calls of the setup and then of the steps
-both_made : (first then : List Outcome) (seats : List AtWork) (test : SeatCalls → Bool)
-    → count_by (λ (told : SeatCalls). test (once_made then told)) (map (once_made first) (map calls_at seats)) ≡ count_by test (map (λ own. once_made (first ++ then) (calls_at own)) seats)
-both_made first then seats test =
-    sym (count_map (once_made then) test (map (once_made first) (map calls_at seats)))
-    ∙ ap (count_by test) (sym (once_both first then (map calls_at seats)) ∙ map_twice (once_made (first ++ then)) calls_at seats)
+both_made : (first last : List Outcome) (seats : List AtWork) (test : SeatCalls → Bool)
+    → count_by (λ (told : SeatCalls). test (once_made last told)) (map (once_made first) (map calls_at seats)) ≡ count_by test (map (λ own. once_made (first ++ last) (calls_at own)) seats)
+both_made first last seats test =
+    sym (count_map (once_made last) test (map (once_made first) (map calls_at seats)))
+    ∙ ap (count_by test) (sym (once_both first last (map calls_at seats)) ∙ map_twice (once_made (first ++ last)) calls_at seats)
   where
     map_twice : {A B C : Type 0} (g : B → C) (f : A → B) (xs : List A) → map g (map f xs) ≡ map (λ x. g (f x)) xs
     map_twice g f [] = refl
@@ -258,13 +258,13 @@ same_pairs count workers setup steps before after lines stopped ran =
     after_pairs count workers setup steps before after lines stopped ran.ready ran.halted made.1.pairs ran.rest
 
 -- what is told of seats at work is told of the seats
-pub pairs_of_items : {S : Type 0} (f : S → AtWork) (before after : List S) → EachAsOften (map pair_at (map f before)) (map pair_at (map f after))
+pub pairs_of_items : {S : Type 0} (before after : List S) (f : S → AtWork) → EachAsOften (map pair_at (map f before)) (map pair_at (map f after))
     → EachAsOften (map (λ s. pair_at (f s)) before) (map (λ s. pair_at (f s)) after)
-pairs_of_items f before after same = λ test.
+pairs_of_items before after f same = λ test.
     count_map (λ s. pair_at (f s)) test after ∙ sym (count_map f (λ own. test (pair_at own)) after) ∙ sym (count_map pair_at test (map f after))
     ∙ same test ∙ count_map pair_at test (map f before) ∙ count_map f (λ own. test (pair_at own)) before ∙ sym (count_map (λ s. pair_at (f s)) test before)
 
-pub numbers_of : {S : Type 0} (g : S → Pair) (before after : List S) → EachAsOften (map g before) (map g after) → AreSame (map (λ s. (g s).seat) before) (map (λ s. (g s).seat) after)
-numbers_of g before after same = λ number.
+pub numbers_of : {S : Type 0} (before after : List S) (g : S → Pair) → EachAsOften (map g before) (map g after) → AreSame (map (λ s. (g s).seat) before) (map (λ s. (g s).seat) after)
+numbers_of before after g same = λ number.
     count_map (λ s. (g s).seat) (λ each. each == number) after ∙ sym (count_map g (λ pair. pair.seat == number) after) ∙ same (λ pair. pair.seat == number)
     ∙ count_map g (λ pair. pair.seat == number) before ∙ sym (count_map (λ s. (g s).seat) (λ each. each == number) before)

@@ -63,24 +63,24 @@ chained count n [] before after rises same = record {
 }
 chained count n (each ∷ rest) before after rises made =
     let first = comes count each.0 each.1 before made.0 made.1 in
-    let then = chained count (each.0 + 1) rest made.0 after rises.1 made.2 in
-    let tokenless = with_first each.0 first.0 then.tokenless in
+    let later = chained count (each.0 + 1) rest made.0 after rises.1 made.2 in
+    let tokenless = with_first each.0 first.0 later.tokenless in
     let one : outcome tokenless each ≡ out_of each.0 each.1 first.0 =
-    ap (λ b. out_of each.0 each.1 (cond b first.0 (then.tokenless each.1.seat each.0))) (eq-eqb each.0 each.0 refl) in
-    let more : map (outcome tokenless) rest ≡ map (outcome then.tokenless) rest =
-    agreeing tokenless then.tokenless (each.0 + 1) rest rises.1
-    (λ seat place le. ap (λ b. cond b first.0 (then.tokenless seat place)) (ne_eqb place each.0 (λ is. absurd (omega (arith, is, le))))) in
-    let both : map (outcome tokenless) (each ∷ rest) ≡ out_of each.0 each.1 first.0 ∷ map (outcome then.tokenless) rest = λ i. one i ∷ more i in
+    ap (λ b. out_of each.0 each.1 (cond b first.0 (later.tokenless each.1.seat each.0))) (eq-eqb each.0 each.0 refl) in
+    let more : map (outcome tokenless) rest ≡ map (outcome later.tokenless) rest =
+    agreeing tokenless later.tokenless (each.0 + 1) rest rises.1
+    (λ seat place le. ap (λ b. cond b first.0 (later.tokenless seat place)) (ne_eqb place each.0 (λ is. absurd (omega (arith, is, le))))) in
+    let both : map (outcome tokenless) (each ∷ rest) ≡ out_of each.0 each.1 first.0 ∷ map (outcome later.tokenless) rest = λ i. one i ∷ more i in
     record {
       tokenless = tokenless;
-      told = then.told ∙ ap (λ told. told ++ word_steps (map (outcome then.tokenless) rest)) first.1.told
-          ∙ append_assoc (map told_by before.lines) (option_to_list (word_step_of (out_of each.0 each.1 first.0))) (word_steps (map (outcome then.tokenless) rest))
-          ∙ ap (λ more. map told_by before.lines ++ more) (sym (one_word (out_of each.0 each.1 first.0) (map (outcome then.tokenless) rest)) ∙ ap word_steps (sym both));
-      pairs = then.pairs ∙ first.1.pairs;
+      told = later.told ∙ ap (λ told. told ++ word_steps (map (outcome later.tokenless) rest)) first.1.told
+          ∙ append_assoc (map told_by before.lines) (option_to_list (word_step_of (out_of each.0 each.1 first.0))) (word_steps (map (outcome later.tokenless) rest))
+          ∙ ap (λ more. map told_by before.lines ++ more) (sym (one_word (out_of each.0 each.1 first.0) (map (outcome later.tokenless) rest)) ∙ ap word_steps (sym both));
+      pairs = later.pairs ∙ first.1.pairs;
       called = λ once.
-          then.called (subst NoneTwice (sym first.1.pairs) once)
-          ∙ ap (map (once_made (map (outcome then.tokenless) rest))) (first.1.called once)
-          ∙ sym (once_both (out_of each.0 each.1 first.0 ∷ []) (map (outcome then.tokenless) rest) (map calls_at before.seats))
+          later.called (subst NoneTwice (sym first.1.pairs) once)
+          ∙ ap (map (once_made (map (outcome later.tokenless) rest))) (first.1.called once)
+          ∙ sym (once_both (out_of each.0 each.1 first.0 ∷ []) (map (outcome later.tokenless) rest) (map calls_at before.seats))
           ∙ ap (λ outs. map (once_made outs) (map calls_at before.seats)) (sym both);
     }
 

@@ -1,11 +1,14 @@
 pub mod Accounted
 pub mod Carried
 pub mod Chains
+pub mod Handing
 pub mod Making
 pub mod Numbers
 pub mod Outcomes
 pub mod Pairs
 pub mod Places
 pub mod Shares
+pub mod Slotted
 pub mod Tokenless
+pub mod Tokens
 pub mod Working

@@ -1,9 +1,9 @@
 -- What a worker makes of its seats and lines, step by step, and what the workers of a script make together.
-use Rattle.std.proofs.Common.{◌≡◌, ◌<◌, ◌+◌, ◌-◌, ◌%◌, ◌==◌, ◌||◌, ℕ, zero, suc, All, Bool, true, false, cond, Option, Some, None, List, [], ◌∷◌, ◌++◌, length, map, take, get_or, set, refl, sym, subst, ap, ◌∙◌, arith}
+use Rattle.std.proofs.Common.{◌≡◌, ◌<◌, ◌+◌, ◌%◌, ◌==◌, ◌||◌, ℕ, zero, suc, All, Bool, true, false, cond, Option, Some, None, List, [], ◌∷◌, ◌++◌, length, map, take, get_or, set, refl, sym, subst, ap, ◌∙◌, arith}
 use Rattle.std.specs.Prelude.{IfOk, MatchOption, Result, Ok, Err, slice_get, slice_set, sum_by}
 use Rattle.std.specs.Option.{option_map, unwrap_or}
 use Rattle.std.specs.List.{count_by, enumerate_from, filter, flat_map, list_any}
-use Rattle.std.proofs.lemmas.List.{get_or-map, length-map, length-set, length-take-le, map-set, set-append_left, set-append_right, set-get_or, take_more}
+use Rattle.std.proofs.lemmas.List.{get_or-map, length-map, length-take-le, map-set, set-get_or, take_more}
 use Rattle.std.proofs.lemmas.List.Elements.{All-nil, All-cons, All-head, All-tail, filter-append}
 use Rattle.std.proofs.lemmas.List.Concat.{flat_map-cons}
 use Rattle.std.proofs.lemmas.List.Sums.{sum_by-append, sum_by-cons}
@@ -19,15 +19,15 @@ use Rattle.irp_remove.specs.Seats.{Holder}
 use Rattle.irp_slots.specs.declared.answers.Token.{Token}
 use Rattle.irp_shared.specs.Sharing.{Called, IsAsBefore, given_back}
 use Rattle.irp_shared.specs.declared.word_line.WordLine.{WordLine}
-use Rattle.irp_shared.specs.declared.word_line.WordReply.{WordReply}
 use Rattle.irp_script_reader.specs.declared.act.Step.{Step}
 use Rattle.irp_workers.specs.declared.acts.Deed.{Deed}
 use Rattle.irp_workers.specs.declared.acts.Deed.TheVariants.{Calls, OnLock, Hands, OnSlot, Finishes}
+use Rattle.irp_workers.specs.declared.taken.Taken.{Taken}
 use Rattle.irp_workers.specs.AtSlots.{AtSlots, fresh}
 use Rattle.irp_workers.specs.Calling.{CallsFor, found_drained}
 use Rattle.irp_workers.specs.Deeds.{IsNamed, deed_of}
 use Rattle.irp_workers.specs.Outcomes.{is_own_placed, is_own_step, own_placed}
-use Rattle.irp_workers.specs.Working.{AtWork, Does, FinishesTaken, HandsBetween, HandsOver, IsOwn, Left, Makes, MakesAlone, MakesBy, MakesCall, MakesEach, MakesHand, MakesOwn, Stays, WorkApart, Working, at_work, if_own, roomless, working}
+use Rattle.irp_workers.specs.Working.{AtWork, Does, FinishesTaken, IsOwn, Left, Makes, MakesAlone, MakesBy, MakesCall, MakesEach, MakesHand, MakesOwn, Stays, WorkApart, Working, at_work, if_own, roomless, working}
 use Rattle.irp_workers.proofs.Chains.{enumerate-append}
 use Rattle.irp_workers.proofs.Numbers.{count_map, map_set_same}
 
@@ -68,6 +68,23 @@ call_made (Some one) step before after remove remove_after parties parties_after
   silent = silent;
 }
 
+abbrev with_taken : AtSlots → List Taken → AtSlots
+with_taken parties taken = record parties { taken = taken }
+
+abbrev held_token : ℕ → Option Token → Taken
+held_token slot token = record { slot = slot; token = token }
+
+-- a token in the place where one was put before
+put_again : (slot place : ℕ) (parties between after : AtSlots) (one back given : Option Token)
+    → between ≡ with_taken parties (slice_set parties.taken place (held_token slot one))
+    → after ≡ with_taken between (slice_set between.taken place (held_token slot back)) → back ≡ given
+    → after ≡ with_taken parties (slice_set parties.taken place (held_token slot given))
+put_again slot place parties between after one back given out in_again same =
+    in_again
+    ∙ ap (λ (some : AtSlots). with_taken some (slice_set some.taken place (held_token slot back))) out
+    ∙ ap (with_taken parties) (set_twice parties.taken place (held_token slot one) (held_token slot back))
+    ∙ ap (λ (token : Option Token). with_taken parties (slice_set parties.taken place (held_token slot token))) same
+
 -- a finish that was recorded
 pub finish_made : (step : Step) (slot : ℕ) (status : Status) (information : ℕ) (before after : Seated) (remove remove_after : Holder) (parties between parties_after : AtSlots) (lines longer : List WordLine)
     (place : ℕ) (token : Token) (irp : IrpRef) (receipt : Receipted) (back : Option Token)
@@ -87,10 +104,8 @@ finish_made step slot status information before after remove remove_after partie
       referred = named;
       recorded = roomless_called before after (FinishTaken irp token.use_no status information) (λ lock. false) receipt recorded;
       rest =
-          let left = in_again
-          ∙ ap (λ some. record some { taken = slice_set some.taken place (record { slot = slot; token = back }) }) out
-          ∙ ap (λ all. record parties { taken = all }) (set_twice parties.taken place (record { slot = slot; token = None }) (record { slot = slot; token = back }))
-          ∙ ap (λ token. record parties { taken = slice_set parties.taken place (record { slot = slot; token = token }) }) given in
+          let left : parties_after ≡ with_taken parties (slice_set parties.taken place (held_token slot (given_back receipt.reply token))) =
+          put_again slot place parties between parties_after None back (given_back receipt.reply token) out in_again given in
           λ i. record { seat = roomless after; remove = same_remove i; parties = left i };
       silent = silent;
     }
@@ -103,12 +118,10 @@ pub finish_stays : (slot : ℕ) (before after : Seated) (remove remove_after : H
     → at_work after remove_after parties_after ≡ at_work before remove parties
 finish_stays slot before after remove remove_after parties between parties_after place token back there same given same_remove out in_again =
     let here = get_or_from_slice_get parties.taken place (fresh slot token) (fresh slot token) there in
-    let left = in_again
-    ∙ ap (λ some. record some { taken = slice_set some.taken place (record { slot = slot; token = back }) }) out
-    ∙ ap (λ all. record parties { taken = all }) (set_twice parties.taken place (record { slot = slot; token = None }) (record { slot = slot; token = back }))
-    ∙ ap (λ token. record parties { taken = slice_set parties.taken place (record { slot = slot; token = token }) }) given
-    ∙ ap (λ one. record parties { taken = slice_set parties.taken place one }) (sym here)
-    ∙ ap (λ all. record parties { taken = all }) (set-get_or parties.taken place (fresh slot token)) in
+    let left : parties_after ≡ parties =
+    put_again slot place parties between parties_after None back (Some token) out in_again given
+    ∙ ap (λ (one : Taken). with_taken parties (slice_set parties.taken place one)) (sym here)
+    ∙ ap (with_taken parties) (set-get_or parties.taken place (fresh slot token)) in
     call_stays before after remove remove_after parties parties_after same same_remove left
 
 -- what one seat makes of a step that isn't a hand is what a worker makes that has it
@@ -143,57 +156,6 @@ pub hand_is_made : {T : Type 0} (result : Option T) (count place : ℕ) (step : 
     → MatchOption result (after ≡ before) (λ _. MakesHand count place step lock tag to before after) → MatchOption result (after ≡ before) (λ _. Makes count place step before after)
 hand_is_made None count place step lock tag to before after is made = made
 hand_is_made (Some one) count place step lock tag to before after is made = subst (λ deed. MakesBy count place step deed before after) (sym is) made
-
--- two seats of several
-pub hands_between : {S : Type 0} (f : S → AtWork) (count : ℕ) (lock : LockNo) (tag from_at to_at : ℕ) (seats new : List S) (giver giver_after taker taker_after : S) (reply : WordReply)
-    → from_at < length seats → to_at < length seats → giver ≡ get_or seats from_at giver → taker ≡ get_or seats to_at taker
-    → new ≡ set (set seats from_at giver_after) to_at taker_after
-    → HandsOver count lock tag (f giver) (f giver_after) (f taker) (f taker_after) reply
-    → HandsBetween count lock tag from_at to_at (map f seats) (map f new) reply
-hands_between f count lock tag from_at to_at seats new giver giver_after taker taker_after reply from_lt to_lt giver_here taker_here changed handed = record {
-  giver = f giver;
-  giver_after = f giver_after;
-  taker = f taker;
-  taker_after = f taker_after;
-  giver_there =
-      slice_get-get_or (map f seats) from_at (f giver) (omega (arith, from_lt, length-map seats f))
-      ∙ ap Some (get_or-map f seats from_at giver (f giver) from_lt ∙ ap f (sym giver_here));
-  taker_there =
-      slice_get-get_or (map f seats) to_at (f taker) (omega (arith, to_lt, length-map seats f))
-      ∙ ap Some (get_or-map f seats to_at taker (f taker) to_lt ∙ ap f (sym taker_here));
-  handed = handed;
-  others = ap (map f) changed ∙ map-set f (set seats from_at giver_after) to_at taker_after ∙ ap (λ all. set all to_at (f taker_after)) (map-set f seats from_at giver_after);
-}
-
--- two parts of which one item each was changed
-pub parts_set : {S : Type 0} (front back : List S) (at : ℕ) (one other : S) → at < length front → set front at one ++ set back 0 other ≡ set (set (front ++ back) at one) (length front) other
-parts_set front back at one other lt =
-    sym (ap (λ all. set all (length front) other) (set-append_left front back at one lt)
-    ∙ set-append_right (set front at one) back (length front) (length front) other (length-set front at one) (omega arith)
-    ∙ ap (λ k. set front at one ++ set back k other) (none_more (length front)))
-  where
-    none_more : (n : ℕ) → n - n ≡ 0
-    none_more n = omega arith
-
-pub parts_set_back : {S : Type 0} (front back : List S) (at : ℕ) (one other : S) → at < length front → set front at one ++ set back 0 other ≡ set (set (front ++ back) (length front) other) at one
-parts_set_back front back at one other lt =
-    sym (ap (λ all. set all at one) (set-append_right front back (length front) (length front) other refl (omega arith) ∙ ap (λ k. front ++ set back k other) (none_more (length front)))
-    ∙ set-append_left front (set back 0 other) at one lt)
-  where
-    none_more : (n : ℕ) → n - n ≡ 0
-    none_more n = omega arith
-
--- the seat at a place where its number was found
-pub named_at : {S : Type 0} (f : S → AtWork) (seats : List S) (at number : ℕ) (own : AtWork) → slice_get (map (λ s. (f s).seat.number) seats) at ≡ Some number → slice_get (map f seats) at ≡ Some own → own.seat.number ≡ number
-named_at f seats at number own is there =
-    let g : AtWork → ℕ = λ own. own.seat.number in
-    let found : option_map g (Some own) ≡ Some number =
-    ap (option_map g) (sym there) ∙ sym (slice_get-map g (map f seats) at) ∙ ap (λ numbers. slice_get numbers at) (map_twice g f seats) ∙ is in
-    ap (λ one. unwrap_or one number) found
-  where
-    map_twice : {A B C : Type 0} (g : B → C) (f : A → B) (xs : List A) → map g (map f xs) ≡ map (λ x. g (f x)) xs
-    map_twice g f [] = refl
-    map_twice g f (x ∷ xs) = ap (λ rest. g (f x) ∷ rest) (map_twice g f xs)
 
 -- a turn of the worker: it makes the step if it is its own
 pub turn_skips : (count number workers place : ℕ) (step : Step) (work : Working) → (step.seat % workers == number) ≡ false → MakesEach count (if_own number workers place step) work work

@@ -21,3 +21,4 @@ pub use gate::{AlwaysOpen, Gate};
 pub use run::{Worked, run_workers, script_seats};
 pub use script_seat::ScriptSeat;
 
+

@@ -1,6 +1,6 @@
 //! What a seat has at the cancel slots.
 
-ghost use Rattle.std.specs.Prelude.{◌≡◌, ◌<◌, ◌++◌, ◌∷◌, [], All, IfNone, IfOk, IfSome, MatchOption, None, OnErr, Some, length, map, slice_get, slice_set, vec_capacity, vec_len};
+ghost use Rattle.std.specs.Prelude.{◌≡◌, ◌<◌, ◌++◌, ◌∷◌, [], All, IfNone, IfOk, IfSome, MatchOption, None, OnErr, Some, false, length, map, slice_get, slice_set, true, vec_capacity, vec_len};
 ghost use Rattle.irp_slots.specs.Pairing.{IsCancellerOf, slot_count};
 ghost use Rattle.irp_slots.specs.declared.answers.Token.{Token};
 ghost use Rattle.irp_workers.specs.AtSlots.{IsSpent, Publishing, Requesting, Withdrawing, fresh, kept};
@@ -47,6 +47,41 @@ fn keep(taken: &mut Vec<Taken>, slot: u32, token: Option<Token>)
     }
 }
 
+/// The place of the owner of a slot. None where there is none.
+fn place_of(owners: &[SlotOwner], slot: u32) -> Option<usize>
+    ensures place { IfSome result (λ place. place < length owners.now) }
+    ensures some { IfSome result (λ place. slice_get (map (λ owner. owner.owning.slot) owners.now) place ≡ Some slot) }
+{
+    for (place, owner) in owners.iter().enumerate() {
+        if owner.slot() == slot {
+            return Some(place);
+        }
+    }
+    None
+}
+
+/// Whether a token of the slot is left.
+fn is_left(taken: &Taken, slot: u32) -> bool
+    ensures left { result ≡ true → (token : Token) × (taken.now ≡ fresh slot token) }
+    ensures spent { result ≡ false → IsSpent slot taken.now }
+{
+    taken.slot == slot && taken.token.is_some()
+}
+
+/// The place of a token that was taken from a slot and isn't spent. None where there is none.
+fn place_of_token(taken: &[Taken], slot: u32) -> Option<usize>
+    ensures place { IfSome result (λ place. place < length taken.now) }
+    ensures some { IfSome result (λ place. (token : Token) × (slice_get taken.now place ≡ Some (fresh slot token))) }
+    ensures none { IfNone result (All (IsSpent slot) taken.now) }
+{
+    for (place, one) in taken.iter().enumerate() {
+        if is_left(one, slot) {
+            return Some(place);
+        }
+    }
+    None
+}
+
 impl<'a> SlotParties<'a> {
     /// A canceller of these slots, without an owner. It has taken nothing.
     pub fn new(alloc: Global, slots: &'a Slots, canceller: Canceller) -> SlotParties<'a>
@@ -76,25 +111,12 @@ impl<'a> SlotParties<'a> {
         Ok(())
     }
 
-    /// The place of the owner of a slot among its own. None where it has none.
-    fn place_of(&self, slot: u32) -> Option<usize>
-        ensures place { IfSome result (λ place. place < length self.now.owners) }
-        ensures some { IfSome result (λ place. slice_get (map (λ owner. owner.owning.slot) self.now.owners) place ≡ Some slot) }
-    {
-        for (place, owner) in self.owners.iter().enumerate() {
-            if owner.slot() == slot {
-                return Some(place);
-            }
-        }
-        None
-    }
-
     /// Publishes a packet's use in a slot of its own, keeps the token that came out, and answers what a word line tells of
     /// it. None where the slot is none of its own or there is no memory, and then nothing was done.
     pub fn publish(&mut self, slot: u32, irp: IrpRef) -> Option<WordReply>
         ensures { MatchOption result (self.new ≡ self.old) (λ reply. Publishing slot irp.use_no self.old self.new reply) }
     {
-        let at = self.place_of(slot)?;
+        let at = place_of(self.owners.as_slice(), slot)?;
         self.taken.reserve(1).ok()?;
         let slots = self.slots;
         let owner = &mut self.owners[at];
@@ -108,7 +130,7 @@ impl<'a> SlotParties<'a> {
     pub fn withdraw(&mut self, slot: u32) -> Option<WordReply>
         ensures { MatchOption result (self.new ≡ self.old) (λ reply. Withdrawing slot self.old self.new reply) }
     {
-        let at = self.place_of(slot)?;
+        let at = place_of(self.owners.as_slice(), slot)?;
         self.taken.reserve(1).ok()?;
         let slots = self.slots;
         let owner = &mut self.owners[at];
@@ -129,20 +151,6 @@ impl<'a> SlotParties<'a> {
         Some(reply)
     }
 
-    /// The place of a token that was taken from a slot and isn't spent. None where there is none.
-    fn place_of_token(&self, slot: u32) -> Option<usize>
-        ensures place { IfSome result (λ place. place < length self.now.taken) }
-        ensures some { IfSome result (λ place. (token : Token) × (slice_get self.now.taken place ≡ Some (fresh slot token))) }
-        ensures none { IfNone result (All (IsSpent slot) self.now.taken) }
-    {
-        for (place, taken) in self.taken.iter().enumerate() {
-            if taken.slot == slot && taken.token.is_some() {
-                return Some(place);
-            }
-        }
-        None
-    }
-
     /// Takes out a token that was taken from a slot and isn't spent, with its place. None where there is none.
     pub fn take(&mut self, slot: u32) -> Option<(usize, Token)>
         ensures place { IfSome result (λ found. found.0 < length self.new.taken) }
@@ -150,7 +158,7 @@ impl<'a> SlotParties<'a> {
         ensures rest { IfSome result (λ found. self.new ≡ record self.old { taken = slice_set self.old.taken found.0 (record { slot = slot; token = None }) }) }
         ensures none { IfNone result (All (IsSpent slot) self.old.taken × (self.new ≡ self.old)) }
     {
-        let at = self.place_of_token(slot)?;
+        let at = place_of_token(self.taken.as_slice(), slot)?;
         let taken = &mut self.taken[at];
         let token = taken.token.take()?;
         Some((at, token))

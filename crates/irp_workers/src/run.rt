@@ -61,11 +61,15 @@ fn pair_up<'a, L: Session>(
 {
     let mut pairs = Vec::new(alloc);
     while let Some(seat) = seats.pop() {
-        let (Some(remove), Some(canceller)) = (removes.pop(), cancellers.pop()) else {
+        let Some(remove) = removes.pop() else {
+            return Ok(pairs);
+        };
+        let Some(canceller) = cancellers.pop() else {
             return Ok(pairs);
         };
         let parties = SlotParties::new(alloc, slots, canceller);
-        pairs.insert(0, ScriptSeat::new(locks, seat, remove, parties))?;
+        let own = ScriptSeat::new(locks, seat, remove, parties);
+        pairs.insert(0, own)?;
     }
     Ok(pairs)
 }
@@ -98,7 +102,7 @@ pub fn script_seats<'a, L: Session>(
     ensures removes { IfOk result (λ pairs. map (λ own. own.remove) pairs.items ≡ removes.items) }
     ensures cancellers { IfOk result (λ pairs. map (λ own. own.parties.canceller) pairs.items ≡ cancellers.items) }
     ensures owners { IfOk result (λ pairs. OwnTheirSlots (vec_len seats) (map (λ own. own.parties) pairs.items)) }
-    ensures all_owners { IfOk result (λ pairs. 0 < vec_len seats → EachAsOften owners.entry.items (flat_map (λ own. own.parties.owners) pairs.items)) }
+    ensures all_owners { IfOk result (λ pairs. 0 < vec_len seats → EachAsOften owners.items (flat_map (λ own. own.parties.owners) pairs.items)) }
     ensures taken { IfOk result (λ pairs. All (λ own. own.parties.taken ≡ []) pairs.items) }
     ensures fits { IfOk result (λ pairs. All (λ own. IsSeatOf locks.now own.remove) pairs.items) }
     ensures at_slots { IfOk result (λ pairs. All (λ own. IsCancellerOf slots.now own.parties.canceller) pairs.items) }

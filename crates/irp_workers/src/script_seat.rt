@@ -64,7 +64,7 @@ impl<'a, L: Session> ScriptSeat<'a, L> {
         requires count { lock_count locks.now ≡ L.fixed.locks }
         ensures seat { result.seat ≡ seat }
         ensures remove { result.remove ≡ remove }
-        ensures parties { result.parties ≡ parties }
+        ensures parties { result.parties ≡ parties.entry }
     {
         ScriptSeat {
             locks,

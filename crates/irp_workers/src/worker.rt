@@ -98,10 +98,9 @@ impl<'a, L: Session> Worker<'a, L> {
     /// `AllocError` where a growth was refused. The seat is gone then.
     pub fn give(&mut self, seat: ScriptSeat<'a, L>) -> Result<(), AllocError>
         requires { IsSeatOf self.old.locks.now seat.remove }
-        ensures same { (self.new.number ≡ self.old.number) × (self.new.workers ≡ self.old.workers) × (self.new.stopped ≡ self.old.stopped) }
-        ensures locks { self.new.locks.now ≡ self.old.locks.now }
+        ensures same { (self.new.number ≡ self.old.number) × (self.new.workers ≡ self.old.workers) × (self.new.stopped ≡ self.old.stopped) × (self.new.locks.now ≡ self.old.locks.now) }
         ensures words { self.new.words.items ≡ self.old.words.items }
-        ensures seats { IfOk result (λ _. self.new.seats.items ≡ self.old.seats.items ++ seat ∷ []) }
+        ensures seats { IfOk result (λ _. self.new.seats.items ≡ self.old.seats.items ++ seat.entry ∷ []) }
     {
         self.seats.reserve(1)?;
         self.seats.push_reserved(seat);
@@ -125,7 +124,7 @@ impl<'a, L: Session> Worker<'a, L> {
     /// Makes a hand, which has this place. None where one of the seats isn't there, both are one, or there is no memory for
     /// the line, and then nothing was done.
     fn hand(&mut self, index: u32, step: Step, lock: LockNo, tag: u32, to: u32) -> Option<()>
-        ensures same { (self.new.number ≡ self.old.number) × (self.new.workers ≡ self.old.workers) × (self.new.stopped ≡ self.old.stopped) }
+        ensures same { (self.new.number ≡ self.old.number) × (self.new.workers ≡ self.old.workers) × (self.new.stopped ≡ self.old.stopped) × (self.new.locks.now ≡ self.old.locks.now) }
         ensures made { MatchOption result (working (map (λ own. at_work own.seat own.remove own.parties) self.new.seats.items) self.new.words.items ≡ working (map (λ own. at_work own.seat own.remove own.parties) self.old.seats.items) self.old.words.items)
             (λ _. MakesHand L.fixed.locks index step lock tag to (working (map (λ own. at_work own.seat own.remove own.parties) self.old.seats.items) self.old.words.items) (working (map (λ own. at_work own.seat own.remove own.parties) self.new.seats.items) self.new.words.items)) }
     {
@@ -151,7 +150,7 @@ impl<'a, L: Session> Worker<'a, L> {
         index: u32,
         step: Step,
     ) -> Option<()>
-        ensures same { (self.new.number ≡ self.old.number) × (self.new.workers ≡ self.old.workers) × (self.new.stopped ≡ self.old.stopped) }
+        ensures same { (self.new.number ≡ self.old.number) × (self.new.workers ≡ self.old.workers) × (self.new.stopped ≡ self.old.stopped) × (self.new.locks.now ≡ self.old.locks.now) }
         ensures made { MatchOption result (working (map (λ own. at_work own.seat own.remove own.parties) self.new.seats.items) self.new.words.items ≡ working (map (λ own. at_work own.seat own.remove own.parties) self.old.seats.items) self.old.words.items)
             (λ _. Makes L.fixed.locks index step (working (map (λ own. at_work own.seat own.remove own.parties) self.old.seats.items) self.old.words.items) (working (map (λ own. at_work own.seat own.remove own.parties) self.new.seats.items) self.new.words.items)) }
     {
@@ -172,7 +171,7 @@ impl<'a, L: Session> Worker<'a, L> {
         index: usize,
         step: Step,
     ) -> Option<()>
-        ensures same { (self.new.number ≡ self.old.number) × (self.new.workers ≡ self.old.workers) × (self.new.stopped ≡ self.old.stopped) }
+        ensures same { (self.new.number ≡ self.old.number) × (self.new.workers ≡ self.old.workers) × (self.new.stopped ≡ self.old.stopped) × (self.new.locks.now ≡ self.old.locks.now) }
         ensures made { MatchOption result (working (map (λ own. at_work own.seat own.remove own.parties) self.new.seats.items) self.new.words.items ≡ working (map (λ own. at_work own.seat own.remove own.parties) self.old.seats.items) self.old.words.items)
             (λ _. Makes L.fixed.locks index step (working (map (λ own. at_work own.seat own.remove own.parties) self.old.seats.items) self.old.words.items) (working (map (λ own. at_work own.seat own.remove own.parties) self.new.seats.items) self.new.words.items)) }
     {
@@ -202,7 +201,7 @@ impl<'a, L: Session> Worker<'a, L> {
         index: usize,
         step: Step,
     ) -> bool
-        ensures same { (self.new.number ≡ self.old.number) × (self.new.workers ≡ self.old.workers) × (self.new.stopped ≡ self.old.stopped) }
+        ensures same { (self.new.number ≡ self.old.number) × (self.new.workers ≡ self.old.workers) × (self.new.stopped ≡ self.old.stopped) × (self.new.locks.now ≡ self.old.locks.now) }
         ensures turned { result ≡ true → MakesEach L.fixed.locks (if_own self.old.number self.old.workers index step) (working (map (λ own. at_work own.seat own.remove own.parties) self.old.seats.items) self.old.words.items) (working (map (λ own. at_work own.seat own.remove own.parties) self.new.seats.items) self.new.words.items) }
         ensures stayed { result ≡ false → working (map (λ own. at_work own.seat own.remove own.parties) self.new.seats.items) self.new.words.items ≡ working (map (λ own. at_work own.seat own.remove own.parties) self.old.seats.items) self.old.words.items }
     {
@@ -225,6 +224,7 @@ impl<'a, L: Session> Worker<'a, L> {
         gate: &G,
         steps: &[Step],
     ) -> Worker<'a, L>
+        ensures locks { result.locks.now ≡ self.entry.locks.now }
         ensures made { MakesOwn L.fixed.locks self.entry.number self.entry.workers steps.now (working (map (λ own. at_work own.seat own.remove own.parties) self.entry.seats.items) self.entry.words.items) (working (map (λ own. at_work own.seat own.remove own.parties) result.seats.items) result.words.items) result.stopped }
     {
         for (index, step) in steps.iter().enumerate() {

@@ -29,7 +29,7 @@ loop-seat-preserved g c =
           (c.give.ensures.same.0 ∙ was.0, c.give.ensures.same.1 ∙ was.1, c.give.ensures.words ∙ was.2, c.give.ensures.same.2 ∙ was.3, all_push (λ own. own.seat.number % c.args.workers ≡ c.number.result % c.args.workers) c.give.new.self.seats.items c.index_mut-worker.result.now.seats.items c.in-Some.seat pushed was.4 (ap (λ n. n % c.args.workers) (sym c.number.ensures)));
       at_locks =
           let was = subst (λ worker. worker.locks.now ≡ c.args.locks.now) (sym c.index_mut-worker.ensures.value) (c.loop-seat.invariant.at_locks (c.number.result % c.args.workers) c.index_mut-worker.result.now below) in
-          each_set (λ k worker. worker.locks.now ≡ c.args.locks.now) c.args.workers c.loop-seat.all.items (c.number.result % c.args.workers) c.give.new.self within c.loop-seat.invariant.at_locks (c.give.ensures.locks ∙ was);
+          each_set (λ k worker. worker.locks.now ≡ c.args.locks.now) c.args.workers c.loop-seat.all.items (c.number.result % c.args.workers) c.give.new.self within c.loop-seat.invariant.at_locks (c.give.ensures.same.3 ∙ was);
       fits = split.0;
       seats = λ test.
           let taken = count_last test c.loop-seat.seats.items c.pop.new.self.items c.in-Some.seat c.in-Some.ensures.items in

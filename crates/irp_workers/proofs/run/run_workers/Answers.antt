@@ -1,4 +1,5 @@
-use Rattle.std.proofs.Common.{◌≡◌, false, true, length, map, ap, refl, rules}
+use Rattle.std.proofs.Common.{◌≡◌, false, true, All, length, map, ap, refl, subst, ◌∙◌, rules}
+use Rattle.irp_remove.specs.Pairing.{IsSeatOf}
 use Rattle.irp_workers.specs.Pairs.{pair_of}
 use Rattle.irp_workers.specs.Working.{at_work, working}
 use Rattle.irp_workers.proofs.Accounted.{accounted, numbers_of, pairs_of_items, same_pairs}
@@ -43,13 +44,16 @@ pub returns-then-ready-clause-accounts : goal.returns-then-ready-clause-accounts
 returns-then-ready-clause-accounts g c = accounted _ _ _ _ _ _ _ _ c.requires.workers (returns-then-ready-clause-ran g c)
 
 pub returns-clause-pairs : goal.returns-clause-pairs
-returns-clause-pairs g c = if_ok_on c.gather.result (λ worked ran. pairs_of_items (λ own. at_work own.seat own.remove own.parties) _ _ (same_pairs _ _ _ _ _ _ _ _ ran)) (returns-clause-ran g c)
+returns-clause-pairs g c = if_ok_on c.gather.result (λ worked ran. pairs_of_items c.args.seats.items worked.seats.items (λ own. at_work own.seat own.remove own.parties) (same_pairs _ _ _ _ _ _ _ _ ran)) (returns-clause-ran g c)
 
 pub returns-then-ready-clause-pairs : goal.returns-then-ready-clause-pairs
-returns-then-ready-clause-pairs g c = pairs_of_items (λ own. at_work own.seat own.remove own.parties) _ _ (same_pairs _ _ _ _ _ _ _ _ (returns-then-ready-clause-ran g c))
+returns-then-ready-clause-pairs g c = pairs_of_items c.args.seats.items c.run-ready.result.seats.items (λ own. at_work own.seat own.remove own.parties) (same_pairs _ _ _ _ _ _ _ _ (returns-then-ready-clause-ran g c))
 
 pub returns-clause-seats : goal.returns-clause-seats
-returns-clause-seats g c = if_ok_on c.gather.result (λ worked same. numbers_of (λ own. pair_of own.seat own.remove) _ _ same) (returns-clause-pairs g c)
+returns-clause-seats g c = if_ok_on c.gather.result (λ worked same. numbers_of c.args.seats.items worked.seats.items (λ own. pair_of own.seat own.remove) same) (returns-clause-pairs g c)
 
 pub returns-then-ready-clause-seats : goal.returns-then-ready-clause-seats
-returns-then-ready-clause-seats g c = numbers_of (λ own. pair_of own.seat own.remove) _ _ (returns-then-ready-clause-pairs g c)
+returns-then-ready-clause-seats g c = numbers_of c.args.seats.items c.run-ready.result.seats.items (λ own. pair_of own.seat own.remove) (returns-then-ready-clause-pairs g c)
+
+pub deal-requires-clause-fits : goal.deal-requires-clause-fits
+deal-requires-clause-fits g c = subst (λ locks. All (λ own. IsSeatOf locks own.remove) c.run-ready.result.seats.items) (c.run-ready.ensures.locks ∙ c.new-all.ensures.locks) c.run-ready.result.fits

@@ -9,5 +9,6 @@ invariant-loop-index g l = record {
   number : l.self.number ≡ l.fn.self.number;
   workers : l.self.workers ≡ l.fn.self.workers;
   stopped : l.self.stopped ≡ l.fn.self.stopped;
+  locks : l.self.locks.now ≡ l.fn.self.locks.now;
   made : MakesEach g.L.Session.fixed.locks (own_placed l.fn.self.number l.fn.self.workers (take l.index l.steps)) (working (map (λ own. at_work own.seat own.remove own.parties) l.fn.self.seats.items) l.fn.self.words.items) (working (map (λ own. at_work own.seat own.remove own.parties) l.self.seats.items) l.self.words.items);
 }
