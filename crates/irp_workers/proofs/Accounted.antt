@@ -195,11 +195,14 @@ setup_called : (count : ℕ) (setup : List Step) (before : List AtWork) (ready :
 setup_called count setup before ready made =
     let both = share_of count 0 1 setup before (record { work = ready; stopped = false }) made in
     let share = both.1 in
-    let all : length setup ≤ share.reached = omega (arith, share.all refl) in
-    (both.0, share.pairs, λ once.
-    share.called once
-    ∙ ap (λ some. map (once_made (map (outcome both.0) (own_placed 0 1 some))) (map calls_at before)) (take_all share.reached setup all)
-    ∙ ap (λ some. map (once_made (map (outcome both.0) some)) (map calls_at before)) (alone_all (enumerate_from 0 setup)))
+    let all : length setup ≤ share.reached = omega (arith, share.all refl) in (
+      both.0,
+      share.pairs,
+      λ once.
+          share.called once
+          ∙ ap (λ some. map (once_made (map (outcome both.0) (own_placed 0 1 some))) (map calls_at before)) (take_all share.reached setup all)
+          ∙ ap (λ some. map (once_made (map (outcome both.0) some)) (map calls_at before)) (alone_all (enumerate_from 0 setup)),
+    )
 
 accounted_after : (count workers : ℕ) (setup steps : List Step) (before after : List AtWork) (lines : List WordLine) (stopped : Bool) (ready : Working) (halted : Bool) → 0 < workers
     → MakesOwn count 0 1 setup (working before []) ready halted → WorkAfter halted count workers steps ready.seats after lines stopped

@@ -1,10 +1,12 @@
--- What a hand does to two of several seats, which stand in the two parts of a slice.
-use Rattle.std.proofs.Common.{◌≡◌, ◌≢◌, ◌<◌, ◌≤◌, ◌+◌, ◌-◌, ℕ, zero, suc, All, Some, List, [], ◌∷◌, ◌++◌, length, map, take, drop, get_or, set, refl, sym, subst, ap, ◌∙◌, arith}
+-- What a hand does to two of several seats, of which the one is taken out meanwhile.
+use Rattle.std.proofs.Common.{◌≡◌, ◌≢◌, ◌<◌, ◌≤◌, ◌+◌, ℕ, zero, suc, All, cond, Some, List, [], ◌∷◌, length, map, get_or, set, refl, sym, subst, ap, ◌∙◌, arith, inl, inr}
+use Rattle.std.specs.Prelude.{Err, IsOk, Ok, Result, slice_get}
+use Rattle.std.specs.Result.{is_ok}
+use Rattle.std.specs.List.{insert, remove}
 use Rattle.std.specs.Option.{option_map, unwrap_or}
-use Rattle.std.specs.Prelude.{slice_get}
-use Rattle.std.proofs.lemmas.List.{append-nil, get_or-append-add, get_or-map, length-append, length-map, length-set, map-set, set-append_left, set-append_right, take_all}
+use Rattle.std.proofs.lemmas.Bool.Decides.{leb_tells}
+use Rattle.std.proofs.lemmas.List.{get_or-map, length-map, map-set}
 use Rattle.std.proofs.lemmas.List.Elements.{All-set}
-use Rattle.std.proofs.Math.ListN.{get_or-append}
 use Rattle.std.proofs.lemmas.Option.{slice_get-get_or, slice_get-map}
 use Rattle.atomic_table.specs.Seated.{TableId}
 use Rattle.irp_types.specs.declared.names.LockNo.{LockNo}
@@ -14,126 +16,112 @@ use Rattle.irp_shared.specs.declared.word_line.WordReply.{WordReply}
 use Rattle.irp_script_reader.specs.declared.act.Step.{Step}
 use Rattle.irp_workers.specs.Working.{AtWork, HandsBetween, HandsOver, MakesHand, Tells, working}
 
-none_more : (n : ℕ) → n - n ≡ 0
-none_more n = omega arith
+-- one is taken out and put in again
+put_in : {S : Type 0} (xs : List S) (a : ℕ) (one : S) → a < length xs → insert (remove xs a) a one ≡ set xs a one
+put_in [] a one lt = absurd (omega arith)
+put_in (x ∷ xs) zero one lt = refl
+put_in (x ∷ xs) (suc a) one lt = ap (λ rest. x ∷ rest) (put_in xs a one (omega arith))
 
-behind_front : (n to : ℕ) → n ≡ to → n + 0 ≡ to
-behind_front n to is = omega (arith, is)
+-- meanwhile one before it changed
+before_it : {S : Type 0} (xs : List S) (a b : ℕ) (one other : S) → b < a → a < length xs → insert (set (remove xs a) b other) a one ≡ set (set xs a one) b other
+before_it [] a b one other less lt = absurd (omega arith)
+before_it (x ∷ xs) zero b one other less lt = absurd (omega arith)
+before_it (x ∷ xs) (suc a) zero one other less lt = ap (λ rest. other ∷ rest) (put_in xs a one (omega arith))
+before_it (x ∷ xs) (suc a) (suc b) one other less lt = ap (λ rest. x ∷ rest) (before_it xs a b one other (omega arith) (omega arith))
 
--- one item of each part was changed
-parts_set : {S : Type 0} (front back : List S) (at : ℕ) (one other : S) → at < length front → set front at one ++ set back 0 other ≡ set (set (front ++ back) at one) (length front) other
-parts_set front back at one other lt =
-    sym (ap (λ all. set all (length front) other) (set-append_left front back at one lt)
-    ∙ set-append_right (set front at one) back (length front) (length front) other (length-set front at one) (omega arith)
-    ∙ ap (λ k. set front at one ++ set back k other) (none_more (length front)))
+-- or one behind it
+behind_it : {S : Type 0} (xs : List S) (a c : ℕ) (one other : S) → a ≤ c → c + 1 < length xs → insert (set (remove xs a) c other) a one ≡ set (set xs a one) (suc c) other
+behind_it [] a c one other less lt = absurd (omega arith)
+behind_it (x ∷ xs) zero c one other less lt = refl
+behind_it (x ∷ xs) (suc a) zero one other less lt = absurd (omega arith)
+behind_it (x ∷ xs) (suc a) (suc c) one other less lt = ap (λ rest. x ∷ rest) (behind_it xs a c one other (omega arith) (omega arith))
 
-parts_set_back : {S : Type 0} (front back : List S) (at : ℕ) (one other : S) → at < length front → set front at one ++ set back 0 other ≡ set (set (front ++ back) (length front) other) at one
-parts_set_back front back at one other lt =
-    sym (ap (λ all. set all at one) (set-append_right front back (length front) (length front) other refl (omega arith) ∙ ap (λ k. front ++ set back k other) (none_more (length front)))
-    ∙ set-append_left front (set back 0 other) at one lt)
+pub changed_two : {S : Type 0} (xs : List S) (a b c : ℕ) (one other : S) → a < length xs → b < length xs → b ≢ a → (b < a → c ≡ b) → (a < b → c + 1 ≡ b)
+    → insert (set (remove xs a) c other) a one ≡ set (set xs a one) b other
+changed_two xs a b c one other lt lt_b apart before behind = elim (leb_tells a b) as (λ _. insert (set (remove xs a) c other) a one ≡ set (set xs a one) b other) [
+  | inl is ↦
+      let less : a < b = omega (arith, is.1, apart) in
+      let place : suc c ≡ b = omega (arith, behind less) in
+      behind_it xs a c one other (omega (arith, less, place)) (omega (arith, place, lt_b)) ∙ ap (λ k. set (set xs a one) k other) place
+  | inr other_way ↦
+      let less : b < a = omega (arith, other_way.1) in
+      ap (λ k. insert (set (remove xs a) k other) a one) (before less) ∙ before_it xs a b one other less lt
+]
+
+-- what an insertion that succeeds gives
+pub inserted : {S T E : Type 0} (result : Result T E) (all other : List S) → IsOk result → cond (is_ok result) all other ≡ all
+inserted (Ok value) all other is = refl
+inserted (Err fault) all other is = absurd is
+
+-- what stands at a place once another one is taken out
+there_before : {S : Type 0} (xs : List S) (a b : ℕ) (d : S) → b < a → get_or (remove xs a) b d ≡ get_or xs b d
+there_before [] zero b d less = absurd (omega arith)
+there_before [] (suc a) b d less = refl
+there_before (x ∷ xs) zero b d less = absurd (omega arith)
+there_before (x ∷ xs) (suc a) zero d less = refl
+there_before (x ∷ xs) (suc a) (suc b) d less = there_before xs a b d (omega arith)
+
+there_behind : {S : Type 0} (xs : List S) (a c : ℕ) (d : S) → a ≤ c → get_or (remove xs a) c d ≡ get_or xs (suc c) d
+there_behind [] zero c d less = refl
+there_behind [] (suc a) c d less = refl
+there_behind (x ∷ xs) zero c d less = refl
+there_behind (x ∷ xs) (suc a) zero d less = absurd (omega arith)
+there_behind (x ∷ xs) (suc a) (suc c) d less = there_behind xs a c d (omega arith)
+
+pub there_still : {S : Type 0} (xs : List S) (a b c : ℕ) (d : S) → b ≢ a → (b < a → c ≡ b) → (a < b → c + 1 ≡ b) → get_or (remove xs a) c d ≡ get_or xs b d
+there_still xs a b c d apart before behind = elim (leb_tells a b) as (λ _. get_or (remove xs a) c d ≡ get_or xs b d) [
+  | inl is ↦
+      let less : a < b = omega (arith, is.1, apart) in
+      let place : suc c ≡ b = omega (arith, behind less) in
+      there_behind xs a c d (omega (arith, less, place)) ∙ ap (λ k. get_or xs k d) place
+  | inr other_way ↦
+      let less : b < a = omega (arith, other_way.1) in
+      ap (λ k. get_or (remove xs a) k d) (before less) ∙ there_before xs a b d less
+]
 
 -- what stands at a place of what is told
-there_mapped : {S : Type 0} (f : S → AtWork) (seats : List S) (k : ℕ) (one d : S) → k < length seats → get_or seats k d ≡ one → slice_get (map f seats) k ≡ Some (f one)
+there_mapped : {S : Type 0} (f : S → AtWork) (seats : List S) (k : ℕ) (one d : S) → k < length seats → one ≡ get_or seats k d → slice_get (map f seats) k ≡ Some (f one)
 there_mapped f seats k one d lt is =
-    slice_get-get_or (map f seats) k (f d) (omega (arith, lt, length-map seats f)) ∙ ap Some (get_or-map f seats k d (f d) lt ∙ ap f is)
+    slice_get-get_or (map f seats) k (f d) (omega (arith, lt, length-map seats f)) ∙ ap Some (get_or-map f seats k d (f d) lt ∙ ap f (sym is))
 
-in_front : {S : Type 0} (front back : List S) (k : ℕ) (d : S) (seats : List S) → seats ≡ front ++ back → k < length front → get_or seats k d ≡ get_or front k d
-in_front front back k d seats value lt = ap (λ all. get_or all k d) value ∙ get_or-append front back d k lt
-
-in_back : {S : Type 0} (front back : List S) (to : ℕ) (d : S) (seats : List S) → seats ≡ front ++ back → length front ≡ to → get_or seats to d ≡ get_or back 0 d
-in_back front back to d seats value len =
-    ap (λ all. get_or all to d) value ∙ ap (λ k. get_or (front ++ back) k d) (sym (behind_front (length front) to len)) ∙ get_or-append-add front back 0 d
-
-long : {S : Type 0} (front back seats : List S) → seats ≡ front ++ back → length seats ≡ length front + length back
-long front back seats value = ap length value ∙ length-append front back
-
--- the one in front gives to the first one behind
-pub hands_behind : {S : Type 0} (f : S → AtWork) (count : ℕ) (lock : LockNo) (tag from_at to_at : ℕ) (seats new front back : List S) (d e giver_after taker_after : S) (reply : WordReply)
-    → from_at < length front → length front ≡ to_at → 0 < length back → seats ≡ front ++ back → new ≡ set front from_at giver_after ++ set back 0 taker_after
-    → HandsOver count lock tag (f (get_or front from_at d)) (f giver_after) (f (get_or back 0 e)) (f taker_after) reply
+pub hands_two : {S : Type 0} (f : S → AtWork) (count : ℕ) (lock : LockNo) (tag from_at to_at : ℕ) (seats new : List S) (giver giver_after taker taker_after : S) (reply : WordReply)
+    → from_at < length seats → to_at < length seats → giver ≡ get_or seats from_at giver → taker ≡ get_or seats to_at taker
+    → new ≡ set (set seats from_at giver_after) to_at taker_after
+    → HandsOver count lock tag (f giver) (f giver_after) (f taker) (f taker_after) reply
     → HandsBetween count lock tag from_at to_at (map f seats) (map f new) reply
-hands_behind f count lock tag from_at to_at seats new front back d e giver_after taker_after reply lt len some value changed handed =
-    let all = long front back seats value in
-    let both : new ≡ set (set seats from_at giver_after) to_at taker_after =
-    changed ∙ parts_set front back from_at giver_after taker_after lt
-    ∙ ap (λ k. set (set (front ++ back) from_at giver_after) k taker_after) len ∙ ap (λ xs. set (set xs from_at giver_after) to_at taker_after) (sym value) in
-    record {
-      giver = f (get_or front from_at d);
-      giver_after = f giver_after;
-      taker = f (get_or back 0 e);
-      taker_after = f taker_after;
-      giver_there = there_mapped f seats from_at (get_or front from_at d) d (omega (arith, lt, all)) (in_front front back from_at d seats value lt);
-      taker_there = there_mapped f seats to_at (get_or back 0 e) e (omega (arith, len, some, all)) (in_back front back to_at e seats value len);
-      handed = handed;
-      others = ap (map f) both ∙ map-set f (set seats from_at giver_after) to_at taker_after ∙ ap (λ xs. set xs to_at (f taker_after)) (map-set f seats from_at giver_after);
-    }
-
--- the first one behind gives to one in front
-pub hands_before : {S : Type 0} (f : S → AtWork) (count : ℕ) (lock : LockNo) (tag from_at to_at : ℕ) (seats new front back : List S) (d e giver_after taker_after : S) (reply : WordReply)
-    → to_at < length front → length front ≡ from_at → 0 < length back → seats ≡ front ++ back → new ≡ set front to_at taker_after ++ set back 0 giver_after
-    → HandsOver count lock tag (f (get_or back 0 d)) (f giver_after) (f (get_or front to_at e)) (f taker_after) reply
-    → HandsBetween count lock tag from_at to_at (map f seats) (map f new) reply
-hands_before f count lock tag from_at to_at seats new front back d e giver_after taker_after reply lt len some value changed handed =
-    let all = long front back seats value in
-    let both : new ≡ set (set seats from_at giver_after) to_at taker_after =
-    changed ∙ parts_set_back front back to_at taker_after giver_after lt
-    ∙ ap (λ k. set (set (front ++ back) k giver_after) to_at taker_after) len ∙ ap (λ xs. set (set xs from_at giver_after) to_at taker_after) (sym value) in
-    record {
-      giver = f (get_or back 0 d);
-      giver_after = f giver_after;
-      taker = f (get_or front to_at e);
-      taker_after = f taker_after;
-      giver_there = there_mapped f seats from_at (get_or back 0 d) d (omega (arith, len, some, all)) (in_back front back from_at d seats value len);
-      taker_there = there_mapped f seats to_at (get_or front to_at e) e (omega (arith, lt, all)) (in_front front back to_at e seats value lt);
-      handed = handed;
-      others = ap (map f) both ∙ map-set f (set seats from_at giver_after) to_at taker_after ∙ ap (λ xs. set xs to_at (f taker_after)) (map-set f seats from_at giver_after);
-    }
+hands_two f count lock tag from_at to_at seats new giver giver_after taker taker_after reply from_lt to_lt giver_here taker_here changed handed = record {
+  giver = f giver;
+  giver_after = f giver_after;
+  taker = f taker;
+  taker_after = f taker_after;
+  giver_there = there_mapped f seats from_at giver giver from_lt giver_here;
+  taker_there = there_mapped f seats to_at taker taker to_lt taker_here;
+  handed = handed;
+  others = ap (map f) changed ∙ map-set f (set seats from_at giver_after) to_at taker_after ∙ ap (λ all. set all to_at (f taker_after)) (map-set f seats from_at giver_after);
+}
 
 -- where all fit, the two that changed fit still
 abbrev pub Fits : {S : Type 0} → (S → AtWork) → TableId → S → Type 0
 Fits f table seat = (f seat).remove.table ≡ table
 
-pub fit_behind : {S : Type 0} (f : S → AtWork) (table : TableId) (count : ℕ) (lock : LockNo) (tag from_at to_at : ℕ) (seats new front back : List S) (d e giver_after taker_after : S) (reply : WordReply)
-    → from_at < length front → length front ≡ to_at → 0 < length back → seats ≡ front ++ back → new ≡ set front from_at giver_after ++ set back 0 taker_after
-    → HandsOver count lock tag (f (get_or front from_at d)) (f giver_after) (f (get_or back 0 e)) (f taker_after) reply
+pub two_fit : {S : Type 0} (f : S → AtWork) (table : TableId) (count : ℕ) (lock : LockNo) (tag from_at to_at : ℕ) (seats new : List S) (giver giver_after taker taker_after : S) (reply : WordReply)
+    → from_at < length seats → to_at < length seats → giver ≡ get_or seats from_at giver → taker ≡ get_or seats to_at taker
+    → new ≡ set (set seats from_at giver_after) to_at taker_after
+    → HandsOver count lock tag (f giver) (f giver_after) (f taker) (f taker_after) reply
     → All (Fits f table) seats → All (Fits f table) new
-fit_behind f table count lock tag from_at to_at seats new front back d e giver_after taker_after reply lt len some value changed handed each =
-    let all = long front back seats value in
-    let giver = ap (λ s. (f s).remove.table) (sym (in_front front back from_at d seats value lt)) ∙ each from_at d (omega (arith, lt, all)) in
-    let taker = ap (λ s. (f s).remove.table) (sym (in_back front back to_at e seats value len)) ∙ each to_at e (omega (arith, len, some, all)) in
-    subst (All (Fits f table)) (sym (changed ∙ parts_set front back from_at giver_after taker_after lt))
-    (All-set (Fits f table) (set (front ++ back) from_at giver_after) (length front) taker_after (handed.taker_same.0 ∙ taker)
-    (All-set (Fits f table) (front ++ back) from_at giver_after (handed.giver_same.0 ∙ giver) (subst (All (Fits f table)) value each)))
+two_fit f table count lock tag from_at to_at seats new giver giver_after taker taker_after reply from_lt to_lt giver_here taker_here changed handed each =
+    let gives = ap (λ s. (f s).remove.table) giver_here ∙ each from_at giver from_lt in
+    let takes = ap (λ s. (f s).remove.table) taker_here ∙ each to_at taker to_lt in
+    subst (All (Fits f table)) (sym changed)
+    (All-set (Fits f table) (set seats from_at giver_after) to_at taker_after (handed.taker_same.0 ∙ takes)
+    (All-set (Fits f table) seats from_at giver_after (handed.giver_same.0 ∙ gives) each))
 
-pub fit_before : {S : Type 0} (f : S → AtWork) (table : TableId) (count : ℕ) (lock : LockNo) (tag from_at to_at : ℕ) (seats new front back : List S) (d e giver_after taker_after : S) (reply : WordReply)
-    → to_at < length front → length front ≡ from_at → 0 < length back → seats ≡ front ++ back → new ≡ set front to_at taker_after ++ set back 0 giver_after
-    → HandsOver count lock tag (f (get_or back 0 d)) (f giver_after) (f (get_or front to_at e)) (f taker_after) reply
-    → All (Fits f table) seats → All (Fits f table) new
-fit_before f table count lock tag from_at to_at seats new front back d e giver_after taker_after reply lt len some value changed handed each =
-    let all = long front back seats value in
-    let giver = ap (λ s. (f s).remove.table) (sym (in_back front back from_at d seats value len)) ∙ each from_at d (omega (arith, len, some, all)) in
-    let taker = ap (λ s. (f s).remove.table) (sym (in_front front back to_at e seats value lt)) ∙ each to_at e (omega (arith, lt, all)) in
-    subst (All (Fits f table)) (sym (changed ∙ parts_set_back front back to_at taker_after giver_after lt))
-    (All-set (Fits f table) (set (front ++ back) (length front) giver_after) to_at taker_after (handed.taker_same.0 ∙ taker)
-    (All-set (Fits f table) (front ++ back) (length front) giver_after (handed.giver_same.0 ∙ giver) (subst (All (Fits f table)) value each)))
-
-none_dropped : {S : Type 0} (n : ℕ) (xs : List S) → length xs ≤ n → drop n xs ≡ []
-none_dropped zero [] le = refl
-none_dropped zero (x ∷ xs) le = absurd (omega arith)
-none_dropped (suc n) [] le = refl
-none_dropped (suc n) (x ∷ xs) le = none_dropped n xs (omega arith)
-
--- what a vector is whose items were changed as a slice
-pub slice_back : {S : Type 0} (n : ℕ) (new old : List S) → n ≡ length old → length new ≡ length old → take n (new ++ drop (length new) old) ≡ new
-slice_back n new old is same =
-    ap (λ rest. take n (new ++ rest)) (none_dropped (length new) old (omega (arith, same))) ∙ ap (take n) (append-nil new) ∙ take_all n new (omega (arith, is, same))
-
-pub as_many : {S : Type 0} (f : S → AtWork) (count : ℕ) (lock : LockNo) (tag from_at to_at : ℕ) (seats new : List S) (reply : WordReply)
-    → HandsBetween count lock tag from_at to_at (map f seats) (map f new) reply → length new ≡ length seats
-as_many f count lock tag from_at to_at seats new reply hands =
-    let all : length (map f new) ≡ length (map f seats) =
-    ap length hands.others ∙ length-set (set (map f seats) from_at hands.giver_after) to_at hands.taker_after ∙ length-set (map f seats) from_at hands.giver_after in
-    omega (arith, all, length-map new f, length-map seats f)
+-- two seats that fit are of one table
+pub same_table : {S : Type 0} (f : S → AtWork) (table : TableId) (from_at to_at : ℕ) (seats : List S) (giver taker : S)
+    → from_at < length seats → to_at < length seats → giver ≡ get_or seats from_at giver → taker ≡ get_or seats to_at taker
+    → All (Fits f table) seats → (f taker).remove.table ≡ (f giver).remove.table
+same_table f table from_at to_at seats giver taker from_lt to_lt giver_here taker_here each =
+    ap (λ s. (f s).remove.table) taker_here ∙ each to_at taker to_lt ∙ sym (ap (λ s. (f s).remove.table) giver_here ∙ each from_at giver from_lt)
 
 -- the seat at a place where its number was found
 named_at : {S : Type 0} (f : S → AtWork) (seats : List S) (at number : ℕ) (own : AtWork) → slice_get (map (λ s. (f s).seat.number) seats) at ≡ Some number → slice_get (map f seats) at ≡ Some own → own.seat.number ≡ number
@@ -148,21 +136,17 @@ named_at f seats at number own is there =
     map_twice g f (x ∷ xs) = ap (λ rest. g (f x) ∷ rest) (map_twice g f xs)
 
 -- a hand of two seats is what a worker makes that has them
-pub makes_hand : {S : Type 0} (f : S → AtWork) (count place : ℕ) (step : Step) (lock : LockNo) (tag to from_at to_at : ℕ) (seats given new after : List S) (lines room longer : List WordLine) (reply : WordReply)
+pub makes_hand : {S : Type 0} (f : S → AtWork) (count place : ℕ) (step : Step) (lock : LockNo) (tag to from_at to_at : ℕ) (seats new : List S) (lines room longer : List WordLine) (reply : WordReply)
     → slice_get (map (λ s. (f s).seat.number) seats) from_at ≡ Some step.seat → slice_get (map (λ s. (f s).seat.number) seats) to_at ≡ Some to → from_at ≢ to_at
-    → given ≡ seats → after ≡ new → room ≡ lines → HandsBetween count lock tag from_at to_at (map f given) (map f new) reply → Tells place step (Hand lock tag to) reply room longer
-    → MakesHand count place step lock tag to (working (map f seats) lines) (working (map f after) longer)
-makes_hand f count place step lock tag to from_at to_at seats given new after lines room longer reply from_found to_found apart same back roomy hands told =
-    let between : HandsBetween count lock tag from_at to_at (map f seats) (map f after) reply =
-    subst (λ all. HandsBetween count lock tag from_at to_at (map f seats) (map f all) reply) (sym back)
-    (subst (λ all. HandsBetween count lock tag from_at to_at (map f all) (map f new) reply) same hands) in
-    record {
-      from_at = from_at;
-      to_at = to_at;
-      apart = apart;
-      reply = reply;
-      between = between;
-      giver_named = named_at f seats from_at step.seat between.giver from_found between.giver_there;
-      taker_named = named_at f seats to_at to between.taker to_found between.taker_there;
-      told = subst (λ all. Tells place step (Hand lock tag to) reply all longer) roomy told;
-    }
+    → room ≡ lines → HandsBetween count lock tag from_at to_at (map f seats) (map f new) reply → Tells place step (Hand lock tag to) reply room longer
+    → MakesHand count place step lock tag to (working (map f seats) lines) (working (map f new) longer)
+makes_hand f count place step lock tag to from_at to_at seats new lines room longer reply from_found to_found apart roomy hands told = record {
+  from_at = from_at;
+  to_at = to_at;
+  apart = apart;
+  reply = reply;
+  between = hands;
+  giver_named = named_at f seats from_at step.seat hands.giver from_found hands.giver_there;
+  taker_named = named_at f seats to_at to hands.taker to_found hands.taker_there;
+  told = subst (λ all. Tells place step (Hand lock tag to) reply all longer) roomy told;
+}

@@ -1,6 +1,7 @@
 pub mod Accounted
 pub mod Carried
 pub mod Chains
+pub mod Dealing
 pub mod Handing
 pub mod Making
 pub mod Numbers

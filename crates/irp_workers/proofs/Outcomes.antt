@@ -142,15 +142,17 @@ alone : (count place : ℕ) (step : Step) (before after : Working) → MakesAlon
 alone count place step before after made =
     let out = came_out count place step (deed_of step.act) made.old made.new before.lines after.lines made.did in
     let lt = slice_get_within before.seats made.at made.old made.there in
-    let here = get_or_from_slice_get before.seats made.at made.old made.old made.there in
-    (out.tokenless, record {
-      told = out.told;
-      pairs = ap (map pair_at) made.others ∙ map_set_same pair_at before.seats made.at made.new made.old (out.pair ∙ ap pair_at (sym here)) lt;
-      called = λ once.
-          ap (map calls_at) made.others
-          ∙ called_at calls_at before.seats made.at made.new made.old (out_of place step out.tokenless) lt (ap (λ own. own.seat.number) here ∙ made.named)
-          (once_own place step out.tokenless made.old made.new out.pair made.named out.calls ∙ ap (λ own. once_made (out_of place step out.tokenless ∷ []) (calls_at own)) (sym here)) once;
-    })
+    let here = get_or_from_slice_get before.seats made.at made.old made.old made.there in (
+      out.tokenless,
+      record {
+        told = out.told;
+        pairs = ap (map pair_at) made.others ∙ map_set_same pair_at before.seats made.at made.new made.old (out.pair ∙ ap pair_at (sym here)) lt;
+        called = λ once.
+            ap (map calls_at) made.others
+            ∙ called_at calls_at before.seats made.at made.new made.old (out_of place step out.tokenless) lt (ap (λ own. own.seat.number) here ∙ made.named)
+            (once_own place step out.tokenless made.old made.new out.pair made.named out.calls ∙ ap (λ own. once_made (out_of place step out.tokenless ∷ []) (calls_at own)) (sym here)) once;
+      },
+    )
 
 -- two that tell the same in the places of two
 two_set_same : {A B : Type 0} (f : A → B) (xs : List A) (a b : ℕ) (one other one_after other_after : A) → a ≢ b → a < length xs → b < length xs

@@ -144,9 +144,11 @@ pub chosen : {T : Type 0} (P : ℕ → T → Type 0) (d : T) (n : ℕ) → ((k :
 chosen P d zero each = (λ k. d, λ k lt. absurd (omega arith))
 chosen P d (suc n) each =
     let before = chosen P d n (λ k lt. each k (omega arith)) in
-    let here = each n (omega arith) in
-    (λ k. cond (k == n) here.0 (before.0 k), λ k lt.
-    elim (eqb_tells k n) as (λ _. P k (cond (k == n) here.0 (before.0 k))) [
-      | inl is ↦ subst (λ b. P k (cond b here.0 (before.0 k))) (sym is.0) (subst (λ j. P j here.0) (sym is.1) here.1)
-      | inr other ↦ subst (λ b. P k (cond b here.0 (before.0 k))) (sym other.0) (before.1 k (omega (arith, other.1)))
-    ])
+    let here = each n (omega arith) in (
+      λ k. cond (k == n) here.0 (before.0 k),
+      λ k lt.
+          elim (eqb_tells k n) as (λ _. P k (cond (k == n) here.0 (before.0 k))) [
+            | inl is ↦ subst (λ b. P k (cond b here.0 (before.0 k))) (sym is.0) (subst (λ j. P j here.0) (sym is.1) here.1)
+            | inr other ↦ subst (λ b. P k (cond b here.0 (before.0 k))) (sym other.0) (before.1 k (omega (arith, other.1)))
+          ],
+    )

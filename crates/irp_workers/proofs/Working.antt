@@ -221,7 +221,7 @@ told_from : {W P : Type 0} (h : W → P) (o : Option W) (p : P) → option_map h
 told_from h None p is = absurd (none-some p is)
 told_from h (Some w) p is = (w, refl, ap (λ found. unwrap_or found p) is)
 
-found_in : {W P : Type 0} (h : W → P) (ws : List W) (k : ℕ) (p : P) → slice_get (map h ws) k ≡ Some p → (w : W) × (slice_get ws k ≡ Some w) × (h w ≡ p)
+pub found_in : {W P : Type 0} (h : W → P) (ws : List W) (k : ℕ) (p : P) → slice_get (map h ws) k ≡ Some p → (w : W) × (slice_get ws k ≡ Some w) × (h w ≡ p)
 found_in h ws k p is = told_from h (slice_get ws k) p (sym (slice_get-map h ws k) ∙ is)
 
 All-mapped : {S X : Type 0} (f : S → X) (P : X → Type 0) (xs : List S) → All (λ s. P (f s)) xs → All P (map f xs)

@@ -34,7 +34,11 @@ pub enum Deed {
     /// An act on a remove lock, in the step's own seat alone.
     OnLock(LockAct),
     /// Hands one acquisition of the lock with this tag to another seat.
-    Hands { lock: LockNo, tag: u32, to: u32 },
+    Hands {
+        lock: LockNo,
+        tag: u32,
+        to: u32,
+    },
     /// An act on a cancel slot.
     OnSlot(SlotAct),
     /// Finishes the packet that the step names, with the token that the seat took from the slot.

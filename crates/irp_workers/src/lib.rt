@@ -20,5 +20,3 @@ pub use behaviours::{cancel_rule, table_answer, table_cancel, table_plan};
 pub use gate::{AlwaysOpen, Gate};
 pub use run::{Worked, run_workers, script_seats};
 pub use script_seat::ScriptSeat;
-
-

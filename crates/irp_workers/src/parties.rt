@@ -13,8 +13,8 @@ use irp_types::IrpRef;
 use std::alloc::{AllocError, Global};
 use std::marker::Model;
 
-/// A seat's parties at the cancel slots that these were opened with: its canceller, and the owners of its slots. And the
-/// tokens that they took out of slots.
+/// A seat's parties at the cancel slots that these were opened with: its canceller, and the owners of its slots. And
+/// the tokens that they took out of slots.
 ///
 /// Contracts see it as the record `AtSlots` of this crate.
 #[derive(Drop)]
@@ -32,9 +32,15 @@ impl<'a> Model for SlotParties<'a> {
 
     ghost Value = { AtSlots };
 
-    ghost view = { λ parties. record { slots = slot_count parties.slots.now; canceller = parties.canceller; owners = parties.owners.items; taken = parties.taken.items } };
+    ghost view = { λ parties. record {
+      slots = slot_count parties.slots.now;
+      canceller = parties.canceller;
+      owners = parties.owners.items;
+      taken = parties.taken.items;
+    } };
 
-    ghost invariant = { λ parties. IsCancellerOf parties.slots.now parties.canceller × All (IsOwnerOf parties.slots.now) parties.owners.items };
+    ghost invariant = { λ parties. IsCancellerOf parties.slots.now parties.canceller
+        × All (IsOwnerOf parties.slots.now) parties.owners.items };
 }
 
 /// Keeps what came out of a slot, if anything did.
@@ -86,7 +92,8 @@ impl<'a> SlotParties<'a> {
     /// A canceller of these slots, without an owner. It has taken nothing.
     pub fn new(alloc: Global, slots: &'a Slots, canceller: Canceller) -> SlotParties<'a>
         requires { IsCancellerOf slots.now canceller }
-        ensures { result ≡ record { slots = slot_count slots.now; canceller = canceller; owners = []; taken = [] } }
+        ensures { result ≡
+            record { slots = slot_count slots.now; canceller = canceller; owners = []; taken = [] } }
     {
         SlotParties {
             slots,
@@ -111,10 +118,11 @@ impl<'a> SlotParties<'a> {
         Ok(())
     }
 
-    /// Publishes a packet's use in a slot of its own, keeps the token that came out, and answers what a word line tells of
-    /// it. None where the slot is none of its own or there is no memory, and then nothing was done.
+    /// Publishes a packet's use in a slot of its own, keeps the token that came out, and answers what a word line
+    /// tells of it. None where the slot is none of its own or there is no memory, and then nothing was done.
     pub fn publish(&mut self, slot: u32, irp: IrpRef) -> Option<WordReply>
-        ensures { MatchOption result (self.new ≡ self.old) (λ reply. Publishing slot irp.use_no self.old self.new reply) }
+        ensures { MatchOption result (self.new ≡ self.old)
+            (λ reply. Publishing slot irp.use_no self.old self.new reply) }
     {
         let at = place_of(self.owners.as_slice(), slot)?;
         self.taken.reserve(1).ok()?;
@@ -125,10 +133,12 @@ impl<'a> SlotParties<'a> {
         Some(reply)
     }
 
-    /// Withdraws what its owner has published in a slot of its own, keeps the token that came out, and answers what a word
-    /// line tells of it. None where the slot is none of its own or there is no memory, and then nothing was done.
+    /// Withdraws what its owner has published in a slot of its own, keeps the token that came out, and answers what a
+    /// word line tells of it. None where the slot is none of its own or there is no memory, and then nothing was
+    /// done.
     pub fn withdraw(&mut self, slot: u32) -> Option<WordReply>
-        ensures { MatchOption result (self.new ≡ self.old) (λ reply. Withdrawing slot self.old self.new reply) }
+        ensures { MatchOption result (self.new ≡ self.old)
+            (λ reply. Withdrawing slot self.old self.new reply) }
     {
         let at = place_of(self.owners.as_slice(), slot)?;
         self.taken.reserve(1).ok()?;
@@ -139,10 +149,11 @@ impl<'a> SlotParties<'a> {
         Some(reply)
     }
 
-    /// Asks for what stands in a slot, keeps the token that came out, and answers what a word line tells of it. None where
-    /// there is no memory, and then nothing was done.
+    /// Asks for what stands in a slot, keeps the token that came out, and answers what a word line tells of it. None
+    /// where there is no memory, and then nothing was done.
     pub fn request(&mut self, slot: u32) -> Option<WordReply>
-        ensures { MatchOption result (self.new ≡ self.old) (λ reply. Requesting slot self.old self.new reply) }
+        ensures { MatchOption result (self.new ≡ self.old)
+            (λ reply. Requesting slot self.old self.new reply) }
     {
         self.taken.reserve(1).ok()?;
         let slots = self.slots;
@@ -155,7 +166,10 @@ impl<'a> SlotParties<'a> {
     pub fn take(&mut self, slot: u32) -> Option<(usize, Token)>
         ensures place { IfSome result (λ found. found.0 < length self.new.taken) }
         ensures found { IfSome result (λ found. slice_get self.old.taken found.0 ≡ Some (fresh slot found.1)) }
-        ensures rest { IfSome result (λ found. self.new ≡ record self.old { taken = slice_set self.old.taken found.0 (record { slot = slot; token = None }) }) }
+        ensures rest { IfSome result (λ found. self.new ≡
+            record self.old {
+              taken = slice_set self.old.taken found.0 (record { slot = slot; token = None });
+            }) }
         ensures none { IfNone result (All (IsSpent slot) self.old.taken × (self.new ≡ self.old)) }
     {
         let at = place_of_token(self.taken.as_slice(), slot)?;
@@ -167,7 +181,9 @@ impl<'a> SlotParties<'a> {
     /// Puts a token of a slot, or none, into this place.
     pub fn put_back(&mut self, at: usize, slot: u32, token: Option<Token>)
         requires { at < length self.old.taken }
-        ensures { self.new ≡ record self.old { taken = slice_set self.old.taken at (record { slot = slot; token = token }) } }
+        ensures { self.new ≡ record self.old {
+          taken = slice_set self.old.taken at (record { slot = slot; token = token });
+        } }
     {
         self.taken[at] = Taken { slot, token };
     }

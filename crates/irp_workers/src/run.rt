@@ -74,12 +74,12 @@ fn pair_up<'a, L: Session>(
     Ok(pairs)
 }
 
-/// The seats of a script: each seat with the remove seat and the canceller of the same place, and with the owners of its
-/// slots, in the order of the seats. Slot k is of the seat at place k modulo how many seats there are: since a session
-/// numbers its seats by their places, of the seat with that number. No seat has taken anything out of a slot.
+/// The seats of a script: each seat with the remove seat and the canceller of the same place, and with the owners of
+/// its slots, in the order of the seats. Slot k is of the seat at place k modulo how many seats there are: since a
+/// session numbers its seats by their places, of the seat with that number. No seat has taken anything out of a slot.
 ///
-/// The conditions: the remove seats were opened with these locks, and the cancellers and the owners with these slots; there
-/// are as many remove seats and as many cancellers as seats; and there are as many locks as the session has.
+/// The conditions: the remove seats were opened with these locks, and the cancellers and the owners with these slots;
+/// there are as many remove seats and as many cancellers as seats; and there are as many locks as the session has.
 ///
 /// # Errors
 ///
@@ -102,7 +102,8 @@ pub fn script_seats<'a, L: Session>(
     ensures removes { IfOk result (λ pairs. map (λ own. own.remove) pairs.items ≡ removes.items) }
     ensures cancellers { IfOk result (λ pairs. map (λ own. own.parties.canceller) pairs.items ≡ cancellers.items) }
     ensures owners { IfOk result (λ pairs. OwnTheirSlots (vec_len seats) (map (λ own. own.parties) pairs.items)) }
-    ensures all_owners { IfOk result (λ pairs. 0 < vec_len seats → EachAsOften owners.items (flat_map (λ own. own.parties.owners) pairs.items)) }
+    ensures all_owners { IfOk result (λ pairs. 0 < vec_len seats
+        → EachAsOften owners.items (flat_map (λ own. own.parties.owners) pairs.items)) }
     ensures taken { IfOk result (λ pairs. All (λ own. own.parties.taken ≡ []) pairs.items) }
     ensures fits { IfOk result (λ pairs. All (λ own. IsSeatOf locks.now own.remove) pairs.items) }
     ensures at_slots { IfOk result (λ pairs. All (λ own. IsCancellerOf slots.now own.parties.canceller) pairs.items) }
@@ -203,35 +204,38 @@ fn gather<'a, L: Session>(
     })
 }
 
-/// Runs a script: its setup in order, on this thread, and then so many workers in threads of their own, of which worker w
-/// runs, in the order of the script, the steps whose seat's number leaves w when divided by their number. The workers meet
-/// before each of their first 32 steps, so that short scripts mix: each waits for the others for a bounded time. With one
-/// worker all steps are run in the order of the script.
+/// Runs a script: its setup in order, on this thread, and then so many workers in threads of their own, of which
+/// worker w runs, in the order of the script, the steps whose seat's number leaves w when divided by their number.
+/// The workers meet before each of their first 32 steps, so that short scripts mix: each waits for the others for a
+/// bounded time. With one worker all steps are run in the order of the script.
 ///
-/// Labels are shared by all seats: one that isn't bound yet stands for a packet that is never live. A step whose seat isn't
-/// there, one whose call isn't recorded, a hand to a seat that its worker doesn't have, and a publish or a withdraw in a slot
-/// of another seat stops its worker; in the setup, nothing more is run. The gate is told of each of the script's `steps` by
-/// its seat and its place, before and after it, outside the session's lock. A step of the setup on a lock or a slot, which no
-/// script that was read has, has no word line (this project's own format, docs/FORMATS.md).
+/// Labels are shared by all seats: one that isn't bound yet stands for a packet that is never live. A step whose seat
+/// isn't there, one whose call isn't recorded, a hand to a seat that its worker doesn't have, and a publish or a
+/// withdraw in a slot of another seat stops its worker; in the setup, nothing more is run. The gate is told of each
+/// of the script's `steps` by its seat and its place, before and after it, outside the session's lock. A step of the
+/// setup on a lock or a slot, which no script that was read has, has no word line (this project's own format,
+/// docs/FORMATS.md).
 ///
 /// All remove seats were opened with these locks, and all that the seats have at slots with these slots, which are the
 /// conditions of this call.
 ///
-/// What was done is a chain for the setup, and then one for each worker over the seats that it was dealt. Each link is one
-/// of its own steps, in the order of the script, made by the seat that the step names: one call, with what this seat's own
-/// remove seat knew of the locks, or one act on remove locks or on a cancel slot, of which one word line tells what was
-/// answered. A finish of a taken packet is one call with a token that this seat took from that slot and hasn't spent, and
-/// where there is none, one word line. A token that comes out of a slot stays with the seat, and so does one that a finish
-/// gives back. The next link goes on from there, and no other seat changes, but for the one that a hand names. A chain ends
-/// early only where its worker stopped. The seats and the word lines that come back are those that the chains end with.
+/// What was done is a chain for the setup, and then one for each worker over the seats that it was dealt. Each link
+/// is one of its own steps, in the order of the script, made by the seat that the step names: one call, with what
+/// this seat's own remove seat knew of the locks, or one act on remove locks or on a cancel slot, of which one word
+/// line tells what was answered. A finish of a taken packet is one call with a token that this seat took from that
+/// slot and hasn't spent, and where there is none, one word line. A token that comes out of a slot stays with the
+/// seat, and so does one that a finish gives back. The next link goes on from there, and no other seat changes, but
+/// for the one that a hand names. A chain ends early only where its worker stopped. The seats and the word lines that
+/// come back are those that the chains end with.
 ///
-/// Each word line has the seat, the place and the act of one of the script's `steps` on locks and slots. No such step has
-/// two lines, and where nothing stopped, each has its line, a finish of a taken packet only where it found no token.
+/// Each word line has the seat, the place and the act of one of the script's `steps` on locks and slots. No such step
+/// has two lines, and where nothing stopped, each has its line, a finish of a taken packet only where it found no
+/// token.
 ///
-/// Where nothing stopped, and no two seats have the same number, each seat has made, after the calls that it had made, those
-/// of its own steps of `setup` and then those of its own `steps`, in the order of the script, and no other. A finish of a
-/// taken packet is among them where it has no line. The clause compares calls but for the packets and the tokens that they
-/// name.
+/// Where nothing stopped, and no two seats have the same number, each seat has made, after the calls that it had
+/// made, those of its own steps of `setup` and then those of its own `steps`, in the order of the script, and no
+/// other. A finish of a taken packet is among them where it has no line. The clause compares calls but for the
+/// packets and the tokens that they name.
 ///
 /// # Errors
 ///
@@ -259,8 +263,12 @@ pub fn run_workers<
     ensures words { IfOk result (λ worked. AreInOrder worked.words.items) }
     ensures seats { IfOk result (λ worked. AreSame (map (λ own. own.seat.number) seats.entry.items) (map (λ own. own.seat.number) worked.seats.items)) }
     ensures pairs { IfOk result (λ worked. EachAsOften (map (λ own. pair_of own.seat own.remove) seats.entry.items) (map (λ own. pair_of own.seat own.remove) worked.seats.items)) }
-    ensures accounts { IfOk result (λ worked. Accounts script.now.setup script.now.steps (map (λ own. at_work own.seat own.remove own.parties) seats.entry.items) (map (λ own. at_work own.seat own.remove own.parties) worked.seats.items) worked.words.items worked.stopped) }
-    ensures ran { IfOk result (λ worked. RunsScript L.fixed.locks workers script.now.setup script.now.steps (map (λ own. at_work own.seat own.remove own.parties) seats.entry.items) (map (λ own. at_work own.seat own.remove own.parties) worked.seats.items) worked.words.items worked.stopped) }
+    ensures accounts { IfOk result (λ worked. Accounts script.now.setup script.now.steps
+        (map (λ own. at_work own.seat own.remove own.parties) seats.entry.items)
+        (map (λ own. at_work own.seat own.remove own.parties) worked.seats.items) worked.words.items worked.stopped) }
+    ensures ran { IfOk result (λ worked. RunsScript L.fixed.locks workers script.now.setup script.now.steps
+        (map (λ own. at_work own.seat own.remove own.parties) seats.entry.items)
+        (map (λ own. at_work own.seat own.remove own.parties) worked.seats.items) worked.words.items worked.stopped) }
 {
     let _ = slots;
     let labels = Labels::new(alloc, script.labels)?;

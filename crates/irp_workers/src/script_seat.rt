@@ -38,9 +38,9 @@ pub fn tell(words: &mut Vec<WordLine>, index: u32, step: Step, act: Act, reply: 
     });
 }
 
-/// A seat of a script: the one in which it makes calls of the manager, the remove seat of the same place, at the locks that
-/// this was opened with, which are as many as the session has, and what it has at the cancel slots. What it knows of the
-/// locks is what its own remove seat knows.
+/// A seat of a script: the one in which it makes calls of the manager, the remove seat of the same place, at the
+/// locks that this was opened with, which are as many as the session has, and what it has at the cancel slots. What
+/// it knows of the locks is what its own remove seat knows.
 #[derive(Drop)]
 pub struct ScriptSeat<'a, L: Session> {
     locks: &'a Locks,
@@ -52,8 +52,8 @@ pub struct ScriptSeat<'a, L: Session> {
 }
 
 impl<'a, L: Session> ScriptSeat<'a, L> {
-    /// A seat of these, on condition that the remove seat was opened with these locks, and that there are as many of them as
-    /// the session has.
+    /// A seat of these, on condition that the remove seat was opened with these locks, and that there are as many of
+    /// them as the session has.
     pub fn new(
         locks: &'a Locks,
         seat: Seat<L>,
@@ -83,13 +83,14 @@ impl<'a, L: Session> ScriptSeat<'a, L> {
         requires { owner.table ≡ self.old.parties.canceller.table }
         ensures seat { self.new.seat ≡ self.old.seat }
         ensures remove { self.new.remove ≡ self.old.remove }
-        ensures owns { IfOk result (λ _. self.new.parties ≡ record self.old.parties { owners = self.old.parties.owners ++ owner ∷ [] }) }
+        ensures owns { IfOk result (λ _. self.new.parties ≡
+            record self.old.parties { owners = self.old.parties.owners ++ owner ∷ [] }) }
     {
         self.parties.own(owner)
     }
 
-    /// The two apart: the seat in which it makes calls, and the remove seat, which fits the locks. What it has at the cancel
-    /// slots is gone then.
+    /// The two apart: the seat in which it makes calls, and the remove seat, which fits the locks. What it has at the
+    /// cancel slots is gone then.
     pub fn into_pair(self) -> (Seat<L>, RemoveSeat)
         ensures seat { result.0 ≡ self.entry.seat }
         ensures remove { result.1 ≡ self.entry.remove }
@@ -105,12 +106,13 @@ impl<'a, L: Session> ScriptSeat<'a, L> {
         self.seat.number()
     }
 
-    /// Makes the call of a step once, with what the remove seat knows of the locks, and binds the label that the step binds.
-    /// None where the step has no call, or it wasn't recorded, and then the seat says what it said.
+    /// Makes the call of a step once, with what the remove seat knows of the locks, and binds the label that the step
+    /// binds. None where the step has no call, or it wasn't recorded, and then the seat says what it said.
     fn call<A: Ask>(&mut self, rt: &impl Wait, place: &Workplace<A, L>, step: Step) -> Option<()>
         ensures remove { self.new.remove ≡ self.old.remove }
         ensures parties { self.new.parties ≡ self.old.parties }
-        ensures called { MatchOption result (IsAsBefore self.old.seat self.new.seat) (λ _. CallsFor step.act self.old.remove self.old.seat self.new.seat) }
+        ensures called { MatchOption result (IsAsBefore self.old.seat self.new.seat)
+            (λ _. CallsFor step.act self.old.remove self.old.seat self.new.seat) }
     {
         let irp = place.labels.packet_of(rt, step.act);
         let call = call_of(step.act, irp)?;
@@ -197,10 +199,15 @@ impl<'a, L: Session> ScriptSeat<'a, L> {
     pub fn hand(&mut self, taker: &mut ScriptSeat<'a, L>, lock: LockNo, tag: u32) -> WordReply
         requires { taker.old.remove.table ≡ self.old.remove.table }
         ensures { HandsOver L.fixed.locks lock tag
-            (at_work self.old.seat self.old.remove self.old.parties) (at_work self.new.seat self.new.remove self.new.parties)
-            (at_work taker.old.seat taker.old.remove taker.old.parties) (at_work taker.new.seat taker.new.remove taker.new.parties) result }
+            (at_work self.old.seat self.old.remove self.old.parties)
+            (at_work self.new.seat self.new.remove self.new.parties)
+            (at_work taker.old.seat taker.old.remove taker.old.parties)
+            (at_work taker.new.seat taker.new.remove taker.new.parties) result }
     {
-        match self.locks.hand(&mut self.remove, &mut taker.remove, lock, tag) {
+        match self
+            .locks
+            .hand(&mut self.remove, &mut taker.remove, lock, tag)
+        {
             Ok(()) => WordReply::Done,
             Err(HandRefusal::NoLock) => WordReply::NoLock,
             Err(HandRefusal::NotHeld) => WordReply::NotHeld,
@@ -208,8 +215,8 @@ impl<'a, L: Session> ScriptSeat<'a, L> {
         }
     }
 
-    /// Acts on a cancel slot once, and answers what a word line tells of it. None where the slot's owner is another seat's or
-    /// there is no memory, and then nothing was done.
+    /// Acts on a cancel slot once, and answers what a word line tells of it. None where the slot's owner is another
+    /// seat's or there is no memory, and then nothing was done.
     fn act_at_slot<A: Ask>(
         &mut self,
         rt: &impl Wait,
@@ -219,7 +226,8 @@ impl<'a, L: Session> ScriptSeat<'a, L> {
     ) -> Option<WordReply>
         ensures seat { self.new.seat ≡ self.old.seat }
         ensures remove { self.new.remove ≡ self.old.remove }
-        ensures acts { MatchOption result (self.new.parties ≡ self.old.parties) (λ reply. SlotActs step.act on self.old.parties self.new.parties reply) }
+        ensures acts { MatchOption result (self.new.parties ≡ self.old.parties)
+            (λ reply. SlotActs step.act on self.old.parties self.new.parties reply) }
     {
         match on {
             SlotAct::Publish { slot } => {
@@ -240,8 +248,11 @@ impl<'a, L: Session> ScriptSeat<'a, L> {
         words: &mut Vec<WordLine>,
     ) -> Option<()>
         ensures { MatchOption result
-            (Stays (at_work self.old.seat self.old.remove self.old.parties) (at_work self.new.seat self.new.remove self.new.parties) words.old.items words.new.items)
-            (λ _. ActsOnLock L.fixed.locks index step on (at_work self.old.seat self.old.remove self.old.parties) (at_work self.new.seat self.new.remove self.new.parties) words.old.items words.new.items) }
+            (Stays (at_work self.old.seat self.old.remove self.old.parties)
+            (at_work self.new.seat self.new.remove self.new.parties) words.old.items words.new.items)
+            (λ _. ActsOnLock L.fixed.locks index step on
+            (at_work self.old.seat self.old.remove self.old.parties)
+            (at_work self.new.seat self.new.remove self.new.parties) words.old.items words.new.items) }
     {
         words.reserve(1).ok()?;
         let reply = self.act(on);
@@ -249,8 +260,8 @@ impl<'a, L: Session> ScriptSeat<'a, L> {
         Some(())
     }
 
-    /// Acts on a cancel slot, and adds the line. None where the slot's owner is another seat's or there was no memory, and
-    /// then nothing was done.
+    /// Acts on a cancel slot, and adds the line. None where the slot's owner is another seat's or there was no
+    /// memory, and then nothing was done.
     fn step_on_slot<A: Ask>(
         &mut self,
         rt: &impl Wait,
@@ -261,8 +272,11 @@ impl<'a, L: Session> ScriptSeat<'a, L> {
         words: &mut Vec<WordLine>,
     ) -> Option<()>
         ensures { MatchOption result
-            (Stays (at_work self.old.seat self.old.remove self.old.parties) (at_work self.new.seat self.new.remove self.new.parties) words.old.items words.new.items)
-            (λ _. ActsOnSlot index step on (at_work self.old.seat self.old.remove self.old.parties) (at_work self.new.seat self.new.remove self.new.parties) words.old.items words.new.items) }
+            (Stays (at_work self.old.seat self.old.remove self.old.parties)
+            (at_work self.new.seat self.new.remove self.new.parties) words.old.items words.new.items)
+            (λ _. ActsOnSlot index step on
+            (at_work self.old.seat self.old.remove self.old.parties)
+            (at_work self.new.seat self.new.remove self.new.parties) words.old.items words.new.items) }
     {
         words.reserve(1).ok()?;
         let reply = self.act_at_slot(rt, place, step, on)?;
@@ -278,16 +292,23 @@ impl<'a, L: Session> ScriptSeat<'a, L> {
         slot: u32,
         words: &mut Vec<WordLine>,
     ) -> Option<()>
-        ensures { MatchOption result (words.new.items ≡ words.old.items) (λ _. Tells index step (Act.FinishTaken slot) WordReply.NoToken words.old.items words.new.items) }
+        ensures { MatchOption result (words.new.items ≡ words.old.items)
+            (λ _. Tells index step (Act.FinishTaken slot) WordReply.NoToken words.old.items words.new.items) }
     {
         words.reserve(1).ok()?;
-        tell(words, index, step, Act::FinishTaken { slot }, WordReply::NoToken);
+        tell(
+            words,
+            index,
+            step,
+            Act::FinishTaken { slot },
+            WordReply::NoToken,
+        );
         Some(())
     }
 
-    /// Finishes a packet with a token that it took from the slot, and leaves the token in its place where it comes back.
-    /// Where it has none it adds a line, and calls nothing. None where the call wasn't recorded, or there was no memory for
-    /// the line, and then nothing was done.
+    /// Finishes a packet with a token that it took from the slot, and leaves the token in its place where it comes
+    /// back. Where it has none it adds a line, and calls nothing. None where the call wasn't recorded, or there was
+    /// no memory for the line, and then nothing was done.
     fn finish<A: Ask>(
         &mut self,
         rt: &impl Wait,
@@ -300,15 +321,21 @@ impl<'a, L: Session> ScriptSeat<'a, L> {
         words: &mut Vec<WordLine>,
     ) -> Option<()>
         ensures { MatchOption result
-            (Stays (at_work self.old.seat self.old.remove self.old.parties) (at_work self.new.seat self.new.remove self.new.parties) words.old.items words.new.items)
-            (λ _. Does L.fixed.locks index step (Deed.Finishes slot status information) (at_work self.old.seat self.old.remove self.old.parties) (at_work self.new.seat self.new.remove self.new.parties) words.old.items words.new.items) }
+            (Stays (at_work self.old.seat self.old.remove self.old.parties)
+            (at_work self.new.seat self.new.remove self.new.parties) words.old.items words.new.items)
+            (λ _. Does L.fixed.locks index step (Deed.Finishes slot status information)
+            (at_work self.old.seat self.old.remove self.old.parties)
+            (at_work self.new.seat self.new.remove self.new.parties) words.old.items words.new.items) }
     {
         let Some((at, token)) = self.parties.take(slot) else {
             return self.finish_none(index, step, slot, words);
         };
         let irp = place.labels.packet_of(rt, step.act);
         let seat = &mut self.seat;
-        match place.shared.finish_taken(rt, seat, irp, token, status, information) {
+        match place
+            .shared
+            .finish_taken(rt, seat, irp, token, status, information)
+        {
             Ok((_, token)) => {
                 self.parties.put_back(at, slot, token);
                 Some(())
@@ -320,10 +347,11 @@ impl<'a, L: Session> ScriptSeat<'a, L> {
         }
     }
 
-    /// Makes a step of its own, which has this place and isn't a hand: a call, with what its own remove seat knows of the
-    /// locks, an act on a remove lock or on a cancel slot, of which it adds a word line, or a finish of a taken packet, which
-    /// is a call where it has a token from the slot, and else has a word line. None where the call wasn't recorded, the
-    /// slot's owner is another seat's, or there was no memory for the line, and then nothing was done.
+    /// Makes a step of its own, which has this place and isn't a hand: a call, with what its own remove seat knows of
+    /// the locks, an act on a remove lock or on a cancel slot, of which it adds a word line, or a finish of a taken
+    /// packet, which is a call where it has a token from the slot, and else has a word line. None where the call
+    /// wasn't recorded, the slot's owner is another seat's, or there was no memory for the line, and then nothing was
+    /// done.
     pub fn step<A: Ask>(
         &mut self,
         rt: &impl Wait,
@@ -333,8 +361,11 @@ impl<'a, L: Session> ScriptSeat<'a, L> {
         words: &mut Vec<WordLine>,
     ) -> Option<()>
         ensures does { MatchOption result
-            (Stays (at_work self.old.seat self.old.remove self.old.parties) (at_work self.new.seat self.new.remove self.new.parties) words.old.items words.new.items)
-            (λ _. Does L.fixed.locks index step (deed_of step.act) (at_work self.old.seat self.old.remove self.old.parties) (at_work self.new.seat self.new.remove self.new.parties) words.old.items words.new.items) }
+            (Stays (at_work self.old.seat self.old.remove self.old.parties)
+            (at_work self.new.seat self.new.remove self.new.parties) words.old.items words.new.items)
+            (λ _. Does L.fixed.locks index step (deed_of step.act)
+            (at_work self.old.seat self.old.remove self.old.parties)
+            (at_work self.new.seat self.new.remove self.new.parties) words.old.items words.new.items) }
         ensures same { IsSameSeat self.old.remove self.new.remove }
     {
         match deed_of(step.act) {

@@ -1,6 +1,6 @@
 //! Workers.
 
-ghost use Rattle.std.specs.Prelude.{◌≡◌, ◌≢◌, ◌<◌, ◌%◌, ◌==◌, ◌++◌, ◌∷◌, [], true, false, All, map, length, slice_get, vec_len, Contains, IfNone, IfOk, IfSome, MatchOption, Some};
+ghost use Rattle.std.specs.Prelude.{◌≡◌, ◌≢◌, ◌<◌, ◌+◌, ◌%◌, ◌==◌, ◌++◌, ◌∷◌, [], true, false, All, map, length, slice_get, vec_len, Contains, IfNone, IfOk, IfSome, MatchOption, Some};
 ghost use Rattle.irp_remove.specs.Pairing.{IsSeatOf};
 ghost use Rattle.irp_workers.specs.Working.{HandsBetween, Makes, MakesEach, MakesHand, MakesOwn, at_work, if_own, working};
 
@@ -18,39 +18,46 @@ use irp_types::LockNo;
 use std::alloc::{AllocError, Global};
 use std::sync::Wait;
 
-/// The seat at the one place hands one acquisition to the one at the other.
+/// The place that a seat has once another one, of this place, is taken out.
+fn once_removed(at: usize, removed: usize) -> usize
+    requires { at ≢ removed }
+    ensures before { at < removed → result ≡ at }
+    ensures behind { removed < at → result + 1 ≡ at }
+{
+    if at < removed {
+        return at;
+    }
+    at - 1
+}
+
+/// The seat at the one place hands one acquisition to the one at the other. All are at these locks.
 fn hand_between<'a, L: Session>(
     locks: &'a Locks,
-    seats: &mut [ScriptSeat<'a, L>],
+    seats: &mut Vec<ScriptSeat<'a, L>>,
     from_at: usize,
     to_at: usize,
     lock: LockNo,
     tag: u32,
 ) -> WordReply
-    requires there { (from_at < length seats.old) × (to_at < length seats.old) }
-    requires apart { from_at ≢ to_at }
-    requires fits { All (λ own. IsSeatOf locks.now own.remove) seats.old }
-    ensures fits { All (λ own. IsSeatOf locks.now own.remove) seats.new }
+    requires there { (from_at < length seats.old.items) × (to_at < length seats.old.items) }
+    requires apart { to_at ≢ from_at }
+    requires fits { All (λ own. IsSeatOf locks.now own.remove) seats.old.items }
+    ensures fits { All (λ own. IsSeatOf locks.now own.remove) seats.new.items }
     ensures hands { HandsBetween L.fixed.locks lock tag from_at to_at
-        (map (λ own. at_work own.seat own.remove own.parties) seats.old)
-        (map (λ own. at_work own.seat own.remove own.parties) seats.new) result }
+        (map (λ own. at_work own.seat own.remove own.parties) seats.old.items)
+        (map (λ own. at_work own.seat own.remove own.parties) seats.new.items) result }
 {
     let _ = locks;
-    if from_at < to_at {
-        let (front, back) = seats.split_at_mut(to_at);
-        let giver = &mut front[from_at];
-        let taker = &mut back[0];
-        return giver.hand(taker, lock, tag);
-    }
-    let (front, back) = seats.split_at_mut(from_at);
-    let giver = &mut back[0];
-    let taker = &mut front[to_at];
-    giver.hand(taker, lock, tag)
+    let mut giver = seats.remove(from_at);
+    let taker = &mut seats[once_removed(to_at, from_at)];
+    let reply = giver.hand(taker, lock, tag);
+    let _ = seats.insert(from_at, giver);
+    reply
 }
 
-/// One of so many workers: it has the seats whose numbers leave its own number when divided by how many workers there are,
-/// and runs their steps. Their remove seats were opened with its locks. It stops where a step isn't recorded, finds no memory,
-/// or has a seat or an owner of a slot that isn't there.
+/// One of so many workers: it has the seats whose numbers leave its own number when divided by how many workers there
+/// are, and runs their steps. Their remove seats were opened with its locks. It stops where a step isn't recorded,
+/// finds no memory, or has a seat or an owner of a slot that isn't there.
 #[derive(Drop)]
 pub struct Worker<'a, L: Session> {
     number: u32,
@@ -64,7 +71,8 @@ pub struct Worker<'a, L: Session> {
 }
 
 impl<'a, L: Session> Worker<'a, L> {
-    /// A worker of this number that has these seats, whose remove seats were opened with these locks, and has run nothing.
+    /// A worker of this number that has these seats, whose remove seats were opened with these locks, and has run
+    /// nothing.
     pub fn new(
         alloc: Global,
         number: u32,
@@ -98,7 +106,8 @@ impl<'a, L: Session> Worker<'a, L> {
     /// `AllocError` where a growth was refused. The seat is gone then.
     pub fn give(&mut self, seat: ScriptSeat<'a, L>) -> Result<(), AllocError>
         requires { IsSeatOf self.old.locks.now seat.remove }
-        ensures same { (self.new.number ≡ self.old.number) × (self.new.workers ≡ self.old.workers) × (self.new.stopped ≡ self.old.stopped) × (self.new.locks.now ≡ self.old.locks.now) }
+        ensures same { (self.new.number ≡ self.old.number) × (self.new.workers ≡ self.old.workers)
+            × (self.new.stopped ≡ self.old.stopped) × (self.new.locks.now ≡ self.old.locks.now) }
         ensures words { self.new.words.items ≡ self.old.words.items }
         ensures seats { IfOk result (λ _. self.new.seats.items ≡ self.old.seats.items ++ seat.entry ∷ []) }
     {
@@ -121,12 +130,16 @@ impl<'a, L: Session> Worker<'a, L> {
         None
     }
 
-    /// Makes a hand, which has this place. None where one of the seats isn't there, both are one, or there is no memory for
-    /// the line, and then nothing was done.
+    /// Makes a hand, which has this place. None where one of the seats isn't there, both are one, or there is no
+    /// memory for the line, and then nothing was done.
     fn hand(&mut self, index: u32, step: Step, lock: LockNo, tag: u32, to: u32) -> Option<()>
-        ensures same { (self.new.number ≡ self.old.number) × (self.new.workers ≡ self.old.workers) × (self.new.stopped ≡ self.old.stopped) × (self.new.locks.now ≡ self.old.locks.now) }
-        ensures made { MatchOption result (working (map (λ own. at_work own.seat own.remove own.parties) self.new.seats.items) self.new.words.items ≡ working (map (λ own. at_work own.seat own.remove own.parties) self.old.seats.items) self.old.words.items)
-            (λ _. MakesHand L.fixed.locks index step lock tag to (working (map (λ own. at_work own.seat own.remove own.parties) self.old.seats.items) self.old.words.items) (working (map (λ own. at_work own.seat own.remove own.parties) self.new.seats.items) self.new.words.items)) }
+        ensures same { (self.new.number ≡ self.old.number) × (self.new.workers ≡ self.old.workers)
+            × (self.new.stopped ≡ self.old.stopped) × (self.new.locks.now ≡ self.old.locks.now) }
+        ensures made { MatchOption result (working (map (λ own. at_work own.seat own.remove own.parties) self.new.seats.items) self.new.words.items
+            ≡ working (map (λ own. at_work own.seat own.remove own.parties) self.old.seats.items) self.old.words.items)
+            (λ _. MakesHand L.fixed.locks index step lock tag to
+            (working (map (λ own. at_work own.seat own.remove own.parties) self.old.seats.items) self.old.words.items)
+            (working (map (λ own. at_work own.seat own.remove own.parties) self.new.seats.items) self.new.words.items)) }
     {
         let from_at = self.place_of(step.seat)?;
         let to_at = self.place_of(to)?;
@@ -135,14 +148,19 @@ impl<'a, L: Session> Worker<'a, L> {
         }
         self.words.reserve(1).ok()?;
         let locks = self.locks;
-        let seats = self.seats.as_mut_slice();
-        let reply = hand_between(locks, seats, from_at, to_at, lock, tag);
-        tell(&mut self.words, index, step, Act::Hand { lock, tag, to }, reply);
+        let reply = hand_between(locks, &mut self.seats, from_at, to_at, lock, tag);
+        tell(
+            &mut self.words,
+            index,
+            step,
+            Act::Hand { lock, tag, to },
+            reply,
+        );
         Some(())
     }
 
-    /// Makes a step, which has this place. None where it wasn't recorded, found no memory, or has a seat or an owner of a slot
-    /// that isn't there.
+    /// Makes a step, which has this place. None where it wasn't recorded, found no memory, or has a seat or an owner
+    /// of a slot that isn't there.
     fn step<A: Ask>(
         &mut self,
         rt: &impl Wait,
@@ -150,9 +168,13 @@ impl<'a, L: Session> Worker<'a, L> {
         index: u32,
         step: Step,
     ) -> Option<()>
-        ensures same { (self.new.number ≡ self.old.number) × (self.new.workers ≡ self.old.workers) × (self.new.stopped ≡ self.old.stopped) × (self.new.locks.now ≡ self.old.locks.now) }
-        ensures made { MatchOption result (working (map (λ own. at_work own.seat own.remove own.parties) self.new.seats.items) self.new.words.items ≡ working (map (λ own. at_work own.seat own.remove own.parties) self.old.seats.items) self.old.words.items)
-            (λ _. Makes L.fixed.locks index step (working (map (λ own. at_work own.seat own.remove own.parties) self.old.seats.items) self.old.words.items) (working (map (λ own. at_work own.seat own.remove own.parties) self.new.seats.items) self.new.words.items)) }
+        ensures same { (self.new.number ≡ self.old.number) × (self.new.workers ≡ self.old.workers)
+            × (self.new.stopped ≡ self.old.stopped) × (self.new.locks.now ≡ self.old.locks.now) }
+        ensures made { MatchOption result (working (map (λ own. at_work own.seat own.remove own.parties) self.new.seats.items) self.new.words.items
+            ≡ working (map (λ own. at_work own.seat own.remove own.parties) self.old.seats.items) self.old.words.items)
+            (λ _. Makes L.fixed.locks index step
+            (working (map (λ own. at_work own.seat own.remove own.parties) self.old.seats.items) self.old.words.items)
+            (working (map (λ own. at_work own.seat own.remove own.parties) self.new.seats.items) self.new.words.items)) }
     {
         if let Deed::Hands { lock, tag, to } = deed_of(step.act) {
             return self.hand(index, step, lock, tag, to);
@@ -171,9 +193,13 @@ impl<'a, L: Session> Worker<'a, L> {
         index: usize,
         step: Step,
     ) -> Option<()>
-        ensures same { (self.new.number ≡ self.old.number) × (self.new.workers ≡ self.old.workers) × (self.new.stopped ≡ self.old.stopped) × (self.new.locks.now ≡ self.old.locks.now) }
-        ensures made { MatchOption result (working (map (λ own. at_work own.seat own.remove own.parties) self.new.seats.items) self.new.words.items ≡ working (map (λ own. at_work own.seat own.remove own.parties) self.old.seats.items) self.old.words.items)
-            (λ _. Makes L.fixed.locks index step (working (map (λ own. at_work own.seat own.remove own.parties) self.old.seats.items) self.old.words.items) (working (map (λ own. at_work own.seat own.remove own.parties) self.new.seats.items) self.new.words.items)) }
+        ensures same { (self.new.number ≡ self.old.number) × (self.new.workers ≡ self.old.workers)
+            × (self.new.stopped ≡ self.old.stopped) × (self.new.locks.now ≡ self.old.locks.now) }
+        ensures made { MatchOption result (working (map (λ own. at_work own.seat own.remove own.parties) self.new.seats.items) self.new.words.items
+            ≡ working (map (λ own. at_work own.seat own.remove own.parties) self.old.seats.items) self.old.words.items)
+            (λ _. Makes L.fixed.locks index step
+            (working (map (λ own. at_work own.seat own.remove own.parties) self.old.seats.items) self.old.words.items)
+            (working (map (λ own. at_work own.seat own.remove own.parties) self.new.seats.items) self.new.words.items)) }
     {
         let Ok(index) = u32::try_from(index) else {
             return None;
@@ -201,9 +227,13 @@ impl<'a, L: Session> Worker<'a, L> {
         index: usize,
         step: Step,
     ) -> bool
-        ensures same { (self.new.number ≡ self.old.number) × (self.new.workers ≡ self.old.workers) × (self.new.stopped ≡ self.old.stopped) × (self.new.locks.now ≡ self.old.locks.now) }
-        ensures turned { result ≡ true → MakesEach L.fixed.locks (if_own self.old.number self.old.workers index step) (working (map (λ own. at_work own.seat own.remove own.parties) self.old.seats.items) self.old.words.items) (working (map (λ own. at_work own.seat own.remove own.parties) self.new.seats.items) self.new.words.items) }
-        ensures stayed { result ≡ false → working (map (λ own. at_work own.seat own.remove own.parties) self.new.seats.items) self.new.words.items ≡ working (map (λ own. at_work own.seat own.remove own.parties) self.old.seats.items) self.old.words.items }
+        ensures same { (self.new.number ≡ self.old.number) × (self.new.workers ≡ self.old.workers)
+            × (self.new.stopped ≡ self.old.stopped) × (self.new.locks.now ≡ self.old.locks.now) }
+        ensures turned { result ≡ true → MakesEach L.fixed.locks (if_own self.old.number self.old.workers index step)
+            (working (map (λ own. at_work own.seat own.remove own.parties) self.old.seats.items) self.old.words.items)
+            (working (map (λ own. at_work own.seat own.remove own.parties) self.new.seats.items) self.new.words.items) }
+        ensures stayed { result ≡ false → working (map (λ own. at_work own.seat own.remove own.parties) self.new.seats.items) self.new.words.items
+            ≡ working (map (λ own. at_work own.seat own.remove own.parties) self.old.seats.items) self.old.words.items }
     {
         if !self.has(step) {
             return true;
@@ -213,9 +243,9 @@ impl<'a, L: Session> Worker<'a, L> {
     }
 
     /// Runs the steps of its own seats, in the order of the script, up to the first that isn't made, and leaves the
-    /// meeting. Its seats come back. Each step was a call, with what the seat's own remove seat knew of the locks, or an act
-    /// on remove locks or on a cancel slot, of which a line behind its word lines tells what was answered, or a finish of a
-    /// taken packet, which was either.
+    /// meeting. Its seats come back. Each step was a call, with what the seat's own remove seat knew of the locks, or
+    /// an act on remove locks or on a cancel slot, of which a line behind its word lines tells what was answered, or
+    /// a finish of a taken packet, which was either.
     pub fn run<A: Ask, G: Gate>(
         mut self,
         rt: &impl Wait,
@@ -225,7 +255,9 @@ impl<'a, L: Session> Worker<'a, L> {
         steps: &[Step],
     ) -> Worker<'a, L>
         ensures locks { result.locks.now ≡ self.entry.locks.now }
-        ensures made { MakesOwn L.fixed.locks self.entry.number self.entry.workers steps.now (working (map (λ own. at_work own.seat own.remove own.parties) self.entry.seats.items) self.entry.words.items) (working (map (λ own. at_work own.seat own.remove own.parties) result.seats.items) result.words.items) result.stopped }
+        ensures made { MakesOwn L.fixed.locks self.entry.number self.entry.workers steps.now
+            (working (map (λ own. at_work own.seat own.remove own.parties) self.entry.seats.items) self.entry.words.items)
+            (working (map (λ own. at_work own.seat own.remove own.parties) result.seats.items) result.words.items) result.stopped }
     {
         for (index, step) in steps.iter().enumerate() {
             if !self.turn(rt, place, meeting, gate, index, *step) {

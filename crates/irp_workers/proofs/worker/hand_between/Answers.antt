@@ -1,24 +1,35 @@
-use Rattle.std.proofs.Common.{rules}
+use Rattle.std.proofs.Common.{◌≡◌, get_or, set, ◌∙◌, rules}
+use Rattle.std.specs.Prelude.{IsOk}
+use Rattle.std.specs.List.{insert, remove}
 use Rattle.irp_workers.specs.Working.{at_work}
-use Rattle.irp_workers.proofs.Handing.{fit_before, fit_behind, hands_before, hands_behind}
+use Rattle.irp_workers.proofs.Handing.{changed_two, hands_two, inserted, same_table, there_still, two_fit}
 use Rattle.irp_workers.proofs.worker.hand_between.Goals as goal
 
-pub returns-then-from_at-to_at-clause-fits : goal.returns-then-from_at-to_at-clause-fits
-returns-then-from_at-to_at-clause-fits g c =
-    fit_behind (λ own. at_work own.seat own.remove own.parties) _ _ _ _ _ _ c.args.seats.now _ c.split_at_mut-front.result.0.now c.split_at_mut-front.result.1.now c.index-front-from_at.result c.index-back-0.result c.hand.new.self c.hand.new.taker _
-    (search rules) c.split_at_mut-front.ensures.front_len (search rules) c.split_at_mut-front.ensures.value (search rules) c.hand.ensures c.requires.fits
-
-pub returns-then-from_at-to_at-clause-hands : goal.returns-then-from_at-to_at-clause-hands
-returns-then-from_at-to_at-clause-hands g c =
-    hands_behind (λ own. at_work own.seat own.remove own.parties) _ _ _ _ _ c.args.seats.now _ c.split_at_mut-front.result.0.now c.split_at_mut-front.result.1.now c.index-front-from_at.result c.index-back-0.result c.hand.new.self c.hand.new.taker _
-    (search rules) c.split_at_mut-front.ensures.front_len (search rules) c.split_at_mut-front.ensures.value (search rules) c.hand.ensures
+pub hand-requires : goal.hand-requires
+hand-requires g c =
+    let there : c.index_mut-taker.result.now ≡ get_or (remove c.args.seats.now.items c.args.from_at) c.once_removed.result c.index_mut-taker.result.now = search rules in
+    let here = there ∙ there_still c.args.seats.now.items c.args.from_at c.args.to_at c.once_removed.result c.index_mut-taker.result.now c.requires.apart c.once_removed.ensures.before c.once_removed.ensures.behind in
+    same_table (λ own. at_work own.seat own.remove own.parties) _ c.args.from_at c.args.to_at c.args.seats.now.items c.remove-giver.result c.index_mut-taker.result.now
+    c.requires.there.0 c.requires.there.1 c.remove-giver.ensures.value here c.requires.fits
 
 pub returns-clause-fits : goal.returns-clause-fits
 returns-clause-fits g c =
-    fit_before (λ own. at_work own.seat own.remove own.parties) _ _ _ _ _ _ c.args.seats.now _ c.split_at_mut-front-2.result.0.now c.split_at_mut-front-2.result.1.now c.index-back-0-2.result c.index-front-to_at.result c.hand-2.new.self c.hand-2.new.taker _
-    (search rules) c.split_at_mut-front-2.ensures.front_len (search rules) c.split_at_mut-front-2.ensures.value (search rules) c.hand-2.ensures c.requires.fits
+    let there : c.index_mut-taker.result.now ≡ get_or (remove c.args.seats.now.items c.args.from_at) c.once_removed.result c.index_mut-taker.result.now = search rules in
+    let here = there ∙ there_still c.args.seats.now.items c.args.from_at c.args.to_at c.once_removed.result c.index_mut-taker.result.now c.requires.apart c.once_removed.ensures.before c.once_removed.ensures.behind in
+    let room : IsOk c.insert.result = c.insert.ensures.succeeds (search rules) in
+    let put : c.insert.new.self.items ≡ insert (set (remove c.args.seats.now.items c.args.from_at) c.once_removed.result c.hand-reply.new.taker) c.args.from_at c.hand-reply.new.self =
+    c.insert.ensures.items ∙ inserted c.insert.result _ _ room ∙ (search rules) in
+    let changed = put ∙ changed_two c.args.seats.now.items c.args.from_at c.args.to_at c.once_removed.result c.hand-reply.new.self c.hand-reply.new.taker c.requires.there.0 c.requires.there.1 c.requires.apart c.once_removed.ensures.before c.once_removed.ensures.behind in
+    two_fit (λ own. at_work own.seat own.remove own.parties) _ _ _ _ c.args.from_at c.args.to_at c.args.seats.now.items _ c.remove-giver.result c.hand-reply.new.self c.index_mut-taker.result.now c.hand-reply.new.taker _
+    c.requires.there.0 c.requires.there.1 c.remove-giver.ensures.value here changed c.hand-reply.ensures c.requires.fits
 
 pub returns-clause-hands : goal.returns-clause-hands
 returns-clause-hands g c =
-    hands_before (λ own. at_work own.seat own.remove own.parties) _ _ _ _ _ c.args.seats.now _ c.split_at_mut-front-2.result.0.now c.split_at_mut-front-2.result.1.now c.index-back-0-2.result c.index-front-to_at.result c.hand-2.new.self c.hand-2.new.taker _
-    (search rules) c.split_at_mut-front-2.ensures.front_len (search rules) c.split_at_mut-front-2.ensures.value (search rules) c.hand-2.ensures
+    let there : c.index_mut-taker.result.now ≡ get_or (remove c.args.seats.now.items c.args.from_at) c.once_removed.result c.index_mut-taker.result.now = search rules in
+    let here = there ∙ there_still c.args.seats.now.items c.args.from_at c.args.to_at c.once_removed.result c.index_mut-taker.result.now c.requires.apart c.once_removed.ensures.before c.once_removed.ensures.behind in
+    let room : IsOk c.insert.result = c.insert.ensures.succeeds (search rules) in
+    let put : c.insert.new.self.items ≡ insert (set (remove c.args.seats.now.items c.args.from_at) c.once_removed.result c.hand-reply.new.taker) c.args.from_at c.hand-reply.new.self =
+    c.insert.ensures.items ∙ inserted c.insert.result _ _ room ∙ (search rules) in
+    let changed = put ∙ changed_two c.args.seats.now.items c.args.from_at c.args.to_at c.once_removed.result c.hand-reply.new.self c.hand-reply.new.taker c.requires.there.0 c.requires.there.1 c.requires.apart c.once_removed.ensures.before c.once_removed.ensures.behind in
+    hands_two (λ own. at_work own.seat own.remove own.parties) _ _ _ c.args.from_at c.args.to_at c.args.seats.now.items _ c.remove-giver.result c.hand-reply.new.self c.index_mut-taker.result.now c.hand-reply.new.taker _
+    c.requires.there.0 c.requires.there.1 c.remove-giver.ensures.value here changed c.hand-reply.ensures
