@@ -2,6 +2,7 @@ pub mod Accounted
 pub mod Carried
 pub mod Chains
 pub mod Dealing
+pub mod Firsts
 pub mod Handing
 pub mod Making
 pub mod Numbers

@@ -3,6 +3,7 @@
 
 mod acts;
 mod behaviours;
+mod between;
 mod deed;
 mod gate;
 mod labels;
@@ -17,6 +18,7 @@ mod worker;
 mod workplace;
 
 pub use behaviours::{cancel_rule, table_answer, table_cancel, table_plan};
+pub use between::hand_between;
 pub use gate::{AlwaysOpen, Gate};
 pub use run::{Worked, run_workers, script_seats};
 pub use script_seat::ScriptSeat;
