@@ -1,6 +1,6 @@
 -- What a hand does to two of several seats, of which the one is taken out meanwhile.
 use Rattle.std.proofs.Common.{◌≡◌, ◌≢◌, ◌<◌, ◌≤◌, ◌+◌, ℕ, zero, suc, All, cond, Some, List, [], ◌∷◌, length, map, get_or, set, refl, sym, subst, ap, ◌∙◌, arith, inl, inr}
-use Rattle.std.specs.Prelude.{Err, IsOk, Ok, Result, slice_get}
+use Rattle.std.specs.Prelude.{IsOk, Result, slice_get}
 use Rattle.std.specs.Result.{is_ok}
 use Rattle.std.specs.List.{insert, remove}
 use Rattle.std.specs.Option.{option_map, unwrap_or}
@@ -50,8 +50,7 @@ changed_two xs a b c one other lt lt_b apart before behind = elim (leb_tells a b
 
 -- what an insertion that succeeds gives
 pub inserted : {S T E : Type 0} (result : Result T E) (all other : List S) → IsOk result → cond (is_ok result) all other ≡ all
-inserted (Ok value) all other is = refl
-inserted (Err fault) all other is = absurd is
+inserted result all other is = ap (λ b. cond b all other) is
 
 -- what stands at a place once another one is taken out
 there_before : {S : Type 0} (xs : List S) (a b : ℕ) (d : S) → b < a → get_or (remove xs a) b d ≡ get_or xs b d

@@ -2,15 +2,8 @@ use Rattle.std.proofs.Common.{◌≡◌, get_or, set, ◌∙◌, rules}
 use Rattle.std.specs.Prelude.{IsOk}
 use Rattle.std.specs.List.{insert, remove}
 use Rattle.irp_workers.specs.Working.{at_work}
-use Rattle.irp_workers.proofs.Handing.{changed_two, hands_two, inserted, same_table, there_still, two_fit}
+use Rattle.irp_workers.proofs.Handing.{changed_two, hands_two, inserted, there_still, two_fit}
 use Rattle.irp_workers.proofs.worker.hand_between.Goals as goal
-
-pub hand-requires : goal.hand-requires
-hand-requires g c =
-    let there : c.index_mut-taker.result.now ≡ get_or (remove c.args.seats.now.items c.args.from_at) c.once_removed.result c.index_mut-taker.result.now = search rules in
-    let here = there ∙ there_still c.args.seats.now.items c.args.from_at c.args.to_at c.once_removed.result c.index_mut-taker.result.now c.requires.apart c.once_removed.ensures.before c.once_removed.ensures.behind in
-    same_table (λ own. at_work own.seat own.remove own.parties) _ c.args.from_at c.args.to_at c.args.seats.now.items c.remove-giver.result c.index_mut-taker.result.now
-    c.requires.there.0 c.requires.there.1 c.remove-giver.ensures.value here c.requires.fits
 
 pub returns-clause-fits : goal.returns-clause-fits
 returns-clause-fits g c =
