@@ -36,6 +36,7 @@ Store::add_driver
 irp_remove::open
 irp_script::check
 irp_shared::open
+irp_shared::open_with_limit
 read_script
 read_transcript
 script_seats

@@ -1,6 +1,7 @@
 //! Packets by the manager alone, and in a session, where each call is recorded.
 
 ghost use Rattle.std.specs.Prelude.{◌≡◌, ⊤, true, IfOk};
+ghost use Rattle.irp_types.specs.declared.limit.Limit.TheVariants.{ThirtyTwo};
 ghost use Rattle.irp_types.specs.Rules.{is_allowed, is_plan_allowed};
 ghost use Rattle.irp_types.specs.State.{no_routines};
 ghost use Rattle.irp_types.specs.declared.routine.Rule.TheVariants.{Watch};
@@ -178,7 +179,7 @@ fn recorded<A: Ask + Send + Drop, L: Session + Send + Sync, R: Threads + Wait + 
 ) -> Result<Outcome, Fault>
     requires blank { (blank.name ≡ L.name) × (blank.parts ≡ L.parts) }
     requires seats { (L.parts ≡ seats) × (L.seats ≡ seats) }
-    requires fixed { L.fixed ≡ record { locks = locks; tables = A.tables ask } }
+    requires fixed { L.fixed ≡ record { locks = locks; tables = A.tables ask; limit = ThirtyTwo } }
 {
     let Ok((shared, mut places)) = open::<A, L>(alloc, blank, ask, locks, seats) else {
         return Err(Fault::Memory);

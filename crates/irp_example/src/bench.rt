@@ -1,6 +1,7 @@
 //! The session: who calls, and what is left of it.
 
 ghost use Rattle.std.specs.Prelude.{◌≡◌, All, IfSome};
+ghost use Rattle.irp_types.specs.declared.limit.Limit.TheVariants.{ThirtyTwo};
 ghost use Rattle.irp_remove.specs.Pairing.{IsSeatOf};
 ghost use Rattle.irp_example.specs.Bench.{HasLegalHistory};
 
@@ -75,7 +76,7 @@ fn session<L: Session + Send + Sync, R: Threads + Wait + Sync>(
 ) -> Option<Transcript>
     requires blank { (blank.name ≡ L.name) × (blank.parts ≡ L.parts) }
     requires seats { (L.parts ≡ 2) × (L.seats ≡ 2) }
-    requires fixed { L.fixed ≡ record { locks = 1; tables = store.tables } }
+    requires fixed { L.fixed ≡ record { locks = 1; tables = store.tables; limit = ThirtyTwo } }
     ensures { IfSome result HasLegalHistory }
 {
     let Ok((shared, seats)) = open::<Store, L>(alloc, blank, store, 1, 2) else {

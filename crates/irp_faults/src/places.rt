@@ -12,7 +12,7 @@ use crate::playing::play;
 use crate::tried::{Halt, Tried};
 use irp_manager::{Book, Core, KnowsNothing, Manager, MapKeep, Seat};
 use irp_routines::Ask;
-use irp_types::{Call, Reply};
+use irp_types::{Call, Limit, Reply};
 use std::alloc::Global;
 use std::sync::atomic::AtomicU32;
 use std::sync::ledger::{Blank, Ledger};
@@ -75,7 +75,7 @@ pub fn in_book<A: Ask + Drop, L: Ledger>(
 {
     let (_total, share) = blank.open::<L>();
     let seat = Seat::new(alloc, 0, share);
-    let book = book_of(Manager::new(alloc, ask, 1), tried)?;
+    let book = book_of(Manager::with_limit(alloc, ask, 1, Limit::Sixteen), tried)?;
     play(&mut InBook { book, seat }, asked, tried, example)
 }
 
@@ -117,6 +117,6 @@ pub fn in_core<A: Ask + Drop>(
     example: Example,
     tried: &mut Tried,
 ) -> Result<(), Halt> {
-    let core = Core::new(alloc, MapKeep::new(alloc), 1);
+    let core = Core::with_limit(alloc, MapKeep::new(alloc), 1, Limit::Sixteen);
     play(&mut Bare { core, ask }, asked, tried, example)
 }

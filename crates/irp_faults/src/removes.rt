@@ -92,16 +92,17 @@ fn drained(locks: &Locks, seat: &mut RemoveSeat, lock: LockNo) -> WordReply
     }
 }
 
-/// Acts on the lock in a seat, and tells what was answered.
-fn acted(locks: &Locks, seat: &mut RemoveSeat, act: Act) -> WordReply
+/// Acts on the lock in a seat, and tells what was answered. None for an act on something else.
+fn acted(locks: &Locks, seat: &mut RemoveSeat, act: Act) -> Option<WordReply>
     requires { IsSeatOf locks.now seat.old }
     ensures { IsSameSeat seat.old seat.new }
 {
     match act {
-        Act::Acquire { lock, tag } => acquire(locks, seat, lock, tag),
-        Act::Release { lock, tag } => release(locks, seat, lock, tag),
-        Act::BeginRemove { lock, tag } => begin_remove(locks, seat, lock, tag),
-        Act::Drained { lock } => drained(locks, seat, lock),
+        Act::Acquire { lock, tag } => Some(acquire(locks, seat, lock, tag)),
+        Act::Release { lock, tag } => Some(release(locks, seat, lock, tag)),
+        Act::BeginRemove { lock, tag } => Some(begin_remove(locks, seat, lock, tag)),
+        Act::Drained { lock } => Some(drained(locks, seat, lock)),
+        _ => None,
     }
 }
 
@@ -122,8 +123,8 @@ impl Removes {
         if seat == 0 { &self.first } else { &self.second }
     }
 
-    /// Acts on the lock in a seat, and tells what was answered.
-    pub fn act(&mut self, seat: u32, act: Act) -> WordReply {
+    /// Acts on the lock in a seat, and tells what was answered. None for an act on something else.
+    pub fn act(&mut self, seat: u32, act: Act) -> Option<WordReply> {
         if seat == 0 {
             acted(&self.locks, &mut self.first, act)
         } else {

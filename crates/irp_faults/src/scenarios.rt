@@ -17,6 +17,7 @@ use crate::tried::{Halt, Tried};
 use irp_manager::Manager;
 use irp_routines::AnswerTable;
 use irp_shared::Transcript;
+use irp_types::Limit;
 use std::alloc::Global;
 use std::marker::Brand;
 use std::sync::Wait;
@@ -156,7 +157,10 @@ fn play_there<R: Wait>(
             put_transcript(alloc, out, transcript, example.seats, tried)
         }
         Where::Book => recorded(alloc, ask, &asked, example, tried),
-        Where::Manager => play(&mut Manager::new(alloc, ask, 1), &asked, tried, example),
+        Where::Manager => {
+            let mut manager = Manager::with_limit(alloc, ask, 1, Limit::Sixteen);
+            play(&mut manager, &asked, tried, example)
+        }
         Where::Core => in_core(alloc, ask, &asked, example, tried),
     }
 }

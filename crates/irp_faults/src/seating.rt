@@ -1,6 +1,7 @@
 //! The seats of a script: seats of a session beside remove seats.
 
 ghost use Rattle.std.specs.Prelude.{◌≡◌};
+ghost use Rattle.irp_types.specs.declared.limit.Limit.TheVariants.{ThirtyTwo};
 
 use crate::tried::{Halt, Tried, wanted};
 use irp_routines::Ask;
@@ -20,9 +21,10 @@ pub fn seat_pairs<A: Ask + Drop, L: Session>(
 ) -> Result<(), Halt>
     requires blank { (blank.name ≡ L.name) × (blank.parts ≡ L.parts) }
     requires seats { (L.parts ≡ seats) × (L.seats ≡ seats) }
-    requires fixed { L.fixed ≡ record { locks = locks; tables = A.tables ask } }
+    requires fixed { L.fixed ≡ record { locks = locks; tables = A.tables ask; limit = ThirtyTwo } }
 {
     let Ok((_shared, places)) = open::<A, L>(alloc, blank, ask, locks, seats) else {
+        tried.refused("irp_shared::open", true)?;
         return Err(Halt::Memory);
     };
     let Ok((own, removes)) = irp_remove::open(alloc, locks, seats) else {

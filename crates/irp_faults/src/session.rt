@@ -1,6 +1,7 @@
 //! Examples in a session.
 
 ghost use Rattle.std.specs.Prelude.{◌≡◌, ⊤};
+ghost use Rattle.irp_types.specs.declared.limit.Limit.TheVariants.{Sixteen};
 
 use crate::example::{Deed, Example};
 use crate::place::{Lack, Place, told};
@@ -9,8 +10,8 @@ use crate::removes::Removes;
 use crate::tried::{Halt, Tried};
 use irp_manager::{DrainNote, KnowsNothing};
 use irp_routines::Ask;
-use irp_shared::{OpenRefused, Seat, Session, Shared, Transcript, needs_token, open};
-use irp_types::{Call, Reply};
+use irp_shared::{OpenRefused, Seat, Session, Shared, Transcript, needs_token, open_with_limit};
+use irp_types::{Call, Limit, Reply};
 use std::alloc::Global;
 use std::sync::Wait;
 use std::sync::atomic::AtomicU32;
@@ -74,7 +75,7 @@ impl<R: Wait, A: Ask, L: Session> Place for Room<'_, R, A, L> {
 
     fn acts(&mut self, seat: u32, deed: Deed) -> bool {
         match deed {
-            Deed::Act(act, reply) => self.removes.act(seat, act) == reply,
+            Deed::Act(act, reply) => self.removes.act(seat, act) == Some(reply),
             _ => false,
         }
     }
@@ -132,9 +133,9 @@ pub fn session<A: Ask + Drop, L: Session, R: Wait>(
 ) -> Result<Transcript, Halt>
     requires blank { (blank.name ≡ L.name) × (blank.parts ≡ L.parts) }
     requires seats { (L.parts ≡ seats) × (L.seats ≡ seats) }
-    requires fixed { L.fixed ≡ record { locks = locks; tables = A.tables ask } }
+    requires fixed { L.fixed ≡ record { locks = locks; tables = A.tables ask; limit = Sixteen } }
 {
-    match open::<A, L>(alloc, blank, ask, locks, seats) {
+    match open_with_limit::<A, L>(alloc, blank, ask, locks, seats, Limit::Sixteen) {
         Ok((shared, places)) => {
             let places = in_seats(rt, alloc, &shared, places, asked, example, tried)?;
             match shared.close(places) {
@@ -143,7 +144,7 @@ pub fn session<A: Ask + Drop, L: Session, R: Wait>(
             }
         }
         Err(OpenRefused::Memory) => {
-            tried.refused("irp_shared::open", true)?;
+            tried.refused("irp_shared::open_with_limit", true)?;
             Err(Halt::Memory)
         }
         Err(OpenRefused::BadCount) => Err(Halt::Wrong("one lock and some seats are a bad count")),

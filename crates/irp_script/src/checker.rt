@@ -27,7 +27,8 @@ fn judge(alloc: Global, header: &Header, entries: &[Entry]) -> Result<Verdict, A
 {
     history_goes_on();
     history_settles_states();
-    let mut core = Core::new(alloc, MapKeep::new(alloc), header.locks);
+    let keep = MapKeep::new(alloc);
+    let mut core = Core::with_limit(alloc, keep, header.locks, header.form.limit());
     for place in 0..entries.len() {
         if !makes_again(&mut core, header, &entries[place], place as u64)? {
             return Ok(Verdict::Illegal { at: place as u64 });

@@ -3,7 +3,7 @@
 ghost use Rattle.std.specs.Prelude.{◌≡◌, IfOk};
 ghost use Rattle.irp_types.specs.State.{AreTables};
 ghost use Rattle.irp_types.specs.Standing.{StandingFacts};
-ghost use Rattle.irp_manager.specs.Cores.{state_of};
+ghost use Rattle.irp_manager.specs.Cores.{state_of, Agrees};
 ghost use Rattle.irp_manager.specs.Keeps.{mapped};
 ghost use Rattle.irp_shared.specs.Headers.{fixed_of};
 ghost use Rattle.irp_script.specs.Replayed.{MakesAgain, slot_named};
@@ -51,10 +51,10 @@ pub fn makes_again(
 ) -> Result<bool, AllocError>
     requires tables { AreTables (fixed_of header.now).tables }
     requires stands { StandingFacts (fixed_of header.now).tables.counts (state_of mapped core.old) }
-    requires locks { core.old.locks ≡ header.now.locks }
+    requires agrees { Agrees (fixed_of header.now) core.old }
     ensures made { IfOk result (λ made. MakesAgain (fixed_of header.now) place (state_of mapped core.old) entry.now made (state_of mapped core.new)) }
     ensures stands { IfOk result (λ made. StandingFacts (fixed_of header.now).tables.counts (state_of mapped core.new)) }
-    ensures locks { IfOk result (λ made. core.new.locks ≡ header.now.locks) }
+    ensures agrees { IfOk result (λ made. Agrees (fixed_of header.now) core.new) }
 {
     let answers = RecordedAnswers::new(header, entry.asked.as_slice());
     let note = SaysDrained(entry.drained);

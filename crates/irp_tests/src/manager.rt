@@ -2,18 +2,18 @@
 
 mod counting;
 mod held;
+mod limits;
 mod place;
 
 use irp_manager::{Book, Manager};
 use irp_routines::{Dispatch, DispatchClosure, Store};
 use irp_types::{
     Answer, Asked, Call, CancelAnswer, CancelId, CancelRule, DeviceId, DispatchId, DriverId,
-    IrpRef, Known, LockNo, Owner, Party, Plan, Refusal, Reply, RoutineId, Rule, Seen, Setting,
-    Shown, Status,
+    IrpRef, Known, Limit, LockNo, Owner, Party, Plan, Refusal, Reply, RoutineId, Rule, Seen,
+    Setting, Shown, Status,
 };
 use place::Place;
 use std::alloc::Global;
-use std::process::Abort;
 use std::sync::Arc;
 use std::sync::atomic::{AtomicU32, Ordering};
 use std::test::Fail;
@@ -56,39 +56,48 @@ const ON_CANCEL: Setting = Setting {
     on_cancel: true,
 };
 
-const fn look(irp: IrpRef) -> Call {
-    Call::Look { irp }
-}
+const LOOK: Call = Call::Look { irp: IRP };
 
-/// The originator sets a completion routine.
-const fn set(irp: IrpRef, setting: Setting) -> Call {
-    Call::SetRoutine {
-        party: ORIGINATOR,
-        irp,
-        setting,
-    }
-}
+const SET_ON_CANCEL: Call = Call::SetRoutine {
+    party: ORIGINATOR,
+    irp: IRP,
+    setting: ON_CANCEL,
+};
 
-const fn fill(irp: IrpRef, major: u8) -> Call {
-    Call::SetNext {
-        party: ORIGINATOR,
-        irp,
-        major,
-        word: 7,
-    }
-}
+/// The first packet is filled with a read.
+const FILL: Call = Call::SetNext {
+    party: ORIGINATOR,
+    irp: IRP,
+    major: READ,
+    word: 7,
+};
 
-const fn send(irp: IrpRef) -> Call {
-    Call::CallDriver {
-        party: ORIGINATOR,
-        irp,
-        target: DEVICE,
-    }
-}
+const FILL_SECOND: Call = Call::SetNext {
+    party: ORIGINATOR,
+    irp: SECOND,
+    major: READ,
+    word: 7,
+};
 
-const fn refused(refusal: Refusal) -> Reply {
-    Reply::Refused(refusal)
-}
+const SEND: Call = Call::CallDriver {
+    party: ORIGINATOR,
+    irp: IRP,
+    target: DEVICE,
+};
+
+const SEND_SECOND: Call = Call::CallDriver {
+    party: ORIGINATOR,
+    irp: SECOND,
+    target: DEVICE,
+};
+
+const MADE: Reply = Reply::Device(DEVICE);
+
+const GIVEN: Reply = Reply::Irp(IRP);
+
+const GIVEN_SECOND: Reply = Reply::Irp(SECOND);
+
+const ENDED: Reply = Reply::Refused(Refusal::Ended);
 
 /// What the one dispatch is shown of a read.
 const SHOWN: Shown = Shown {
@@ -105,14 +114,11 @@ const SHOWN: Shown = Shown {
     has_lower: false,
 };
 
-/// What the one dispatch is shown of a read, and what it plans.
-const fn asked_of(irp: IrpRef, plan: Plan) -> Asked {
-    Asked::Dispatch {
-        id: DispatchId(0),
-        shown: Shown { irp, ..SHOWN },
-        plan,
-    }
-}
+/// The same of the second packet.
+const SHOWN_SECOND: Shown = Shown {
+    irp: SECOND,
+    ..SHOWN
+};
 
 /// The Watch, as the first packet asks it when it has been cancelled.
 const ASKED_ON_CANCEL: Asked = Asked::Completion {
@@ -132,35 +138,40 @@ const ASKED_ON_CANCEL: Asked = Asked::Completion {
     },
 };
 
-/// What a look tells of a packet that has ended.
-const fn seen(status: Status, information: u64, cancel: bool) -> Reply {
-    Reply::Seen(Seen {
-        owner: Owner::Ended,
-        current: 2,
-        status,
-        information,
-        cancel,
-        cancel_routine: None,
-        pending_returned: true,
-        marked: false,
-    })
-}
+/// What a look tells of a packet that was cancelled, and has ended.
+const CANCELLED_SEEN: Seen = Seen {
+    owner: Owner::Ended,
+    current: 2,
+    status: CANCELLED,
+    information: 0,
+    cancel: true,
+    cancel_routine: None,
+    pending_returned: true,
+    marked: false,
+};
 
 /// A call, what it has to be answered, and what has to be asked.
 type Step<'a> = (Call, Reply, &'a [Asked]);
 
-/// Makes the calls through a book of this store.
-fn play(rt: &impl Abort, alloc: Global, store: Store, steps: &[Step<'_>]) -> Result<(), Fail> {
-    let Ok(mut book) = Book::new(Manager::new(alloc, store, 1)) else {
+/// Makes the calls through a book of this store, with packets and stacks within this limit. The place of the first that is
+/// answered otherwise, or in which something else is asked.
+fn first_other(
+    alloc: Global,
+    store: Store,
+    limit: Limit,
+    steps: &[Step<'_>],
+) -> Result<Option<usize>, Fail> {
+    let Ok(mut book) = Book::new(Manager::with_limit(alloc, store, 1, limit)) else {
         return Err(Fail::from("a book"));
     };
     let mut caller = Place::new(0);
     for place in 0..steps.len() {
         let (call, reply, asked) = steps[place];
         let receipt = caller.record(alloc, &mut book, call)?;
-        assert_eq!(rt; receipt.reply(), reply);
         let entry = book.entry(place).ok_or("no entry")?;
-        assert_eq!(rt; entry.asked.as_slice(), asked);
+        if receipt.reply() != reply || entry.asked.as_slice() != asked {
+            return Ok(Some(place));
+        }
     }
-    Ok(())
+    Ok(None)
 }

@@ -68,7 +68,7 @@ fn a_table_answers_by_its_behaviours(rt: HostRuntime) -> Result<(), Fail> {
     let keeper = numbered(Rule::Keeper, 0);
     let on_error = numbered(Rule::KeepOnError, 0);
     for id in [change, free, watch, keeper, on_error] {
-        assert_eq!(rt; table.add(id.rule, TURNS), Ok(id));
+        assert!(rt; table.add(id.rule, TURNS) == Ok(id));
     }
     let turned = Answer {
         keep: false,
@@ -86,12 +86,12 @@ fn a_table_answers_by_its_behaviours(rt: HostRuntime) -> Result<(), Fail> {
     };
     let wants = [(change, turned, on), (free, turned, kept), (watch, on, on)];
     for (id, on_success, on_failure) in wants {
-        assert_eq!(rt; answer_of(&table, id, SHOWN), Some(on_success));
-        assert_eq!(rt; answer_of(&table, id, FAILED), Some(on_failure));
+        assert!(rt; answer_of(&table, id, SHOWN) == Some(on_success));
+        assert!(rt; answer_of(&table, id, FAILED) == Some(on_failure));
     }
-    assert_eq!(rt; answer_of(&table, keeper, SHOWN), Some(kept));
-    assert_eq!(rt; answer_of(&table, on_error, SHOWN), Some(on));
-    assert_eq!(rt; answer_of(&table, on_error, FAILED), Some(kept));
-    assert_eq!(rt; answer_of(&table, numbered(Rule::Free, 1), SHOWN), None);
+    assert!(rt; answer_of(&table, keeper, SHOWN) == Some(kept));
+    assert!(rt; answer_of(&table, on_error, SHOWN) == Some(on));
+    assert!(rt; answer_of(&table, on_error, FAILED) == Some(kept));
+    assert!(rt; answer_of(&table, numbered(Rule::Free, 1), SHOWN) == None);
     Ok(())
 }

@@ -1,6 +1,7 @@
 //! Seats that learn of receipts.
 
 ghost use Rattle.std.specs.Prelude.{◌≡◌};
+ghost use Rattle.irp_types.specs.declared.limit.Limit.TheVariants.{ThirtyTwo};
 
 use irp_manager::{KnowsNothing, NotRecorded, Receipt};
 use irp_routines::AnswerTable;
@@ -17,6 +18,24 @@ use std::thread::Threads;
 
 const ALLOCATE: Call = Call::Allocate { size: 1 };
 
+/// The seat makes three calls, the first of the session. The receipt of the last; none where one wasn't recorded, or has
+/// another number.
+fn makes_three<L: Session, R: Wait>(
+    rt: &R,
+    shared: &Shared<AnswerTable, L>,
+    seat: &mut Seat<L>,
+) -> Option<Receipt> {
+    let mut last = None;
+    for number in 0..3u64 {
+        let made = shared.call(rt, seat, ALLOCATE, &KnowsNothing).ok()?;
+        if made.number() != number {
+            return None;
+        }
+        last = Some(made);
+    }
+    last
+}
+
 /// A session of one seat that makes three calls. The receipt of the last.
 fn third_receipt<L: Session, R: Wait>(
     rt: &R,
@@ -28,15 +47,13 @@ fn third_receipt<L: Session, R: Wait>(
 ) -> Option<Receipt>
     requires blank { (blank.name ≡ L.name) × (blank.parts ≡ L.parts) }
     requires seats { (L.parts ≡ seats) × (L.seats ≡ seats) }
-    requires fixed { L.fixed ≡ record { locks = locks; tables = table.tables } }
+    requires fixed { L.fixed ≡ record { locks = locks; tables = table.tables; limit = ThirtyTwo } }
 {
     let Ok((shared, mut places)) = open::<AnswerTable, L>(alloc, blank, table, locks, seats) else {
         return None;
     };
     let mut seat = places.pop()?;
-    shared.call(rt, &mut seat, ALLOCATE, &KnowsNothing).ok()?;
-    shared.call(rt, &mut seat, ALLOCATE, &KnowsNothing).ok()?;
-    shared.call(rt, &mut seat, ALLOCATE, &KnowsNothing).ok()
+    makes_three(rt, &shared, &mut seat)
 }
 
 /// A seat that learned of three calls elsewhere is refused, since nothing is recorded here yet.
@@ -46,21 +63,8 @@ fn is_behind<L: Session, R: Wait + Abort>(
     seat: &mut Seat<L>,
 ) {
     let refused = shared.call(rt, seat, ALLOCATE, &KnowsNothing).err();
-    assert_eq!(rt; refused, Some(NotRecorded::Behind { length: 0 }));
+    assert!(rt; refused == Some(NotRecorded::Behind { length: 0 }));
     assert_eq!(rt; (seat.count(), seat.seen()), (0, 3));
-}
-
-/// The seat makes three calls, the first of the session.
-fn makes_three<L: Session, R: Wait + Abort>(
-    rt: &R,
-    shared: &Shared<AnswerTable, L>,
-    seat: &mut Seat<L>,
-) -> Result<(), Fail> {
-    for number in 0..3u64 {
-        let made = shared.call(rt, seat, ALLOCATE, &KnowsNothing)?;
-        assert_eq!(rt; made.number(), number);
-    }
-    Ok(())
 }
 
 /// The seat that was behind makes the fourth call.
@@ -70,7 +74,7 @@ fn makes_the_fourth<L: Session, R: Wait + Abort>(
     seat: &mut Seat<L>,
 ) -> Result<(), Fail> {
     let made = shared.call(rt, seat, ALLOCATE, &KnowsNothing)?;
-    assert_eq!(rt; (made.number(), made.seat(), made.call()), (3, 0, ALLOCATE));
+    assert!(rt; made.number() == 3 && made.seat() == 0 && made.call() == ALLOCATE);
     Ok(())
 }
 
@@ -86,7 +90,7 @@ fn behind<L: Session, R: Wait + Abort>(
 ) -> Result<(), Fail>
     requires blank { (blank.name ≡ L.name) × (blank.parts ≡ L.parts) }
     requires seats { (L.parts ≡ seats) × (L.seats ≡ seats) }
-    requires fixed { L.fixed ≡ record { locks = locks; tables = table.tables } }
+    requires fixed { L.fixed ≡ record { locks = locks; tables = table.tables; limit = ThirtyTwo } }
 {
     let (shared, mut places) = open::<AnswerTable, L>(alloc, blank, table, locks, seats)?;
     let (Some(mut second), Some(mut first)) = (places.pop(), places.pop()) else {
@@ -94,7 +98,8 @@ fn behind<L: Session, R: Wait + Abort>(
     };
     learn(&mut first, receipt);
     is_behind(rt, &shared, &mut first);
-    makes_three(rt, &shared, &mut second)?;
+    let third = makes_three(rt, &shared, &mut second);
+    assert!(rt; third.is_some());
     makes_the_fourth(rt, &shared, &mut first)?;
     places.push(first)?;
     places.push(second)?;
@@ -134,6 +139,19 @@ fn calls_elsewhere<L: Session + Send + Sync, R: Threads + Wait + Sync>(
 
 /// The first seat calls in a thread, which ends; the second learns of it in another thread, and calls. Both entries'
 /// numbers.
+fn one_after_another<L: Session + Send + Sync, R: Threads + Wait + Sync>(
+    rt: &R,
+    shared: &Shared<AnswerTable, L>,
+    first: Seat<L>,
+    second: Seat<L>,
+) -> Option<(u64, u64)> {
+    let receipt = calls_elsewhere(rt, shared, first, None)?;
+    let number = receipt.number();
+    let other = calls_elsewhere(rt, shared, second, Some(receipt))?;
+    Some((number, other.number()))
+}
+
+/// The same, in a session of two seats.
 fn learned_elsewhere<L: Session + Send + Sync, R: Threads + Wait + Sync>(
     rt: &R,
     alloc: Global,
@@ -144,16 +162,15 @@ fn learned_elsewhere<L: Session + Send + Sync, R: Threads + Wait + Sync>(
 ) -> Option<(u64, u64)>
     requires blank { (blank.name ≡ L.name) × (blank.parts ≡ L.parts) }
     requires seats { (L.parts ≡ seats) × (L.seats ≡ seats) }
-    requires fixed { L.fixed ≡ record { locks = locks; tables = table.tables } }
+    requires fixed { L.fixed ≡ record { locks = locks; tables = table.tables; limit = ThirtyTwo } }
 {
     let Ok((shared, mut places)) = open::<AnswerTable, L>(alloc, blank, table, locks, seats) else {
         return None;
     };
-    let (second, first) = (places.pop()?, places.pop()?);
-    let receipt = calls_elsewhere(rt, &shared, first, None)?;
-    let number = receipt.number();
-    let other = calls_elsewhere(rt, &shared, second, Some(receipt))?;
-    Some((number, other.number()))
+    let (Some(second), Some(first)) = (places.pop(), places.pop()) else {
+        return None;
+    };
+    one_after_another(rt, &shared, first, second)
 }
 
 #[test]

@@ -19,29 +19,29 @@ use std::process::Abort;
 use std::sync::Wait;
 use std::test::Fail;
 
-pub(crate) const READ: u8 = 0x03;
+const READ: u8 = 0x03;
 
 const LOCK: LockNo = LockNo(0);
 
-pub(crate) const DEVICE: DeviceId = DeviceId(0);
+const DEVICE: DeviceId = DeviceId(0);
 
-pub(crate) const IRP: IrpRef = IrpRef { slot: 0, use_no: 1 };
+const IRP: IrpRef = IrpRef { slot: 0, use_no: 1 };
 
-pub(crate) const CREATE: Call = Call::CreateDevice {
+const CREATE: Call = Call::CreateDevice {
     driver: DriverId(0),
     lock: LOCK,
 };
 
-pub(crate) const ALLOCATE: Call = Call::Allocate { size: 1 };
+const ALLOCATE: Call = Call::Allocate { size: 1 };
 
-pub(crate) const FILL: Call = Call::SetNext {
+const FILL: Call = Call::SetNext {
     party: Party::Originator,
     irp: IRP,
     major: READ,
     word: 7,
 };
 
-pub(crate) const SEND: Call = Call::CallDriver {
+const SEND: Call = Call::CallDriver {
     party: Party::Originator,
     irp: IRP,
     target: DEVICE,
@@ -53,10 +53,10 @@ const IN_FLIGHT: Reply = Reply::Refused(Refusal::InFlight);
 
 const NOT_DRAINED: Reply = Reply::Refused(Refusal::NotDrained);
 
-pub(crate) const PENDING: Reply = Reply::Status(Status::PENDING);
+const PENDING: Reply = Reply::Status(Status::PENDING);
 
 /// What the dispatch is shown of the packet that is sent.
-pub(crate) const SHOWN: Shown = Shown {
+const SHOWN: Shown = Shown {
     device: Some(DEVICE),
     irp: IRP,
     major: READ,
@@ -107,7 +107,7 @@ fn holds_reads(alloc: Global) -> Result<AnswerTable, Fail> {
 }
 
 /// The seat makes the calls. What they are answered is told by the transcript.
-pub(crate) fn make<A: Ask, L: Session, N: DrainNote>(
+fn make<A: Ask, L: Session, N: DrainNote>(
     rt: &impl Wait,
     shared: &Shared<A, L>,
     seat: &mut Seat<L>,
@@ -122,7 +122,7 @@ pub(crate) fn make<A: Ask, L: Session, N: DrainNote>(
 }
 
 /// The transcript of a session with these two seats.
-pub(crate) fn closed<A: Drop, L: Session>(
+fn closed<A: Drop, L: Session>(
     shared: Shared<A, L>,
     room: Vec<Seat<L>>,
     first: Seat<L>,

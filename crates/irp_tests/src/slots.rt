@@ -1,5 +1,4 @@
 //! Worked sequences of calls on a cancel slot, whose answers were written down before the code.
-mod finishing;
 mod race;
 
 ghost use Rattle.irp_slots.specs.Pairing.{IsOwnerOf, IsCancellerOf};

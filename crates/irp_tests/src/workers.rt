@@ -3,6 +3,7 @@ mod meeting;
 mod working;
 
 ghost use Rattle.std.specs.Prelude.{◌<◌, ◌≡◌, IfOk};
+ghost use Rattle.irp_types.specs.declared.limit.Limit.TheVariants.{ThirtyTwo};
 
 use irp_routines::{AnswerTable, Ask};
 use irp_script::{AlwaysOpen, Gate, run_workers, script_seats};
@@ -118,7 +119,7 @@ fn session<
     requires workers { 0 < workers }
     requires blank { (blank.name ≡ L.name) × (blank.parts ≡ L.parts) }
     requires seats { (L.parts ≡ script.now.seats) × (L.seats ≡ script.now.seats) }
-    requires fixed { L.fixed ≡ record { locks = script.now.locks; tables = A.tables ask } }
+    requires fixed { L.fixed ≡ record { locks = script.now.locks; tables = A.tables ask; limit = ThirtyTwo } }
 {
     let (shared, seats) = open::<A, L>(alloc, blank, ask, script.locks, script.seats)?;
     let (locks, removes) = irp_remove::open(alloc, script.locks, script.seats)?;

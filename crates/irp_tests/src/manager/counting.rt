@@ -8,11 +8,6 @@ ghost use Rattle.irp_types.specs.declared.routine.CancelRule.TheVariants.{MustFi
 
 use super::*;
 use irp_routines::{CancelRoutine, Routine};
-use std::process::Abort;
-
-const fn cancel(irp: IrpRef) -> Call {
-    Call::Cancel { irp }
-}
 
 const ONE_CANCEL: Known = Known {
     cancel: 1,
@@ -72,52 +67,91 @@ fn store_of(
     dispatch: Dispatch,
 ) -> Result<Store, Fail> {
     let mut store = Store::new(alloc);
-    let _watch = store.add(watch).ok().ok_or("a routine")?;
-    let _unmet = store.add(unmet).ok().ok_or("a routine")?;
-    let _cancel = store.add_cancel(cancel).ok().ok_or("a cancel routine")?;
-    let _plan = store.add_dispatch(dispatch).ok().ok_or("a dispatch")?;
-    let dispatches = [(READ, DispatchId(0))].to_vec(alloc)?;
-    let _driver = store.add_driver(dispatches).ok().ok_or("a driver")?;
-    Ok(store)
+    let watches = store.add(watch).is_ok();
+    let unmet = store.add(unmet).is_ok();
+    let cancels = store.add_cancel(cancel).is_ok();
+    let plans = store.add_dispatch(dispatch).is_ok();
+    let drives = store
+        .add_driver([(READ, DispatchId(0))].to_vec(alloc)?)
+        .is_ok();
+    if watches && unmet && cancels && plans && drives {
+        return Ok(store);
+    }
+    Err(Fail::from("a store"))
 }
 
-/// The cancel routine, as a cancellation of this packet asks it.
-const fn asked_by_cancel(irp: IrpRef) -> Asked {
-    Asked::Cancel {
-        id: CancelId(0),
-        shown: Shown {
-            irp,
-            cancel: true,
-            ..SHOWN
-        },
-        answer: CancelAnswer::Finish { information: 0 },
-    }
-}
+/// The dispatch, as the first packet asks it.
+const HELD: Asked = Asked::Dispatch {
+    id: DispatchId(0),
+    shown: SHOWN,
+    plan: HOLDS_CANCELLABLE,
+};
+
+const SECOND_HELD: Asked = Asked::Dispatch {
+    id: DispatchId(0),
+    shown: SHOWN_SECOND,
+    plan: HOLDS_CANCELLABLE,
+};
+
+/// The cancel routine, as a cancellation of the first packet asks it.
+const ASKED_BY_CANCEL: Asked = Asked::Cancel {
+    id: CancelId(0),
+    shown: Shown {
+        cancel: true,
+        ..SHOWN
+    },
+    answer: CancelAnswer::Finish { information: 0 },
+};
+
+const SECOND_ASKED_BY_CANCEL: Asked = Asked::Cancel {
+    id: CancelId(0),
+    shown: Shown {
+        cancel: true,
+        ..SHOWN_SECOND
+    },
+    answer: CancelAnswer::Finish { information: 0 },
+};
+
+const CANCEL: Call = Call::Cancel { irp: IRP };
+
+const CANCEL_SECOND: Call = Call::Cancel { irp: SECOND };
+
+const SET_SECOND: Call = Call::SetRoutine {
+    party: ORIGINATOR,
+    irp: SECOND,
+    setting: ON_SUCCESS,
+};
 
 /// A packet is sent, and cancelled; both are tried again and refused. A second packet, whose Watch is for a success alone,
 /// is sent and cancelled.
-fn send_and_cancel(rt: &impl Abort, alloc: Global, store: Store) -> Result<(), Fail> {
-    let held = [asked_of(IRP, HOLDS_CANCELLABLE)];
-    let cancelled = [asked_by_cancel(IRP), ASKED_ON_CANCEL];
-    let second_held = [asked_of(SECOND, HOLDS_CANCELLABLE)];
-    let second_cancelled = [asked_by_cancel(SECOND)];
-    let steps: [Step<'_>; 14] = [
-        (CREATE, Reply::Device(DEVICE), &[]),
-        (ALLOCATE, Reply::Irp(IRP), &[]),
-        (fill(IRP, READ), Reply::Done, &[]),
-        (set(IRP, ON_CANCEL), Reply::Done, &[]),
-        (send(IRP), PENDING, &held),
-        (send(IRP), refused(Refusal::NotOwner), &[]),
-        (cancel(IRP), Reply::Cancelled(true), &cancelled),
-        (cancel(IRP), refused(Refusal::Ended), &[]),
-        (look(IRP), seen(CANCELLED, 0, true), &[]),
-        (ALLOCATE, Reply::Irp(SECOND), &[]),
-        (fill(SECOND, READ), Reply::Done, &[]),
-        (set(SECOND, ON_SUCCESS), Reply::Done, &[]),
-        (send(SECOND), PENDING, &second_held),
-        (cancel(SECOND), Reply::Cancelled(true), &second_cancelled),
-    ];
-    play(rt, alloc, store, &steps)
+const SEND_AND_CANCEL: [Step<'static>; 14] = [
+    (CREATE, MADE, &[]),
+    (ALLOCATE, GIVEN, &[]),
+    (FILL, Reply::Done, &[]),
+    (SET_ON_CANCEL, Reply::Done, &[]),
+    (SEND, PENDING, &[HELD]),
+    (SEND, Reply::Refused(Refusal::NotOwner), &[]),
+    (
+        CANCEL,
+        Reply::Cancelled(true),
+        &[ASKED_BY_CANCEL, ASKED_ON_CANCEL],
+    ),
+    (CANCEL, ENDED, &[]),
+    (LOOK, Reply::Seen(CANCELLED_SEEN), &[]),
+    (ALLOCATE, GIVEN_SECOND, &[]),
+    (FILL_SECOND, Reply::Done, &[]),
+    (SET_SECOND, Reply::Done, &[]),
+    (SEND_SECOND, PENDING, &[SECOND_HELD]),
+    (
+        CANCEL_SECOND,
+        Reply::Cancelled(true),
+        &[SECOND_ASKED_BY_CANCEL],
+    ),
+];
+
+/// Makes these calls, and tells which is the first that is answered otherwise.
+fn send_and_cancel(alloc: Global, store: Store) -> Result<Option<usize>, Fail> {
+    first_other(alloc, store, Limit::Sixteen, &SEND_AND_CANCEL)
 }
 
 #[test]
@@ -134,8 +168,8 @@ fn a_dispatch_is_asked_once_a_packet(rt: HostRuntime) -> Result<(), Fail> {
     let cancel = CancelRoutine::new(CancelRule::MustFinish, Box::new(alloc, finish)?);
     let dispatch = Dispatch::new(ONE_CANCEL, Box::new(alloc, counted)?);
     let store = store_of(alloc, watch, unmet, cancel, dispatch)?;
-    send_and_cancel(&rt, alloc, store)?;
-    assert_eq!(rt; count.load(Ordering::SeqCst), 2);
+    let other = send_and_cancel(alloc, store)?;
+    assert_eq!(rt; (other, count.load(Ordering::SeqCst)), (None, 2));
     Ok(())
 }
 
@@ -153,8 +187,8 @@ fn a_cancel_routine_is_asked_once_a_cancel(rt: HostRuntime) -> Result<(), Fail> 
     let cancel = CancelRoutine::new(CancelRule::MustFinish, Box::new(alloc, counted)?);
     let dispatch = Dispatch::new(ONE_CANCEL, Box::new(alloc, hold)?);
     let store = store_of(alloc, watch, unmet, cancel, dispatch)?;
-    send_and_cancel(&rt, alloc, store)?;
-    assert_eq!(rt; count.load(Ordering::SeqCst), 2);
+    let other = send_and_cancel(alloc, store)?;
+    assert_eq!(rt; (other, count.load(Ordering::SeqCst)), (None, 2));
     Ok(())
 }
 
@@ -172,8 +206,8 @@ fn a_routine_whose_flag_is_met_is_asked_once(rt: HostRuntime) -> Result<(), Fail
     let cancel = CancelRoutine::new(CancelRule::MustFinish, Box::new(alloc, finish)?);
     let dispatch = Dispatch::new(ONE_CANCEL, Box::new(alloc, hold)?);
     let store = store_of(alloc, watch, unmet, cancel, dispatch)?;
-    send_and_cancel(&rt, alloc, store)?;
-    assert_eq!(rt; count.load(Ordering::SeqCst), 1);
+    let other = send_and_cancel(alloc, store)?;
+    assert_eq!(rt; (other, count.load(Ordering::SeqCst)), (None, 1));
     Ok(())
 }
 
@@ -191,7 +225,7 @@ fn a_routine_whose_flag_is_not_met_is_not_asked(rt: HostRuntime) -> Result<(), F
     let cancel = CancelRoutine::new(CancelRule::MustFinish, Box::new(alloc, finish)?);
     let dispatch = Dispatch::new(ONE_CANCEL, Box::new(alloc, hold)?);
     let store = store_of(alloc, watch, unmet, cancel, dispatch)?;
-    send_and_cancel(&rt, alloc, store)?;
-    assert_eq!(rt; count.load(Ordering::SeqCst), 0);
+    let other = send_and_cancel(alloc, store)?;
+    assert_eq!(rt; (other, count.load(Ordering::SeqCst)), (None, 0));
     Ok(())
 }

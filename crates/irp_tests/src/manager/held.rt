@@ -26,69 +26,87 @@ fn watch(shown: Shown) -> Answer
     }
 }
 
-/// The device completes the packet.
-const fn complete(irp: IrpRef) -> Call {
-    Call::Complete {
-        party: Party::Device(DEVICE),
-        irp,
-        status: Status::SUCCESS,
-        information: 0,
-    }
-}
+/// The device completes the first packet.
+const COMPLETE: Call = Call::Complete {
+    party: Party::Device(DEVICE),
+    irp: IRP,
+    status: Status::SUCCESS,
+    information: 0,
+};
 
-/// Who took the first use from its slot finishes a packet.
-const fn finish(irp: IrpRef, token: u64, status: Status, information: u64) -> Call {
-    Call::FinishTaken {
-        irp,
-        token,
-        status,
-        information,
-    }
-}
+/// Who took the first use from its slot finishes the first packet.
+const FINISH: Call = Call::FinishTaken {
+    irp: IRP,
+    token: 1,
+    status: CANCELLED,
+    information: 0,
+};
+
+/// The same, of the second packet.
+const FINISH_OTHER: Call = Call::FinishTaken {
+    irp: SECOND,
+    token: 1,
+    status: CANCELLED,
+    information: 0,
+};
+
+/// Who took the second use from its slot finishes it with a status that no packet is completed with.
+const FINISH_PENDING: Call = Call::FinishTaken {
+    irp: SECOND,
+    token: 2,
+    status: Status::PENDING,
+    information: 0,
+};
+
+const FINISH_SECOND: Call = Call::FinishTaken {
+    irp: SECOND,
+    token: 2,
+    status: Status::SUCCESS,
+    information: 1,
+};
+
+/// The dispatch, as the first packet asks it.
+const HELD: Asked = Asked::Dispatch {
+    id: DispatchId(0),
+    shown: SHOWN,
+    plan: Plan::HoldSlot,
+};
+
+const SECOND_HELD: Asked = Asked::Dispatch {
+    id: DispatchId(0),
+    shown: SHOWN_SECOND,
+    plan: Plan::HoldSlot,
+};
+
+const SECOND_SEEN: Seen = Seen {
+    status: Status::SUCCESS,
+    information: 1,
+    cancel: false,
+    ..CANCELLED_SEEN
+};
 
 /// The first packet is held, cancelled, and finished by its token. A second one is held: the first token doesn't finish
 /// it, nor does a status that no packet is completed with.
-fn hold_and_finish(rt: &impl Abort, alloc: Global, store: Store) -> Result<(), Fail> {
-    let held = [asked_of(IRP, Plan::HoldSlot)];
-    let second_held = [asked_of(SECOND, Plan::HoldSlot)];
-    let steps: [Step<'_>; 18] = [
-        (CREATE, Reply::Device(DEVICE), &[]),
-        (ALLOCATE, Reply::Irp(IRP), &[]),
-        (
-            finish(IRP, 1, CANCELLED, 0),
-            refused(Refusal::NotSlotHeld),
-            &[],
-        ),
-        (fill(IRP, READ), Reply::Done, &[]),
-        (set(IRP, ON_CANCEL), Reply::Done, &[]),
-        (send(IRP), PENDING, &held),
-        (complete(IRP), refused(Refusal::SlotHeld), &[]),
-        (Call::Cancel { irp: IRP }, Reply::Cancelled(false), &[]),
-        (
-            finish(IRP, 1, CANCELLED, 0),
-            Reply::Done,
-            &[ASKED_ON_CANCEL],
-        ),
-        (look(IRP), seen(CANCELLED, 0, true), &[]),
-        (finish(IRP, 1, CANCELLED, 0), refused(Refusal::Ended), &[]),
-        (ALLOCATE, Reply::Irp(SECOND), &[]),
-        (fill(SECOND, READ), Reply::Done, &[]),
-        (send(SECOND), PENDING, &second_held),
-        (
-            finish(SECOND, 1, CANCELLED, 0),
-            refused(Refusal::Stale),
-            &[],
-        ),
-        (
-            finish(SECOND, 2, Status(259), 0),
-            refused(Refusal::BadStatus),
-            &[],
-        ),
-        (finish(SECOND, 2, Status::SUCCESS, 1), Reply::Done, &[]),
-        (look(SECOND), seen(Status::SUCCESS, 1, false), &[]),
-    ];
-    play(rt, alloc, store, &steps)
-}
+const HOLD_AND_FINISH: [Step<'static>; 18] = [
+    (CREATE, MADE, &[]),
+    (ALLOCATE, GIVEN, &[]),
+    (FINISH, Reply::Refused(Refusal::NotSlotHeld), &[]),
+    (FILL, Reply::Done, &[]),
+    (SET_ON_CANCEL, Reply::Done, &[]),
+    (SEND, PENDING, &[HELD]),
+    (COMPLETE, Reply::Refused(Refusal::SlotHeld), &[]),
+    (Call::Cancel { irp: IRP }, Reply::Cancelled(false), &[]),
+    (FINISH, Reply::Done, &[ASKED_ON_CANCEL]),
+    (LOOK, Reply::Seen(CANCELLED_SEEN), &[]),
+    (FINISH, ENDED, &[]),
+    (ALLOCATE, GIVEN_SECOND, &[]),
+    (FILL_SECOND, Reply::Done, &[]),
+    (SEND_SECOND, PENDING, &[SECOND_HELD]),
+    (FINISH_OTHER, Reply::Refused(Refusal::Stale), &[]),
+    (FINISH_PENDING, Reply::Refused(Refusal::BadStatus), &[]),
+    (FINISH_SECOND, Reply::Done, &[]),
+    (Call::Look { irp: SECOND }, Reply::Seen(SECOND_SEEN), &[]),
+];
 
 #[test]
 fn only_a_token_finishes_a_packet_in_a_slot(rt: HostRuntime) -> Result<(), Fail> {
@@ -101,5 +119,9 @@ fn only_a_token_finishes_a_packet_in_a_slot(rt: HostRuntime) -> Result<(), Fail>
     assert!(rt; watch.is_ok() && plan.is_ok());
     let driver = store.add_driver([(READ, DispatchId(0))].to_vec(alloc)?);
     assert!(rt; driver.is_ok());
-    hold_and_finish(&rt, alloc, store)
+    assert_eq!(rt;
+        first_other(alloc, store, Limit::Sixteen, &HOLD_AND_FINISH)?,
+        None
+    );
+    Ok(())
 }

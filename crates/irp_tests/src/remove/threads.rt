@@ -2,11 +2,8 @@
 ghost use Rattle.std.specs.Prelude.{◌≡◌, All, IfOk};
 ghost use Rattle.irp_remove.specs.Pairing.{IsSeatOf};
 
-use super::{LOCK, Opened, one_lock_two_seats};
-use irp_remove::{
-    AcquireRefusal, BeginRefusal, DrainRefusal, HandRefusal, Locks, ReleaseRefusal, RemoveSeat,
-    open,
-};
+use super::LOCK;
+use irp_remove::{AcquireRefusal, BeginRefusal, Locks, RemoveSeat, open};
 use std::alloc::{AllocError, Global};
 use std::test::Fail;
 use std::thread;
@@ -78,87 +75,6 @@ fn takes(locks: &Locks, mut seat: RemoveSeat) -> (RemoveSeat, Result<(), Acquire
     (seat, taken)
 }
 
-/// What a thread that was given both seats was answered, in the order of its calls.
-#[derive(Clone, Copy, PartialEq, Eq)]
-struct HandedOver {
-    handed: Result<(), HandRefusal>,
-    released_by_giver: Result<(), ReleaseRefusal>,
-    released_by_taker: Result<(), ReleaseRefusal>,
-    drained: Result<(), DrainRefusal>,
-}
-
-/// Hands the reference under tag 1 over, and gives it back by the seat that took it over.
-fn hands_over(locks: &Locks, mut giver: RemoveSeat, mut taker: RemoveSeat) -> HandedOver
-    requires giver { IsSeatOf locks.now giver }
-    requires taker { IsSeatOf locks.now taker }
-{
-    let handed = locks.hand(&mut giver, &mut taker, LOCK, 1);
-    let released_by_giver = locks.release(&mut giver, LOCK, 1);
-    let released_by_taker = locks.release(&mut taker, LOCK, 1);
-    let drained = locks.drained(&mut taker, LOCK);
-    HandedOver {
-        handed,
-        released_by_giver,
-        released_by_taker,
-        drained,
-    }
-}
-
-/// The seat takes its reference in a thread of its own.
-fn takes_elsewhere<R: Threads + Sync>(
-    rt: &R,
-    locks: &Locks,
-    seat: RemoveSeat,
-) -> (RemoveSeat, Result<(), AcquireRefusal>)
-    requires { IsSeatOf locks.now seat }
-    ensures { IsSeatOf locks.now result.0 }
-{
-    let taking = move || -> (RemoveSeat, Result<(), AcquireRefusal>)
-        requires { IsSeatOf locks.now seat }
-        ensures { IsSeatOf locks.entry.now result.0 }
-    { takes(locks, seat) };
-    thread::join(rt, taking, || ()).0
-}
-
-/// Both seats go to a thread that hands the reference over.
-fn hands_over_elsewhere<R: Threads + Sync>(
-    rt: &R,
-    locks: &Locks,
-    giver: RemoveSeat,
-    taker: RemoveSeat,
-) -> HandedOver
-    requires { (IsSeatOf locks.now giver) × (IsSeatOf locks.now taker) }
-{
-    let handing = move || -> HandedOver
-        requires { (IsSeatOf locks.now giver) × (IsSeatOf locks.now taker) }
-    { hands_over(locks, giver, taker) };
-    thread::join(rt, handing, || ()).0
-}
-
-#[test]
-fn a_reference_goes_to_another_thread(rt: HostRuntime) -> Result<(), Fail> {
-    let Opened {
-        locks,
-        first,
-        mut second,
-    } = one_lock_two_seats(rt.alloc())?;
-    let (giver, taken) = takes_elsewhere(&rt, &locks, first);
-    assert_eq!(rt; taken, Ok(()));
-    assert_eq!(rt; locks.acquire(&mut second, LOCK, 2), Ok(()));
-    assert_eq!(rt; locks.begin_remove(&mut second, LOCK, 2), Ok(()));
-    let busy = locks.drained(&mut second, LOCK);
-    assert_eq!(rt; busy, Err(DrainRefusal::Busy(3)));
-    let answers = hands_over_elsewhere(&rt, &locks, giver, second);
-    let expected = HandedOver {
-        handed: Ok(()),
-        released_by_giver: Err(ReleaseRefusal::NotHeld),
-        released_by_taker: Ok(()),
-        drained: Ok(()),
-    };
-    assert!(rt; answers == expected);
-    Ok(())
-}
-
 /// One lock, eight seats for the load, and a ninth.
 #[derive(Drop)]
 struct Crowd {
@@ -210,19 +126,26 @@ fn removes_under_load<R: Threads + Sync>(
     thread::join(rt, loading, removing)
 }
 
+/// Whether the lock is drained, and the seat is refused another reference.
+fn is_removed(locks: &Locks, mut seat: RemoveSeat) -> bool
+    requires { IsSeatOf locks.now seat }
+{
+    let drained = locks.drained(&mut seat, LOCK);
+    let taken = locks.acquire(&mut seat, LOCK, 2);
+    drained.is_ok() && taken == Err(AcquireRefusal::DeletePending)
+}
+
 #[test]
 fn remove_under_load(rt: HostRuntime) -> Result<(), Fail> {
     let Crowd {
         locks,
         eight,
-        mut ninth,
+        ninth,
     } = one_lock_nine_seats(rt.alloc())?;
-    assert_eq!(rt; locks.acquire(&mut ninth, LOCK, 1), Ok(()));
-    let (loaded, (mut ninth, begun)) = removes_under_load(&rt, &locks, eight, ninth);
-    assert_eq!(rt; begun, Ok(()));
-    assert_eq!(rt; locks.drained(&mut ninth, LOCK), Ok(()));
-    let answer = locks.acquire(&mut ninth, LOCK, 2);
-    assert_eq!(rt; answer, Err(AcquireRefusal::DeletePending));
+    let (ninth, taken) = takes(&locks, ninth);
+    let (loaded, (ninth, begun)) = removes_under_load(&rt, &locks, eight, ninth);
+    let is_removed = is_removed(&locks, ninth);
+    assert!(rt; taken.is_ok() && begun.is_ok() && is_removed);
     assert_eq!(rt; pending(&locks, loaded?), 8);
     Ok(())
 }

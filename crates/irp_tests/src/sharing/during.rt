@@ -2,6 +2,7 @@
 //! who waits for the other thread does so for a number of turns.
 
 ghost use Rattle.std.specs.Prelude.{◌≡◌, true};
+ghost use Rattle.irp_types.specs.declared.limit.Limit.TheVariants.{ThirtyTwo};
 ghost use Rattle.irp_types.specs.Rules.{is_plan_allowed};
 ghost use Rattle.irp_types.specs.State.{no_routines};
 ghost use Rattle.irp_remove.specs.Pairing.{IsSeatOf};
@@ -127,7 +128,7 @@ fn session<L: Session + Send + Sync, R: Threads + Wait + Sync>(
 ) -> Result<(Transcript, Taken), Fail>
     requires blank { (blank.name ≡ L.name) × (blank.parts ≡ L.parts) }
     requires seats { (L.parts ≡ 1) × (L.seats ≡ 1) }
-    requires fixed { L.fixed ≡ record { locks = 1; tables = store.tables } }
+    requires fixed { L.fixed ≡ record { locks = 1; tables = store.tables; limit = ThirtyTwo } }
 {
     let (shared, mut seats) = open::<Store, L>(alloc, blank, store, 1, 1)?;
     let Some(seat) = seats.pop() else {

@@ -1,6 +1,7 @@
 //! A packet that another thread completes, with the reference of whom sent it.
 
 ghost use Rattle.std.specs.Prelude.{◌≡◌};
+ghost use Rattle.irp_types.specs.declared.limit.Limit.TheVariants.{ThirtyTwo};
 ghost use Rattle.irp_remove.specs.Pairing.{IsSeatOf};
 
 use super::{
@@ -169,7 +170,7 @@ fn session<L: Session + Send + Sync, R: Threads + Wait + Abort + Sync>(
 ) -> Result<(Transcript, HandedOver), Fail>
     requires blank { (blank.name ≡ L.name) × (blank.parts ≡ L.parts) }
     requires seats { (L.parts ≡ 2) × (L.seats ≡ 2) }
-    requires fixed { L.fixed ≡ record { locks = 1; tables = ask.tables } }
+    requires fixed { L.fixed ≡ record { locks = 1; tables = ask.tables; limit = ThirtyTwo } }
 {
     let (shared, mut seats) = open::<AnswerTable, L>(alloc, blank, ask, 1, 2)?;
     let (Some(second), Some(first)) = (seats.pop(), seats.pop()) else {

@@ -14,9 +14,9 @@ use Rattle.irp_script.proofs.checker.judge.Goals as goal
 
 pub loop-place-init : goal.loop-place-init
 loop-place-init c = (
-  subst (LeadsTo (fixed_of c.args.header.now) []) (sym c.new-core.ensures.state) (opens (fixed_of c.args.header.now)),
-  c.new-core.ensures.stands c.args.header.now.completions,
-  c.new-core.ensures.locks,
+  subst (LeadsTo (fixed_of c.args.header.now) []) (sym c.with_limit-core.ensures.state) (opens (fixed_of c.args.header.now)),
+  c.with_limit-core.ensures.stands c.args.header.now.completions,
+  (cc, cc),
 )
 
 pub returns-then-not-branch : goal.returns-then-not-branch
