@@ -29,9 +29,7 @@ use irp_routines::{CancelRoutine, Dispatch, Routine, Store, guarded_answer, guar
 use irp_script_reader::{
     CompletionRoutine, Script, ScriptFault, ScriptForm, ScriptRefusal, read_script,
 };
-use irp_shared::{
-    Form, Seat, Session, Transcript, TranscriptParts, WordLine, open_with_limit,
-};
+use irp_shared::{Form, Seat, Session, Transcript, TranscriptParts, WordLine, open_with_limit};
 use irp_transcript_writer::Out;
 use irp_types::{Answer, Known, Plan, Row, Shown};
 use irp_workers::{
@@ -288,7 +286,9 @@ fn session<L: Session + Send + Sync, T: Threads + Wait + Sync>(
     };
     let pairs = script_seats(alloc, &locks, &slots, seats, removes, cancellers, owners)?;
     let gate = AlwaysOpen;
-    let worked = run_workers(rt, alloc, &shared, &locks, &slots, pairs, script, &gate, workers)?;
+    let worked = run_workers(
+        rt, alloc, &shared, &locks, &slots, pairs, script, &gate, workers,
+    )?;
     let stopped = worked.stopped;
     let words = worked.words;
     let seats = seats_of(alloc, worked.seats)?;
