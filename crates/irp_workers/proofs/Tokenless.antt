@@ -5,7 +5,7 @@ use Rattle.irp_types.specs.declared.names.IrpRef.{IrpRef}
 use Rattle.irp_types.specs.declared.call.Call.{Call}
 use Rattle.irp_shared.specs.Sharing.{needs_token}
 use Rattle.irp_script_reader.specs.declared.act.StepAct.{StepAct}
-use Rattle.irp_script_reader.specs.declared.act.StepAct.TheVariants.{CreateDevice, Attach, Detach, Delete, Allocate, Free, Reuse, SetNext, CopyToNext, Skip, SetRoutine, MarkPending, CallDriver, Complete, SetCancelRoutine, Cancel, Look, Acquire, Release, BeginRemove, Drained}
+use Rattle.irp_script_reader.specs.declared.act.StepAct.TheVariants.{CreateDevice, Attach, Detach, Delete, Allocate, Free, Reuse, SetNext, CopyToNext, Skip, SetRoutine, MarkPending, CallDriver, Complete, SetCancelRoutine, Cancel, Look, Acquire, Release, BeginRemove, Drained, Hand, Publish, Withdraw, Request, FinishTaken}
 use Rattle.irp_workers.specs.Deeds.{call_of}
 
 abbrev Tokenless : Call → Type 0
@@ -33,6 +33,11 @@ each_tokenless (Acquire lock tag) irp = tt
 each_tokenless (Release lock tag) irp = tt
 each_tokenless (BeginRemove lock tag) irp = tt
 each_tokenless (Drained lock) irp = tt
+each_tokenless (Hand lock tag to) irp = tt
+each_tokenless (Publish slot named) irp = tt
+each_tokenless (Withdraw slot) irp = tt
+each_tokenless (Request slot) irp = tt
+each_tokenless (FinishTaken named slot status information) irp = tt
 
 pub tokenless : (act : StepAct) (irp : IrpRef) (made : Call) → call_of act irp ≡ Some made → needs_token made ≡ false
 tokenless act irp made is = let here : IfSome (Some made) Tokenless = subst (λ (found : Option Call). IfSome found Tokenless) is (each_tokenless act irp) in here

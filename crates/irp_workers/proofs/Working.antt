@@ -1,74 +1,161 @@
 -- What a worker makes of its seats and lines, step by step, and what the workers of a script make together.
-use Rattle.std.proofs.Common.{◌≡◌, ◌<◌, ◌+◌, ◌%◌, ◌==◌, ◌||◌, ℕ, Bool, true, false, cond, Option, Some, None, List, [], ◌∷◌, ◌++◌, length, map, take, get_or, set, refl, sym, subst, ap, ◌∙◌, arith}
-use Rattle.std.specs.Prelude.{IfOk, MatchOption, Result, Ok, Err, slice_get, sum_by}
+use Rattle.std.proofs.Common.{◌≡◌, ◌<◌, ◌+◌, ◌%◌, ◌==◌, ◌||◌, ℕ, zero, suc, All, Bool, true, false, cond, Option, Some, None, List, [], ◌∷◌, ◌++◌, length, map, take, get_or, set, refl, sym, subst, ap, ◌∙◌, arith}
+use Rattle.std.specs.Prelude.{IfOk, MatchOption, Result, Ok, Err, slice_get, slice_set, sum_by}
 use Rattle.std.specs.Option.{option_map, unwrap_or}
 use Rattle.std.specs.List.{count_by, enumerate_from, filter, flat_map, list_any}
-use Rattle.std.proofs.lemmas.List.{length-take-le, length-map, get_or-map, map-set, take_more}
-use Rattle.std.proofs.lemmas.List.Elements.{filter-append}
+use Rattle.std.proofs.lemmas.List.{get_or-map, length-map, length-take-le, map-set, set-get_or, take_more}
+use Rattle.std.proofs.lemmas.List.Elements.{All-nil, All-cons, All-head, All-tail, filter-append}
 use Rattle.std.proofs.lemmas.List.Concat.{flat_map-cons}
 use Rattle.std.proofs.lemmas.List.Sums.{sum_by-append, sum_by-cons}
 use Rattle.std.proofs.lemmas.Option.{get_or_from_slice_get, none-some, slice_get-get_or, slice_get-map, slice_get_within}
+use Rattle.irp_types.specs.declared.names.IrpRef.{IrpRef}
+use Rattle.irp_types.specs.declared.names.LockNo.{LockNo}
+use Rattle.irp_types.specs.declared.status.Status.{Status}
+use Rattle.irp_types.specs.declared.call.Call.{Call}
+use Rattle.irp_types.specs.declared.call.Call.TheVariants.{FinishTaken}
+use Rattle.irp_manager.specs.Booked.{Receipted}
 use Rattle.irp_manager.specs.Seats.{Seated}
 use Rattle.irp_remove.specs.Seats.{Holder}
-use Rattle.irp_shared.specs.Sharing.{IsAsBefore}
-use Rattle.irp_shared.specs.declared.word_line.Act.{Act}
+use Rattle.irp_slots.specs.declared.answers.Token.{Token}
+use Rattle.irp_shared.specs.Sharing.{Called, IsAsBefore, given_back}
 use Rattle.irp_shared.specs.declared.word_line.WordLine.{WordLine}
 use Rattle.irp_script_reader.specs.declared.act.Step.{Step}
-use Rattle.irp_script_reader.specs.declared.act.StepAct.{StepAct}
-use Rattle.irp_workers.specs.Acts.{ActsFor}
-use Rattle.irp_workers.specs.Calling.{CallsUnlessActs}
-use Rattle.irp_workers.specs.Deeds.{lock_act_of}
-use Rattle.irp_workers.specs.Made.{is_own_step}
-use Rattle.irp_workers.specs.Working.{AtWork, Left, Makes, MakesEach, MakesOwn, WorkApart, Working, at_work, if_own, own_placed, roomless, working}
+use Rattle.irp_workers.specs.declared.acts.Deed.{Deed}
+use Rattle.irp_workers.specs.declared.acts.Deed.TheVariants.{Calls, OnLock, Hands, OnSlot, Finishes}
+use Rattle.irp_workers.specs.declared.taken.Taken.{Taken}
+use Rattle.irp_workers.specs.AtSlots.{AtSlots, fresh}
+use Rattle.irp_workers.specs.Calling.{CallsFor, found_drained}
+use Rattle.irp_workers.specs.Deeds.{IsNamed, deed_of}
+use Rattle.irp_workers.specs.Outcomes.{is_own_placed, is_own_step, own_placed}
+use Rattle.irp_workers.specs.Working.{AtWork, Does, FinishesTaken, IsOwn, Left, Makes, MakesAlone, MakesBy, MakesCall, MakesEach, MakesHand, MakesOwn, Stays, WorkApart, Working, at_work, if_own, roomless, working}
+use Rattle.irp_workers.proofs.Chains.{enumerate-append}
 use Rattle.irp_workers.proofs.Numbers.{count_map, map_set_same}
-use Rattle.irp_workers.proofs.Telling.{enumerate-append}
+
+set_twice : {A : Type 0} (xs : List A) (i : ℕ) (one other : A) → set (set xs i one) i other ≡ set xs i other
+set_twice [] i one other = refl
+set_twice (x ∷ xs) zero one other = refl
+set_twice (x ∷ xs) (suc i) one other = ap (λ rest. x ∷ rest) (set_twice xs i one other)
 
 -- what a seat says doesn't tell its room
-roomless_same : (before after : Seated) → IsAsBefore before after → roomless after ≡ roomless before
+pub roomless_same : (before after : Seated) → IsAsBefore before after → roomless after ≡ roomless before
 roomless_same before after same = λ i. record { number = same.number i; seen = same.seen i; entries = same.entries i; room = 0 }
 
-roomless_calls : (locked : Option Act) (act : StepAct) (remove : Holder) (before after : Seated) → CallsUnlessActs locked act remove before after
-    → CallsUnlessActs locked act remove (roomless before) (roomless after)
-roomless_calls None act remove before after calls =
-    let kept = calls.recorded.kept in
-    let of_call = calls.recorded.of_call in
+pub roomless_called : (before after : Seated) (call : Call) (knows : LockNo → Bool) (receipt : Receipted) → Called before call knows receipt after → Called (roomless before) call knows receipt (roomless after)
+roomless_called before after call knows receipt called =
+    let kept = called.kept in
+    let of_call = called.of_call in
     record {
-      call = calls.call;
-      receipt = calls.receipt;
-      of_act = calls.of_act;
-      recorded = record {
-        entry = calls.recorded.entry;
-        of_call = record { within = of_call.within; after = of_call.after; by = of_call.by; asks = of_call.asks; noted = of_call.noted; deletes = of_call.deletes; few = of_call.few; told = of_call.told };
-        kept = record { number = kept.number; entries = kept.entries; seen = kept.seen };
-      };
+      entry = called.entry;
+      of_call = record { within = of_call.within; after = of_call.after; by = of_call.by; asks = of_call.asks; noted = of_call.noted; deletes = of_call.deletes; few = of_call.few; told = of_call.told };
+      kept = record { number = kept.number; entries = kept.entries; seen = kept.seen };
     }
-roomless_calls (Some acted) act remove before after same = ap roomless same
 
--- what one seat makes of a step is what a worker makes that has it
-pub made_at : {S T : Type 0} (R : T → Type 0) (result : Option T) (seat : S → Seated) (remove : S → Holder) (seats : List S) (at : ℕ) (new old : S) (lines longer : List WordLine) (count place : ℕ) (step : Step)
-    → at < length seats → old ≡ get_or seats at old → (seat old).number ≡ step.seat
-    → MatchOption result (IsAsBefore (seat old) (seat new)) (λ _. CallsUnlessActs (lock_act_of step.act) step.act (remove old) (seat old) (seat new))
-    → MatchOption result (remove new ≡ remove old) (λ _. ActsFor count step.seat place (lock_act_of step.act) (remove old) (remove new) lines longer)
-    → MatchOption result (longer ≡ lines) R
-    → MatchOption result (working (map (λ s. at_work (seat s) (remove s)) (set seats at new)) longer ≡ working (map (λ s. at_work (seat s) (remove s)) seats) lines)
-    (λ _. Makes count place step (working (map (λ s. at_work (seat s) (remove s)) seats) lines) (working (map (λ s. at_work (seat s) (remove s)) (set seats at new)) longer))
-made_at R None seat remove seats at new old lines longer count place step lt there named called acted told =
-    let work : at_work (seat new) (remove new) ≡ at_work (seat old) (remove old) = λ i. record { seat = roomless_same (seat old) (seat new) called i; remove = acted i } in
-    let all : map (λ s. at_work (seat s) (remove s)) (set seats at new) ≡ map (λ s. at_work (seat s) (remove s)) seats =
-    map_set_same (λ s. at_work (seat s) (remove s)) seats at new old (work ∙ ap (λ s. at_work (seat s) (remove s)) there) lt in
-    λ i. working (all i) (told i)
-made_at R (Some x) seat remove seats at new old lines longer count place step lt there named called acted told = record {
-  at = at;
-  old = at_work (seat old) (remove old);
-  new = at_work (seat new) (remove new);
-  there =
-      slice_get-get_or (map (λ s. at_work (seat s) (remove s)) seats) at (at_work (seat old) (remove old)) (omega (arith, lt, length-map seats (λ s. at_work (seat s) (remove s))))
-      ∙ ap Some (get_or-map (λ s. at_work (seat s) (remove s)) seats at old (at_work (seat old) (remove old)) lt ∙ ap (λ s. at_work (seat s) (remove s)) (sym there));
-  named = named;
-  called = roomless_calls (lock_act_of step.act) step.act (remove old) (seat old) (seat new) called;
-  acted = acted;
-  others = map-set (λ s. at_work (seat s) (remove s)) seats at new;
+-- a call that wasn't recorded, and one that was
+pub call_stays : (before after : Seated) (remove remove_after : Holder) (parties parties_after : AtSlots) → IsAsBefore before after → remove_after ≡ remove → parties_after ≡ parties
+    → at_work after remove_after parties_after ≡ at_work before remove parties
+call_stays before after remove remove_after parties parties_after same same_remove same_parties =
+    λ i. record { seat = roomless_same before after same i; remove = same_remove i; parties = same_parties i }
+
+pub call_made : {T : Type 0} (result : Option T) (step : Step) (before after : Seated) (remove remove_after : Holder) (parties parties_after : AtSlots) (lines longer : List WordLine)
+    → MatchOption result (IsAsBefore before after) (λ _. CallsFor step.act remove before after) → remove_after ≡ remove → parties_after ≡ parties → longer ≡ lines
+    → MatchOption result (Stays (at_work before remove parties) (at_work after remove_after parties_after) lines longer)
+    (λ _. MakesCall step (at_work before remove parties) (at_work after remove_after parties_after) lines longer)
+call_made None step before after remove remove_after parties parties_after lines longer same same_remove same_parties silent =
+    (call_stays before after remove remove_after parties parties_after same same_remove same_parties, silent)
+call_made (Some one) step before after remove remove_after parties parties_after lines longer calls same_remove same_parties silent = record {
+  called = record { call = calls.call; receipt = calls.receipt; of_act = calls.of_act; recorded = roomless_called before after calls.call (found_drained remove) calls.receipt calls.recorded };
+  rest = λ i. record { seat = roomless after; remove = same_remove i; parties = same_parties i };
+  silent = silent;
 }
+
+abbrev with_taken : AtSlots → List Taken → AtSlots
+with_taken parties taken = record parties { taken = taken }
+
+abbrev held_token : ℕ → Option Token → Taken
+held_token slot token = record { slot = slot; token = token }
+
+-- a token in the place where one was put before
+put_again : (slot place : ℕ) (parties between after : AtSlots) (one back given : Option Token)
+    → between ≡ with_taken parties (slice_set parties.taken place (held_token slot one))
+    → after ≡ with_taken between (slice_set between.taken place (held_token slot back)) → back ≡ given
+    → after ≡ with_taken parties (slice_set parties.taken place (held_token slot given))
+put_again slot place parties between after one back given out in_again same =
+    in_again
+    ∙ ap (λ (some : AtSlots). with_taken some (slice_set some.taken place (held_token slot back))) out
+    ∙ ap (with_taken parties) (set_twice parties.taken place (held_token slot one) (held_token slot back))
+    ∙ ap (λ (token : Option Token). with_taken parties (slice_set parties.taken place (held_token slot token))) same
+
+-- a finish that was recorded
+pub finish_made : (step : Step) (slot : ℕ) (status : Status) (information : ℕ) (before after : Seated) (remove remove_after : Holder) (parties between parties_after : AtSlots) (lines longer : List WordLine)
+    (place : ℕ) (token : Token) (irp : IrpRef) (receipt : Receipted) (back : Option Token)
+    → slice_get parties.taken place ≡ Some (fresh slot token) → IsNamed step.act irp → Called before (FinishTaken irp token.use_no status information) (λ lock. false) receipt after
+    → back ≡ given_back receipt.reply token → remove_after ≡ remove
+    → between ≡ record parties { taken = slice_set parties.taken place (record { slot = slot; token = None }) }
+    → parties_after ≡ record between { taken = slice_set between.taken place (record { slot = slot; token = back }) }
+    → longer ≡ lines
+    → FinishesTaken step slot status information (at_work before remove parties) (at_work after remove_after parties_after) lines longer
+finish_made step slot status information before after remove remove_after parties between parties_after lines longer place token irp receipt back there named recorded given same_remove out in_again silent =
+    record {
+      place = place;
+      token = token;
+      irp = irp;
+      receipt = receipt;
+      there = there;
+      referred = named;
+      recorded = roomless_called before after (FinishTaken irp token.use_no status information) (λ lock. false) receipt recorded;
+      rest =
+          let left : parties_after ≡ with_taken parties (slice_set parties.taken place (held_token slot (given_back receipt.reply token))) =
+          put_again slot place parties between parties_after None back (given_back receipt.reply token) out in_again given in
+          λ i. record { seat = roomless after; remove = same_remove i; parties = left i };
+      silent = silent;
+    }
+
+-- a finish that wasn't recorded: the token is back in its place
+pub finish_stays : (slot : ℕ) (before after : Seated) (remove remove_after : Holder) (parties between parties_after : AtSlots) (place : ℕ) (token : Token) (back : Option Token)
+    → slice_get parties.taken place ≡ Some (fresh slot token) → IsAsBefore before after → back ≡ Some token → remove_after ≡ remove
+    → between ≡ record parties { taken = slice_set parties.taken place (record { slot = slot; token = None }) }
+    → parties_after ≡ record between { taken = slice_set between.taken place (record { slot = slot; token = back }) }
+    → at_work after remove_after parties_after ≡ at_work before remove parties
+finish_stays slot before after remove remove_after parties between parties_after place token back there same given same_remove out in_again =
+    let here = get_or_from_slice_get parties.taken place (fresh slot token) (fresh slot token) there in
+    let left : parties_after ≡ parties =
+    put_again slot place parties between parties_after None back (Some token) out in_again given
+    ∙ ap (λ (one : Taken). with_taken parties (slice_set parties.taken place one)) (sym here)
+    ∙ ap (with_taken parties) (set-get_or parties.taken place (fresh slot token)) in
+    call_stays before after remove remove_after parties parties_after same same_remove left
+
+-- what one seat makes of a step that isn't a hand is what a worker makes that has it
+by_alone : (count place : ℕ) (step : Step) (deed : Deed) (before after : Working) → MakesAlone count place step deed before after → MakesBy count place step deed before after
+by_alone count place step (Hands lock tag to) before after made = absurd made.did
+by_alone count place step Calls before after made = made
+by_alone count place step (OnLock on) before after made = made
+by_alone count place step (OnSlot on) before after made = made
+by_alone count place step (Finishes slot status information) before after made = made
+
+pub made_at : {S T : Type 0} (result : Option T) (f : S → AtWork) (seats : List S) (at : ℕ) (new old : S) (lines longer : List WordLine) (count place : ℕ) (step : Step)
+    → at < length seats → old ≡ get_or seats at old → (f old).seat.number ≡ step.seat
+    → MatchOption result (Stays (f old) (f new) lines longer) (λ _. Does count place step (deed_of step.act) (f old) (f new) lines longer)
+    → MatchOption result (working (map f (set seats at new)) longer ≡ working (map f seats) lines) (λ _. Makes count place step (working (map f seats) lines) (working (map f (set seats at new)) longer))
+made_at None f seats at new old lines longer count place step lt there named stays =
+    let all : map f (set seats at new) ≡ map f seats = map_set_same f seats at new old (stays.0 ∙ ap f there) lt in
+    λ i. working (all i) (stays.1 i)
+made_at (Some x) f seats at new old lines longer count place step lt there named did = by_alone count place step (deed_of step.act) _ _ record {
+  at = at;
+  old = f old;
+  new = f new;
+  there =
+      slice_get-get_or (map f seats) at (f old) (omega (arith, lt, length-map seats f))
+      ∙ ap Some (get_or-map f seats at old (f old) lt ∙ ap f (sym there));
+  named = named;
+  did = did;
+  others = map-set f seats at new;
+}
+
+-- a hand of the worker is its step
+pub hand_is_made : {T : Type 0} (result : Option T) (count place : ℕ) (step : Step) (lock : LockNo) (tag to : ℕ) (before after : Working) → deed_of step.act ≡ Hands lock tag to
+    → MatchOption result (after ≡ before) (λ _. MakesHand count place step lock tag to before after) → MatchOption result (after ≡ before) (λ _. Makes count place step before after)
+hand_is_made None count place step lock tag to before after is made = made
+hand_is_made (Some one) count place step lock tag to before after is made = subst (λ deed. MakesBy count place step deed before after) (sym is) made
 
 -- a turn of the worker: it makes the step if it is its own
 pub turn_skips : (count number workers place : ℕ) (step : Step) (work : Working) → (step.seat % workers == number) ≡ false → MakesEach count (if_own number workers place step) work work
@@ -88,8 +175,8 @@ placed_more number workers steps i d lt =
     let first = take i steps in
     let here : 0 + length first ≡ i = omega (arith, length-take-le i steps (omega arith)) in
     ap (own_placed number workers) (take_more steps i d lt)
-    ∙ ap (filter (λ (each : ℕ × Step). is_own_step number workers each.1)) (enumerate-append 0 first (get_or steps i d ∷ []))
-    ∙ filter-append (λ (each : ℕ × Step). is_own_step number workers each.1) (enumerate_from 0 first) (enumerate_from (0 + length first) (get_or steps i d ∷ []))
+    ∙ ap (filter (is_own_placed number workers)) (enumerate-append 0 first (get_or steps i d ∷ []))
+    ∙ filter-append (is_own_placed number workers) (enumerate_from 0 first) (enumerate_from (0 + length first) (get_or steps i d ∷ []))
     ∙ ap (λ k. own_placed number workers first ++ if_own number workers k (get_or steps i d)) here
 
 pub makes_more : (count number workers : ℕ) (steps : List Step) (i : ℕ) (d : Step) (before old new : Working) (n w : ℕ) → i < length steps
@@ -134,8 +221,12 @@ told_from : {W P : Type 0} (h : W → P) (o : Option W) (p : P) → option_map h
 told_from h None p is = absurd (none-some p is)
 told_from h (Some w) p is = (w, refl, ap (λ found. unwrap_or found p) is)
 
-found_in : {W P : Type 0} (h : W → P) (ws : List W) (k : ℕ) (p : P) → slice_get (map h ws) k ≡ Some p → (w : W) × (slice_get ws k ≡ Some w) × (h w ≡ p)
+pub found_in : {W P : Type 0} (h : W → P) (ws : List W) (k : ℕ) (p : P) → slice_get (map h ws) k ≡ Some p → (w : W) × (slice_get ws k ≡ Some w) × (h w ≡ p)
 found_in h ws k p is = told_from h (slice_get ws k) p (sym (slice_get-map h ws k) ∙ is)
+
+All-mapped : {S X : Type 0} (f : S → X) (P : X → Type 0) (xs : List S) → All (λ s. P (f s)) xs → All P (map f xs)
+All-mapped f P [] each = All-nil P
+All-mapped f P (x ∷ xs) each = All-cons P (f x) (map f xs) (All-head (λ s. P (f s)) x xs each) (All-mapped f P xs (All-tail (λ s. P (f s)) x xs each))
 
 abbrev left_of : {S W : Type 0} → (S → AtWork) → (W → List S) → (W → List WordLine) → (W → Bool) → W → Left
 left_of f seats_of lines_of stopped_of w = record { work = working (map f (seats_of w)) (lines_of w); stopped = stopped_of w }
@@ -149,18 +240,24 @@ if_ok_all (Err fault) step one two three = one
 pub work_apart : {S W : Type 0} (f : S → AtWork) (seats_of : W → List S) (lines_of : W → List WordLine) (stopped_of : W → Bool) (count workers : ℕ) (steps : List Step) (ready : List S) (groups done : List W) (after : List S) (lines : List WordLine) (stopped : Bool)
     → length groups ≡ workers → length done ≡ workers
     → ((test : S → Bool) → sum_by (λ worker. count_by test (seats_of worker)) groups ≡ count_by test ready)
+    → ((k : ℕ) (one : W) → k < workers → All (λ s. IsOwn k workers (f s)) (seats_of (get_or groups k one)))
     → ((k : ℕ) (one other : W) → k < workers → MakesOwn count k workers steps (working (map f (seats_of (get_or groups k other))) []) (working (map f (seats_of (get_or done k one))) (lines_of (get_or done k one))) (stopped_of (get_or done k one)))
     → ((test : S → Bool) → count_by test after ≡ sum_by (λ worker. count_by test (seats_of worker)) done)
     → ((test : WordLine → Bool) → count_by test lines ≡ sum_by (λ worker. count_by test (lines_of worker)) done)
     → stopped ≡ list_any stopped_of done
     → WorkApart count workers steps (map f ready) (map f after) lines stopped
-work_apart f seats_of lines_of stopped_of count workers steps ready groups done after lines stopped grouped counted dealt made gathered told halted =
+work_apart f seats_of lines_of stopped_of count workers steps ready groups done after lines stopped grouped counted dealt own made gathered told halted =
     record {
       dealt = map (λ w. map f (seats_of w)) groups;
       left = map (left_of f seats_of lines_of stopped_of) done;
       many = (length-map groups (λ w. map f (seats_of w)) ∙ grouped, length-map done (left_of f seats_of lines_of stopped_of) ∙ counted);
       seats = λ test.
           count_pieces test (λ seats. seats) (λ w. map f (seats_of w)) (λ w. count_by (λ s. test (f s)) (seats_of w)) (λ w. count_map f test (seats_of w)) groups ∙ dealt (λ s. test (f s)) ∙ sym (count_map f test ready);
+      own = λ number seats there.
+          let group = found_in (λ w. map f (seats_of w)) groups number seats there in
+          let within : number < workers = omega (arith, slice_get_within groups number group.0 group.1, grouped) in
+          subst (All (IsOwn number workers)) group.2 (All-mapped f (IsOwn number workers) (seats_of group.0)
+          (subst (λ w. All (λ s. IsOwn number workers (f s)) (seats_of w)) (get_or_from_slice_get groups number group.0 group.0 group.1) (own number group.0 within)));
       made = λ number seats one there here.
           let group = found_in (λ w. map f (seats_of w)) groups number seats there in
           let left = found_in (left_of f seats_of lines_of stopped_of) done number one here in

@@ -1,16 +1,16 @@
--- What acts on remove locks do to a remove seat, by what they were answered.
-use Rattle.std.specs.Prelude.{ℕ, ◌≡◌, Option, Some, None, List, [], ◌∷◌, ◌++◌}
-use Rattle.irp_remove.specs.Calls.{Acquired, AcquireRefused, Released, ReleaseRefused, Begun, BeginRefused, Looked, DrainRefused}
+-- What acts on remove locks do to remove seats, by what they were answered.
+use Rattle.std.specs.Prelude.{ℕ}
+use Rattle.irp_remove.specs.Calls.{Acquired, AcquireRefused, Released, ReleaseRefused, Begun, BeginRefused, Looked, DrainRefused, Handed, HandRefused}
 use Rattle.irp_remove.specs.Seats.{Holder}
 use Rattle.irp_remove.specs.declared.refusal.AcquireRefusal.TheVariants as acquire
 use Rattle.irp_remove.specs.declared.refusal.ReleaseRefusal.TheVariants as release
 use Rattle.irp_remove.specs.declared.refusal.BeginRefusal.TheVariants as begin
 use Rattle.irp_remove.specs.declared.refusal.DrainRefusal.TheVariants as drain
-use Rattle.irp_shared.specs.declared.word_line.Act.{Act}
-use Rattle.irp_shared.specs.declared.word_line.Act.TheVariants.{Acquire, Release, BeginRemove, Drained}
-use Rattle.irp_shared.specs.declared.word_line.WordLine.{WordLine}
+use Rattle.irp_remove.specs.declared.refusal.HandRefusal.TheVariants as hand
 use Rattle.irp_shared.specs.declared.word_line.WordReply.{WordReply}
 use Rattle.irp_shared.specs.declared.word_line.WordReply.TheVariants as answered
+use Rattle.irp_workers.specs.declared.acts.LockAct.{LockAct}
+use Rattle.irp_workers.specs.declared.acts.LockAct.TheVariants.{Acquire, Release, BeginRemove, Drained}
 
 -- an acquisition, of so many locks
 abbrev pub AcquireActs : ℕ → ℕ → ℕ → Holder → Holder → WordReply → Type 0
@@ -43,19 +43,20 @@ DrainActs count lock before after answered.NoLock = DrainRefused count lock befo
 DrainActs count lock before after other = ⊥
 
 -- an act did to the seat what remove locks, so many of them, do where it is answered so
-abbrev pub Acts : ℕ → Act → Holder → Holder → WordReply → Type 0
+abbrev pub Acts : ℕ → LockAct → Holder → Holder → WordReply → Type 0
 Acts count (Acquire lock tag) before after reply = AcquireActs count lock.0 tag before after reply
 Acts count (Release lock tag) before after reply = ReleaseActs count lock.0 tag before after reply
 Acts count (BeginRemove lock tag) before after reply = BeginActs count lock.0 tag before after reply
 Acts count (Drained lock) before after reply = DrainActs count lock.0 before after reply
 
--- an act did that, and the lines have one more, of this seat and this place, which tells what it was answered
-pub record TellsAct (count seat place : ℕ) (act : Act) (before after : Holder) (lines longer : List WordLine) : Type 0 where
-  pub reply : WordReply
-  pub did : Acts count act before after reply
-  pub told : longer ≡ lines ++ record { seat = seat; step = place; act = act; reply = reply } ∷ []
-
--- the same of a step that may have no act on a remove lock: then the remove seat and the lines stay
-abbrev pub ActsFor : ℕ → ℕ → ℕ → Option Act → Holder → Holder → List WordLine → List WordLine → Type 0
-ActsFor count seat place None before after lines longer = (after ≡ before) × (longer ≡ lines)
-ActsFor count seat place (Some act) before after lines longer = TellsAct count seat place act before after lines longer
+-- a hand did that to the seat that gives and the one that takes
+abbrev pub HandActs : ℕ → ℕ → ℕ → Holder → Holder → Holder → Holder → WordReply → Type 0
+HandActs count lock tag giver giver_after taker taker_after answered.Done =
+    Handed count lock tag giver giver_after taker taker_after
+HandActs count lock tag giver giver_after taker taker_after answered.NoLock =
+    HandRefused count lock tag giver giver_after taker taker_after hand.NoLock
+HandActs count lock tag giver giver_after taker taker_after answered.NotHeld =
+    HandRefused count lock tag giver giver_after taker taker_after hand.NotHeld
+HandActs count lock tag giver giver_after taker taker_after answered.SeatFull =
+    HandRefused count lock tag giver giver_after taker taker_after hand.SeatFull
+HandActs count lock tag giver giver_after taker taker_after other = ⊥

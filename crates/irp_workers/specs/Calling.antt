@@ -1,5 +1,5 @@
 -- The calls of the manager that steps make.
-use Rattle.std.specs.Prelude.{◌≡◌, Bool, Option, Some, None}
+use Rattle.std.specs.Prelude.{◌≡◌, Bool, Some}
 use Rattle.irp_types.specs.declared.names.IrpRef.{IrpRef}
 use Rattle.irp_types.specs.declared.names.LockNo.{LockNo}
 use Rattle.irp_types.specs.declared.call.Call.{Call}
@@ -7,11 +7,9 @@ use Rattle.irp_manager.specs.Booked.{Receipted}
 use Rattle.irp_manager.specs.Seats.{Seated}
 use Rattle.irp_remove.specs.Core.{flag}
 use Rattle.irp_remove.specs.Seats.{Holder}
-use Rattle.irp_script_reader.specs.declared.act.Named.TheVariants.{Irp}
 use Rattle.irp_script_reader.specs.declared.act.StepAct.{StepAct}
 use Rattle.irp_shared.specs.Sharing.{Called}
-use Rattle.irp_shared.specs.declared.word_line.Act.{Act}
-use Rattle.irp_workers.specs.Deeds.{call_of, named_by}
+use Rattle.irp_workers.specs.Deeds.{IsNamed, call_of}
 
 -- which locks a remove seat found drained
 abbrev pub found_drained : Holder → LockNo → Bool
@@ -20,7 +18,7 @@ found_drained remove lock = flag remove.watch.drained lock.0
 -- a call is the one that an act makes, of some packet, which is the one that the act names where it names it by a reference
 pub record Makes (act : StepAct) (call : Call) : Type 0 where
   pub irp : IrpRef
-  pub referred : (given : IrpRef) → named_by act ≡ Some (Irp given) → irp ≡ given
+  pub referred : IsNamed act irp
   pub made : call_of act irp ≡ Some call
 
 -- a seat made the call of an act, that one alone, with what a remove seat knows, and keeps its entry
@@ -29,8 +27,3 @@ pub record CallsFor (act : StepAct) (remove : Holder) (before after : Seated) : 
   pub receipt : Receipted
   pub of_act : Makes act call
   pub recorded : Called before call (found_drained remove) receipt after
-
--- the same of a step that may have an act on a remove lock: then it makes no call
-abbrev pub CallsUnlessActs : Option Act → StepAct → Holder → Seated → Seated → Type 0
-CallsUnlessActs None act remove before after = CallsFor act remove before after
-CallsUnlessActs (Some acted) act remove before after = after ≡ before

@@ -1,13 +1,20 @@
--- What a step asks for, once the packet that it names is known.
-use Rattle.std.specs.Prelude.{Option, Some, None}
+-- What a step comes to, and what it asks for, once the packet that it names is known.
+use Rattle.std.specs.Prelude.{◌≡◌, Option, Some, None}
 use Rattle.irp_types.specs.declared.names.IrpRef.{IrpRef}
 use Rattle.irp_types.specs.declared.call.Call.{Call}
 use Rattle.irp_types.specs.declared.call.Call.TheVariants as call
 use Rattle.irp_shared.specs.declared.word_line.Act.{Act}
 use Rattle.irp_shared.specs.declared.word_line.Act.TheVariants as act
 use Rattle.irp_script_reader.specs.declared.act.Named.{Named}
+use Rattle.irp_script_reader.specs.declared.act.Named.TheVariants.{Irp}
 use Rattle.irp_script_reader.specs.declared.act.StepAct.{StepAct}
-use Rattle.irp_script_reader.specs.declared.act.StepAct.TheVariants.{CreateDevice, Attach, Detach, Delete, Allocate, Free, Reuse, SetNext, CopyToNext, Skip, SetRoutine, MarkPending, CallDriver, Complete, SetCancelRoutine, Cancel, Look, Acquire, Release, BeginRemove, Drained}
+use Rattle.irp_script_reader.specs.declared.act.StepAct.TheVariants.{CreateDevice, Attach, Detach, Delete, Allocate, Free, Reuse, SetNext, CopyToNext, Skip, SetRoutine, MarkPending, CallDriver, Complete, SetCancelRoutine, Cancel, Look, Acquire, Release, BeginRemove, Drained, Hand, Publish, Withdraw, Request, FinishTaken}
+use Rattle.irp_workers.specs.declared.acts.LockAct.{LockAct}
+use Rattle.irp_workers.specs.declared.acts.LockAct.TheVariants as on_lock
+use Rattle.irp_workers.specs.declared.acts.SlotAct.{SlotAct}
+use Rattle.irp_workers.specs.declared.acts.SlotAct.TheVariants as on_slot
+use Rattle.irp_workers.specs.declared.acts.Deed.{Deed}
+use Rattle.irp_workers.specs.declared.acts.Deed.TheVariants as deed
 
 -- the packet that an act names
 abbrev pub named_by : StepAct → Option Named
@@ -23,17 +30,40 @@ named_by (Complete party irp status information) = Some irp
 named_by (SetCancelRoutine party irp cancel) = Some irp
 named_by (Cancel irp) = Some irp
 named_by (Look irp) = Some irp
+named_by (Publish slot irp) = Some irp
+named_by (FinishTaken irp slot status information) = Some irp
 named_by other = None
 
--- the act on a remove lock
-abbrev pub lock_act_of : StepAct → Option Act
-lock_act_of (Acquire lock tag) = Some (act.Acquire lock tag)
-lock_act_of (Release lock tag) = Some (act.Release lock tag)
-lock_act_of (BeginRemove lock tag) = Some (act.BeginRemove lock tag)
-lock_act_of (Drained lock) = Some (act.Drained lock)
-lock_act_of other = None
+-- the packet is the one that an act names, where it names it by a reference
+abbrev pub IsNamed : StepAct → IrpRef → Type 0
+IsNamed act irp = (given : IrpRef) → named_by act ≡ Some (Irp given) → irp ≡ given
 
--- the call of the manager, of this packet where the act names one
+-- what a step comes to
+abbrev pub deed_of : StepAct → Deed
+deed_of (Acquire lock tag) = deed.OnLock (on_lock.Acquire lock tag)
+deed_of (Release lock tag) = deed.OnLock (on_lock.Release lock tag)
+deed_of (BeginRemove lock tag) = deed.OnLock (on_lock.BeginRemove lock tag)
+deed_of (Drained lock) = deed.OnLock (on_lock.Drained lock)
+deed_of (Hand lock tag to) = deed.Hands lock tag to
+deed_of (Publish slot irp) = deed.OnSlot (on_slot.Publish slot)
+deed_of (Withdraw slot) = deed.OnSlot (on_slot.Withdraw slot)
+deed_of (Request slot) = deed.OnSlot (on_slot.Request slot)
+deed_of (FinishTaken irp slot status information) = deed.Finishes slot status information
+deed_of other = deed.Calls
+
+-- the acts that word lines tell of
+abbrev pub lock_act : LockAct → Act
+lock_act (on_lock.Acquire lock tag) = act.Acquire lock tag
+lock_act (on_lock.Release lock tag) = act.Release lock tag
+lock_act (on_lock.BeginRemove lock tag) = act.BeginRemove lock tag
+lock_act (on_lock.Drained lock) = act.Drained lock
+
+abbrev pub slot_act : SlotAct → Act
+slot_act (on_slot.Publish slot) = act.Publish slot
+slot_act (on_slot.Withdraw slot) = act.Withdraw slot
+slot_act (on_slot.Request slot) = act.Request slot
+
+-- the call of the manager that needs no token, of this packet where the act names one
 abbrev pub plain_call_of : StepAct → IrpRef → Option Call
 plain_call_of (CreateDevice driver lock) irp = Some (call.CreateDevice driver lock)
 plain_call_of (Attach device to) irp = Some (call.Attach device to)

@@ -1,10 +1,13 @@
+pub mod Accounts
 pub mod Acts
+pub mod AtSlots
 pub mod Behaviours
 pub mod Calling
 pub mod Deeds
 pub mod Labels
 pub mod Made
 pub mod Numbers
+pub mod Outcomes
 pub mod Pairs
 pub mod Words
 pub mod Working

@@ -1,8 +1,9 @@
-//! What a step asks for, once the packet that it names is known.
+//! What a step comes to, and what it asks for, once the packet that it names is known.
 
 ghost use Rattle.std.specs.Prelude.{◌≡◌};
-ghost use Rattle.irp_workers.specs.Deeds.{call_of, lock_act_of, named_by, owners_call_of, plain_call_of, preparing_call_of};
+ghost use Rattle.irp_workers.specs.Deeds.{call_of, deed_of, lock_act, named_by, owners_call_of, plain_call_of, preparing_call_of, slot_act};
 
+use crate::acts::{Deed, LockAct, SlotAct};
 use irp_script_reader::{Named, StepAct};
 use irp_shared::Act;
 use irp_types::{Call, IrpRef};
@@ -23,21 +24,60 @@ pub fn named_by(act: StepAct) -> Option<Named>
         | StepAct::Complete { irp, .. }
         | StepAct::SetCancelRoutine { irp, .. }
         | StepAct::Cancel { irp }
-        | StepAct::Look { irp } => Some(irp),
+        | StepAct::Look { irp }
+        | StepAct::Publish { irp, .. }
+        | StepAct::FinishTaken { irp, .. } => Some(irp),
         _ => None,
     }
 }
 
-/// The act on a remove lock. None for a call of the manager.
-pub fn lock_act_of(act: StepAct) -> Option<Act>
-    ensures { result ≡ lock_act_of act }
+/// What a step comes to.
+pub fn deed_of(act: StepAct) -> Deed
+    ensures { result ≡ deed_of act }
 {
     match act {
-        StepAct::Acquire { lock, tag } => Some(Act::Acquire { lock, tag }),
-        StepAct::Release { lock, tag } => Some(Act::Release { lock, tag }),
-        StepAct::BeginRemove { lock, tag } => Some(Act::BeginRemove { lock, tag }),
-        StepAct::Drained { lock } => Some(Act::Drained { lock }),
-        _ => None,
+        StepAct::Acquire { lock, tag } => Deed::OnLock(LockAct::Acquire { lock, tag }),
+        StepAct::Release { lock, tag } => Deed::OnLock(LockAct::Release { lock, tag }),
+        StepAct::BeginRemove { lock, tag } => Deed::OnLock(LockAct::BeginRemove { lock, tag }),
+        StepAct::Drained { lock } => Deed::OnLock(LockAct::Drained { lock }),
+        StepAct::Hand { lock, tag, to } => Deed::Hands { lock, tag, to },
+        StepAct::Publish { slot, .. } => Deed::OnSlot(SlotAct::Publish { slot }),
+        StepAct::Withdraw { slot } => Deed::OnSlot(SlotAct::Withdraw { slot }),
+        StepAct::Request { slot } => Deed::OnSlot(SlotAct::Request { slot }),
+        StepAct::FinishTaken {
+            slot,
+            status,
+            information,
+            ..
+        } => Deed::Finishes {
+            slot,
+            status,
+            information,
+        },
+        _ => Deed::Calls,
+    }
+}
+
+/// The act on a lock, as a word line tells it.
+pub fn lock_act(on: LockAct) -> Act
+    ensures { result ≡ lock_act on }
+{
+    match on {
+        LockAct::Acquire { lock, tag } => Act::Acquire { lock, tag },
+        LockAct::Release { lock, tag } => Act::Release { lock, tag },
+        LockAct::BeginRemove { lock, tag } => Act::BeginRemove { lock, tag },
+        LockAct::Drained { lock } => Act::Drained { lock },
+    }
+}
+
+/// The act on a slot, as a word line tells it.
+pub fn slot_act(on: SlotAct) -> Act
+    ensures { result ≡ slot_act on }
+{
+    match on {
+        SlotAct::Publish { slot } => Act::Publish { slot },
+        SlotAct::Withdraw { slot } => Act::Withdraw { slot },
+        SlotAct::Request { slot } => Act::Request { slot },
     }
 }
 
@@ -111,7 +151,7 @@ fn owners_call_of(act: StepAct, irp: IrpRef) -> Option<Call>
     }
 }
 
-/// The call of the manager that an act makes, of this packet where it names one. None for an act on a remove lock.
+/// The call of the manager that an act makes without a token, of this packet where it names one. None for other acts.
 pub fn call_of(act: StepAct, irp: IrpRef) -> Option<Call>
     ensures { result ≡ call_of act irp }
 {

@@ -3,7 +3,7 @@
 ghost use Rattle.std.specs.Prelude.{◌≡◌};
 ghost use Rattle.irp_types.specs.declared.names.IrpRef.{IrpRef};
 ghost use Rattle.irp_script_reader.specs.declared.act.Named.TheVariants.{Irp as by_reference};
-ghost use Rattle.irp_workers.specs.Deeds.{named_by};
+ghost use Rattle.irp_workers.specs.Deeds.{IsNamed};
 ghost use Rattle.irp_workers.specs.Labels.{label_of};
 
 use crate::deed::named_by;
@@ -68,7 +68,7 @@ impl Labels {
     /// The packet that an act names. One that it names by a reference is that packet, and an act that names none has a packet
     /// that is never live.
     pub fn packet_of(&self, rt: &impl Wait, act: StepAct) -> IrpRef
-        ensures { (irp : IrpRef) → named_by act ≡ Some (by_reference irp) → result ≡ irp }
+        ensures { IsNamed act result }
     {
         match named_by(act) {
             Some(named) => self.packet(rt, named),

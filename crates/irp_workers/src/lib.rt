@@ -1,13 +1,17 @@
 //! Scripts at work: what their closures answer, and the workers that run their steps.
 #![tactic(auto)]
 
+mod acts;
 mod behaviours;
 mod deed;
 mod gate;
 mod labels;
 mod meeting;
+mod parties;
+mod replies;
 mod run;
 mod script_seat;
+mod taken;
 mod words;
 mod worker;
 mod workplace;

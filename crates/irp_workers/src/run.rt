@@ -1,18 +1,21 @@
 //! Running a script.
 
-ghost use Rattle.std.specs.Prelude.{◌≡◌, ◌<◌, ◌%◌, ◌++◌, ℕ, Bool, false, [], All, IfOk, map, slice_index_or, sum_by, vec_len};
-ghost use Rattle.std.specs.List.{count_by, list_any};
+ghost use Rattle.std.specs.Prelude.{◌≡◌, ◌<◌, ◌%◌, ℕ, Bool, false, [], All, IfOk, map, slice_index_or, sum_by, vec_len};
+ghost use Rattle.std.specs.List.{count_by, flat_map, list_any};
 ghost use Rattle.irp_shared.specs.declared.word_line.WordLine.{WordLine};
 ghost use Rattle.irp_remove.specs.Pairing.{IsSeatOf, lock_count};
-ghost use Rattle.irp_workers.specs.Made.{MadeCalls, NoneTwice, once_made, seat_calls};
-ghost use Rattle.irp_workers.specs.Numbers.{AreSame, EachAsOften, NoneMoreOften};
-ghost use Rattle.irp_workers.specs.Pairs.{pair_of, pairs_of};
-ghost use Rattle.irp_workers.specs.Words.{AreInOrder, Ran, lock_steps, told_by};
+ghost use Rattle.irp_slots.specs.Pairing.{IsCancellerOf, IsOwnerOf, slot_count};
+ghost use Rattle.irp_workers.specs.Accounts.{Accounts};
+ghost use Rattle.irp_workers.specs.AtSlots.{IsFresh, OwnTheirSlots};
+ghost use Rattle.irp_workers.specs.Numbers.{AreSame, EachAsOften};
+ghost use Rattle.irp_workers.specs.Pairs.{pair_of};
+ghost use Rattle.irp_workers.specs.Words.{AreInOrder};
 ghost use Rattle.irp_workers.specs.Working.{MakesOwn, RunsScript, at_work, working};
 
 use crate::gate::{AlwaysOpen, Gate};
 use crate::labels::Labels;
 use crate::meeting::Meeting;
+use crate::parties::SlotParties;
 use crate::script_seat::ScriptSeat;
 use crate::words::put_in_order;
 use crate::worker::Worker;
@@ -21,6 +24,7 @@ use irp_remove::{Locks, RemoveSeat};
 use irp_routines::Ask;
 use irp_script_reader::{Script, Step};
 use irp_shared::{Seat, Session, Shared, WordLine};
+use irp_slots::{Canceller, SlotOwner, Slots};
 use std::alloc::{AllocError, Global};
 use std::sync::Wait;
 use std::thread;
@@ -31,15 +35,51 @@ use std::thread::Threads;
 pub struct Worked<'a, L: Session> {
     /// All seats that were handed in, each once and with its own remove seat.
     pub seats: Vec<ScriptSeat<'a, L>>,
-    /// The word lines of the steps on remove locks, by rising seat and then by rising step.
+    /// The word lines of the steps on locks and slots, by rising seat and then by rising step.
     pub words: Vec<WordLine>,
     /// Whether a step found no memory or wasn't recorded.
     pub stopped: bool,
 }
 
-/// The seats of a script: each seat with the remove seat of the same place, on condition that the remove seats were opened
-/// with these locks, that there are as many of them, and that there are as many locks as the session has. They come in some
-/// order, each with a remove seat of these locks.
+/// Each seat with the remove seat and the canceller of the same place, in order.
+fn pair_up<'a, L: Session>(
+    alloc: Global,
+    locks: &'a Locks,
+    slots: &'a Slots,
+    mut seats: Vec<Seat<L>>,
+    mut removes: Vec<RemoveSeat>,
+    mut cancellers: Vec<Canceller>,
+) -> Result<Vec<ScriptSeat<'a, L>>, AllocError>
+    requires locks { All (IsSeatOf locks.now) removes.items }
+    requires count { lock_count locks.now ≡ L.fixed.locks }
+    requires slots { All (IsCancellerOf slots.now) cancellers.items }
+    requires each { (vec_len removes ≡ vec_len seats) × (vec_len cancellers ≡ vec_len seats) }
+    ensures seats { IfOk result (λ pairs. map (λ own. own.seat) pairs.items ≡ seats.items) }
+    ensures removes { IfOk result (λ pairs. map (λ own. own.remove) pairs.items ≡ removes.items) }
+    ensures cancellers { IfOk result (λ pairs. map (λ own. own.parties.canceller) pairs.items ≡ cancellers.items) }
+    ensures fresh { IfOk result (λ pairs. All (λ own. IsFresh (slot_count slots.now) own.parties) pairs.items) }
+{
+    let mut pairs = Vec::new(alloc);
+    while let Some(seat) = seats.pop() {
+        let Some(remove) = removes.pop() else {
+            return Ok(pairs);
+        };
+        let Some(canceller) = cancellers.pop() else {
+            return Ok(pairs);
+        };
+        let parties = SlotParties::new(alloc, slots, canceller);
+        let own = ScriptSeat::new(locks, seat, remove, parties);
+        pairs.insert(0, own)?;
+    }
+    Ok(pairs)
+}
+
+/// The seats of a script: each seat with the remove seat and the canceller of the same place, and with the owners of
+/// its slots, in the order of the seats. Slot k is of the seat at place k modulo how many seats there are: since a
+/// session numbers its seats by their places, of the seat with that number. No seat has taken anything out of a slot.
+///
+/// The conditions: the remove seats were opened with these locks, and the cancellers and the owners with these slots;
+/// there are as many remove seats and as many cancellers as seats; and there are as many locks as the session has.
 ///
 /// # Errors
 ///
@@ -47,38 +87,53 @@ pub struct Worked<'a, L: Session> {
 pub fn script_seats<'a, L: Session>(
     alloc: Global,
     locks: &'a Locks,
-    mut seats: Vec<Seat<L>>,
-    mut removes: Vec<RemoveSeat>,
+    slots: &'a Slots,
+    seats: Vec<Seat<L>>,
+    removes: Vec<RemoveSeat>,
+    cancellers: Vec<Canceller>,
+    mut owners: Vec<SlotOwner>,
 ) -> Result<Vec<ScriptSeat<'a, L>>, AllocError>
     requires locks { All (IsSeatOf locks.now) removes.items }
     requires count { lock_count locks.now ≡ L.fixed.locks }
-    requires both { vec_len seats ≡ vec_len removes }
-    ensures seats { IfOk result (λ pairs. AreSame (map (λ seat. seat.number) seats.items) (map (λ own. own.seat.number) pairs.items)) }
-    ensures pairs { IfOk result (λ pairs. EachAsOften (pairs_of seats.items removes.items) (map (λ own. pair_of own.seat own.remove) pairs.items)) }
-    ensures whole { IfOk result (λ pairs. EachAsOften seats.items (map (λ own. own.seat) pairs.items)) }
+    requires slots { All (IsCancellerOf slots.now) cancellers.items }
+    requires owners { All (IsOwnerOf slots.now) owners.items }
+    requires each { (vec_len removes ≡ vec_len seats) × (vec_len cancellers ≡ vec_len seats) }
+    ensures seats { IfOk result (λ pairs. map (λ own. own.seat) pairs.items ≡ seats.items) }
+    ensures removes { IfOk result (λ pairs. map (λ own. own.remove) pairs.items ≡ removes.items) }
+    ensures cancellers { IfOk result (λ pairs. map (λ own. own.parties.canceller) pairs.items ≡ cancellers.items) }
+    ensures owners { IfOk result (λ pairs. OwnTheirSlots (vec_len seats) (map (λ own. own.parties) pairs.items)) }
+    ensures all_owners { IfOk result (λ pairs. 0 < vec_len seats
+        → EachAsOften owners.items (flat_map (λ own. own.parties.owners) pairs.items)) }
+    ensures taken { IfOk result (λ pairs. All (λ own. own.parties.taken ≡ []) pairs.items) }
     ensures fits { IfOk result (λ pairs. All (λ own. IsSeatOf locks.now own.remove) pairs.items) }
+    ensures at_slots { IfOk result (λ pairs. All (λ own. IsCancellerOf slots.now own.parties.canceller) pairs.items) }
 {
-    let mut pairs = Vec::new(alloc);
-    while let Some(seat) = seats.pop() {
-        let Some(remove) = removes.pop() else {
-            return Ok(pairs);
-        };
-        pairs.reserve(1)?;
-        pairs.push_reserved(ScriptSeat::new(locks, seat, remove));
+    let mut pairs = pair_up(alloc, locks, slots, seats, removes, cancellers)?;
+    let count = pairs.len();
+    if count == 0 {
+        return Ok(pairs);
+    }
+    while let Some(owner) = owners.pop() {
+        let own = &mut pairs[owner.slot() as usize % count];
+        own.own(owner)?;
     }
     Ok(pairs)
 }
 
 /// So many workers without seats.
-fn idle<'a, L: Session>(alloc: Global, workers: u32) -> Result<Vec<Worker<'a, L>>, AllocError>
+fn idle<'a, L: Session>(
+    alloc: Global,
+    locks: &'a Locks,
+    workers: u32,
+) -> Result<Vec<Worker<'a, L>>, AllocError>
     requires { 0 < workers }
     ensures len { IfOk result (λ all. vec_len all ≡ workers) }
-    ensures ready { IfOk result (λ all. (k : ℕ) (one : _) → k < workers → ((slice_index_or all.items k one).number ≡ k) × ((slice_index_or all.items k one).workers ≡ workers) × ((slice_index_or all.items k one).words.items ≡ []) × ((slice_index_or all.items k one).stopped ≡ false) × ((slice_index_or all.items k one).seats.items ≡ [])) }
+    ensures ready { IfOk result (λ all. (k : ℕ) (one : _) → k < workers → ((slice_index_or all.items k one).number ≡ k) × ((slice_index_or all.items k one).workers ≡ workers) × ((slice_index_or all.items k one).words.items ≡ []) × ((slice_index_or all.items k one).stopped ≡ false) × ((slice_index_or all.items k one).seats.items ≡ []) × ((slice_index_or all.items k one).locks.now ≡ locks.now)) }
     ensures seats { IfOk result (λ all. (test : _ → Bool) → sum_by (λ worker. count_by test worker.seats.items) all.items ≡ 0) }
 {
     let mut all = Vec::with_capacity(alloc, workers as usize)?;
     for number in 0..workers {
-        all.push_reserved(Worker::new(alloc, number, workers, Vec::new(alloc)));
+        all.push_reserved(Worker::new(alloc, number, workers, locks, Vec::new(alloc)));
     }
     Ok(all)
 }
@@ -86,19 +141,20 @@ fn idle<'a, L: Session>(alloc: Global, workers: u32) -> Result<Vec<Worker<'a, L>
 /// The workers, each with the seats whose numbers leave its own number when divided by how many workers there are.
 fn deal<'a, L: Session>(
     alloc: Global,
+    locks: &'a Locks,
     workers: u32,
     mut seats: Vec<ScriptSeat<'a, L>>,
 ) -> Result<Vec<Worker<'a, L>>, AllocError>
-    requires { 0 < workers }
+    requires some { 0 < workers }
+    requires fits { All (λ own. IsSeatOf locks.now own.remove) seats.items }
     ensures len { IfOk result (λ all. vec_len all ≡ workers) }
     ensures ready { IfOk result (λ all. (k : ℕ) (one : _) → k < workers → ((slice_index_or all.items k one).number ≡ k) × ((slice_index_or all.items k one).workers ≡ workers) × ((slice_index_or all.items k one).words.items ≡ []) × ((slice_index_or all.items k one).stopped ≡ false) × All (λ own. own.seat.number % workers ≡ k) (slice_index_or all.items k one).seats.items) }
     ensures seats { IfOk result (λ all. (test : _ → Bool) → sum_by (λ worker. count_by test worker.seats.items) all.items ≡ count_by test seats.entry.items) }
 {
-    let mut all = idle(alloc, workers)?;
+    let mut all = idle(alloc, locks, workers)?;
     while let Some(seat) = seats.pop() {
         let worker = &mut all[(seat.number() % workers) as usize];
-        worker.seats.reserve(1)?;
-        worker.seats.push_reserved(seat);
+        worker.give(seat)?;
     }
     Ok(all)
 }
@@ -113,10 +169,7 @@ fn run_all<'a, A: Ask + Send, L: Session + Send + Sync, G: Gate + Sync, R: Threa
     workers: Vec<Worker<'a, L>>,
 ) -> Result<Vec<Worker<'a, L>>, AllocError>
     ensures len { IfOk result (λ done. vec_len done ≡ vec_len workers.entry) }
-    ensures back { IfOk result (λ done. (k : ℕ) (one : _) (other : _) → k < vec_len workers.entry → map (λ own. pair_of own.seat own.remove) (slice_index_or done.items k one).seats.items ≡ map (λ own. pair_of own.seat own.remove) (slice_index_or workers.entry.items k other).seats.items) }
-    ensures ran { IfOk result (λ done. (k : ℕ) (one : _) (other : _) → k < vec_len workers.entry → Ran (slice_index_or workers.entry.items k other).number (slice_index_or workers.entry.items k other).workers steps.now (map told_by (slice_index_or workers.entry.items k other).words.items) (slice_index_or done.items k one).words.items (slice_index_or done.items k one).stopped) }
-    ensures called { IfOk result (λ done. (k : ℕ) (one : _) (other : _) → k < vec_len workers.entry → NoneTwice (map (λ own. pair_of own.seat own.remove) (slice_index_or workers.entry.items k other).seats.items) → MadeCalls (slice_index_or workers.entry.items k other).number (slice_index_or workers.entry.items k other).workers steps.now (map (λ own. seat_calls own.seat own.remove) (slice_index_or workers.entry.items k other).seats.items) (map (λ own. seat_calls own.seat own.remove) (slice_index_or done.items k one).seats.items) (slice_index_or done.items k one).stopped) }
-    ensures made { IfOk result (λ done. (k : ℕ) (one : _) (other : _) → k < vec_len workers.entry → MakesOwn L.fixed.locks (slice_index_or workers.entry.items k other).number (slice_index_or workers.entry.items k other).workers steps.now (working (map (λ own. at_work own.seat own.remove) (slice_index_or workers.entry.items k other).seats.items) (slice_index_or workers.entry.items k other).words.items) (working (map (λ own. at_work own.seat own.remove) (slice_index_or done.items k one).seats.items) (slice_index_or done.items k one).words.items) (slice_index_or done.items k one).stopped) }
+    ensures made { IfOk result (λ done. (k : ℕ) (one : _) (other : _) → k < vec_len workers.entry → MakesOwn L.fixed.locks (slice_index_or workers.entry.items k other).number (slice_index_or workers.entry.items k other).workers steps.now (working (map (λ own. at_work own.seat own.remove own.parties) (slice_index_or workers.entry.items k other).seats.items) (slice_index_or workers.entry.items k other).words.items) (working (map (λ own. at_work own.seat own.remove own.parties) (slice_index_or done.items k one).seats.items) (slice_index_or done.items k one).words.items) (slice_index_or done.items k one).stopped) }
 {
     thread::map_vec(
         rt,
@@ -151,30 +204,38 @@ fn gather<'a, L: Session>(
     })
 }
 
-/// Runs a script: its setup in order, on this thread, and then so many workers in threads of their own, of which worker w
-/// runs, in the order of the script, the steps whose seat's number leaves w when divided by their number. The workers meet
-/// before each of their first 32 steps, so that short scripts mix: each waits for the others for a bounded time. With one
-/// worker all steps are run in the order of the script.
+/// Runs a script: its setup in order, on this thread, and then so many workers in threads of their own, of which
+/// worker w runs, in the order of the script, the steps whose seat's number leaves w when divided by their number.
+/// The workers meet before each of their first 32 steps, so that short scripts mix: each waits for the others for a
+/// bounded time. With one worker all steps are run in the order of the script.
 ///
-/// Labels are shared by all seats: one that isn't bound yet stands for a packet that is never live. A step whose seat isn't
-/// there, and one whose call isn't recorded, stops its worker; in the setup, nothing more is run. The gate is told of each
-/// of the script's `steps` by its seat and its place, before and after it, outside the session's lock. A step of the setup
-/// on a remove lock, which no script that was read has, has no word line (this project's own format, docs/FORMATS.md).
+/// Labels are shared by all seats: one that isn't bound yet stands for a packet that is never live. A step whose seat
+/// isn't there, one whose call isn't recorded, a hand to a seat that its worker doesn't have, and a publish or a
+/// withdraw in a slot of another seat stops its worker; in the setup, nothing more is run. The gate is told of each
+/// of the script's `steps` by its seat and its place, before and after it, outside the session's lock. A step of the
+/// setup on a lock or a slot, which no script that was read has, has no word line (this project's own format,
+/// docs/FORMATS.md).
 ///
-/// All remove seats were opened with these locks, which is the condition of this call.
+/// All remove seats were opened with these locks, and all that the seats have at slots with these slots, which are the
+/// conditions of this call.
 ///
-/// What was done is a chain for the setup, and then one for each worker over the seats that it was dealt. Each link is one
-/// of its own steps, in the order of the script, made by the seat that the step names: one call, with what this seat's own
-/// remove seat knew of the locks, or one act on a remove lock, of which one word line tells what was answered. The next
-/// link goes on from there, and no other seat changes. A chain ends early only where its worker stopped. The seats and the
-/// word lines that come back are those that the chains end with.
+/// What was done is a chain for the setup, and then one for each worker over the seats that it was dealt. Each link
+/// is one of its own steps, in the order of the script, made by the seat that the step names: one call, with what
+/// this seat's own remove seat knew of the locks, or one act on remove locks or on a cancel slot, of which one word
+/// line tells what was answered. A finish of a taken packet is one call with a token that this seat took from that
+/// slot and hasn't spent, and where there is none, one word line. A token that comes out of a slot stays with the
+/// seat, and so does one that a finish gives back. The next link goes on from there, and no other seat changes, but
+/// for the one that a hand names. A chain ends early only where its worker stopped. The seats and the word lines that
+/// come back are those that the chains end with.
 ///
-/// Each word line has the seat, the place and the act of one of the script's `steps` on remove locks. No such step has two
-/// lines, and where nothing stopped, each has its line.
+/// Each word line has the seat, the place and the act of one of the script's `steps` on locks and slots. No such step
+/// has two lines, and where nothing stopped, each has its line, a finish of a taken packet only where it found no
+/// token.
 ///
-/// Where nothing stopped, and no two seats have the same number, each seat has made, after the calls that it had made, those
-/// of its own steps of `setup` and then those of its own `steps`, in the order of the script, and no other. The clause
-/// compares calls but for the packets that they name.
+/// Where nothing stopped, and no two seats have the same number, each seat has made, after the calls that it had
+/// made, those of its own steps of `setup` and then those of its own `steps`, in the order of the script, and no
+/// other. A finish of a taken packet is among them where it has no line. The clause compares calls but for the
+/// packets and the tokens that they name.
 ///
 /// # Errors
 ///
@@ -190,6 +251,7 @@ pub fn run_workers<
     alloc: Global,
     shared: &Shared<A, L>,
     locks: &'a Locks,
+    slots: &'a Slots,
     seats: Vec<ScriptSeat<'a, L>>,
     script: &Script,
     gate: &G,
@@ -197,19 +259,21 @@ pub fn run_workers<
 ) -> Result<Worked<'a, L>, AllocError>
     requires workers { 0 < workers }
     requires locks { All (λ own. IsSeatOf locks.now own.remove) seats.items }
+    requires slots { All (λ own. IsCancellerOf slots.now own.parties.canceller) seats.items }
     ensures words { IfOk result (λ worked. AreInOrder worked.words.items) }
     ensures seats { IfOk result (λ worked. AreSame (map (λ own. own.seat.number) seats.entry.items) (map (λ own. own.seat.number) worked.seats.items)) }
     ensures pairs { IfOk result (λ worked. EachAsOften (map (λ own. pair_of own.seat own.remove) seats.entry.items) (map (λ own. pair_of own.seat own.remove) worked.seats.items)) }
-    ensures told { IfOk result (λ worked. NoneMoreOften (lock_steps script.now.steps) (map told_by worked.words.items)) }
-    ensures all_told { IfOk result (λ worked. worked.stopped ≡ false → EachAsOften (lock_steps script.now.steps) (map told_by worked.words.items)) }
-    ensures all_called { IfOk result (λ worked. worked.stopped ≡ false → NoneTwice (map (λ own. pair_of own.seat own.remove) seats.entry.items)
-        → EachAsOften (map (λ own. once_made (script.now.setup ++ script.now.steps) (seat_calls own.seat own.remove)) seats.entry.items) (map (λ own. seat_calls own.seat own.remove) worked.seats.items)) }
-    ensures ran { IfOk result (λ worked. RunsScript L.fixed.locks workers script.now.setup script.now.steps (map (λ own. at_work own.seat own.remove) seats.entry.items) (map (λ own. at_work own.seat own.remove) worked.seats.items) worked.words.items worked.stopped) }
+    ensures accounts { IfOk result (λ worked. Accounts script.now.setup script.now.steps
+        (map (λ own. at_work own.seat own.remove own.parties) seats.entry.items)
+        (map (λ own. at_work own.seat own.remove own.parties) worked.seats.items) worked.words.items worked.stopped) }
+    ensures ran { IfOk result (λ worked. RunsScript L.fixed.locks workers script.now.setup script.now.steps
+        (map (λ own. at_work own.seat own.remove own.parties) seats.entry.items)
+        (map (λ own. at_work own.seat own.remove own.parties) worked.seats.items) worked.words.items worked.stopped) }
 {
-    let _ = locks;
+    let _ = slots;
     let labels = Labels::new(alloc, script.labels)?;
     let place = Workplace { shared, labels };
-    let all = Worker::new(alloc, 0, 1, seats);
+    let all = Worker::new(alloc, 0, 1, locks, seats);
     let alone = Meeting::new(1);
     let ready = all.run(rt, &place, &alone, &AlwaysOpen, script.setup.as_slice());
     if ready.stopped {
@@ -223,7 +287,7 @@ pub fn run_workers<
         });
     }
     let steps = script.steps.as_slice();
-    let groups = deal(alloc, workers, ready.seats)?;
+    let groups = deal(alloc, locks, workers, ready.seats)?;
     let meeting = Meeting::new(workers);
     let done = run_all(rt, &place, &meeting, gate, steps, groups)?;
     gather(alloc, done)

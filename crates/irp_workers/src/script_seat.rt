@@ -1,55 +1,96 @@
 //! A seat of a script.
 
-ghost use Rattle.std.specs.Prelude.{◌≡◌, ◌++◌, ◌∷◌, [], map, MatchOption};
-ghost use Rattle.std.specs.Option.{option_to_list};
+ghost use Rattle.std.specs.Prelude.{◌≡◌, ◌<◌, ◌++◌, ◌∷◌, [], IfOk, MatchOption, vec_capacity, vec_len};
 ghost use Rattle.irp_remove.specs.Calls.{IsSameSeat};
 ghost use Rattle.irp_remove.specs.Pairing.{IsSeatOf, lock_count};
 ghost use Rattle.irp_shared.specs.Sharing.{IsAsBefore};
-ghost use Rattle.irp_workers.specs.Acts.{Acts, ActsFor};
-ghost use Rattle.irp_workers.specs.Calling.{CallsFor, CallsUnlessActs};
-ghost use Rattle.irp_workers.specs.Deeds.{lock_act_of};
-ghost use Rattle.irp_workers.specs.Made.{once_made, seat_calls};
-ghost use Rattle.irp_workers.specs.Pairs.{pair_of};
-ghost use Rattle.irp_workers.specs.Words.{lock_step_of, told_by};
+ghost use Rattle.irp_workers.specs.Acts.{Acts, HandActs};
+ghost use Rattle.irp_workers.specs.AtSlots.{SlotActs};
+ghost use Rattle.irp_workers.specs.Calling.{CallsFor};
+ghost use Rattle.irp_workers.specs.Deeds.{deed_of};
+ghost use Rattle.irp_workers.specs.Working.{ActsOnLock, ActsOnSlot, Does, HandsOver, Stays, Tells, at_work};
 
-use crate::deed::{call_of, lock_act_of};
+use crate::acts::{Deed, LockAct, SlotAct};
+use crate::deed::{call_of, deed_of, lock_act, slot_act};
+use crate::parties::SlotParties;
 use crate::workplace::Workplace;
-use irp_remove::{AcquireRefusal, BeginRefusal, DrainRefusal, Locks, ReleaseRefusal, RemoveSeat};
+use irp_remove::{
+    AcquireRefusal, BeginRefusal, DrainRefusal, HandRefusal, Locks, ReleaseRefusal, RemoveSeat,
+};
 use irp_routines::Ask;
 use irp_script_reader::Step;
 use irp_shared::{Act, Seat, Session, WordLine, WordReply};
-use irp_types::LockNo;
+use irp_slots::SlotOwner;
+use irp_types::{LockNo, Status};
+use std::alloc::AllocError;
 use std::sync::Wait;
 
-/// A seat of a script: the one in which it makes calls of the manager, and the remove seat of the same place, at the locks
-/// that this was opened with, which are as many as the session has. What it knows of the locks is what its own remove seat
-/// knows.
+/// Adds a line, for which there is room.
+pub fn tell(words: &mut Vec<WordLine>, index: u32, step: Step, act: Act, reply: WordReply)
+    requires { vec_len words.old < vec_capacity words.old }
+    ensures { Tells index step act reply words.old.items words.new.items }
+{
+    words.push_reserved(WordLine {
+        seat: step.seat,
+        step: index,
+        act,
+        reply,
+    });
+}
+
+/// A seat of a script: the one in which it makes calls of the manager, the remove seat of the same place, at the
+/// locks that this was opened with, which are as many as the session has, and what it has at the cancel slots. What
+/// it knows of the locks is what its own remove seat knows.
 #[derive(Drop)]
 pub struct ScriptSeat<'a, L: Session> {
     locks: &'a Locks,
     seat: Seat<L>,
     remove: RemoveSeat,
+    parties: SlotParties<'a>,
     ghost fits: { IsSeatOf locks.now remove },
     ghost count: { lock_count locks.now ≡ L.fixed.locks },
 }
 
 impl<'a, L: Session> ScriptSeat<'a, L> {
-    /// A seat of these two, on condition that the remove seat was opened with these locks, and that there are as many of
+    /// A seat of these, on condition that the remove seat was opened with these locks, and that there are as many of
     /// them as the session has.
-    pub fn new(locks: &'a Locks, seat: Seat<L>, remove: RemoveSeat) -> ScriptSeat<'a, L>
+    pub fn new(
+        locks: &'a Locks,
+        seat: Seat<L>,
+        remove: RemoveSeat,
+        parties: SlotParties<'a>,
+    ) -> ScriptSeat<'a, L>
         requires fits { IsSeatOf locks.now remove }
         requires count { lock_count locks.now ≡ L.fixed.locks }
         ensures seat { result.seat ≡ seat }
         ensures remove { result.remove ≡ remove }
+        ensures parties { result.parties ≡ parties.entry }
     {
         ScriptSeat {
             locks,
             seat,
             remove,
+            parties,
         }
     }
 
-    /// The two apart: the seat in which it makes calls, and the remove seat, which fits the locks.
+    /// Gives it an owner that was opened with its canceller.
+    ///
+    /// # Errors
+    ///
+    /// `AllocError` where a growth was refused. The owner is gone then.
+    pub fn own(&mut self, owner: SlotOwner) -> Result<(), AllocError>
+        requires { owner.table ≡ self.old.parties.canceller.table }
+        ensures seat { self.new.seat ≡ self.old.seat }
+        ensures remove { self.new.remove ≡ self.old.remove }
+        ensures owns { IfOk result (λ _. self.new.parties ≡
+            record self.old.parties { owners = self.old.parties.owners ++ owner ∷ [] }) }
+    {
+        self.parties.own(owner)
+    }
+
+    /// The two apart: the seat in which it makes calls, and the remove seat, which fits the locks. What it has at the
+    /// cancel slots is gone then.
     pub fn into_pair(self) -> (Seat<L>, RemoveSeat)
         ensures seat { result.0 ≡ self.entry.seat }
         ensures remove { result.1 ≡ self.entry.remove }
@@ -65,12 +106,13 @@ impl<'a, L: Session> ScriptSeat<'a, L> {
         self.seat.number()
     }
 
-    /// Makes the call of a step once, with what the remove seat knows of the locks, and binds the label that the step binds.
-    /// None where the step has no call, or it wasn't recorded, and then the seat says what it said.
+    /// Makes the call of a step once, with what the remove seat knows of the locks, and binds the label that the step
+    /// binds. None where the step has no call, or it wasn't recorded, and then the seat says what it said.
     fn call<A: Ask>(&mut self, rt: &impl Wait, place: &Workplace<A, L>, step: Step) -> Option<()>
-        ensures number { self.new.seat.number ≡ self.old.seat.number }
         ensures remove { self.new.remove ≡ self.old.remove }
-        ensures called { MatchOption result (IsAsBefore self.old.seat self.new.seat) (λ _. CallsFor step.act self.old.remove self.old.seat self.new.seat) }
+        ensures parties { self.new.parties ≡ self.old.parties }
+        ensures called { MatchOption result (IsAsBefore self.old.seat self.new.seat)
+            (λ _. CallsFor step.act self.old.remove self.old.seat self.new.seat) }
     {
         let irp = place.labels.packet_of(rt, step.act);
         let call = call_of(step.act, irp)?;
@@ -86,8 +128,9 @@ impl<'a, L: Session> ScriptSeat<'a, L> {
 
     fn acquire(&mut self, lock: LockNo, tag: u32) -> WordReply
         ensures seat { self.new.seat ≡ self.old.seat }
+        ensures parties { self.new.parties ≡ self.old.parties }
         ensures remove { IsSameSeat self.old.remove self.new.remove }
-        ensures acts { Acts (lock_count self.old.locks.now) (Act.Acquire lock tag) self.old.remove self.new.remove result }
+        ensures acts { Acts (lock_count self.old.locks.now) (LockAct.Acquire lock tag) self.old.remove self.new.remove result }
     {
         match self.locks.acquire(&mut self.remove, lock, tag) {
             Ok(()) => WordReply::Acquired,
@@ -99,8 +142,9 @@ impl<'a, L: Session> ScriptSeat<'a, L> {
 
     fn release(&mut self, lock: LockNo, tag: u32) -> WordReply
         ensures seat { self.new.seat ≡ self.old.seat }
+        ensures parties { self.new.parties ≡ self.old.parties }
         ensures remove { IsSameSeat self.old.remove self.new.remove }
-        ensures acts { Acts (lock_count self.old.locks.now) (Act.Release lock tag) self.old.remove self.new.remove result }
+        ensures acts { Acts (lock_count self.old.locks.now) (LockAct.Release lock tag) self.old.remove self.new.remove result }
     {
         match self.locks.release(&mut self.remove, lock, tag) {
             Ok(()) => WordReply::Done,
@@ -111,8 +155,9 @@ impl<'a, L: Session> ScriptSeat<'a, L> {
 
     fn begin_remove(&mut self, lock: LockNo, tag: u32) -> WordReply
         ensures seat { self.new.seat ≡ self.old.seat }
+        ensures parties { self.new.parties ≡ self.old.parties }
         ensures remove { IsSameSeat self.old.remove self.new.remove }
-        ensures acts { Acts (lock_count self.old.locks.now) (Act.BeginRemove lock tag) self.old.remove self.new.remove result }
+        ensures acts { Acts (lock_count self.old.locks.now) (LockAct.BeginRemove lock tag) self.old.remove self.new.remove result }
     {
         match self.locks.begin_remove(&mut self.remove, lock, tag) {
             Ok(()) => WordReply::Done,
@@ -124,8 +169,9 @@ impl<'a, L: Session> ScriptSeat<'a, L> {
 
     fn drained(&mut self, lock: LockNo) -> WordReply
         ensures seat { self.new.seat ≡ self.old.seat }
+        ensures parties { self.new.parties ≡ self.old.parties }
         ensures remove { IsSameSeat self.old.remove self.new.remove }
-        ensures acts { Acts (lock_count self.old.locks.now) (Act.Drained lock) self.old.remove self.new.remove result }
+        ensures acts { Acts (lock_count self.old.locks.now) (LockAct.Drained lock) self.old.remove self.new.remove result }
     {
         match self.locks.drained(&mut self.remove, lock) {
             Ok(()) => WordReply::Yes,
@@ -135,22 +181,177 @@ impl<'a, L: Session> ScriptSeat<'a, L> {
     }
 
     /// Acts on a remove lock once, and answers what a word line tells of it: what the lock answered.
-    fn act(&mut self, act: Act) -> WordReply
+    fn act(&mut self, on: LockAct) -> WordReply
         ensures seat { self.new.seat ≡ self.old.seat }
+        ensures parties { self.new.parties ≡ self.old.parties }
         ensures remove { IsSameSeat self.old.remove self.new.remove }
-        ensures acts { Acts L.fixed.locks act self.old.remove self.new.remove result }
+        ensures acts { Acts L.fixed.locks on self.old.remove self.new.remove result }
     {
-        match act {
-            Act::Acquire { lock, tag } => self.acquire(lock, tag),
-            Act::Release { lock, tag } => self.release(lock, tag),
-            Act::BeginRemove { lock, tag } => self.begin_remove(lock, tag),
-            Act::Drained { lock } => self.drained(lock),
+        match on {
+            LockAct::Acquire { lock, tag } => self.acquire(lock, tag),
+            LockAct::Release { lock, tag } => self.release(lock, tag),
+            LockAct::BeginRemove { lock, tag } => self.begin_remove(lock, tag),
+            LockAct::Drained { lock } => self.drained(lock),
         }
     }
 
-    /// Makes a step of its own, which has this place: a call, with what its own remove seat knows of the locks, or an act on
-    /// a remove lock, of which it adds a word line. None where the call wasn't recorded, or there was no memory for the line,
-    /// and then nothing was done. It stays the same pair.
+    /// Hands one acquisition to another seat at the same locks, and answers what a word line tells of it.
+    pub fn hand(&mut self, taker: &mut ScriptSeat<'a, L>, lock: LockNo, tag: u32) -> WordReply
+        requires { taker.old.remove.table ≡ self.old.remove.table }
+        ensures { HandsOver L.fixed.locks lock tag
+            (at_work self.old.seat self.old.remove self.old.parties)
+            (at_work self.new.seat self.new.remove self.new.parties)
+            (at_work taker.old.seat taker.old.remove taker.old.parties)
+            (at_work taker.new.seat taker.new.remove taker.new.parties) result }
+    {
+        match self
+            .locks
+            .hand(&mut self.remove, &mut taker.remove, lock, tag)
+        {
+            Ok(()) => WordReply::Done,
+            Err(HandRefusal::NoLock) => WordReply::NoLock,
+            Err(HandRefusal::NotHeld) => WordReply::NotHeld,
+            Err(HandRefusal::SeatFull) => WordReply::SeatFull,
+        }
+    }
+
+    /// Acts on a cancel slot once, and answers what a word line tells of it. None where the slot's owner is another
+    /// seat's or there is no memory, and then nothing was done.
+    fn act_at_slot<A: Ask>(
+        &mut self,
+        rt: &impl Wait,
+        place: &Workplace<A, L>,
+        step: Step,
+        on: SlotAct,
+    ) -> Option<WordReply>
+        ensures seat { self.new.seat ≡ self.old.seat }
+        ensures remove { self.new.remove ≡ self.old.remove }
+        ensures acts { MatchOption result (self.new.parties ≡ self.old.parties)
+            (λ reply. SlotActs step.act on self.old.parties self.new.parties reply) }
+    {
+        match on {
+            SlotAct::Publish { slot } => {
+                let irp = place.labels.packet_of(rt, step.act);
+                self.parties.publish(slot, irp)
+            }
+            SlotAct::Withdraw { slot } => self.parties.withdraw(slot),
+            SlotAct::Request { slot } => self.parties.request(slot),
+        }
+    }
+
+    /// Acts on a remove lock, and adds the line. None where there was no memory for it, and then nothing was done.
+    fn step_on_lock(
+        &mut self,
+        index: u32,
+        step: Step,
+        on: LockAct,
+        words: &mut Vec<WordLine>,
+    ) -> Option<()>
+        ensures { MatchOption result
+            (Stays (at_work self.old.seat self.old.remove self.old.parties)
+            (at_work self.new.seat self.new.remove self.new.parties) words.old.items words.new.items)
+            (λ _. ActsOnLock L.fixed.locks index step on
+            (at_work self.old.seat self.old.remove self.old.parties)
+            (at_work self.new.seat self.new.remove self.new.parties) words.old.items words.new.items) }
+    {
+        words.reserve(1).ok()?;
+        let reply = self.act(on);
+        tell(words, index, step, lock_act(on), reply);
+        Some(())
+    }
+
+    /// Acts on a cancel slot, and adds the line. None where the slot's owner is another seat's or there was no
+    /// memory, and then nothing was done.
+    fn step_on_slot<A: Ask>(
+        &mut self,
+        rt: &impl Wait,
+        place: &Workplace<A, L>,
+        index: u32,
+        step: Step,
+        on: SlotAct,
+        words: &mut Vec<WordLine>,
+    ) -> Option<()>
+        ensures { MatchOption result
+            (Stays (at_work self.old.seat self.old.remove self.old.parties)
+            (at_work self.new.seat self.new.remove self.new.parties) words.old.items words.new.items)
+            (λ _. ActsOnSlot index step on
+            (at_work self.old.seat self.old.remove self.old.parties)
+            (at_work self.new.seat self.new.remove self.new.parties) words.old.items words.new.items) }
+    {
+        words.reserve(1).ok()?;
+        let reply = self.act_at_slot(rt, place, step, on)?;
+        tell(words, index, step, slot_act(on), reply);
+        Some(())
+    }
+
+    /// Tells that a finish found no token. None where there was no memory for the line.
+    fn finish_none(
+        &self,
+        index: u32,
+        step: Step,
+        slot: u32,
+        words: &mut Vec<WordLine>,
+    ) -> Option<()>
+        ensures { MatchOption result (words.new.items ≡ words.old.items)
+            (λ _. Tells index step (Act.FinishTaken slot) WordReply.NoToken words.old.items words.new.items) }
+    {
+        words.reserve(1).ok()?;
+        tell(
+            words,
+            index,
+            step,
+            Act::FinishTaken { slot },
+            WordReply::NoToken,
+        );
+        Some(())
+    }
+
+    /// Finishes a packet with a token that it took from the slot, and leaves the token in its place where it comes
+    /// back. Where it has none it adds a line, and calls nothing. None where the call wasn't recorded, or there was
+    /// no memory for the line, and then nothing was done.
+    fn finish<A: Ask>(
+        &mut self,
+        rt: &impl Wait,
+        place: &Workplace<A, L>,
+        index: u32,
+        step: Step,
+        slot: u32,
+        status: Status,
+        information: u64,
+        words: &mut Vec<WordLine>,
+    ) -> Option<()>
+        ensures { MatchOption result
+            (Stays (at_work self.old.seat self.old.remove self.old.parties)
+            (at_work self.new.seat self.new.remove self.new.parties) words.old.items words.new.items)
+            (λ _. Does L.fixed.locks index step (Deed.Finishes slot status information)
+            (at_work self.old.seat self.old.remove self.old.parties)
+            (at_work self.new.seat self.new.remove self.new.parties) words.old.items words.new.items) }
+    {
+        let Some((at, token)) = self.parties.take(slot) else {
+            return self.finish_none(index, step, slot, words);
+        };
+        let irp = place.labels.packet_of(rt, step.act);
+        let seat = &mut self.seat;
+        match place
+            .shared
+            .finish_taken(rt, seat, irp, token, status, information)
+        {
+            Ok((_, token)) => {
+                self.parties.put_back(at, slot, token);
+                Some(())
+            }
+            Err((_, token)) => {
+                self.parties.put_back(at, slot, Some(token));
+                None
+            }
+        }
+    }
+
+    /// Makes a step of its own, which has this place and isn't a hand: a call, with what its own remove seat knows of
+    /// the locks, an act on a remove lock or on a cancel slot, of which it adds a word line, or a finish of a taken
+    /// packet, which is a call where it has a token from the slot, and else has a word line. None where the call
+    /// wasn't recorded, the slot's owner is another seat's, or there was no memory for the line, and then nothing was
+    /// done.
     pub fn step<A: Ask>(
         &mut self,
         rt: &impl Wait,
@@ -159,28 +360,24 @@ impl<'a, L: Session> ScriptSeat<'a, L> {
         step: Step,
         words: &mut Vec<WordLine>,
     ) -> Option<()>
-        requires { step.seat ≡ self.old.seat.number }
-        ensures pair { pair_of self.new.seat self.new.remove ≡ pair_of self.old.seat self.old.remove }
-        ensures words { MatchOption result (words.new.items ≡ words.old.items)
-            (λ _. map told_by words.new.items ≡ map told_by words.old.items ++ option_to_list (lock_step_of index step)) }
-        ensures calls { MatchOption result (seat_calls self.new.seat self.new.remove ≡ seat_calls self.old.seat self.old.remove)
-            (λ _. seat_calls self.new.seat self.new.remove ≡ once_made (step ∷ []) (seat_calls self.old.seat self.old.remove)) }
-        ensures called { MatchOption result (IsAsBefore self.old.seat self.new.seat)
-            (λ _. CallsUnlessActs (lock_act_of step.act) step.act self.old.remove self.old.seat self.new.seat) }
-        ensures acts { MatchOption result (self.new.remove ≡ self.old.remove)
-            (λ _. ActsFor L.fixed.locks step.seat index (lock_act_of step.act) self.old.remove self.new.remove words.old.items words.new.items) }
+        ensures does { MatchOption result
+            (Stays (at_work self.old.seat self.old.remove self.old.parties)
+            (at_work self.new.seat self.new.remove self.new.parties) words.old.items words.new.items)
+            (λ _. Does L.fixed.locks index step (deed_of step.act)
+            (at_work self.old.seat self.old.remove self.old.parties)
+            (at_work self.new.seat self.new.remove self.new.parties) words.old.items words.new.items) }
+        ensures same { IsSameSeat self.old.remove self.new.remove }
     {
-        let Some(act) = lock_act_of(step.act) else {
-            return self.call(rt, place, step);
-        };
-        words.reserve(1).ok()?;
-        let reply = self.act(act);
-        words.push_reserved(WordLine {
-            seat: step.seat,
-            step: index,
-            act,
-            reply,
-        });
-        Some(())
+        match deed_of(step.act) {
+            Deed::Calls => self.call(rt, place, step),
+            Deed::OnLock(on) => self.step_on_lock(index, step, on, words),
+            Deed::OnSlot(on) => self.step_on_slot(rt, place, index, step, on, words),
+            Deed::Finishes {
+                slot,
+                status,
+                information,
+            } => self.finish(rt, place, index, step, slot, status, information, words),
+            Deed::Hands { .. } => None,
+        }
     }
 }

@@ -1,5 +1,8 @@
-use Rattle.std.proofs.Common.{◌≡◌, ◌<◌, ◌%◌, ◌++◌, ◌∷◌, [], All, cond, false, length, ap, sym, subst, rules, arith}
+use Rattle.std.proofs.Common.{◌≡◌, ◌<◌, ◌%◌, ◌++◌, ◌∷◌, [], All, cond, false, length, ap, sym, subst, ◌∙◌, rules, arith}
+use Rattle.std.specs.Prelude.{IfSome}
 use Rattle.std.specs.List.{count_by}
+use Rattle.std.proofs.lemmas.List.Elements.{All-pop}
+use Rattle.irp_remove.specs.Pairing.{IsSeatOf}
 use Rattle.irp_workers.proofs.Numbers.{all_push, count_last, dealt, each_set, sum_none}
 use Rattle.irp_workers.proofs.run.deal.Goals as goal
 
@@ -7,6 +10,8 @@ pub loop-seat-init : goal.loop-seat-init
 loop-seat-init g c = record {
   len = c.in_ok-all.ensures.len;
   ready = λ k one lt. let new = c.in_ok-all.ensures.ready k one lt in (new.0, new.1, new.2, new.3, subst (All (λ own. own.seat.number % c.args.workers ≡ k)) (sym new.4) (λ i d within. absurd (omega arith)));
+  at_locks = λ k one lt. (c.in_ok-all.ensures.ready k one lt).5;
+  fits = c.requires.fits;
   seats = λ test. let none = c.in_ok-all.ensures.seats test in omega (arith, none);
 }
 
@@ -14,17 +19,22 @@ pub loop-seat-preserved : goal.loop-seat-preserved
 loop-seat-preserved g c =
     let within : c.number.result % c.args.workers < length c.loop-seat.all.items = search rules in
     let below : c.number.result % c.args.workers < c.args.workers = search rules in
-    let pushed : c.push_reserved.new.self.items ≡ c.index_mut-worker.result.now.seats.items ++ c.in-Some.seat ∷ [] = cc in
+    let pushed : c.give.new.self.seats.items ≡ c.index_mut-worker.result.now.seats.items ++ c.in-Some.seat ∷ [] = search rules in
+    let split = All-pop (λ own. IsSeatOf c.args.locks.now own.remove) c.loop-seat.seats.items c.pop.new.self.items c.pop.result c.pop.ensures.items c.loop-seat.invariant.fits in
     record {
       len = search rules;
       ready =
           let was = subst (λ worker. (worker.number ≡ c.number.result % c.args.workers) × (worker.workers ≡ c.args.workers) × (worker.words.items ≡ []) × (worker.stopped ≡ false) × All (λ own. own.seat.number % c.args.workers ≡ c.number.result % c.args.workers) worker.seats.items) (sym c.index_mut-worker.ensures.value) (c.loop-seat.invariant.ready (c.number.result % c.args.workers) c.index_mut-worker.result.now below) in
-          each_set (λ k worker. (worker.number ≡ k) × (worker.workers ≡ c.args.workers) × (worker.words.items ≡ []) × (worker.stopped ≡ false) × All (λ own. own.seat.number % c.args.workers ≡ k) worker.seats.items) c.args.workers c.loop-seat.all.items (c.number.result % c.args.workers) _ within c.loop-seat.invariant.ready
-          (was.0, was.1, was.2, was.3, all_push (λ own. own.seat.number % c.args.workers ≡ c.number.result % c.args.workers) c.push_reserved.new.self.items c.index_mut-worker.result.now.seats.items c.in-Some.seat pushed was.4 (ap (λ n. n % c.args.workers) (sym c.number.ensures)));
+          each_set (λ k worker. (worker.number ≡ k) × (worker.workers ≡ c.args.workers) × (worker.words.items ≡ []) × (worker.stopped ≡ false) × All (λ own. own.seat.number % c.args.workers ≡ k) worker.seats.items) c.args.workers c.loop-seat.all.items (c.number.result % c.args.workers) c.give.new.self within c.loop-seat.invariant.ready
+          (c.give.ensures.same.0 ∙ was.0, c.give.ensures.same.1 ∙ was.1, c.give.ensures.words ∙ was.2, c.give.ensures.same.2 ∙ was.3, all_push (λ own. own.seat.number % c.args.workers ≡ c.number.result % c.args.workers) c.give.new.self.seats.items c.index_mut-worker.result.now.seats.items c.in-Some.seat pushed was.4 (ap (λ n. n % c.args.workers) (sym c.number.ensures)));
+      at_locks =
+          let was = subst (λ worker. worker.locks.now ≡ c.args.locks.now) (sym c.index_mut-worker.ensures.value) (c.loop-seat.invariant.at_locks (c.number.result % c.args.workers) c.index_mut-worker.result.now below) in
+          each_set (λ k worker. worker.locks.now ≡ c.args.locks.now) c.args.workers c.loop-seat.all.items (c.number.result % c.args.workers) c.give.new.self within c.loop-seat.invariant.at_locks (c.give.ensures.same.3 ∙ was);
+      fits = split.0;
       seats = λ test.
           let taken = count_last test c.loop-seat.seats.items c.pop.new.self.items c.in-Some.seat c.in-Some.ensures.items in
-          let more = count_last test c.push_reserved.new.self.items c.index_mut-worker.result.now.seats.items c.in-Some.seat pushed in
-          dealt (λ worker. count_by test worker.seats.items) c.loop-seat.all.items (c.number.result % c.args.workers) _ c.index_mut-worker.result.now _ _ _ _ c.index_mut-worker.ensures.value within more taken (c.loop-seat.invariant.seats test);
+          let more = count_last test c.give.new.self.seats.items c.index_mut-worker.result.now.seats.items c.in-Some.seat pushed in
+          dealt (λ worker. count_by test worker.seats.items) c.loop-seat.all.items (c.number.result % c.args.workers) c.give.new.self c.index_mut-worker.result.now _ _ _ _ c.index_mut-worker.ensures.value within more taken (c.loop-seat.invariant.seats test);
     }
 
 pub returns-clause-seats : goal.returns-clause-seats

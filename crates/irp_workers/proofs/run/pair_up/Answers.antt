@@ -1,0 +1,28 @@
+use Rattle.std.proofs.Common.{◌≡◌, ◌++◌, ◌∷◌, All, map, sym, subst, ap, ◌∙◌, arith}
+use Rattle.std.proofs.lemmas.List.Elements.{All-cons, All-pop}
+use Rattle.irp_remove.specs.Pairing.{IsSeatOf}
+use Rattle.irp_slots.specs.Pairing.{IsCancellerOf, slot_count}
+use Rattle.irp_workers.specs.AtSlots.{IsFresh}
+use Rattle.irp_workers.proofs.Pairs.{moved}
+use Rattle.irp_workers.proofs.run.pair_up.Goals as goal
+
+pub loop-seat-preserved : goal.loop-seat-preserved
+loop-seat-preserved g c =
+    let removes = All-pop (IsSeatOf c.args.locks.now) c.loop-seat.removes.items c.pop-in-Some.new.self.items c.pop-in-Some.result c.pop-in-Some.ensures.items c.loop-seat.invariant.fit in
+    let cancellers = All-pop (IsCancellerOf c.args.slots.now) c.loop-seat.cancellers.items c.pop-in-Some-2.new.self.items c.pop-in-Some-2.result c.pop-in-Some-2.ensures.items c.loop-seat.invariant.ask in
+    let pushed : c.insert.new.self.items ≡ c.new-own.result ∷ c.loop-seat.pairs.items = c.in_ok-insert.ensures.items in
+    let parties = c.new-own.ensures.parties ∙ c.new-parties.ensures in
+    record {
+      fit = removes.0;
+      ask = cancellers.0;
+      len = (omega (arith, c.in-Some.ensures.len, c.in-Some-pop.ensures.len, c.loop-seat.invariant.len.0), omega (arith, c.in-Some.ensures.len, c.in-Some-pop-2.ensures.len, c.loop-seat.invariant.len.1));
+      seats = ap (λ all. c.pop.new.self.items ++ map (λ own. own.seat) all) pushed
+          ∙ moved c.loop-seat.seats.items c.pop.new.self.items (map (λ own. own.seat) c.loop-seat.pairs.items) c.args.seats.items c.in-Some.seat c.new-own.result.seat c.in-Some.ensures.items c.new-own.ensures.seat c.loop-seat.invariant.seats;
+      removes = ap (λ all. c.pop-in-Some.new.self.items ++ map (λ own. own.remove) all) pushed
+          ∙ moved c.loop-seat.removes.items c.pop-in-Some.new.self.items (map (λ own. own.remove) c.loop-seat.pairs.items) c.args.removes.items c.in-Some-pop.remove c.new-own.result.remove c.in-Some-pop.ensures.items c.new-own.ensures.remove c.loop-seat.invariant.removes;
+      cancellers = ap (λ all. c.pop-in-Some-2.new.self.items ++ map (λ own. own.parties.canceller) all) pushed
+          ∙ moved c.loop-seat.cancellers.items c.pop-in-Some-2.new.self.items (map (λ own. own.parties.canceller) c.loop-seat.pairs.items) c.args.cancellers.items c.in-Some-pop-2.canceller c.new-own.result.parties.canceller c.in-Some-pop-2.ensures.items (ap (λ some. some.canceller) parties) c.loop-seat.invariant.cancellers;
+      fresh = subst (All (λ own. IsFresh (slot_count c.args.slots.now) own.parties)) (sym pushed)
+          (All-cons (λ own. IsFresh (slot_count c.args.slots.now) own.parties) c.new-own.result c.loop-seat.pairs.items
+          (ap (λ some. some.slots) parties, ap (λ some. some.owners) parties, ap (λ some. some.taken) parties) c.loop-seat.invariant.fresh);
+    }
