@@ -1,15 +1,15 @@
 -- What ran accounts for the steps.
 use Rattle.std.proofs.Common.{◌≡◌, ◌≤◌, ◌<◌, ◌+◌, ◌==◌, ◌%◌, ℕ, zero, suc, All, Bool, true, false, cond, eq-eqb, List, [], ◌∷◌, ◌++◌, length, map, take, get_or, refl, sym, subst, ap, ◌∙◌, arith}
 use mathlib.Core.Bool.{true≢false}
-use Rattle.std.specs.Prelude.{Some, slice_get, sum_by}
-use Rattle.std.specs.List.{count_by, enumerate_from, filter, flat_map, list_any}
+use Rattle.std.specs.Prelude.{sum_by}
+use Rattle.std.specs.List.{count_by, enumerate_from, filter, flat_map}
 use Rattle.std.proofs.lemmas.List.{take_all}
 use Rattle.std.proofs.lemmas.List.Elements.{All-head, All-tail}
 use Rattle.std.proofs.lemmas.Option.{slice_get-get_or}
 use Rattle.irp_shared.specs.declared.word_line.WordLine.{WordLine}
 use Rattle.irp_script_reader.specs.declared.act.Step.{Step}
 use Rattle.irp_workers.specs.Accounts.{Accounts, calls_at, pair_at}
-use Rattle.irp_workers.specs.Made.{NoneTwice, SeatCalls, calls_of, once_made}
+use Rattle.irp_workers.specs.Made.{NoneTwice, SeatCalls, once_made}
 use Rattle.irp_workers.specs.Numbers.{AreSame, EachAsOften}
 use Rattle.irp_workers.specs.Outcomes.{Outcome, Test, is_own_placed, outcome, outcomes, own_placed}
 use Rattle.irp_workers.specs.Pairs.{Pair}

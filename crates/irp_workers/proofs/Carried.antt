@@ -1,5 +1,5 @@
 -- What holds of each of some holds of each of those that are the same, each as often, where a test decides it.
-use Rattle.std.proofs.Common.{◌≡◌, ◌≤◌, ◌+◌, ℕ, All, Bool, true, false, cond, List, [], ◌∷◌, refl, sym, ap, ◌∙◌, arith}
+use Rattle.std.proofs.Common.{◌≡◌, ◌≤◌, All, Bool, true, false, cond, List, [], ◌∷◌, refl, sym, ◌∙◌, arith}
 use mathlib.Core.Bool.{true≢false}
 use Rattle.std.specs.Bool.{Decides}
 use Rattle.std.specs.List.{count_by}

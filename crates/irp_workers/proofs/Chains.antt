@@ -10,7 +10,7 @@ use Rattle.irp_workers.specs.Outcomes.{Outcome, Test, outcome}
 use Rattle.irp_workers.specs.Words.{WordStep, told_by, word_step_of, word_steps}
 use Rattle.irp_workers.specs.Working.{MakesEach, Working}
 use Rattle.irp_workers.proofs.Making.{once_both, once_none}
-use Rattle.irp_workers.proofs.Outcomes.{Comes, comes, out_of}
+use Rattle.irp_workers.proofs.Outcomes.{comes, out_of}
 
 -- the places rise from this one on
 abbrev pub Rising : ℕ → List (ℕ × Step) → Type 0

@@ -1,5 +1,5 @@
 -- Owners of slots, dealt to seats.
-use Rattle.std.proofs.Common.{◌≡◌, ◌<◌, ◌+◌, ℕ, All, Bool, List, [], ◌∷◌, length, map, get_or, sym, subst, ap, ◌∙◌, refl, arith}
+use Rattle.std.proofs.Common.{◌≡◌, ◌+◌, All, Bool, List, [], ◌∷◌, map, sym, subst, ap, ◌∙◌, refl, arith}
 use Rattle.std.specs.List.{count_by, flat_map}
 use Rattle.std.proofs.lemmas.List.{get_or-map, length-map}
 use Rattle.std.proofs.lemmas.List.Concat.{flat_map-cons}

@@ -1,16 +1,14 @@
 -- What a step adds to the calls of seats.
-use Rattle.std.proofs.Common.{◌≡◌, ◌≤◌, ◌<◌, ◌+◌, ◌%◌, ◌==◌, ℕ, zero, suc, Bool, true, false, cond, eq-eqb, Option, Some, None, List, [], ◌∷◌, ◌++◌, length, map, take, get_or, set, refl, sym, ap, ◌∙◌, arith}
-use Rattle.std.specs.Prelude.{MatchOption}
+use Rattle.std.proofs.Common.{◌≡◌, ◌≤◌, ◌<◌, ◌+◌, ◌==◌, ℕ, zero, suc, Bool, true, false, cond, eq-eqb, None, List, [], ◌∷◌, ◌++◌, length, map, get_or, set, refl, sym, ap, ◌∙◌, arith}
 use Rattle.std.specs.List.{cons_option, count_by}
 use Rattle.std.proofs.lemmas.List.{append-nil, append_assoc}
-use Rattle.std.proofs.lemmas.List.Elements.{filter_map-append, filter_more}
+use Rattle.std.proofs.lemmas.List.Elements.{filter_map-append}
 use Rattle.std.proofs.lemmas.List.Sums.{sum_by-cons}
 use Rattle.irp_types.specs.declared.call.Call.{Call}
 use Rattle.irp_workers.specs.Deeds.{deed_of}
 use Rattle.irp_workers.specs.Made.{SeatCalls, NoneTwice, call_by, calls_of, once_made}
 use Rattle.irp_workers.specs.Outcomes.{Outcome, nameless_call}
 use Rattle.irp_workers.specs.Pairs.{Pair}
-use Rattle.irp_workers.proofs.Numbers.{map_set_same}
 
 abbrev with_calls : SeatCalls → List Call → SeatCalls
 with_calls before calls = record { pair = before.pair; calls = calls }

@@ -1,5 +1,5 @@
 -- How one step comes out: what it adds to the word lines and to the calls of seats.
-use Rattle.std.proofs.Common.{◌≡◌, ◌≢◌, ◌≤◌, ◌<◌, ◌+◌, ◌==◌, ℕ, Bool, true, false, cond, eq-eqb, Option, Some, None, List, [], ◌∷◌, ◌++◌, length, map, get_or, set, refl, sym, subst, ap, ◌∙◌, arith, inl, inr}
+use Rattle.std.proofs.Common.{◌≡◌, ◌≢◌, ◌<◌, ◌==◌, ℕ, Bool, true, false, cond, eq-eqb, Option, Some, None, List, [], ◌∷◌, ◌++◌, length, map, get_or, set, refl, sym, subst, ap, ◌∙◌, arith, inl, inr}
 use Rattle.std.specs.Option.{option_map, option_to_list}
 use Rattle.std.specs.List.{cons_option}
 use Rattle.std.proofs.lemmas.List.{append-nil, get_or-set_other, length-set, map_push}
@@ -18,7 +18,7 @@ use Rattle.irp_workers.specs.Accounts.{calls_at, pair_at}
 use Rattle.irp_workers.specs.Deeds.{call_of, deed_of}
 use Rattle.irp_workers.specs.Made.{NoneTwice, SeatCalls, nameless, once_made}
 use Rattle.irp_workers.specs.Outcomes.{Outcome, any_packet, nameless_call, told_act}
-use Rattle.irp_workers.specs.Words.{WordStep, told_by, word_step, word_step_of}
+use Rattle.irp_workers.specs.Words.{told_by, word_step, word_step_of}
 use Rattle.irp_workers.specs.Working.{AtWork, Does, Makes, MakesAlone, MakesBy, MakesHand, Working}
 use Rattle.irp_workers.proofs.Making.{called_at}
 use Rattle.irp_workers.proofs.Numbers.{map_set_same}

@@ -1,18 +1,17 @@
 -- What workers share: the steps of all are each worker's own, together.
-use Rattle.std.proofs.Common.{◌≡◌, ◌≢◌, ◌≤◌, ◌<◌, ◌+◌, ◌==◌, ◌%◌, ℕ, zero, suc, Bool, true, false, cond, Option, Some, None, List, [], ◌∷◌, ◌++◌, length, map, take, drop, get_or, refl, sym, subst, ap, ◌∙◌, arith, inl, inr}
+use Rattle.std.proofs.Common.{◌≡◌, ◌≢◌, ◌≤◌, ◌<◌, ◌+◌, ◌==◌, ◌%◌, ℕ, zero, suc, Bool, true, false, cond, None, List, [], ◌∷◌, ◌++◌, length, map, take, drop, get_or, refl, sym, subst, ap, ◌∙◌, arith, inl, inr}
 use Rattle.std.specs.Prelude.{sum_by}
 use Rattle.std.specs.List.{cons_option, count_by, enumerate_from, filter, flat_map}
 use Rattle.std.specs.Option.{option_to_list}
 use Rattle.std.proofs.lemmas.Bool.Decides.{nat_tests, eqb_tells}
-use Rattle.std.proofs.lemmas.List.{length-take-le, take-append-drop}
+use Rattle.std.proofs.lemmas.List.{take-append-drop}
 use Rattle.std.proofs.lemmas.List.Concat.{flat_map-cons}
 use Rattle.std.proofs.lemmas.List.Elements.{filter-append}
 use Rattle.std.proofs.lemmas.List.Sums.{sum_by-append, sum_by-cons}
-use Rattle.irp_types.specs.declared.call.Call.{Call}
 use Rattle.irp_script_reader.specs.declared.act.Step.{Step}
 use Rattle.irp_workers.specs.Deeds.{deed_of}
 use Rattle.irp_workers.specs.Made.{call_by, calls_of}
-use Rattle.irp_workers.specs.Outcomes.{Outcome, Test, is_own_placed, nameless_call, outcome}
+use Rattle.irp_workers.specs.Outcomes.{Test, is_own_placed, nameless_call, outcome}
 use Rattle.irp_workers.specs.Words.{WordStep, word_step_of, word_steps}
 use Rattle.irp_workers.proofs.Chains.{enumerate-append, one_word}
 use Rattle.irp_workers.proofs.Numbers.{sum_from, sum_from_both, sum_from_none}

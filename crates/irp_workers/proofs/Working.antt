@@ -26,7 +26,7 @@ use Rattle.irp_workers.specs.declared.taken.Taken.{Taken}
 use Rattle.irp_workers.specs.AtSlots.{AtSlots, fresh}
 use Rattle.irp_workers.specs.Calling.{CallsFor, found_drained}
 use Rattle.irp_workers.specs.Deeds.{IsNamed, deed_of}
-use Rattle.irp_workers.specs.Outcomes.{is_own_placed, is_own_step, own_placed}
+use Rattle.irp_workers.specs.Outcomes.{is_own_placed, own_placed}
 use Rattle.irp_workers.specs.Working.{AtWork, Does, FinishesTaken, IsOwn, Left, Makes, MakesAlone, MakesBy, MakesCall, MakesEach, MakesHand, MakesOwn, Stays, WorkApart, Working, at_work, if_own, roomless, working}
 use Rattle.irp_workers.proofs.Chains.{enumerate-append}
 use Rattle.irp_workers.proofs.Numbers.{count_map, map_set_same}

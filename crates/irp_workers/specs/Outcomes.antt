@@ -11,7 +11,7 @@ use Rattle.irp_script_reader.specs.declared.act.Step.{Step}
 use Rattle.irp_script_reader.specs.declared.act.StepAct.{StepAct}
 use Rattle.irp_workers.specs.declared.acts.Deed.{Deed}
 use Rattle.irp_workers.specs.declared.acts.Deed.TheVariants.{Calls, OnLock, Hands, OnSlot, Finishes}
-use Rattle.irp_workers.specs.Deeds.{call_of, deed_of, lock_act, slot_act}
+use Rattle.irp_workers.specs.Deeds.{call_of, lock_act, slot_act}
 
 -- a step, its place among the steps, and whether it was a finish that found no token
 pub record Outcome : Type 0 where

@@ -105,6 +105,7 @@ pub fn script_seats<'a, L: Session>(
     ensures all_owners { IfOk result (λ pairs. 0 < vec_len seats
         → EachAsOften owners.items (flat_map (λ own. own.parties.owners) pairs.items)) }
     ensures taken { IfOk result (λ pairs. All (λ own. own.parties.taken ≡ []) pairs.items) }
+    ensures counted { IfOk result (λ pairs. All (λ own. own.parties.slots ≡ slot_count slots.now) pairs.items) }
     ensures fits { IfOk result (λ pairs. All (λ own. IsSeatOf locks.now own.remove) pairs.items) }
     ensures at_slots { IfOk result (λ pairs. All (λ own. IsCancellerOf slots.now own.parties.canceller) pairs.items) }
 {

@@ -1,4 +1,4 @@
-use Rattle.std.proofs.Common.{◌≡◌, ◌<◌, ◌%◌, All, map, vec_len, ℕ, ◌+◌, Bool, false, [], get_or}
+use Rattle.std.proofs.Common.{◌≡◌, ◌<◌, ◌%◌, All, vec_len, ℕ, ◌+◌, Bool, false, [], get_or}
 use Rattle.std.specs.Prelude.{sum_by}
 use Rattle.std.specs.List.{count_by}
 use Rattle.irp_remove.specs.Pairing.{IsSeatOf}

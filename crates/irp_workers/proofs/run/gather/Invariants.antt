@@ -1,4 +1,4 @@
-use Rattle.std.proofs.Common.{◌≡◌, map, vec_len, ◌+◌, Bool, ◌||◌}
+use Rattle.std.proofs.Common.{◌≡◌, vec_len, ◌+◌, Bool, ◌||◌}
 use Rattle.std.specs.Prelude.{sum_by}
 use Rattle.std.specs.List.{count_by, list_any}
 use Rattle.irp_shared.specs.declared.word_line.WordLine.{WordLine}

@@ -1,4 +1,4 @@
-use Rattle.std.proofs.Common.{◌≡◌, ◌<◌, ◌≤◌, map, vec_len, ℕ, Bool, false, [], get_or}
+use Rattle.std.proofs.Common.{◌≡◌, ◌<◌, ◌≤◌, vec_len, ℕ, Bool, false, [], get_or}
 use Rattle.std.specs.Prelude.{vec_capacity, sum_by}
 use Rattle.std.specs.List.{count_by}
 use Rattle.irp_workers.proofs.run.idle.Given as goal

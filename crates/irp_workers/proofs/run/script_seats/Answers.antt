@@ -6,7 +6,7 @@ use Rattle.std.proofs.lemmas.List.Elements.{All-nil, All-pop, All-set}
 use Rattle.std.proofs.lemmas.Option.{get_or_from_slice_get, slice_get_within}
 use Rattle.irp_remove.specs.Pairing.{IsSeatOf}
 use Rattle.irp_slots.specs.Models.{Publisher}
-use Rattle.irp_slots.specs.Pairing.{IsCancellerOf, IsOwnerOf, table_of}
+use Rattle.irp_slots.specs.Pairing.{IsCancellerOf, IsOwnerOf, slot_count, table_of}
 use Rattle.irp_workers.proofs.Dealing.{all_of_map, none_owned}
 use Rattle.irp_workers.proofs.Numbers.{all_push, count_last, dealt, each_set, map_set_same}
 use Rattle.irp_workers.proofs.Shares.{count_flat}
@@ -27,6 +27,7 @@ loop-owner-init g c = record {
       let none = none_owned test (λ own. own.parties.owners) c.in_ok-pairs.pairs.items (λ k d lt. (c.in_ok-pairs.ensures.fresh k d lt).1) in
       omega (arith, none);
   taken = λ k d lt. (c.in_ok-pairs.ensures.fresh k d lt).2;
+  counted = λ k d lt. (c.in_ok-pairs.ensures.fresh k d lt).0;
 }
 
 pub own-requires : goal.own-requires
@@ -67,6 +68,8 @@ loop-owner-preserved g c =
           omega (arith, after, flat);
       taken = All-set (λ own. own.parties.taken ≡ []) c.loop-owner.pairs.items (c.slot.result % c.len-count.result) c.own.new.self
           (ap (λ some. some.taken) owns ∙ ap (λ own. own.parties.taken) value ∙ c.loop-owner.invariant.taken (c.slot.result % c.len-count.result) c.index_mut-own.result.now within) c.loop-owner.invariant.taken;
+      counted = All-set (λ own. own.parties.slots ≡ slot_count c.args.slots.now) c.loop-owner.pairs.items (c.slot.result % c.len-count.result) c.own.new.self
+          (ap (λ some. some.slots) owns ∙ ap (λ own. own.parties.slots) value ∙ c.loop-owner.invariant.counted (c.slot.result % c.len-count.result) c.index_mut-own.result.now within) c.loop-owner.invariant.counted;
     }
 
 pub returns-clause-owners : goal.returns-clause-owners

@@ -1,7 +1,6 @@
 use Rattle.std.proofs.Common.{◌≡◌, ◌<◌, ◌+◌, ◌%◌, ℕ, All, Bool, [], get_or, map, vec_len}
 use Rattle.std.specs.List.{count_by, flat_map}
-use Rattle.irp_remove.specs.Pairing.{IsSeatOf}
-use Rattle.irp_slots.specs.Pairing.{IsOwnerOf, table_of}
+use Rattle.irp_slots.specs.Pairing.{IsOwnerOf, slot_count}
 use Rattle.irp_workers.proofs.run.script_seats.Given as goal
 
 -- the seats stay in their order, each has owners of its own slots alone, and those left and those dealt are all
@@ -15,6 +14,7 @@ invariant-loop-owner g l = record {
   own : (place : ℕ) (one : _) → place < l.count → All (λ owner. owner.owning.slot % l.count ≡ place) (get_or l.pairs.items place one).parties.owners;
   all : (test : _ → Bool) → count_by test l.owners.items + count_by test (flat_map (λ own. own.parties.owners) l.pairs.items) ≡ count_by test l.fn.owners.items;
   taken : All (λ own. own.parties.taken ≡ []) l.pairs.items;
+  counted : All (λ own. own.parties.slots ≡ slot_count l.slots) l.pairs.items;
 }
 
 abbrev pub decreases-loop-owner : goal.decreases-loop-owner

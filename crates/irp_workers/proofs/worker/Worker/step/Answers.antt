@@ -1,7 +1,7 @@
-use Rattle.std.proofs.Common.{◌<◌, length, sym, ◌∙◌, rules}
+use Rattle.std.proofs.Common.{◌<◌, length, rules}
 use Rattle.irp_workers.specs.Working.{at_work}
 use Rattle.irp_workers.proofs.Places.{told_at}
-use Rattle.irp_workers.proofs.Working.{hand_is_made, made_at}
+use Rattle.irp_workers.proofs.Working.{made_at}
 use Rattle.irp_workers.proofs.worker.Worker.step.Goals as goal
 
 pub returns-clause-made : goal.returns-clause-made
