@@ -14,7 +14,7 @@ use Rattle.irp_script_reader.specs.declared.script.ScriptForm.{ScriptForm}
 use Rattle.irp_workers.specs.Numbers.{NoneMoreOften}
 use Rattle.irp_workers.specs.Outcomes.{Test, outcomes}
 use Rattle.irp_workers.specs.Words.{AreInOrder, told_by, word_steps}
-use Rattle.irpx.specs.Running.{IsRun, finished, fixed_for, form_of}
+use Rattle.irpx.specs.Running.{IsRun, run_transcript, fixed_for, form_of}
 
 -- the form of the transcript, once it is put in, has the limit that is fixed
 in_form : (script : Script) (tables : Tables) (header : Header) → fixed_of header ≡ fixed_for script tables → fixed_of (record header { form = form_of script.form }) ≡ fixed_for script tables
@@ -32,10 +32,10 @@ fits_in_form form header few fits = record {
 }
 
 -- the transcript that was closed, with the script's form and these word lines
-pub closed_is_run : (script : Script) (tables : Tables) (fixed : Fixed) (expected : ℕ) (seats : List Seated) (closed : TranscriptValue) (words : List WordLine) → Closes fixed expected seats closed → fixed ≡ fixed_for script tables → expected ≡ script.seats → IfSome (finished script.form words closed).header IsHeader → AreInOrder words → (tokenless : Test) → NoneMoreOften (word_steps (outcomes tokenless script.steps)) (map told_by words) → IsRun script tables (finished script.form words closed)
+pub closed_is_run : (script : Script) (tables : Tables) (fixed : Fixed) (expected : ℕ) (seats : List Seated) (closed : TranscriptValue) (words : List WordLine) → Closes fixed expected seats closed → fixed ≡ fixed_for script tables → expected ≡ script.seats → IfSome (run_transcript script.form words closed).header IsHeader → AreInOrder words → (tokenless : Test) → NoneMoreOften (word_steps (outcomes tokenless script.steps)) (map told_by words) → IsRun script tables (run_transcript script.form words closed)
 closed_is_run script tables fixed expected seats closed words closes fixed_is seats_are fits in_order tokenless few =
     let header : Header = record closes.header { form = form_of script.form } in
-    let told : (finished script.form words closed).header ≡ Some header = ap (λ given. option_map (λ (header : Header). record header { form = form_of script.form }) given) closes.told in
+    let told : (run_transcript script.form words closed).header ≡ Some header = ap (λ given. option_map (λ (header : Header). record header { form = form_of script.form }) given) closes.told in
     let is : fixed_of header ≡ fixed_for script tables = in_form script tables closes.header (closes.tables ∙ fixed_is) in
     record {
       header = header;

@@ -129,8 +129,8 @@ pub record ShowsEach (script : Script) (transcript : TranscriptValue) : Type 0 w
   pub made : MakesCalls script.seats (outcomes tokenless_first script.setup ++ outcomes tokenless script.steps) transcript.entries
 
 -- a transcript of a session, with the form of the script that was run, and these word lines
-abbrev pub finished : ScriptForm → List WordLine → TranscriptValue → TranscriptValue
-finished form words transcript = record transcript {
+abbrev pub run_transcript : ScriptForm → List WordLine → TranscriptValue → TranscriptValue
+run_transcript form words transcript = record transcript {
   header = option_map (λ (header : Header). record header { form = form_of form }) transcript.header;
   words = words;
 }

@@ -16,7 +16,7 @@ ghost use Rattle.irpx.specs.Running.{
   NoScript,
   ShowsEach,
   and_drivers,
-  finished,
+  run_transcript,
   fixed_for,
   form_of,
   most_taken,
@@ -227,13 +227,13 @@ fn form_of(form: ScriptForm) -> Form
 
 /// The transcript of a session with the form of the script that was run, and with these word lines, on condition that the
 /// form has at most 64 slots. `ReceiptsDiffer` where it has no header.
-fn finished(
+fn run_transcript(
     transcript: Transcript,
     form: ScriptForm,
     words: Vec<WordLine>,
 ) -> Result<Transcript, Unrun>
     requires few { slots_of (form_of form) ≤ most_slots }
-    ensures made { IfOk result (λ made. made ≡ finished form words.items transcript) }
+    ensures made { IfOk result (λ made. made ≡ run_transcript form words.items transcript) }
     ensures accepted { IfOk result IsTranscript }
 {
     transcript.is_one();
@@ -295,7 +295,7 @@ fn session<L: Session + Send + Sync, T: Threads + Wait + Sync>(
     let Ok(transcript) = shared.close(seats) else {
         return Err(Unrun::ReceiptsDiffer);
     };
-    let transcript = finished(transcript, script.form, words)?;
+    let transcript = run_transcript(transcript, script.form, words)?;
     Ok(Finished {
         transcript,
         stopped,
