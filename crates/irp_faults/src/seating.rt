@@ -10,7 +10,8 @@ use irp_shared::{Session, open};
 use std::alloc::Global;
 use std::sync::ledger::Blank;
 
-/// Opens a session and remove locks, and puts their seats side by side. Where memory is missing for that, the seats are gone.
+/// Opens a session, remove locks, and as many cancel slots as seats. Puts their seats side by side. Where memory is missing
+/// for that, the seats are gone.
 pub fn seat_pairs<A: Ask + Drop, L: Session>(
     alloc: Global,
     blank: Blank,
@@ -30,7 +31,11 @@ pub fn seat_pairs<A: Ask + Drop, L: Session>(
     let Ok((own, removes)) = irp_remove::open(alloc, locks, seats) else {
         return Err(Halt::Memory);
     };
-    let Ok(pairs) = script_seats(alloc, &own, places, removes) else {
+    let Ok((slots, owners, cancellers)) = irp_slots::open(alloc, seats, seats) else {
+        tried.refused("irp_slots::open", true)?;
+        return Err(Halt::Memory);
+    };
+    let Ok(pairs) = script_seats(alloc, &own, &slots, places, removes, cancellers, owners) else {
         tried.refused("script_seats", true)?;
         return Err(Halt::Memory);
     };

@@ -123,8 +123,11 @@ fn session<
 {
     let (shared, seats) = open::<A, L>(alloc, blank, ask, script.locks, script.seats)?;
     let (locks, removes) = irp_remove::open(alloc, script.locks, script.seats)?;
-    let pairs = script_seats(alloc, &locks, seats, removes)?;
-    let mut worked = run_workers(rt, alloc, &shared, &locks, pairs, script, gate, workers)?;
+    let (slots, owners, cancellers) = irp_slots::open(alloc, 0, script.seats)?;
+    let pairs = script_seats(alloc, &locks, &slots, seats, removes, cancellers, owners)?;
+    let mut worked = run_workers(
+        rt, alloc, &shared, &locks, &slots, pairs, script, gate, workers,
+    )?;
     let mut seats = Vec::new(alloc);
     while let Some(own) = worked.seats.pop() {
         let (seat, _remove) = own.into_pair();
