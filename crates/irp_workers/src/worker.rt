@@ -51,6 +51,7 @@ fn hand_between<'a, L: Session>(
     let mut giver = seats.remove(from_at);
     let taker = &mut seats[once_removed(to_at, from_at)];
     let reply = giver.hand(taker, lock, tag);
+    // There is room, since it was taken out: this never fails.
     let _ = seats.insert(from_at, giver);
     reply
 }
