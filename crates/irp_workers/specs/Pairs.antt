@@ -1,5 +1,5 @@
 -- The two seats of a script's seat.
-use Rattle.std.specs.Prelude.{ℕ, List, [], ◌∷◌}
+use Rattle.std.specs.Prelude.{ℕ}
 use Rattle.atomic_table.specs.Seated.{TableId}
 use Rattle.irp_manager.specs.Seats.{Seated}
 use Rattle.irp_remove.specs.Seats.{Holder}
@@ -12,9 +12,3 @@ pub record Pair : Type 0 where
 
 abbrev pub pair_of : Seated → Holder → Pair
 pair_of seat remove = record { seat = seat.number; table = remove.table; remove = remove.number }
-
--- each seat with the remove seat of the same place
-abbrev pub pairs_of : List Seated → List Holder → List Pair
-pairs_of [] removes = []
-pairs_of (seat ∷ seats) [] = []
-pairs_of (seat ∷ seats) (remove ∷ removes) = pair_of seat remove ∷ pairs_of seats removes

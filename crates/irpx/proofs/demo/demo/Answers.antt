@@ -46,6 +46,7 @@ fits = record {
   few_locks = one_few;
   some_seats = one_some;
   few_seats = one_few;
+  few_slots = none_drivers;
 }
 
 none_legal : IsLegal (fixed_of some_header) []
