@@ -119,9 +119,11 @@ class Example(NamedTuple):
         header, *lines = self.transcript.splitlines(keepends=True)
         entries = lines[: self.entries()]
         words = [(json.loads(line)["step"], line) for line in lines[self.entries() :]]
+        with_lines = {at for at, _ in words}
         texts, made = [header], 0
-        for place, step in enumerate(script["setup"] + script["steps"], -len(script["setup"])):
-            made += step["do"] not in ON_LOCKS
+        for place in range(-len(script["setup"]), len(script["steps"])):
+            # A step has an entry or a word line. Which of both a finish_taken has depends on the run.
+            made += place not in with_lines
             told = [line for at, line in words if at <= place]
             texts.append(b"".join([header, *entries[:made], *told]))
         return texts
