@@ -7,15 +7,13 @@ ghost use Rattle.irp_types.specs.Packet.{size_of, cleared, location_at, found_lo
 ghost use Rattle.irp_types.specs.declared.refusal.Refusal.TheVariants.{BadSize};
 
 use arrayvec::ArrayVec;
+use irp_types::limits::LAST_MAJOR;
 use irp_types::{CancelId, DeviceId, Location, Owner, Preparation, Refusal, Setting, Status};
 use std::alloc::Global;
 use std::marker::Model;
 
 /// How many locations a packet may have.
 const MOST_LOCATIONS: usize = 32;
-
-/// The greatest major function code (WDK: "IRP Major Function Codes").
-const LAST_MAJOR: u8 = 0x1b;
 
 /// A location that nobody was sent a packet in.
 const CLEARED: Location = Location {

@@ -16,6 +16,7 @@ use crate::table::Locks;
 use crate::views::{Parties, View};
 use arrayvec::ArrayVec;
 use atomic_table::{Seat, Table};
+use irp_types::limits::{MOST_LOCKS, MOST_SEATS};
 use std::alloc::{AllocError, Global};
 
 /// Makes 1 to 64 locks, numbered from 0, and 1 to 64 seats that use them, numbered from 0 in the order of the answer
@@ -33,7 +34,7 @@ pub fn open(alloc: Global, locks: u32, seats: u32) -> Result<(Locks, Vec<RemoveS
     ensures seats { IfOk result (λ opened. (vec_len opened.1 ≡ seats) × AreFresh opened.0.table.shared.table_id seats opened.1.items) }
     ensures idle { IfOk result (λ opened. IsAllIdle opened.0.table.shared.key opened.1.items) }
 {
-    if locks == 0 || locks > 64 || seats == 0 || seats > 64 {
+    if locks == 0 || locks > MOST_LOCKS || seats == 0 || seats > MOST_SEATS {
         return Err(OpenRefusal::BadCount);
     }
     let Ok(words) = Vec::from_elem(alloc, 0u64, locks as usize) else {

@@ -6,11 +6,9 @@ ghost use Rattle.irp_types.specs.State.{Entrance, dispatch_in};
 ghost use Rattle.irp_routines.specs.Tables.{pair_refusal, pairs_refusal, by_major};
 
 use crate::not_added::Reason;
+use irp_types::limits::LAST_MAJOR;
 use irp_types::{DispatchId, Row};
 use std::alloc::{AllocError, Global};
-
-/// The greatest major function code, IRP_MJ_PNP.
-pub const LAST_MAJOR: u8 = 0x1b;
 
 /// Whether one of these pairs names this major function code.
 fn is_named(pairs: &[(u8, DispatchId)], major: u8) -> bool

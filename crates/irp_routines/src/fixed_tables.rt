@@ -12,18 +12,10 @@ use crate::ask::Ask;
 use crate::drivers::{by_major, copied_drivers, dispatch_in, pairs_refusal};
 use crate::not_added::{NotAdded, Reason};
 use crate::told::{told_dispatches, told_drivers, told_rules};
+use irp_types::limits::{MOST_DISPATCHES, MOST_DRIVERS, MOST_ROUTINES};
 use irp_types::{CancelId, CancelRule, DispatchId, DriverId, Known, RoutineId, Row, Rule};
 use std::alloc::{AllocError, Global};
 use std::marker::Model;
-
-/// How many completion routines of one rule there may be, and how many cancel routines.
-const MOST_ROUTINES: u32 = 256;
-
-/// How many dispatches there may be.
-const MOST_DISPATCHES: usize = 256;
-
-/// How many drivers there may be.
-const MOST_DRIVERS: usize = 64;
 
 /// What a store tells of its closures: how many completion routines of each rule there are, which routines each
 /// dispatch may name, the rules of the cancel routines, and each driver's dispatches by rising major function code.

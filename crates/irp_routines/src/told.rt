@@ -3,7 +3,6 @@
 ghost use Rattle.std.specs.Prelude.{◌≡◌, slice_index_or, [], IfOk};
 
 use crate::ask::Ask;
-use crate::drivers::LAST_MAJOR;
 use irp_types::{CancelId, CancelRule, DispatchId, DriverId, Known, Row};
 use std::alloc::{AllocError, Global};
 

@@ -12,10 +12,6 @@ abbrev pub slots_of : ScriptForm → ℕ
 slots_of One = 0
 slots_of (Two slots) = slots
 
--- cancel slots that there may be
-abbrev pub most_slots : ℕ
-most_slots = 64
-
 -- form 2
 abbrev pub is_two : ScriptForm → Bool
 is_two One = false

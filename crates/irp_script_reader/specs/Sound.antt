@@ -6,7 +6,8 @@ use Rattle.irp_types.specs.declared.answer.Plan.{Plan}
 use Rattle.irp_types.specs.declared.routine.Known.{Known}
 use Rattle.irp_types.specs.declared.routine.Rule.{Rule}
 use Rattle.irp_types.specs.declared.routine.Rule.TheVariants.{Watch, Change, Keeper, KeepOnError, Free}
-use Rattle.irp_script_reader.specs.Forms.{may_do, may_plan, most_slots, slots_of, suits_setup}
+use Rattle.irp_script_reader.specs.Forms.{may_do, may_plan, slots_of, suits_setup}
+use Rattle.irp_types.specs.Limits.{most_slots}
 use Rattle.irp_script_reader.specs.Plans.{is_driver, is_plan_sound, names_known}
 use Rattle.irp_script_reader.specs.Routines.{obeys_its_rule}
 use Rattle.irp_script_reader.specs.declared.act.Step.{Step}

@@ -24,15 +24,10 @@ use crate::routines::{completion_at, counted, one_more};
 use crate::script::{CompletionRoutine, ScriptForm};
 use crate::taking::{Stop, Taking, formed, unless, with_item};
 use irp_forms::{Unread, cancel_answer_at, list_at, plan_at};
+use irp_types::limits::{MOST_DISPATCHES, MOST_DRIVERS};
 use irp_types::{CancelAnswer, DispatchId, Known, Plan, Row};
 use serde_json::Value;
 use std::alloc::Global;
-
-/// The most dispatches.
-const MOST_DISPATCHES: usize = 256;
-
-/// The most drivers.
-const MOST_DRIVERS: usize = 64;
 
 /// The completion routines, and how many there are of each rule.
 #[derive(Drop)]

@@ -3,10 +3,8 @@
 ghost use Rattle.std.specs.Prelude.{◌≡◌};
 ghost use Rattle.irp_script_reader.specs.Plans.{has_major, is_driver, is_handler, is_plan_sound, names_known};
 
+use irp_types::limits::LAST_MAJOR;
 use irp_types::{DispatchId, Known, Plan, Rule};
-
-/// The greatest major function code, IRP_MJ_PNP.
-const LAST_MAJOR: u8 = 0x1b;
 
 /// Whether a plan that finishes has a status that can complete a packet, and one that forwards sets a routine of rule
 /// watch (this project's own format, docs/FORMATS.md).

@@ -19,11 +19,9 @@ ghost use Rattle.irp_script_reader.specs.Routines.{
 
 use crate::script::{Behaviour, CompletionRoutine};
 use irp_forms::{has_items, rule_at, status_at, u64_at};
+use irp_types::limits::MOST_ROUTINES;
 use irp_types::{Known, Replacement, Rule};
 use serde_json::Value;
-
-/// The most completion routines of one rule, and the most cancel routines.
-const MOST_ROUTINES: u32 = 256;
 
 /// A behaviour that has a name.
 #[tactic(auto, unfolding(crate::specs::Routines::behaviour_named))]

@@ -1,6 +1,6 @@
 -- Headers: what they fix, and which of them the formats accept.
 use Rattle.std.specs.Prelude.{ℕ, ◌≡◌, ◌≤◌, length}
-use Rattle.irp_types.specs.Limits.{most_locks, most_seats, most_drivers, most_dispatches}
+use Rattle.irp_types.specs.Limits.{most_locks, most_seats, most_slots, most_drivers, most_dispatches}
 use Rattle.irp_types.specs.Rules.{IsWithin}
 use Rattle.irp_types.specs.State.{Fixed, AreTables, most_known}
 use Rattle.irp_types.specs.declared.limit.Limit.{Limit}
@@ -8,10 +8,6 @@ use Rattle.irp_types.specs.declared.limit.Limit.TheVariants.{Sixteen, ThirtyTwo}
 use Rattle.irp_shared.specs.declared.header.Form.{Form}
 use Rattle.irp_shared.specs.declared.header.Form.TheVariants.{One, Two}
 use Rattle.irp_shared.specs.declared.header.Header.{Header}
-
--- cancel slots that there may be
-abbrev pub most_slots : ℕ
-most_slots = 64
 
 -- the limit of a form
 abbrev pub limit_of : Form → Limit

@@ -8,19 +8,19 @@ ghost use Rattle.irp_types.specs.Rules.{IsWithin};
 ghost use Rattle.irp_types.specs.State.{Entrance, IsDriver};
 ghost use Rattle.irp_shared.specs.Headers.{IsHeader, HasCounts, fixed_of, limit_of, slots_of};
 
+use irp_types::limits::{
+    LAST_MAJOR, MOST_DISPATCHES, MOST_DRIVERS, MOST_LOCKS, MOST_ROUTINES, MOST_SEATS, MOST_SLOTS,
+};
 use irp_types::{CancelRule, DispatchId, Known, Limit, Row};
-
-/// The greatest major function code, IRP_MJ_PNP.
-const LAST_MAJOR: u8 = 0x1b;
 
 /// As many routines of each kind as there may be.
 const MOST_KNOWN: Known = Known {
-    watch: 256,
-    change: 256,
-    keeper: 256,
-    keep_on_error: 256,
-    free: 256,
-    cancel: 256,
+    watch: MOST_ROUTINES,
+    change: MOST_ROUTINES,
+    keeper: MOST_ROUTINES,
+    keep_on_error: MOST_ROUTINES,
+    free: MOST_ROUTINES,
+    cancel: MOST_ROUTINES,
 };
 
 /// Which forms a transcript's lines have, as its header tells (this project's own format, docs/FORMATS.md).
@@ -167,13 +167,13 @@ impl Header {
     {
         self.completions.cancel as usize == self.cancels.as_slice().len()
             && self.completions.is_within(MOST_KNOWN)
-            && self.dispatches.as_slice().len() <= 256
-            && self.drivers.as_slice().len() <= 64
+            && self.dispatches.as_slice().len() <= MOST_DISPATCHES
+            && self.drivers.as_slice().len() <= MOST_DRIVERS
             && 1 <= self.locks
-            && self.locks <= 64
+            && self.locks <= MOST_LOCKS
             && 1 <= self.seats
-            && self.seats <= 64
-            && self.form.slots() <= 64
+            && self.seats <= MOST_SEATS
+            && self.form.slots() <= MOST_SLOTS
     }
 
     /// Whether the formats accept it: its tables agree with each other and are within the limits, with 1 to 64 remove

@@ -26,13 +26,11 @@ use crate::transcript::Transcript;
 use irp_manager::{Book, DrainNote, KnowsNothing, Manager, NotRecorded, Receipt, Recorded, Seat};
 use irp_routines::{Ask, FixedTables, Parts};
 use irp_slots::Token;
+use irp_types::limits::{MOST_LOCKS, MOST_SEATS};
 use irp_types::{Call, Entry, IrpRef, Limit, Reply, Row, Status, history_completes_once};
 use std::alloc::Global;
 use std::sync::ledger::{Blank, Ledger, Share};
 use std::sync::{Mutex, Wait};
-
-/// How many locks and how many seats there may be.
-const MOST: u32 = 64;
 
 /// A book that threads share, through the seats that were opened with it (this project's own rule).
 ///
@@ -103,7 +101,7 @@ pub fn open_with_limit<A: Ask + Drop, L: Session>(
     ensures bad_count { (result ≡ Err BadCount) ↔ IsBadCount locks seats }
     ensures seats { IfOk result (λ opened. AreNew seats opened.1.items) }
 {
-    if locks == 0 || locks > MOST || seats == 0 || seats > MOST {
+    if locks == 0 || locks > MOST_LOCKS || seats == 0 || seats > MOST_SEATS {
         return Err(OpenRefused::BadCount);
     }
     let (total, mut spare) = blank.open::<L>();

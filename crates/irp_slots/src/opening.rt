@@ -14,6 +14,7 @@ use crate::plays::{NewCanceller, NewOwner};
 use crate::table::Slots;
 use crate::views::{Parties, View};
 use atomic_table::{Seat, Table};
+use irp_types::limits::{MOST_SEATS, MOST_SLOTS};
 use std::alloc::{AllocError, Global};
 
 /// Makes up to 64 slots, numbered from 0, an owner for each in their order, and 1 to 64 cancellers (this project's
@@ -37,7 +38,7 @@ pub fn open(
     ensures asking { IfOk result (λ made. All (IsFreshCanceller (table_of made.0)) made.2.items) }
     ensures empty { IfOk result (λ made. IsAllEmpty (key_of made.0) made.1.items made.2.items) }
 {
-    if slots > 64 || cancellers == 0 || cancellers > 64 {
+    if slots > MOST_SLOTS || cancellers == 0 || cancellers > MOST_SEATS {
         return Err(OpenRefusal::BadCount);
     }
     let Ok(words) = Vec::from_elem(alloc, 0u64, 2 * (slots as usize) + 1) else {

@@ -15,6 +15,7 @@ ghost use Rattle.irp_transcript_reader.specs.Lines.{
 
 use irp_forms::{FromJson, Unread, completions_at, form_of, has_keys, list_at, u32_at};
 use irp_shared::{Form, Header};
+use irp_types::limits::MOST_ROUTINES;
 use irp_types::{Known, Row};
 use serde_json::Value;
 use std::alloc::Global;
@@ -143,7 +144,7 @@ pub fn header_at(alloc: Global, value: &Value) -> Result<Header, Unread>
     let dispatches = list_under(alloc, "dispatches", value)?;
     let drivers = list_under(alloc, "drivers", value)?;
     let cancel = cancels.as_slice().len();
-    if cancel > 256 {
+    if cancel > MOST_ROUTINES as usize {
         return Err(Unread::Form);
     }
     Ok(Header {

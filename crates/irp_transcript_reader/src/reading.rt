@@ -25,14 +25,12 @@ use crate::word_lines::word_line_at;
 use irp_forms::{Unread, form_of};
 use irp_shared::{Act, Form, Header, WordLine};
 use irp_types::Entry;
+use irp_types::limits::MOST_ENTRIES;
 use serde_json::Value;
 use std::alloc::Global;
 
 /// As many bytes as a line may have, without its newline.
 const MOST_BYTES: usize = 65_536;
-
-/// As many entries as a transcript may have.
-const MOST_ENTRIES: usize = 1_000_000;
 
 /// The lines of a transcript so far.
 #[derive(Drop)]

@@ -32,6 +32,10 @@ most_locks = 64
 abbrev pub most_seats : ℕ
 most_seats = 64
 
+-- cancel slots
+abbrev pub most_slots : ℕ
+most_slots = 64
+
 -- completion routines of one rule, and cancel routines
 abbrev pub most_routines : ℕ
 most_routines = 256

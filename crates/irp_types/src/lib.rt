@@ -8,6 +8,7 @@ mod call;
 mod entry;
 mod laws;
 mod limit;
+pub mod limits;
 mod location;
 mod names;
 mod refusal;

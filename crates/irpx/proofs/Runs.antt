@@ -5,7 +5,8 @@ use Rattle.irp_types.specs.Histories.{IsLegal, CompletesOnce}
 use Rattle.irp_types.specs.State.{Fixed, Tables}
 use Rattle.irp_manager.specs.Seats.{Seated}
 use Rattle.irp_shared.specs.Closing.{AreSeated, Closes}
-use Rattle.irp_shared.specs.Headers.{IsHeader, fixed_of, limit_of, most_slots, slots_of}
+use Rattle.irp_types.specs.Limits.{most_slots}
+use Rattle.irp_shared.specs.Headers.{IsHeader, fixed_of, limit_of, slots_of}
 use Rattle.irp_shared.specs.declared.header.Header.{Header}
 use Rattle.irp_shared.specs.Transcripts.{TranscriptValue}
 use Rattle.irp_shared.specs.declared.word_line.WordLine.{WordLine}

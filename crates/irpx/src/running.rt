@@ -3,7 +3,8 @@
 ghost use Rattle.std.specs.Prelude.{IfErr, IfOk, ◌≡◌, ◌≤◌, ◌<◌, false, map, true};
 ghost use Rattle.irp_types.specs.Rules.{is_allowed, is_plan_allowed};
 ghost use Rattle.irp_routines.specs.Guarded.{guarded_answer, guarded_plan};
-ghost use Rattle.irp_shared.specs.Headers.{most_slots, slots_of};
+ghost use Rattle.irp_types.specs.Limits.{most_slots};
+ghost use Rattle.irp_shared.specs.Headers.{slots_of};
 ghost use Rattle.irp_shared.specs.Transcripts.{IsTranscript};
 ghost use Rattle.irp_workers.specs.Behaviours.{answer_of, plan_of};
 ghost use Rattle.irp_workers.specs.Numbers.{EachAsOften};
