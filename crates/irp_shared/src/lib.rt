@@ -9,6 +9,7 @@ mod open_refused;
 mod session;
 mod shared;
 mod transcript;
+mod turn;
 mod word_line;
 
 pub use header::{Form, Header};

@@ -23,6 +23,7 @@ use crate::mismatch::Mismatch;
 use crate::open_refused::OpenRefused;
 use crate::session::Session;
 use crate::transcript::Transcript;
+use crate::turn::take_turn;
 use irp_manager::{Book, DrainNote, KnowsNothing, Manager, NotRecorded, Receipt, Recorded, Seat};
 use irp_routines::{Ask, FixedTables, Parts};
 use irp_slots::Token;
@@ -203,7 +204,7 @@ impl<A: Ask, L: Session> Shared<A, L> {
         if seat.room().is_err() {
             return Err(NotRecorded::Memory);
         }
-        self.lock.lock(rt).call(seat, call, note)
+        take_turn(&self.lock, rt).call(seat, call, note)
     }
 }
 

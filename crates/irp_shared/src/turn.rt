@@ -1,0 +1,31 @@
+//! How a thread comes to its turn.
+
+use std::hint::spin_loop;
+use std::sync::{Mutex, MutexGuard, Wait};
+
+/// How often a thread tries to take a lock before it waits in the system.
+const TRIES: u32 = 100;
+
+/// How many pauses at most a thread makes between two tries.
+const MOST_PAUSES: u32 = 256;
+
+/// Makes so many pauses of the processor.
+fn pause(count: u32) {
+    for _ in 0..count {
+        spin_loop();
+    }
+}
+
+/// Takes a lock, as `Mutex::lock` does. Where another thread has it, it tries again after pauses that grow, since a turn is
+/// short beside a sleep; after the last try it waits in the system until it is woken (this project's own rule).
+pub fn take_turn<'a, T>(lock: &'a Mutex<T>, rt: &impl Wait) -> MutexGuard<'a, T> {
+    let mut pauses = 1u32;
+    for _ in 0..TRIES {
+        if let Some(guard) = lock.try_lock() {
+            return guard;
+        }
+        pause(pauses);
+        pauses = pauses.saturating_mul(2).min(MOST_PAUSES);
+    }
+    lock.lock(rt)
+}
