@@ -1,7 +1,6 @@
 //! What a call does to one live packet.
 
 ghost use Rattle.std.specs.Prelude.{◌≡◌, ◌+◌, ◌*◌, ◌<◌, ◌≤◌, false, true, Option, Some, None, [], ◌∷◌, length, vec_capacity, vec_len};
-ghost use Rattle.irp_types.specs.Limits.{most_locations};
 ghost use Rattle.irp_types.specs.Checks.{first_failing, or_else};
 ghost use Rattle.irp_types.specs.Packet.{size_of, is_nothing, set_next_refusal, copy_to_next_refusal, mark_pending_refusal};
 ghost use Rattle.irp_types.specs.Stacks.{stack_size_of};
@@ -14,6 +13,8 @@ ghost use Rattle.irp_types.specs.Standing.{IsSound};
 ghost use Rattle.irp_types.specs.declared.status.Status.{Status};
 ghost use Rattle.irp_types.specs.declared.reply.Reply.TheVariants.{Status as StatusIs};
 ghost use Rattle.irp_routines.specs.Answers.{AreAnswered};
+ghost use Rattle.irp_unwind.specs.Endings.{can_ask_up};
+ghost use Rattle.irp_unwind.specs.Descents.{can_ask_down};
 ghost use Rattle.irp_manager.specs.Calls.{packet_refusal_in, party_refusal_in, Goes, Fills, Copies, Leaves, Sets, Marks, Sends, Finishes, Takes, SetsCancel};
 
 use crate::keep::Live;
@@ -321,7 +322,8 @@ fn is_wrong_target(stacks: &Stacks, party: Party, target: DeviceId) -> bool
     }
 }
 
-/// Sends the packet to a device, where the party may. The room is for a question to each device from there down, and to each location.
+/// Sends the packet to a device, where the party may. The room is for a question to each device from there down, and to each
+/// location that the packet may come to.
 pub fn send<A: Ask>(
     live: &mut Live,
     irp: IrpRef,
@@ -333,7 +335,7 @@ pub fn send<A: Ask>(
 ) -> Reply
     requires sound { IsSound (A.tables ask.now).counts live.old.packet }
     requires empty { asked.old.items ≡ [] }
-    requires room { vec_len asked.old + 2 * most_locations ≤ vec_capacity asked.old }
+    requires room { vec_len asked.old + can_ask_down stacks.now.devices live.old.packet target.0 ≤ vec_capacity asked.old }
     ensures capacity { vec_capacity asked.new ≡ vec_capacity asked.old }
     ensures goes { Goes (or_else (party_refusal_in (Some live.old) party irp) (send_refusal stacks.now.devices party live.old.packet target.0))
         (Sends (A.tables ask.now) irp stacks.now.devices target.0 asked.new.items result live.old.packet) live.old live.new asked.new.items result }
@@ -370,7 +372,7 @@ fn complete_check(packet: &Packet, status: Status) -> Option<Refusal>
     None
 }
 
-/// Completes the packet, where the party may. The room is for a question to each location.
+/// Completes the packet, where the party may. The room is for a question to each location from the current one up.
 pub fn complete<A: Ask>(
     live: &mut Live,
     irp: IrpRef,
@@ -382,7 +384,7 @@ pub fn complete<A: Ask>(
 ) -> Reply
     requires sound { IsSound (A.tables ask.now).counts live.old.packet }
     requires empty { asked.old.items ≡ [] }
-    requires room { vec_len asked.old + most_locations ≤ vec_capacity asked.old }
+    requires room { vec_len asked.old + can_ask_up live.old.packet ≤ vec_capacity asked.old }
     ensures capacity { vec_capacity asked.new ≡ vec_capacity asked.old }
     ensures goes { Goes (or_else (party_refusal_in (Some live.old) party irp) (complete_refusal live.old.packet status))
         (Finishes irp status information asked.new.items result live.old.packet) live.old live.new asked.new.items result }
@@ -421,7 +423,7 @@ fn take_check(packet: &Packet, use_no: u64, token: u64, status: Status) -> Optio
 }
 
 /// Completes the packet, which stands in a cancel slot, for who has the token that was taken from there. The room is for
-/// a question to each location.
+/// a question to each location from the current one up.
 pub fn finish_taken<A: Ask>(
     live: &mut Live,
     irp: IrpRef,
@@ -433,7 +435,7 @@ pub fn finish_taken<A: Ask>(
 ) -> Reply
     requires sound { IsSound (A.tables ask.now).counts live.old.packet }
     requires empty { asked.old.items ≡ [] }
-    requires room { vec_len asked.old + most_locations ≤ vec_capacity asked.old }
+    requires room { vec_len asked.old + can_ask_up live.old.packet ≤ vec_capacity asked.old }
     ensures capacity { vec_capacity asked.new ≡ vec_capacity asked.old }
     ensures goes { Goes (or_else (packet_refusal_in (Some live.old) irp) (take_refusal live.old.packet irp.use_no token status))
         (Takes irp status information asked.new.items result live.old.packet) live.old live.new asked.new.items result }

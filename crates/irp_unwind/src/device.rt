@@ -1,6 +1,6 @@
 //! One device of a descent.
 
-ghost use Rattle.std.specs.Prelude.{◌≡◌, ◌+◌, ◌-◌, ◌<◌, ◌≤◌, true, false, is_some, Some, length, vec_len, vec_capacity};
+ghost use Rattle.std.specs.Prelude.{◌≡◌, ◌+◌, ◌<◌, ◌≤◌, true, false, is_some, Some, length, vec_len, vec_capacity};
 ghost use Rattle.std.specs.Option.{option_map_or};
 ghost use Rattle.irp_types.specs.Packet.{size_of};
 ghost use Rattle.irp_types.specs.Stacks.{facts_of, lower_of};
@@ -10,6 +10,7 @@ ghost use Rattle.irp_unwind.specs.Conditions.{HasDevices, HasRoutines};
 ghost use Rattle.irp_types.specs.Status.{pending};
 ghost use Rattle.irp_types.specs.declared.location.Owner.TheVariants.{Device as HeldBy};
 ghost use Rattle.irp_unwind.specs.declared.ending.Ending.TheVariants.{Held};
+ghost use Rattle.irp_unwind.specs.Endings.{can_ask_up};
 ghost use Rattle.irp_unwind.specs.Devices.{frame_at, shown_here, marked_here, passed_on, IsPlannedHere, EndsHere};
 
 use crate::ending::{Ending, Sent};
@@ -154,7 +155,7 @@ pub(crate) fn end_at<A: Ask>(
     requires placed { packet.old.current ≤ size_of packet.old }
     requires devices { HasDevices packet.old (packet.old.current + 1) }
     requires routines { HasRoutines (A.tables ask.now).counts packet.old packet.old.current }
-    requires room { vec_len asked.old + ((size_of packet.old + 1) - packet.old.current) ≤ vec_capacity asked.old }
+    requires room { vec_len asked.old + can_ask_up packet.old ≤ vec_capacity asked.old }
     requires stops { option_map_or is_passing plan false ≡ false }
     ensures ends { EndsHere (A.may_answer ask.now) irp packet.old device.0 plan packet.new asked.old.items asked.new.items result.ending }
     ensures status { result.status ≡ final_status plan }
