@@ -14,6 +14,7 @@ use irp_routines::Ask;
 use irp_types::{Asked, IrpRef, Owner};
 
 /// Clears the locations below the current one.
+#[inline]
 fn clear_below(packet: &mut Packet)
     requires { packet.old.current ≤ size_of packet.old }
     ensures bared { packet.new ≡ bared packet.old }
@@ -70,6 +71,7 @@ fn unwind_from<A: Ask>(packet: &mut Packet, irp: IrpRef, ask: &A, asked: &mut Ve
 /// `asked`, into room that is there: it takes no memory. The conditions are those of `can_unwind`, and room for one
 /// question for each location from the current one up. A packet without a cancel routine, which stands in no
 /// cancel slot, keeps the standing facts.
+#[inline]
 pub fn unwind<A: Ask>(packet: &mut Packet, irp: IrpRef, ask: &A, asked: &mut Vec<Asked>) -> Ending
     requires placed { packet.old.current ≤ size_of packet.old }
     requires devices { HasDevices packet.old (packet.old.current + 1) }
