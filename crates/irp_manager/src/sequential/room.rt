@@ -15,6 +15,7 @@ use irp_types::{Asked, Call, DeviceId, IrpRef};
 use std::alloc::AllocError;
 
 /// Gives back what so many questions don't need of the room of a list, where that is more than half of it.
+#[inline]
 pub(crate) fn give_back(room: &mut Vec<Asked>, used: usize)
     ensures items { room.new.items ≡ room.old.items }
     ensures len { vec_len room.new ≡ vec_len room.old }
@@ -27,6 +28,7 @@ pub(crate) fn give_back(room: &mut Vec<Asked>, used: usize)
 
 impl<K: Keep> Core<K> {
     /// The position of a device in its stack, from 1 at the bottom, and 1 where it was never created.
+    #[inline]
     fn depth(&self, device: DeviceId) -> u32
         ensures depth { result ≡ stack_size_of self.now.stacks.devices device.0 }
         ensures few { result ≤ most_locations }
@@ -39,6 +41,7 @@ impl<K: Keep> Core<K> {
     }
 
     /// To how many locations at most the packet of a reference comes in a call that sends it through so many devices.
+    #[inline]
     fn reach(&self, irp: IrpRef, depth: u32) -> usize
         ensures reach { within_reach (packet_of (state_of K.live self.now) irp) depth ≤ result }
         ensures few { result ≤ most_locations }
@@ -53,6 +56,7 @@ impl<K: Keep> Core<K> {
     }
 
     /// How many questions the packet of a reference can ask on its way up.
+    #[inline]
     fn rise(&self, irp: IrpRef) -> usize
         ensures ample { can_ask_up (packet_of (state_of K.live self.now) irp) ≤ result }
         ensures few { result ≤ most_locations + 1 }
@@ -64,6 +68,7 @@ impl<K: Keep> Core<K> {
     }
 
     /// How many questions a call asks at most, by the packet and the target that it finds.
+    #[inline]
     fn can_ask(&self, call: Call) -> usize
         ensures { can_ask (state_of K.live self.now) call ≤ result }
     {
@@ -83,8 +88,10 @@ impl<K: Keep> Core<K> {
     /// # Errors
     ///
     /// `AllocError` where the growth was refused.
+    #[inline]
     pub(crate) fn room_for(&self, call: Call) -> Result<Vec<Asked>, AllocError>
-        ensures { IfOk result (λ room. (room.items ≡ []) × (can_ask (state_of K.live self.now) call ≤ vec_capacity room) × (vec_len room ≡ 0)) }
+        ensures { IfOk result (λ room. (room.items ≡ [])
+            × (can_ask (state_of K.live self.now) call ≤ vec_capacity room) × (vec_len room ≡ 0)) }
     {
         Vec::with_capacity(self.alloc, self.can_ask(call))
     }
