@@ -39,7 +39,8 @@ use Rattle.irp_unwind.proofs.Lists.{all_by_index}
 use Rattle.irp_unwind.proofs.Frames.{last_has}
 use Rattle.irp_manager.specs.Slots.{Slots}
 use Rattle.irp_manager.specs.Cores.{state_of, fixed_with, most_asked, Stepped}
-use Rattle.irp_manager.specs.Rooms.{within_reach, can_ask}
+use Rattle.irp_unwind.specs.Descents.{can_ask_down}
+use Rattle.irp_manager.specs.Rooms.{can_ask}
 use Rattle.irp_manager.specs.declared.sequential.Core.{Core}
 use Rattle.irp_manager.proofs.Named.{sound_named}
 
@@ -128,7 +129,7 @@ few_ended irp last reached asked new (Some (Forward set)) ends = absurd ends
 few_ended irp last reached asked new (Some (ForwardPend set)) ends = absurd ends
 
 few_descended : (tables : Tables) (irp : IrpRef) (devices : DevicesValue) (old : PacketValue) (target : ℕ) (asked : List Asked) (new : PacketValue) (status : Status) → Descended tables irp devices old target asked new status
-    → length asked ≤ stack_size_of devices target + within_reach old (stack_size_of devices target)
+    → length asked ≤ can_ask_down devices old target
 few_descended tables irp devices old target asked new status descended =
     let frames = descended.frames in
     let last = last_frame frames in
@@ -174,19 +175,10 @@ few_effect fixed old (SkipCall party irp) asked reply new stands effect = none_f
 few_effect fixed old (SetRoutine party irp setting) asked reply new stands effect = none_few asked 0 effect.0
 few_effect fixed old (MarkPending party irp) asked reply new stands effect = none_few asked 0 effect.0
 few_effect fixed old (CallDriver party irp target) asked reply new stands effect = few_descended fixed.tables irp old.devices (packet_of old irp) target.0 asked effect.0 effect.1 effect.2
-few_effect fixed old (Complete party irp status information) asked reply new stands effect =
-    let few = few_completed irp (with_status (packet_of old irp) status information) effect.0 asked effect.1 in
-    let placed = (sound_named fixed.tables.counts old irp stands).placed in
-    omega (arith, few, placed)
-few_effect fixed old (FinishTaken irp token status information) asked reply new stands effect =
-    let few = few_completed irp (with_status (after_take (packet_of old irp)) status information) effect.0 asked effect.1 in
-    let placed = (sound_named fixed.tables.counts old irp stands).placed in
-    omega (arith, few, placed)
+few_effect fixed old (Complete party irp status information) asked reply new stands effect = few_completed irp (with_status (packet_of old irp) status information) effect.0 asked effect.1
+few_effect fixed old (FinishTaken irp token status information) asked reply new stands effect = few_completed irp (with_status (after_take (packet_of old irp)) status information) effect.0 asked effect.1
 few_effect fixed old (SetCancelRoutine party irp cancel) asked reply new stands effect = none_few asked 0 effect.0
-few_effect fixed old (Cancel irp) asked reply new stands effect =
-    let few = few_cancelled fixed.tables irp (packet_of old irp) effect.0 (packet_of old irp).cancel_routine asked reply effect.1 in
-    let placed = (sound_named fixed.tables.counts old irp stands).placed in
-    omega (arith, few, placed)
+few_effect fixed old (Cancel irp) asked reply new stands effect = few_cancelled fixed.tables irp (packet_of old irp) effect.0 (packet_of old irp).cancel_routine asked reply effect.1
 few_effect fixed old (Look irp) asked reply new stands effect = none_few asked 0 effect.0
 
 few_by : (fixed : Fixed) (old : StateValue) (call : Call) (asked : List Asked) (reply : Reply) (new : StateValue) (refusal : Option Refusal)

@@ -1,11 +1,12 @@
 -- What a call on one live packet does.
-use Rattle.std.specs.Prelude.{ℕ, ◌≡◌, Bool, true, false, not, ◌==◌, List, [], ◌∷◌, ◌++◌, Option, Some, None}
-use Rattle.irp_types.specs.Checks.{first_failing}
-use Rattle.irp_types.specs.Packet.{PacketValue, with_status, after_set_next, after_copy, after_skip, after_set_routine, after_mark, after_take}
+use Rattle.std.specs.Prelude.{ℕ, ◌≡◌, Bool, true, false, not, ◌==◌, List, [], ◌∷◌, ◌++◌, Option, Some, None, nat_le}
+use Rattle.irp_types.specs.Limits.{use_limit}
+use Rattle.irp_types.specs.Checks.{first_failing, or_else}
+use Rattle.irp_types.specs.Packet.{PacketValue, with_status, after_set_next, after_copy, after_skip, after_set_routine, after_mark, after_take, after_reset}
 use Rattle.irp_types.specs.Stacks.{DevicesValue}
 use Rattle.irp_types.specs.State.{LivePacket, Tables}
 use Rattle.irp_types.specs.Descent.{Descended}
-use Rattle.irp_types.specs.Refusals.{has_ended, is_owner, slot_check}
+use Rattle.irp_types.specs.Refusals.{has_ended, is_owner, slot_check, flight_check}
 use Rattle.irp_types.specs.Steps.{Completes, Follows, Cancels}
 use Rattle.irp_types.specs.declared.names.IrpRef.{IrpRef}
 use Rattle.irp_types.specs.declared.names.CancelId.{CancelId}
@@ -17,7 +18,7 @@ use Rattle.irp_types.specs.declared.call.Call.{Call}
 use Rattle.irp_types.specs.declared.call.Call.TheVariants.{CreateDevice, Attach, Detach, Delete, Allocate, Free, Reuse, SetNext, CopyToNext, Skip, SetRoutine, MarkPending, CallDriver, Complete, FinishTaken, SetCancelRoutine, Cancel, Look}
 use Rattle.irp_types.specs.declared.asked.Asked.{Asked}
 use Rattle.irp_types.specs.declared.refusal.Refusal.{Refusal}
-use Rattle.irp_types.specs.declared.refusal.Refusal.TheVariants.{NoIrp, Stale, NotOwner, Ended}
+use Rattle.irp_types.specs.declared.refusal.Refusal.TheVariants.{NoIrp, Stale, NotOwner, Ended, Full}
 use Rattle.irp_types.specs.declared.reply.Reply.{Reply}
 use Rattle.irp_types.specs.declared.reply.Reply.TheVariants.{Done, Status as StatusIs, Previous, Refused}
 
@@ -33,6 +34,20 @@ party_refusal_in (Some live) party irp = first_failing (
     (not (live.use_no == irp.use_no), Stale)
     ∷ (has_ended live.packet.owner, Ended)
     ∷ (not (is_owner party live.packet.owner), NotOwner) ∷ slot_check live.packet ∷ [])
+
+-- the checks of giving a packet back, at what stands in the slot
+abbrev pub flight_refusal_in : LivePacket → IrpRef → Option Refusal
+flight_refusal_in live irp = or_else (packet_refusal_in (Some live) irp) (first_failing (flight_check live.packet ∷ []))
+
+-- the checks of using a packet again under this number, at what stands in the slot
+abbrev pub reuse_refusal_in : LivePacket → IrpRef → ℕ → Option Refusal
+reuse_refusal_in live irp use_no =
+    or_else (packet_refusal_in (Some live) irp) (first_failing (flight_check live.packet ∷ (nat_le use_limit use_no, Full) ∷ []))
+
+-- a packet was refused another use and is as before, or it is as newly allocated, with this status, under this number
+abbrev pub Renews : Option Refusal → Status → ℕ → LivePacket → LivePacket → Type 0
+Renews None status use_no old new = new ≡ record { packet = after_reset old.packet status; use_no = use_no }
+Renews (Some refusal) status use_no old new = new ≡ old
 
 -- a call that names a party
 abbrev pub names_party : Call → Bool

@@ -1,13 +1,13 @@
 //! The cancellation of one live packet.
 
 ghost use Rattle.std.specs.Prelude.{◌≡◌, ◌+◌, ◌*◌, ◌≤◌, false, None, Some, [], ◌∷◌, vec_capacity, vec_len};
-ghost use Rattle.irp_types.specs.Limits.{most_locations};
 ghost use Rattle.irp_types.specs.Checks.{first_failing, or_else};
 ghost use Rattle.irp_types.specs.Packet.{size_of};
 ghost use Rattle.irp_types.specs.Refusals.{ended_check};
 ghost use Rattle.irp_types.specs.Standing.{IsSound};
 ghost use Rattle.irp_types.specs.Steps.{owning_device, shown_to_cancel, Cancels};
 ghost use Rattle.irp_routines.specs.Answers.{AreAnswered};
+ghost use Rattle.irp_unwind.specs.Endings.{can_ask_up};
 ghost use Rattle.irp_manager.specs.Calls.{packet_refusal_in, Goes, Followed, IsCancelled};
 
 use crate::keep::Live;
@@ -58,7 +58,7 @@ fn shown_to_cancel(packet: &Packet, irp: IrpRef) -> Shown
     }
 }
 
-/// Does what follows a cancel routine's answer. The room is for a question to each location.
+/// Does what follows a cancel routine's answer. The room is for a question to each location from the current one up.
 fn follow<A: Ask>(
     packet: &mut Packet,
     irp: IrpRef,
@@ -70,7 +70,7 @@ fn follow<A: Ask>(
     requires taken { packet.old.cancel_routine ≡ None }
     requires unheld { packet.old.slot_held ≡ false }
     requires placed { packet.old.current ≤ size_of packet.old }
-    requires room { vec_len asked.old + most_locations ≤ vec_capacity asked.old }
+    requires room { vec_len asked.old + can_ask_up packet.old ≤ vec_capacity asked.old }
     ensures capacity { vec_capacity asked.new ≡ vec_capacity asked.old }
     ensures followed { Followed (AreAnswered (A.may_plan ask.now) (A.may_answer ask.now) (A.may_cancel ask.now))
         irp packet.old packet.new answer asked.old.items asked.new.items }
@@ -89,7 +89,7 @@ fn follow<A: Ask>(
 fn cancel_packet<A: Ask>(packet: &mut Packet, irp: IrpRef, ask: &A, asked: &mut Vec<Asked>) -> Reply
     requires sound { IsSound (A.tables ask.now).counts packet.old }
     requires empty { asked.old.items ≡ [] }
-    requires room { vec_len asked.old + 2 * most_locations ≤ vec_capacity asked.old }
+    requires room { vec_len asked.old + (1 + can_ask_up packet.old) ≤ vec_capacity asked.old }
     ensures capacity { vec_capacity asked.new ≡ vec_capacity asked.old }
     ensures cancelled { Cancels (A.tables ask.now) irp packet.old packet.old.cancel_routine asked.new.items result packet.new }
     ensures may { AreAnswered (A.may_plan ask.now) (A.may_answer ask.now) (A.may_cancel ask.now) asked.new.items }
@@ -107,11 +107,12 @@ fn cancel_packet<A: Ask>(packet: &mut Packet, irp: IrpRef, ask: &A, asked: &mut 
     Reply::Cancelled(true)
 }
 
-/// Cancels the packet, where the reference names its use. The room is for a question to its cancel routine, and to each location.
+/// Cancels the packet, where the reference names its use. The room is for a question to its cancel
+/// routine, and to each location from the current one up.
 pub fn cancel<A: Ask>(live: &mut Live, irp: IrpRef, ask: &A, asked: &mut Vec<Asked>) -> Reply
     requires sound { IsSound (A.tables ask.now).counts live.old.packet }
     requires empty { asked.old.items ≡ [] }
-    requires room { vec_len asked.old + 2 * most_locations ≤ vec_capacity asked.old }
+    requires room { vec_len asked.old + (1 + can_ask_up live.old.packet) ≤ vec_capacity asked.old }
     ensures capacity { vec_capacity asked.new ≡ vec_capacity asked.old }
     ensures goes { Goes (or_else (packet_refusal_in (Some live.old) irp) (first_failing (ended_check live.old.packet ∷ [])))
         (IsCancelled (A.tables ask.now) irp asked.new.items result live.old.packet) live.old live.new asked.new.items result }

@@ -56,6 +56,7 @@ impl<A: Ask> Ask for HeldToTables<A> {
 
     ghost may_cancel = { λ held id shown answer. PassesCancel held.tables (A.tables held.ask ≡ held.tables) (A.may_cancel held.ask) id shown answer };
 
+    #[inline]
     fn counts(&self) -> Known {
         self.tables.counts()
     }
@@ -68,18 +69,22 @@ impl<A: Ask> Ask for HeldToTables<A> {
         self.tables.dispatches().len() as u32
     }
 
+    #[inline]
     fn known_of(&self, id: DispatchId) -> Known {
         self.tables.dispatches()[id.0 as usize]
     }
 
+    #[inline]
     fn cancel_rule(&self, id: CancelId) -> CancelRule {
         self.tables.cancel_rules()[id.0 as usize]
     }
 
+    #[inline]
     fn dispatch_of(&self, driver: DriverId, major: u8) -> Option<DispatchId> {
         self.tables.dispatch_of(driver, major)
     }
 
+    #[inline]
     fn plan(&self, id: DispatchId, shown: Shown) -> Plan {
         let known = self.known_of(id);
         let mut plan = INVALID_REQUEST;
@@ -89,6 +94,7 @@ impl<A: Ask> Ask for HeldToTables<A> {
         guarded_plan(known, shown, plan)
     }
 
+    #[inline]
     fn answer(&self, id: RoutineId, shown: Shown) -> Answer {
         let mut answer = Answer {
             keep: false,

@@ -1,20 +1,21 @@
 //! What a call does to one live packet.
 
-ghost use Rattle.std.specs.Prelude.{◌≡◌, ◌+◌, ◌*◌, ◌<◌, ◌≤◌, false, true, Option, Some, None, [], ◌∷◌, length, vec_capacity, vec_len};
-ghost use Rattle.irp_types.specs.Limits.{most_locations};
-ghost use Rattle.irp_types.specs.Checks.{first_failing, or_else};
+ghost use Rattle.std.specs.Prelude.{◌≡◌, ◌+◌, ◌<◌, ◌≤◌, false, true, Option, Some, None, [], length, vec_capacity, vec_len};
+ghost use Rattle.irp_types.specs.Checks.{or_else};
 ghost use Rattle.irp_types.specs.Packet.{size_of, is_nothing, set_next_refusal, copy_to_next_refusal, mark_pending_refusal};
 ghost use Rattle.irp_types.specs.Stacks.{stack_size_of};
 ghost use Rattle.std.specs.List.{list_any};
 ghost use Rattle.irp_types.specs.Unwinding.{from_to};
-ghost use Rattle.irp_types.specs.Refusals.{is_owner, is_wrong_target, stands_at, has_packet, flight_check, leave_refusal, routine_refusal, cancel_refusal, send_refusal, complete_refusal, take_refusal};
+ghost use Rattle.irp_types.specs.Refusals.{is_owner, is_wrong_target, stands_at, has_packet, leave_refusal, routine_refusal, cancel_refusal, send_refusal, complete_refusal, take_refusal};
 ghost use Rattle.irp_types.specs.Descent.{StaysUp};
 ghost use Rattle.irp_types.specs.Steps.{seen_of};
 ghost use Rattle.irp_types.specs.Standing.{IsSound};
 ghost use Rattle.irp_types.specs.declared.status.Status.{Status};
 ghost use Rattle.irp_types.specs.declared.reply.Reply.TheVariants.{Status as StatusIs};
 ghost use Rattle.irp_routines.specs.Answers.{AreAnswered};
-ghost use Rattle.irp_manager.specs.Calls.{packet_refusal_in, party_refusal_in, Goes, Fills, Copies, Leaves, Sets, Marks, Sends, Finishes, Takes, SetsCancel};
+ghost use Rattle.irp_unwind.specs.Endings.{can_ask_up};
+ghost use Rattle.irp_unwind.specs.Descents.{can_ask_down};
+ghost use Rattle.irp_manager.specs.Calls.{packet_refusal_in, party_refusal_in, flight_refusal_in, reuse_refusal_in, Renews, Goes, Fills, Copies, Leaves, Sets, Marks, Sends, Finishes, Takes, SetsCancel};
 
 use crate::keep::Live;
 use irp_packet::Packet;
@@ -26,7 +27,11 @@ use irp_types::{
 };
 use irp_unwind::{descend, unwind};
 
+/// Use numbers are below this.
+pub(crate) const USE_LIMIT: u64 = 0x8000_0000_0000_0000;
+
 /// Whether the party is the owner.
+#[inline]
 fn is_owner(party: Party, owner: Owner) -> bool
     ensures { result ≡ is_owner party owner }
 {
@@ -40,6 +45,7 @@ fn is_owner(party: Party, owner: Owner) -> bool
 }
 
 /// Why a call that names the packet by this reference is refused, if it is.
+#[inline]
 pub fn packet_refusal(live: &Live, irp: IrpRef) -> Option<Refusal>
     ensures { result ≡ packet_refusal_in (Some live.now) irp }
 {
@@ -50,6 +56,7 @@ pub fn packet_refusal(live: &Live, irp: IrpRef) -> Option<Refusal>
 }
 
 /// Why a call of this party on the packet is refused, if it is.
+#[inline]
 pub fn party_refusal(live: &Live, party: Party, irp: IrpRef) -> Option<Refusal>
     ensures refusal { result ≡ party_refusal_in (Some live.now) party irp }
     ensures free { result ≡ None → live.now.packet.slot_held ≡ false }
@@ -71,6 +78,7 @@ pub fn party_refusal(live: &Live, party: Party, irp: IrpRef) -> Option<Refusal>
 }
 
 /// Fills the next lower location, where the party may.
+#[inline]
 pub fn set_next(live: &mut Live, party: Party, irp: IrpRef, major: u8, word: u64) -> Reply
     ensures goes { Goes (or_else (party_refusal_in (Some live.old) party irp) (set_next_refusal live.old.packet major))
         (Fills major word [] result live.old.packet) live.old live.new [] result }
@@ -99,6 +107,7 @@ pub fn copy_to_next(live: &mut Live, party: Party, irp: IrpRef) -> Reply
 }
 
 /// Why an owner has no location of its own to mark or to give away, if it has none.
+#[inline]
 fn location_check(packet: &Packet) -> Option<Refusal>
     ensures { result ≡ mark_pending_refusal packet.now }
 {
@@ -229,13 +238,34 @@ pub fn has_packet(live: &Live, device: DeviceId) -> bool
     is_owner(Party::Device(device), live.packet.owner()) || stands_in(&live.packet, device)
 }
 
-/// Why the packet is not given back or used again, if it is not.
-pub fn flight_refusal(live: &Live) -> Option<Refusal>
-    ensures { result ≡ first_failing (flight_check live.now.packet ∷ []) }
+/// Why the packet of a reference is not given back or used again, if it is not.
+#[inline]
+pub fn flight_refusal(live: &Live, irp: IrpRef) -> Option<Refusal>
+    ensures { result ≡ flight_refusal_in live.now irp }
 {
+    if live.use_no != irp.use_no {
+        return Some(Refusal::Stale);
+    }
     if matches!(live.packet.owner(), Owner::Device(_)) {
         return Some(Refusal::InFlight);
     }
+    None
+}
+
+/// Gives the packet another use, of this number, where it may be used again, and answers why it is not, if it is not.
+#[inline]
+pub fn reuse(live: &mut Live, irp: IrpRef, status: Status, use_no: u64) -> Option<Refusal>
+    ensures refusal { result ≡ reuse_refusal_in live.old irp use_no }
+    ensures renews { Renews result status use_no live.old live.new }
+{
+    if let Some(refusal) = flight_refusal(live, irp) {
+        return Some(refusal);
+    }
+    if use_no >= USE_LIMIT {
+        return Some(Refusal::Full);
+    }
+    live.packet.reset(status);
+    live.use_no = use_no;
     None
 }
 
@@ -280,6 +310,7 @@ pub fn set_routine(
 }
 
 /// Why a device is not sent the packet, if it is not.
+#[inline]
 fn send_check(packet: &Packet, stacks: &Stacks, party: Party, target: DeviceId) -> Option<Refusal>
     ensures refusal { result ≡ send_refusal stacks.now.devices party packet.now target.0 }
     ensures created { result ≡ None → target.0 < length stacks.now.devices.facts }
@@ -309,6 +340,7 @@ fn send_check(packet: &Packet, stacks: &Stacks, party: Party, target: DeviceId) 
 }
 
 /// Whether a device sends elsewhere than to the device below it.
+#[inline]
 fn is_wrong_target(stacks: &Stacks, party: Party, target: DeviceId) -> bool
     ensures { result ≡ is_wrong_target stacks.now.devices party target.0 }
 {
@@ -321,7 +353,9 @@ fn is_wrong_target(stacks: &Stacks, party: Party, target: DeviceId) -> bool
     }
 }
 
-/// Sends the packet to a device, where the party may. The room is for a question to each device from there down, and to each location.
+/// Sends the packet to a device, where the party may. The room is for a question to each device from there down, and to each
+/// location that the packet may come to.
+#[inline]
 pub fn send<A: Ask>(
     live: &mut Live,
     irp: IrpRef,
@@ -333,7 +367,8 @@ pub fn send<A: Ask>(
 ) -> Reply
     requires sound { IsSound (A.tables ask.now).counts live.old.packet }
     requires empty { asked.old.items ≡ [] }
-    requires room { vec_len asked.old + 2 * most_locations ≤ vec_capacity asked.old }
+    requires room { vec_len asked.old + can_ask_down stacks.now.devices live.old.packet target.0
+        ≤ vec_capacity asked.old }
     ensures capacity { vec_capacity asked.new ≡ vec_capacity asked.old }
     ensures goes { Goes (or_else (party_refusal_in (Some live.old) party irp) (send_refusal stacks.now.devices party live.old.packet target.0))
         (Sends (A.tables ask.now) irp stacks.now.devices target.0 asked.new.items result live.old.packet) live.old live.new asked.new.items result }
@@ -353,6 +388,7 @@ pub fn send<A: Ask>(
 }
 
 /// Why the packet is not completed, if it is not.
+#[inline]
 fn complete_check(packet: &Packet, status: Status) -> Option<Refusal>
     ensures refusal { result ≡ complete_refusal packet.now status }
     ensures placed { result ≡ None → packet.now.current ≤ size_of packet.now }
@@ -370,7 +406,8 @@ fn complete_check(packet: &Packet, status: Status) -> Option<Refusal>
     None
 }
 
-/// Completes the packet, where the party may. The room is for a question to each location.
+/// Completes the packet, where the party may. The room is for a question to each location from the current one up.
+#[inline]
 pub fn complete<A: Ask>(
     live: &mut Live,
     irp: IrpRef,
@@ -382,7 +419,7 @@ pub fn complete<A: Ask>(
 ) -> Reply
     requires sound { IsSound (A.tables ask.now).counts live.old.packet }
     requires empty { asked.old.items ≡ [] }
-    requires room { vec_len asked.old + most_locations ≤ vec_capacity asked.old }
+    requires room { vec_len asked.old + can_ask_up live.old.packet ≤ vec_capacity asked.old }
     ensures capacity { vec_capacity asked.new ≡ vec_capacity asked.old }
     ensures goes { Goes (or_else (party_refusal_in (Some live.old) party irp) (complete_refusal live.old.packet status))
         (Finishes irp status information asked.new.items result live.old.packet) live.old live.new asked.new.items result }
@@ -421,7 +458,7 @@ fn take_check(packet: &Packet, use_no: u64, token: u64, status: Status) -> Optio
 }
 
 /// Completes the packet, which stands in a cancel slot, for who has the token that was taken from there. The room is for
-/// a question to each location.
+/// a question to each location from the current one up.
 pub fn finish_taken<A: Ask>(
     live: &mut Live,
     irp: IrpRef,
@@ -433,7 +470,7 @@ pub fn finish_taken<A: Ask>(
 ) -> Reply
     requires sound { IsSound (A.tables ask.now).counts live.old.packet }
     requires empty { asked.old.items ≡ [] }
-    requires room { vec_len asked.old + most_locations ≤ vec_capacity asked.old }
+    requires room { vec_len asked.old + can_ask_up live.old.packet ≤ vec_capacity asked.old }
     ensures capacity { vec_capacity asked.new ≡ vec_capacity asked.old }
     ensures goes { Goes (or_else (packet_refusal_in (Some live.old) irp) (take_refusal live.old.packet irp.use_no token status))
         (Takes irp status information asked.new.items result live.old.packet) live.old live.new asked.new.items result }

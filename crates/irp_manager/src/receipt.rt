@@ -38,6 +38,7 @@ impl Model for Receipt {
 
 impl Receipt {
     /// What tells of this entry.
+    #[inline]
     pub(super) fn of(entry: &Entry) -> Receipt
         requires { entry.now.number < most_entries }
         ensures { result ≡ receipt_of entry.now }

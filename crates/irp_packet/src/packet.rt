@@ -80,6 +80,7 @@ impl Packet {
     /// # Errors
     ///
     /// `BadSize` exactly where `size` is 0 or above 32 (this project's own rule).
+    #[inline(always)]
     pub fn new(alloc: Global, size: u8) -> Result<Packet, Refusal>
         ensures { result
             ≡ (if (size == 0) || nat_lt most_locations size then Err BadSize else Ok (new_packet size)) }
@@ -104,6 +105,7 @@ impl Packet {
     }
 
     /// How many locations it has, from 1 to 32.
+    #[inline]
     pub fn size(&self) -> u32
         ensures size { result ≡ size_of self.now }
         ensures some { 1 ≤ result }
@@ -114,6 +116,7 @@ impl Packet {
 
     /// The number of the location in use, from 1 to `size + 1`. At `size + 1` the packet stands above its highest
     /// location (WDK: "I/O Stack Locations").
+    #[inline]
     pub fn current(&self) -> u32
         ensures current { result ≡ self.now.current }
         ensures placed { 1 ≤ result }
@@ -124,6 +127,7 @@ impl Packet {
     }
 
     /// The status in its I/O status block (WDK: "IO_STATUS_BLOCK").
+    #[inline]
     pub fn status(&self) -> Status
         ensures { result ≡ self.now.status }
     {
@@ -131,6 +135,7 @@ impl Packet {
     }
 
     /// The information in its I/O status block, any number of 64 bits (WDK: "IO_STATUS_BLOCK").
+    #[inline]
     pub fn information(&self) -> u64
         ensures { result ≡ self.now.information }
     {
@@ -138,6 +143,7 @@ impl Packet {
     }
 
     /// PendingReturned, which completion routines are shown (WDK: "IRP").
+    #[inline]
     pub fn pending_returned(&self) -> bool
         ensures { result ≡ self.now.pending_returned }
     {
@@ -145,6 +151,7 @@ impl Packet {
     }
 
     /// Whether the packet was cancelled (WDK: "IRP").
+    #[inline]
     pub fn cancel(&self) -> bool
         ensures { result ≡ self.now.cancel }
     {
@@ -152,6 +159,7 @@ impl Packet {
     }
 
     /// Its cancel routine, if one is set (WDK: "IoSetCancelRoutine").
+    #[inline]
     pub fn cancel_routine(&self) -> Option<CancelId>
         ensures { result ≡ self.now.cancel_routine }
     {
@@ -159,6 +167,7 @@ impl Packet {
     }
 
     /// Who owns it (this project's own rule).
+    #[inline]
     pub fn owner(&self) -> Owner
         ensures { result ≡ self.now.owner }
     {
@@ -167,6 +176,7 @@ impl Packet {
 
     /// How far it is prepared for the next lower device (this project's own rule). A packet that is prepared at all
     /// has a `current` of 2 or more.
+    #[inline]
     pub fn preparation(&self) -> Preparation
         ensures preparation { result ≡ self.now.preparation }
         ensures prepared { is_nothing result ≡ false → 2 ≤ self.now.current }
@@ -175,6 +185,7 @@ impl Packet {
     }
 
     /// Whether it stands in a cancel slot, and only who takes it from there completes it (this project's own rule).
+    #[inline]
     pub fn slot_held(&self) -> bool
         ensures { result ≡ self.now.slot_held }
     {
@@ -192,6 +203,7 @@ impl Packet {
     }
 
     /// The content of location `number`, which the packet has.
+    #[inline]
     pub fn location_at(&self, number: u32) -> Location
         requires some { 1 ≤ number }
         requires within { number ≤ size_of self.now }
@@ -210,6 +222,7 @@ impl Packet {
     ///
     /// In this order (this project's own rule), and then the packet stays as it was: `AfterSkip` where the owner gave
     /// its location away, `TooShort` where `current` is 1, `BadMajor` where `major` is above 0x1b.
+    #[inline]
     pub fn set_next(&mut self, major: u8, word: u64) -> Result<(), Refusal>
         ensures answer { result ≡ answer_unless (set_next_refusal self.old major) tt }
         ensures changed { self.new
@@ -318,6 +331,7 @@ impl Packet {
     }
 
     // whether the owner has a location of its own, which it did not give away
+    #[inline]
     fn check_location(&self) -> Result<(), Refusal>
         ensures { result ≡ answer_unless (skip_refusal self.now) tt }
     {
@@ -335,6 +349,7 @@ impl Packet {
 impl Packet {
     /// Lowers `current` by one, and writes into that location which device was sent the packet. The packet is not
     /// prepared then; the location keeps the rest (WDK: "IoCallDriver").
+    #[inline]
     pub fn enter(&mut self, device: DeviceId)
         requires { 1 < self.old.current }
         ensures { self.new ≡ after_enter self.old device }
@@ -347,6 +362,7 @@ impl Packet {
 
     /// Copies the current location to the next lower one, without its pending bit and with this completion routine or
     /// none in place of its own, and makes the packet Filled (WDK: "IoCopyCurrentIrpStackLocationToNext").
+    #[inline]
     pub fn copy(&mut self, setting: Option<Setting>)
         requires lower { 1 < self.old.current }
         requires within { self.old.current ≤ size_of self.old }
@@ -364,6 +380,7 @@ impl Packet {
     }
 
     /// Marks location `number` pending (WDK: "IoMarkIrpPending").
+    #[inline]
     pub fn mark(&mut self, number: u32)
         requires some { 1 ≤ number }
         requires within { number ≤ size_of self.old }
@@ -373,6 +390,7 @@ impl Packet {
     }
 
     /// Clears location `number`, as unwinding leaves each that it has done with (WDK: "IoCompleteRequest").
+    #[inline]
     pub fn clear(&mut self, number: u32)
         requires some { 1 ≤ number }
         requires within { number ≤ size_of self.old }
@@ -383,6 +401,7 @@ impl Packet {
 
     /// Raises `current` by one, to the next higher location or above the highest. The packet is not prepared then
     /// (WDK: "IoCompleteRequest").
+    #[inline]
     pub fn rise(&mut self)
         requires { self.old.current ≤ size_of self.old }
         ensures { self.new ≡ after_rise self.old }
@@ -392,6 +411,7 @@ impl Packet {
     }
 
     /// Writes the I/O status block (WDK: "IO_STATUS_BLOCK").
+    #[inline]
     pub fn set_status(&mut self, status: Status, information: u64)
         ensures { self.new ≡ with_status self.old status information }
     {
@@ -400,6 +420,7 @@ impl Packet {
     }
 
     /// Writes PendingReturned (WDK: "IRP").
+    #[inline]
     pub fn set_returned(&mut self, pending: bool)
         ensures { self.new ≡ record self.old { pending_returned = pending } }
     {
@@ -407,6 +428,7 @@ impl Packet {
     }
 
     /// Writes who owns the packet (this project's own rule).
+    #[inline]
     pub fn set_owner(&mut self, owner: Owner)
         ensures { self.new ≡ record self.old { owner = owner } }
     {
@@ -414,6 +436,7 @@ impl Packet {
     }
 
     /// Writes the cancel flag and the cancel routine, or none (WDK: "IoSetCancelRoutine", "IoCancelIrp").
+    #[inline]
     pub fn set_cancel(&mut self, cancel: bool, routine: Option<CancelId>)
         ensures { self.new ≡ record self.old { cancel = cancel; cancel_routine = routine } }
     {
@@ -422,6 +445,7 @@ impl Packet {
     }
 
     /// Writes whether the packet stands in a cancel slot (this project's own rule).
+    #[inline]
     pub fn set_slot_held(&mut self, slot_held: bool)
         ensures { self.new ≡ record self.old { slot_held = slot_held } }
     {

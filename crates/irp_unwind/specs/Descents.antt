@@ -1,7 +1,7 @@
 -- How a descent ends, and all that it does.
-use Rattle.std.specs.Prelude.{ℕ, ◌≡◌, ◌-◌, ◌<◌, ◌++◌, List, length}
+use Rattle.std.specs.Prelude.{ℕ, ◌≡◌, ◌+◌, ◌-◌, ◌<◌, ◌++◌, List, length}
 use Rattle.std.specs.List.{AllByRecursion}
-use Rattle.irp_types.specs.Packet.{PacketValue}
+use Rattle.irp_types.specs.Packet.{PacketValue, size_of}
 use Rattle.irp_types.specs.Stacks.{DevicesValue, stack_size_of}
 use Rattle.irp_types.specs.State.{Tables}
 use Rattle.irp_types.specs.Descent.{Descended, last_frame}
@@ -20,6 +20,15 @@ pub record Descends (may : Asked → Type 0) (tables : Tables) (irp : IrpRef) (d
   pub listed : after ≡ before ++ asked
   pub given : AllByRecursion may asked
   pub ended : sent.ending ≡ ending_at (last_frame descended.frames) descended.reached descended.unwinding (last_frame descended.frames).plan
+
+-- the locations of a packet but those that it stays above when it goes down through so many devices
+abbrev pub within_reach : PacketValue → ℕ → ℕ
+within_reach packet depth = size_of packet - ((packet.current - 1) - depth)
+
+-- how many questions a descent can ask: one to each device from the target down, and one to each location that the packet
+-- may come to
+abbrev pub can_ask_down : DevicesValue → PacketValue → ℕ → ℕ
+can_ask_down devices packet target = stack_size_of devices target + within_reach packet (stack_size_of devices target)
 
 -- the packet may be sent to the device: the device was created, there are locations enough, those in use have devices,
 -- and from the prepared one up the routines are there

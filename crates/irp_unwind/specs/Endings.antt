@@ -1,7 +1,7 @@
 -- How an unwinding ends, and all that it does.
-use Rattle.std.specs.Prelude.{◌≡◌, ◌++◌, is_some, if◌then◌else◌, List, map}
+use Rattle.std.specs.Prelude.{ℕ, ◌≡◌, ◌+◌, ◌-◌, ◌++◌, is_some, if◌then◌else◌, List, map}
 use Rattle.std.specs.List.{AllByRecursion}
-use Rattle.irp_types.specs.Packet.{PacketValue}
+use Rattle.irp_types.specs.Packet.{PacketValue, size_of}
 use Rattle.irp_types.specs.Unwinding.{Asking, as_asked, keeper_of, owner_after, Unwound}
 use Rattle.irp_types.specs.declared.names.IrpRef.{IrpRef}
 use Rattle.irp_types.specs.declared.routine.RoutineId.{RoutineId}
@@ -10,6 +10,10 @@ use Rattle.irp_types.specs.declared.answer.Answer.{Answer}
 use Rattle.irp_types.specs.declared.asked.Asked.{Asked}
 use Rattle.irp_unwind.specs.declared.ending.Ending.{Ending}
 use Rattle.irp_unwind.specs.declared.ending.Ending.TheVariants.{Kept, Ended}
+
+-- how many questions an unwinding can ask: one to each location from the current one up
+abbrev pub can_ask_up : PacketValue → ℕ
+can_ask_up packet = (size_of packet + 1) - packet.current
 
 -- kept by the packet's new owner where a routine kept it, else ended
 abbrev pub ending_of : PacketValue → List Asking → Ending

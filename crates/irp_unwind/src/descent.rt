@@ -7,7 +7,7 @@ ghost use Rattle.irp_types.specs.Descent.{StaysUp};
 ghost use Rattle.irp_types.specs.Standing.{IsSound};
 ghost use Rattle.irp_routines.specs.Answers.{IsAnswered};
 ghost use Rattle.irp_unwind.specs.Conditions.{HasDevices, HasRoutines};
-ghost use Rattle.irp_unwind.specs.Descents.{Descends};
+ghost use Rattle.irp_unwind.specs.Descents.{Descends, can_ask_down};
 
 use crate::device::{ask_plan, device_below, end_at, is_passing, marks_location, pass_on};
 use crate::ending::Sent;
@@ -31,7 +31,8 @@ fn descend_from<A: Ask>(
     requires within { packet.old.current ≤ size_of packet.old + 1 }
     requires placed { HasDevices packet.old packet.old.current }
     requires routines { HasRoutines (A.tables ask.now).counts packet.old (packet.old.current - 1) }
-    requires room { vec_len asked.old + stack_size_of stacks.now.devices target.0 + size_of packet.old ≤ vec_capacity asked.old }
+    requires room { vec_len asked.old + can_ask_down stacks.now.devices packet.old target.0
+        ≤ vec_capacity asked.old }
     ensures descends { Descends (IsAnswered (A.may_plan ask.now) (A.may_answer ask.now) (A.may_cancel ask.now)) (A.tables ask.now) irp stacks.now.devices packet.old target.0 packet.new asked.old.items asked.new.items result }
     ensures capacity { vec_capacity asked.new ≡ vec_capacity asked.old }
 {
@@ -67,8 +68,10 @@ fn descend_from<A: Ask>(
 ///
 /// `irp` is the packet's own reference, which the closures are shown. What is asked goes behind the other questions in
 /// `asked`, into room that is there: it takes no memory. The conditions are those of `can_descend`, and room for one
-/// question for each device from the target down and one for each location. A prepared packet without a cancel routine
-/// keeps the standing facts.
+/// question for each device from the target down and one for each location that the packet may come to: all but those
+/// that it stays above when it goes down through so many devices. A prepared packet without a cancel routine keeps the
+/// standing facts.
+#[inline]
 pub fn descend<A: Ask>(
     packet: &mut Packet,
     irp: IrpRef,
@@ -81,7 +84,8 @@ pub fn descend<A: Ask>(
     requires deep { stack_size_of stacks.now.devices target.0 < packet.old.current }
     requires placed { HasDevices packet.old packet.old.current }
     requires routines { HasRoutines (A.tables ask.now).counts packet.old (packet.old.current - 1) }
-    requires room { vec_len asked.old + stack_size_of stacks.now.devices target.0 + size_of packet.old ≤ vec_capacity asked.old }
+    requires room { vec_len asked.old + can_ask_down stacks.now.devices packet.old target.0
+        ≤ vec_capacity asked.old }
     ensures descends { Descends (IsAnswered (A.may_plan ask.now) (A.may_answer ask.now) (A.may_cancel ask.now)) (A.tables ask.now) irp stacks.now.devices packet.old target.0 packet.new asked.old.items asked.new.items result }
     ensures capacity { vec_capacity asked.new ≡ vec_capacity asked.old }
     ensures stays { StaysUp packet.old packet.new result.status }

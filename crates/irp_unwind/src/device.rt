@@ -1,6 +1,6 @@
 //! One device of a descent.
 
-ghost use Rattle.std.specs.Prelude.{◌≡◌, ◌+◌, ◌-◌, ◌<◌, ◌≤◌, true, false, is_some, Some, length, vec_len, vec_capacity};
+ghost use Rattle.std.specs.Prelude.{◌≡◌, ◌+◌, ◌<◌, ◌≤◌, true, false, is_some, Some, length, vec_len, vec_capacity};
 ghost use Rattle.std.specs.Option.{option_map_or};
 ghost use Rattle.irp_types.specs.Packet.{size_of};
 ghost use Rattle.irp_types.specs.Stacks.{facts_of, lower_of};
@@ -10,6 +10,7 @@ ghost use Rattle.irp_unwind.specs.Conditions.{HasDevices, HasRoutines};
 ghost use Rattle.irp_types.specs.Status.{pending};
 ghost use Rattle.irp_types.specs.declared.location.Owner.TheVariants.{Device as HeldBy};
 ghost use Rattle.irp_unwind.specs.declared.ending.Ending.TheVariants.{Held};
+ghost use Rattle.irp_unwind.specs.Endings.{can_ask_up};
 ghost use Rattle.irp_unwind.specs.Devices.{frame_at, shown_here, marked_here, passed_on, IsPlannedHere, EndsHere};
 
 use crate::ending::{Ending, Sent};
@@ -20,6 +21,7 @@ use irp_stack::Stacks;
 use irp_types::{Asked, CancelId, DeviceId, DriverId, IrpRef, Owner, Plan, Shown, Status};
 
 /// Whether a plan passes the packet down.
+#[inline]
 pub(crate) fn is_passing(plan: Option<Plan>) -> bool
     ensures { result ≡ option_map_or is_passing plan false }
 {
@@ -30,6 +32,7 @@ pub(crate) fn is_passing(plan: Option<Plan>) -> bool
 }
 
 /// Whether a plan marks its location pending.
+#[inline]
 pub(crate) fn marks_location(plan: Option<Plan>) -> bool
     ensures { result ≡ option_map_or marks_location plan false }
 {
@@ -40,6 +43,7 @@ pub(crate) fn marks_location(plan: Option<Plan>) -> bool
 }
 
 /// What the dispatch of a device is shown in the current location.
+#[inline]
 fn shown_here(packet: &Packet, irp: IrpRef, stacks: &Stacks, device: DeviceId) -> Shown
     requires { packet.now.current ≤ size_of packet.now }
     ensures { result ≡ shown_here irp packet.now stacks.now.devices device.0 }
@@ -62,6 +66,7 @@ fn shown_here(packet: &Packet, irp: IrpRef, stacks: &Stacks, device: DeviceId) -
 }
 
 /// The driver of a device that was created.
+#[inline]
 fn driver_of(stacks: &Stacks, device: DeviceId) -> DriverId
     requires { device.0 < length stacks.now.devices.facts }
     ensures { result ≡ (facts_of stacks.now.devices device.0).driver }
@@ -73,6 +78,7 @@ fn driver_of(stacks: &Stacks, device: DeviceId) -> DriverId
 }
 
 /// Asks the dispatch of a device's driver for the major function code of the current location, if the driver has one.
+#[inline]
 pub(crate) fn ask_plan<A: Ask>(
     packet: &Packet,
     irp: IrpRef,
@@ -96,6 +102,7 @@ pub(crate) fn ask_plan<A: Ask>(
 }
 
 /// The device below, which is there.
+#[inline]
 pub(crate) fn device_below(stacks: &Stacks, device: DeviceId) -> DeviceId
     requires { is_some (lower_of stacks.now.devices device.0) ≡ true }
     ensures { lower_of stacks.now.devices device.0 ≡ Some result.0 }
@@ -107,6 +114,7 @@ pub(crate) fn device_below(stacks: &Stacks, device: DeviceId) -> DeviceId
 }
 
 /// Leaves the current location for the next lower device, as a plan says.
+#[inline]
 pub(crate) fn pass_on(packet: &mut Packet, plan: Option<Plan>)
     requires placed { packet.old.current ≤ size_of packet.old }
     requires lower { option_map_or is_copying plan false ≡ true → 1 < packet.old.current }
@@ -125,6 +133,7 @@ pub(crate) fn pass_on(packet: &mut Packet, plan: Option<Plan>)
 }
 
 /// The device marks the current location and owns the packet, with this cancel routine or none.
+#[inline]
 fn hold(packet: &mut Packet, device: DeviceId, cancel: Option<CancelId>) -> Sent
     requires { packet.old.current ≤ size_of packet.old }
     ensures held { packet.new ≡ record (marked_here packet.old) { owner = HeldBy device; cancel_routine = cancel } }
@@ -143,6 +152,7 @@ fn hold(packet: &mut Packet, device: DeviceId, cancel: Option<CancelId>) -> Sent
 
 /// Ends a descent at a device whose plan doesn't pass the packet down: the device holds it, or it is finished and
 /// unwound, as an invalid request where there is no plan.
+#[inline]
 pub(crate) fn end_at<A: Ask>(
     packet: &mut Packet,
     irp: IrpRef,
@@ -154,7 +164,7 @@ pub(crate) fn end_at<A: Ask>(
     requires placed { packet.old.current ≤ size_of packet.old }
     requires devices { HasDevices packet.old (packet.old.current + 1) }
     requires routines { HasRoutines (A.tables ask.now).counts packet.old packet.old.current }
-    requires room { vec_len asked.old + ((size_of packet.old + 1) - packet.old.current) ≤ vec_capacity asked.old }
+    requires room { vec_len asked.old + can_ask_up packet.old ≤ vec_capacity asked.old }
     requires stops { option_map_or is_passing plan false ≡ false }
     ensures ends { EndsHere (A.may_answer ask.now) irp packet.old device.0 plan packet.new asked.old.items asked.new.items result.ending }
     ensures status { result.status ≡ final_status plan }

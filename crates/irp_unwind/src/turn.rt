@@ -13,6 +13,7 @@ use irp_routines::Ask;
 use irp_types::{Answer, Asked, DeviceId, IrpRef, Setting, Shown, Status};
 
 /// Whether a status, or the cancel flag, meets the flags of a setting.
+#[inline]
 fn meets_flags(setting: Setting, cancel: bool, status: Status) -> bool
     ensures { result ≡ meets_flags setting cancel status }
 {
@@ -23,6 +24,7 @@ fn meets_flags(setting: Setting, cancel: bool, status: Status) -> bool
 }
 
 /// The device of the next higher location, none at the top.
+#[inline]
 pub(crate) fn device_above(packet: &Packet, number: u32) -> Option<DeviceId>
     requires some { 1 ≤ number }
     requires within { number ≤ size_of packet.now }
@@ -36,6 +38,7 @@ pub(crate) fn device_above(packet: &Packet, number: u32) -> Option<DeviceId>
 }
 
 /// What the routine of the current location is shown.
+#[inline]
 fn shown_now(packet: &Packet, irp: IrpRef, setting: Setting) -> Shown
     requires { packet.now.current ≤ size_of packet.now }
     ensures { result ≡ shown_now irp packet.now setting }
@@ -58,6 +61,7 @@ fn shown_now(packet: &Packet, irp: IrpRef, setting: Setting) -> Shown
 }
 
 /// The answer that stands for a routine's where nobody is asked: it continues, and the pending bit goes on.
+#[inline]
 fn unasked(packet: &Packet) -> Answer
     requires { packet.now.current ≤ size_of packet.now }
     ensures { result ≡ unasked packet.now }
@@ -71,6 +75,7 @@ fn unasked(packet: &Packet) -> Answer
 }
 
 /// Asks a completion routine, and puts the question behind the others.
+#[inline]
 fn ask_routine<A: Ask>(ask: &A, setting: Setting, shown: Shown, asked: &mut Vec<Asked>) -> Answer
     requires known { is_known (A.tables ask.now).counts setting ≡ true }
     requires room { vec_len asked.old < vec_capacity asked.old }
@@ -85,6 +90,7 @@ fn ask_routine<A: Ask>(ask: &A, setting: Setting, shown: Shown, asked: &mut Vec<
 }
 
 /// Asks the routine of the current location if there is one and its flags are met, and answers how to go on.
+#[inline]
 pub(crate) fn consult<A: Ask>(
     packet: &Packet,
     irp: IrpRef,
@@ -111,6 +117,7 @@ pub(crate) fn consult<A: Ask>(
 
 /// Leaves the current location: PendingReturned becomes its pending bit, the answer's replacement is taken, the
 /// location is cleared, the packet rises to the next higher one, and the mark goes there.
+#[inline]
 pub(crate) fn leave(packet: &mut Packet, answer: Answer)
     requires placed { packet.old.current ≤ size_of packet.old }
     requires above { answer.mark ≡ true → packet.old.current < size_of packet.old }

@@ -1,11 +1,11 @@
 //! A packet on its way up.
 
-ghost use Rattle.std.specs.Prelude.{◌≡◌, ◌+◌, ◌-◌, ◌≤◌, None, false, vec_len, vec_capacity};
+ghost use Rattle.std.specs.Prelude.{◌≡◌, ◌+◌, ◌≤◌, None, false, vec_len, vec_capacity};
 ghost use Rattle.irp_types.specs.Packet.{size_of};
 ghost use Rattle.irp_types.specs.Standing.{IsSound};
 ghost use Rattle.irp_unwind.specs.Conditions.{HasDevices, HasRoutines};
 ghost use Rattle.irp_unwind.specs.Turns.{IsBare, bared};
-ghost use Rattle.irp_unwind.specs.Endings.{Unwinds};
+ghost use Rattle.irp_unwind.specs.Endings.{can_ask_up, Unwinds};
 
 use crate::ending::Ending;
 use crate::turn::{consult, device_above, leave};
@@ -14,6 +14,7 @@ use irp_routines::Ask;
 use irp_types::{Asked, IrpRef, Owner};
 
 /// Clears the locations below the current one.
+#[inline]
 fn clear_below(packet: &mut Packet)
     requires { packet.old.current ≤ size_of packet.old }
     ensures bared { packet.new ≡ bared packet.old }
@@ -30,7 +31,7 @@ fn unwind_from<A: Ask>(packet: &mut Packet, irp: IrpRef, ask: &A, asked: &mut Ve
     requires placed { packet.old.current ≤ size_of packet.old }
     requires devices { HasDevices packet.old (packet.old.current + 1) }
     requires routines { HasRoutines (A.tables ask.now).counts packet.old packet.old.current }
-    requires room { vec_len asked.old + ((size_of packet.old + 1) - packet.old.current) ≤ vec_capacity asked.old }
+    requires room { vec_len asked.old + can_ask_up packet.old ≤ vec_capacity asked.old }
     ensures unwinds { Unwinds (A.may_answer ask.now) irp packet.old packet.new asked.old.items asked.new.items result }
     ensures capacity { vec_capacity asked.new ≡ vec_capacity asked.old }
 {
@@ -70,11 +71,12 @@ fn unwind_from<A: Ask>(packet: &mut Packet, irp: IrpRef, ask: &A, asked: &mut Ve
 /// `asked`, into room that is there: it takes no memory. The conditions are those of `can_unwind`, and room for one
 /// question for each location from the current one up. A packet without a cancel routine, which stands in no
 /// cancel slot, keeps the standing facts.
+#[inline]
 pub fn unwind<A: Ask>(packet: &mut Packet, irp: IrpRef, ask: &A, asked: &mut Vec<Asked>) -> Ending
     requires placed { packet.old.current ≤ size_of packet.old }
     requires devices { HasDevices packet.old (packet.old.current + 1) }
     requires routines { HasRoutines (A.tables ask.now).counts packet.old packet.old.current }
-    requires room { vec_len asked.old + ((size_of packet.old + 1) - packet.old.current) ≤ vec_capacity asked.old }
+    requires room { vec_len asked.old + can_ask_up packet.old ≤ vec_capacity asked.old }
     ensures unwinds { Unwinds (A.may_answer ask.now) irp packet.old packet.new asked.old.items asked.new.items result }
     ensures sound { packet.old.cancel_routine ≡ None → packet.old.slot_held ≡ false → IsSound (A.tables ask.now).counts packet.old → IsSound (A.tables ask.now).counts packet.new }
     ensures capacity { vec_capacity asked.new ≡ vec_capacity asked.old }

@@ -8,7 +8,7 @@ use Rattle.irp_types.specs.declared.status.Status.{Status}
 use Rattle.irp_routines.specs.Answers.{IsAnswered}
 use Rattle.irp_unwind.specs.Conditions.{HasDevices, HasRoutines}
 use Rattle.irp_unwind.specs.Devices.{frame_at, IsPlannedHere, EndsHere}
-use Rattle.irp_unwind.specs.Descents.{Descends}
+use Rattle.irp_unwind.specs.Descents.{Descends, can_ask_down}
 use Rattle.irp_unwind.proofs.SetKnown.{routines_sent}
 use Rattle.irp_unwind.proofs.GoesOn.{ends_here, goes_to, goes_on, planned_first, devices_sent, at_most_one}
 use Rattle.irp_unwind.proofs.descent.+descend_from.Goals as goal
@@ -53,8 +53,8 @@ descend_from-sent-requires g t c κs within =
     let routines : HasRoutines tables.counts next (first_location next) = routines_sent tables c.args.irp packet next c.args.stacks.now.devices frame (g.met.A.Ask.tables_agree ask) first.planned sent c.requires.routines in
     let listed : vec_len c.ask_plan-plan.new.asked ≤ vec_len c.args.asked.now + 1 = c.ask_plan-plan.ensures.length in
     let capacity : vec_capacity c.ask_plan-plan.new.asked ≡ vec_capacity c.args.asked.now = c.ask_plan-plan.ensures.capacity in
-    let room : vec_len c.ask_plan-plan.new.asked + stack_size_of c.args.stacks.now.devices c.device_below-lower.result.0 + size_of next ≤ vec_capacity c.ask_plan-plan.new.asked =
-    omega (arith, c.requires.room, below.depth, sent.size) in
+    let room : vec_len c.ask_plan-plan.new.asked + can_ask_down c.args.stacks.now.devices next c.device_below-lower.result.0 ≤ vec_capacity c.ask_plan-plan.new.asked =
+    omega (arith, c.requires.room, c.requires.deep, c.requires.within, one, sent.first, sent.low, below.depth, sent.size) in
     (omega (arith, c.decreases, below.depth), (within, (c.requires.stacked, (below.created, (deep, (high, (devices, (routines, room))))))))
 
 pub returns-then-marks_location-clause-descends : goal.returns-then-marks_location-clause-descends

@@ -1,11 +1,13 @@
-use Rattle.std.proofs.Common.{Some, refl}
+use Rattle.std.proofs.Common.{Some, refl, ◌+◌, ◌≤◌, subst}
+use Rattle.std.specs.Prelude.{vec_len, vec_capacity}
 use Rattle.irp_types.specs.Checks.{or_else}
 use Rattle.irp_types.specs.State.{StateValue, LivePacket}
 use Rattle.irp_types.specs.Refusals.{packet_refusal, take_refusal}
+use Rattle.irp_unwind.specs.Endings.{can_ask_up}
 use Rattle.irp_manager.specs.Cores.{state_of}
 use Rattle.irp_manager.specs.Calls.{packet_refusal_in, Takes}
 use Rattle.irp_manager.proofs.Lent.{on_some, lent_at}
-use Rattle.irp_manager.proofs.OnePacket.{goes_on, packet_checked, stands_on}
+use Rattle.irp_manager.proofs.OnePacket.{found, goes_on, packet_checked, stands_on}
 use Rattle.irp_manager.proofs.Turns.{taken_step}
 use Rattle.irp_manager.proofs.sequential.Core.finish_taken.Goals as goal
 
@@ -34,3 +36,9 @@ returns-clause-stepped g c drained =
 
 pub finish_taken-requires-clause-sound : goal.finish_taken-requires-clause-sound
 finish_taken-requires-clause-sound g c = c.requires.stands.packets c.args.irp.slot c.in-Some.live.now (lent_at _ c.get_mut.result c.in-Some.live c.get_mut.ensures.value c.in-Some.is)
+
+pub finish_taken-requires-clause-room : goal.finish_taken-requires-clause-room
+finish_taken-requires-clause-room g c =
+    let state : StateValue = state_of g.K.Keep.live c.args.self.now in
+    let at = lent_at _ c.get_mut.result c.in-Some.live c.get_mut.ensures.value c.in-Some.is in
+    subst (λ (given : LivePacket). vec_len c.args.asked.now + can_ask_up given.packet ≤ vec_capacity c.args.asked.now) (found state c.args.irp.slot c.in-Some.live.now at) c.requires.room
