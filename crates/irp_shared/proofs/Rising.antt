@@ -1,17 +1,15 @@
 -- Majors that rise from each pair to the next.
-use Rattle.std.proofs.Common.{◌≡◌, ℕ, ◌+◌, ◌-◌, ◌<◌, ◌≤◌, List, length, map, get_or, ap, ◌∙◌, arith, inl, inr}
+use Rattle.std.proofs.Common.{◌≡◌, ℕ, ◌+◌, ◌-◌, ◌<◌, ◌≤◌, List, length, get_or, ap, ◌∙◌, arith, inl, inr}
 use Rattle.std.specs.Prelude.{slice_index}
 use Rattle.std.specs.List.Sorted.{IsStrictlyIncreasing}
 use Rattle.std.proofs.lemmas.Bool.{cases_eq}
 use Rattle.std.proofs.lemmas.List.{length-map}
 use Rattle.std.proofs.Math.ListN.{get_or-map}
 use Rattle.irp_types.specs.State.{Entrance}
+use Rattle.irp_shared.specs.Headers.{majors}
 
 abbrev none : Entrance
 none = (0, record { 0 = 0 })
-
-abbrev majors : List Entrance → List ℕ
-majors pairs = map (λ (entrance : Entrance). entrance.0) pairs
 
 major_at : (pairs : List Entrance) (k : ℕ) → slice_index (majors pairs) k ≡ (get_or pairs k none).0
 major_at pairs k = get_or-map (λ (entrance : Entrance). entrance.0) pairs k none

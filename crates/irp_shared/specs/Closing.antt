@@ -8,6 +8,8 @@ use Rattle.irp_types.specs.declared.entry.Entry.{Entry}
 use Rattle.irp_manager.specs.Seats.{Seated}
 use Rattle.irp_shared.specs.Headers.{fixed_of}
 use Rattle.irp_shared.specs.Transcripts.{TranscriptValue}
+use Rattle.irp_shared.specs.declared.closing.Difference.{Difference}
+use Rattle.irp_shared.specs.declared.closing.Parting.{Parting}
 use Rattle.irp_shared.specs.declared.header.Header.{Header}
 
 -- as many seats as were opened, and each number among them: so each of them once
@@ -43,10 +45,31 @@ pub record Kept (seats : List Seated) (number index : ℕ) (kept : Option Entry)
   pub numbered : seat.number ≡ number
   pub kept_there : kept ≡ slice_get seat.entries index
 
+-- the entries part there from the history: what stands at the place is another than the entry at the index
+abbrev pub PartsFrom : List Entry → List Entry → Parting → Type 0
+PartsFrom history entries parting = IsOther history (slice_get entries parting.index) parting.place
+
+-- what stands at the place is what the history has of this seat at the index
+abbrev pub PartsAt : List Entry → ℕ → Parting → Type 0
+PartsAt history seat parting = StandsThere history seat parting.index parting.place
+
+-- this seat has what was kept at the index, and the entry at the place is another
+abbrev pub IsOfSeat : List Entry → Seated → Difference → Type 0
+IsOfSeat history seat difference =
+    (difference.seat ≡ seat.number)
+    × (difference.kept ≡ slice_get seat.entries difference.index)
+    × IsOther history difference.kept difference.place
+
+-- what stands at the place is what the history has of the difference's seat at the index
+abbrev pub IsInPlace : List Entry → Difference → Type 0
+IsInPlace history difference = StandsThere history difference.seat difference.index difference.place
+
 -- one of the seats kept this at this index, and what the history has of it there is another
-abbrev pub Differs : List Seated → List Entry → ℕ → ℕ → Option Entry → Option ℕ → Type 0
-Differs seats history number index kept place =
-    Kept seats number index kept × IsOther history kept place × StandsThere history number index place
+abbrev pub Differs : List Seated → List Entry → Difference → Type 0
+Differs seats history difference =
+    Kept seats difference.seat difference.index difference.kept
+    × IsOther history difference.kept difference.place
+    × IsInPlace history difference
 
 -- each entry is of a seat with a number below this one
 abbrev pub AreSeated : ℕ → List Entry → Type 0

@@ -1,8 +1,8 @@
 -- Headers: what they fix, and which of them the formats accept.
-use Rattle.std.specs.Prelude.{ℕ, ◌≡◌, ◌≤◌, length}
+use Rattle.std.specs.Prelude.{ℕ, ◌≡◌, ◌≤◌, List, length, map}
 use Rattle.irp_types.specs.Limits.{most_locks, most_seats, most_slots, most_drivers, most_dispatches}
 use Rattle.irp_types.specs.Rules.{IsWithin}
-use Rattle.irp_types.specs.State.{Fixed, AreTables, most_known}
+use Rattle.irp_types.specs.State.{Entrance, Fixed, AreTables, most_known}
 use Rattle.irp_types.specs.declared.limit.Limit.{Limit}
 use Rattle.irp_types.specs.declared.limit.Limit.TheVariants.{Sixteen, ThirtyTwo}
 use Rattle.irp_shared.specs.declared.header.Form.{Form}
@@ -18,6 +18,10 @@ limit_of (Two slots) = ThirtyTwo
 abbrev pub slots_of : Form → ℕ
 slots_of One = 0
 slots_of (Two slots) = slots
+
+-- the major function codes of a driver's pairs
+abbrev pub majors : List Entrance → List ℕ
+majors pairs = map (λ (entrance : Entrance). entrance.0) pairs
 
 -- what is fixed while a manager lives, as a header tells it
 abbrev pub fixed_of : Header → Fixed

@@ -1,5 +1,5 @@
 -- What a call makes of a seat.
-use Rattle.std.specs.Prelude.{◌≡◌, ◌+◌, Bool, true, false, if◌then◌else◌, Option, Some, None, List, [], ◌∷◌, ◌++◌, length}
+use Rattle.std.specs.Prelude.{ℕ, ◌≡◌, ◌+◌, ◌<◌, ◌≤◌, Bool, true, false, if◌then◌else◌, Option, Some, None, List, [], ◌∷◌, ◌++◌, length}
 use Rattle.irp_types.specs.declared.names.LockNo.{LockNo}
 use Rattle.irp_types.specs.declared.call.Call.{Call}
 use Rattle.irp_types.specs.declared.call.Call.TheVariants.{FinishTaken}
@@ -8,7 +8,7 @@ use Rattle.irp_types.specs.declared.reply.Reply.TheVariants as reply
 use Rattle.irp_slots.specs.declared.answers.Token.{Token}
 use Rattle.irp_types.specs.declared.entry.Entry.{Entry}
 use Rattle.irp_manager.specs.Seats.{Seated}
-use Rattle.irp_manager.specs.Booked.{Receipted, IsCallOf}
+use Rattle.irp_manager.specs.Booked.{Receipted, IsCallOf, most_entries}
 
 -- a call that only who has a token may make
 abbrev pub needs_token : Call → Bool
@@ -49,3 +49,11 @@ pub record IsAsBefore (old new : Seated) : Type 0 where
   pub number : new.number ≡ old.number
   pub entries : new.entries ≡ old.entries
   pub seen : new.seen ≡ old.seen
+
+-- the history is only this long, which is shorter than what the seat has seen
+abbrev pub IsBehind : List Entry → Seated → ℕ → Type 0
+IsBehind history seat told = (told ≡ length history) × (told < seat.seen)
+
+-- the history has all that the seat has seen, and as many entries as there may be
+abbrev pub IsFull : List Entry → Seated → Type 0
+IsFull history seat = (seat.seen ≤ length history) × (length history ≡ most_entries)

@@ -3,7 +3,7 @@
 ghost use Rattle.std.specs.Prelude.{◌≡◌, ◌≤◌, ◌<◌, ◌+◌, [], ℕ, List, length, true, false, All, IfNone, IfSome, sum_by, vec_len, slice_get, ◌==◌};
 ghost use Rattle.std.specs.List.{list_any};
 ghost use Rattle.irp_types.specs.Histories.{own_entries};
-ghost use Rattle.irp_shared.specs.Closing.{AllHere, count_of, IsKept, IsOther, Differs, StandsThere};
+ghost use Rattle.irp_shared.specs.Closing.{AllHere, count_of, IsKept, PartsFrom, PartsAt, IsOfSeat, IsInPlace, Differs};
 
 use irp_manager::Seat;
 use irp_types::Entry;
@@ -53,8 +53,8 @@ pub fn are_all<L: Ledger>(seats: &[Seat<L>], expected: u32) -> bool
 /// Where these entries part from those that a history has of a seat, if they do.
 pub fn first_parting(entries: &[Entry], history: &[Entry], seat: u32) -> Option<Parting>
     ensures same { IfNone result (own_entries history.now seat ≡ entries.now) }
-    ensures other { IfSome result (λ parting. IsOther history.now (slice_get entries.now parting.index) parting.place) }
-    ensures place { IfSome result (λ parting. StandsThere history.now seat parting.index parting.place) }
+    ensures other { IfSome result (PartsFrom history.now entries.now) }
+    ensures place { IfSome result (PartsAt history.now seat) }
 {
     let mut index = 0;
     for place in 0..history.len() {
@@ -89,8 +89,8 @@ fn compare<L: Ledger>(all: &mut Share<L>, seat: Seat<L>, history: &[Entry]) -> O
     ensures parts { all.new.parts ≡ all.old.parts + 1 }
     ensures amount { all.new.amount ≡ all.old.amount + length seat.entries }
     ensures same { IfNone result (IsKept history.now seat) }
-    ensures differs { IfSome result (λ difference. (difference.seat ≡ seat.number) × (difference.kept ≡ slice_get seat.entries difference.index) × IsOther history.now difference.kept difference.place) }
-    ensures place { IfSome result (λ difference. StandsThere history.now difference.seat difference.index difference.place) }
+    ensures differs { IfSome result (IsOfSeat history.now seat) }
+    ensures place { IfSome result (IsInPlace history.now) }
 {
     let (number, entries, share) = seat.into_parts();
     all.merge(share);
@@ -114,7 +114,7 @@ pub fn gather<L: Ledger>(
     ensures parts { result.0.parts ≡ vec_len seats }
     ensures amount { result.0.amount ≡ sum_by count_of seats.items }
     ensures same { IfNone result.1 (All (IsKept history.now) seats.items) }
-    ensures differs { IfSome result.1 (λ difference. Differs seats.items history.now difference.seat difference.index difference.kept difference.place) }
+    ensures differs { IfSome result.1 (Differs seats.items history.now) }
 {
     let mut all = spare;
     let mut left = seats;

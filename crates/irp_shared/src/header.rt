@@ -1,12 +1,12 @@
 //! What a transcript was made with.
 
-ghost use Rattle.std.specs.Prelude.{◌≡◌, ◌↔◌, ◌≤◌, ◌<◌, true, map};
+ghost use Rattle.std.specs.Prelude.{◌≡◌, ◌↔◌, ◌≤◌, ◌<◌, true};
 ghost use Rattle.std.specs.List.{All};
 ghost use Rattle.std.specs.List.Sorted.{IsStrictlyIncreasing};
 ghost use Rattle.irp_types.specs.Limits.{last_major};
 ghost use Rattle.irp_types.specs.Rules.{IsWithin};
 ghost use Rattle.irp_types.specs.State.{Entrance, IsDriver};
-ghost use Rattle.irp_shared.specs.Headers.{IsHeader, HasCounts, fixed_of, limit_of, slots_of};
+ghost use Rattle.irp_shared.specs.Headers.{IsHeader, HasCounts, fixed_of, limit_of, majors, slots_of};
 
 use irp_types::limits::{
     LAST_MAJOR, MOST_DISPATCHES, MOST_DRIVERS, MOST_LOCKS, MOST_ROUTINES, MOST_SEATS, MOST_SLOTS,
@@ -107,7 +107,7 @@ fn are_within(known: &[Known], counts: Known) -> bool
 
 /// Whether the major function codes of these pairs rise.
 fn is_rising(pairs: &[(u8, DispatchId)]) -> bool
-    ensures { result ≡ true ↔ IsStrictlyIncreasing (map (λ (entrance : Entrance). entrance.0) pairs.now) }
+    ensures { result ≡ true ↔ IsStrictlyIncreasing (majors pairs.now) }
 {
     for place in 1..pairs.len() {
         if pairs[place - 1].0 >= pairs[place].0 {

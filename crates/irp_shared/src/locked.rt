@@ -1,10 +1,9 @@
 //! What lies under the lock.
 
-ghost use Rattle.std.specs.Prelude.{◌≡◌, ◌≤◌, ◌<◌, ◌+◌, ◌++◌, ◌∷◌, [], ℕ, length, IfOk, OnErr, Err};
+ghost use Rattle.std.specs.Prelude.{◌≡◌, ◌<◌, ◌+◌, ◌++◌, ◌∷◌, [], ℕ, length, IfOk, OnErr, Err};
 ghost use mathlib.Core.Logic.{◌↔◌};
-ghost use Rattle.irp_manager.specs.Booked.{most_entries};
 ghost use Rattle.irp_manager.specs.declared.not_recorded.NotRecorded.TheVariants.{Behind, HistoryFull};
-ghost use Rattle.irp_shared.specs.Sharing.{Called, CalledIn, IsAsBefore};
+ghost use Rattle.irp_shared.specs.Sharing.{Called, CalledIn, IsAsBefore, IsBehind, IsFull};
 
 use crate::session::Session;
 use irp_manager::{Book, DrainNote, NotRecorded, Receipt, Seat};
@@ -39,10 +38,13 @@ impl<A: Ask, L: Session> Locked<A, L> {
         note: &N,
     ) -> Result<Receipt, NotRecorded>
         requires room { 0 < seat.old.room }
-        ensures called { IfOk result (λ receipt. CalledIn self.old.book.history self.new.book.history seat.old call (N.knows_drained note.now) receipt seat.new) }
-        ensures err { OnErr result ((self.new.book ≡ self.old.book) × IsAsBefore seat.old seat.new) }
-        ensures behind { (told : ℕ) → (result ≡ Err (Behind told)) ↔ ((told ≡ length self.old.book.history) × (told < seat.old.seen)) }
-        ensures full { (result ≡ Err HistoryFull) ↔ ((seat.old.seen ≤ length self.old.book.history) × (length self.old.book.history ≡ most_entries)) }
+        ensures called { IfOk result (λ receipt. CalledIn self.old.book.history self.new.book.history
+            seat.old call (N.knows_drained note.now) receipt seat.new) }
+        ensures err { OnErr result
+            ((self.new.book ≡ self.old.book) × IsAsBefore seat.old seat.new) }
+        ensures behind { (told : ℕ) → (result ≡ Err (Behind told))
+            ↔ IsBehind self.old.book.history seat.old told }
+        ensures full { (result ≡ Err HistoryFull) ↔ IsFull self.old.book.history seat.old }
     {
         keep(&mut self.book, &mut self.total, seat, call, note)
     }
@@ -57,12 +59,14 @@ fn keep<A: Ask, L: Ledger, N: DrainNote>(
     note: &N,
 ) -> Result<Receipt, NotRecorded>
     requires room { 0 < seat.old.room }
-    ensures called { IfOk result (λ receipt. CalledIn book.old.history book.new.history seat.old call (N.knows_drained note.now) receipt seat.new) }
+    ensures called { IfOk result (λ receipt. CalledIn book.old.history book.new.history
+        seat.old call (N.knows_drained note.now) receipt seat.new) }
     ensures total { IfOk result (λ receipt. total.new.total ≡ total.old.total + 1) }
     ensures fixed { book.new.fixed ≡ book.old.fixed }
-    ensures err { OnErr result ((book.new ≡ book.old) × (total.new.total ≡ total.old.total) × IsAsBefore seat.old seat.new) }
-    ensures behind { (told : ℕ) → (result ≡ Err (Behind told)) ↔ ((told ≡ length book.old.history) × (told < seat.old.seen)) }
-    ensures full { (result ≡ Err HistoryFull) ↔ ((seat.old.seen ≤ length book.old.history) × (length book.old.history ≡ most_entries)) }
+    ensures err { OnErr result ((book.new ≡ book.old) × (total.new.total ≡ total.old.total)
+        × IsAsBefore seat.old seat.new) }
+    ensures behind { (told : ℕ) → (result ≡ Err (Behind told)) ↔ IsBehind book.old.history seat.old told }
+    ensures full { (result ≡ Err HistoryFull) ↔ IsFull book.old.history seat.old }
 {
     let made = book.record_copied(&*seat, call, note)?;
     let (receipt, entry) = made;

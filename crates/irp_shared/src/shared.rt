@@ -142,7 +142,8 @@ impl<A: Ask, L: Session> Shared<A, L> {
         note: &N,
     ) -> Result<Receipt, NotRecorded>
         requires free { needs_token call ≡ false }
-        ensures called { IfOk result (λ receipt. Called seat.old call (N.knows_drained note.now) receipt seat.new) }
+        ensures called { IfOk result (λ receipt.
+            Called seat.old call (N.knows_drained note.now) receipt seat.new) }
         ensures err { OnErr result (IsAsBefore seat.old seat.new) }
         ensures behind { (told : ℕ) → result ≡ Err (Behind told) → told < seat.old.seen }
     {
@@ -167,10 +168,12 @@ impl<A: Ask, L: Session> Shared<A, L> {
         status: Status,
         information: u64,
     ) -> Result<(Receipt, Option<Token>), (NotRecorded, Token)>
-        ensures called { IfOk result (λ finished. Called seat.old (FinishTaken irp token.use_no status information) (λ lock. false) finished.0 seat.new) }
+        ensures called { IfOk result (λ finished. Called seat.old
+            (FinishTaken irp token.use_no status information) (λ lock. false) finished.0 seat.new) }
         ensures spent { IfOk result (λ finished. finished.1 ≡ given_back finished.0.reply token) }
         ensures err { IfErr result (λ error. IsAsBefore seat.old seat.new × (error.1 ≡ token)) }
-        ensures behind { (told : ℕ) (back : Token) → result ≡ Err (Behind told, back) → told < seat.old.seen }
+        ensures behind { (told : ℕ) (back : Token)
+            → result ≡ Err (Behind told, back) → told < seat.old.seen }
     {
         let call = Call::FinishTaken {
             irp,
@@ -197,7 +200,8 @@ impl<A: Ask, L: Session> Shared<A, L> {
         call: Call,
         note: &N,
     ) -> Result<Receipt, NotRecorded>
-        ensures called { IfOk result (λ receipt. Called seat.old call (N.knows_drained note.now) receipt seat.new) }
+        ensures called { IfOk result (λ receipt.
+            Called seat.old call (N.knows_drained note.now) receipt seat.new) }
         ensures err { OnErr result (IsAsBefore seat.old seat.new) }
         ensures behind { (told : ℕ) → result ≡ Err (Behind told) → told < seat.old.seen }
     {
@@ -226,7 +230,10 @@ fn is_done(reply: Reply) -> bool
 /// A seat that is told of a receipt has seen its entry, and all before it. A receipt of another session may be learned
 /// too: then `Behind` may answer the seat's next call (this project's own rule). It takes no memory.
 pub fn learn<L: Ledger>(seat: &mut Seat<L>, receipt: &Receipt)
-    ensures { seat.new ≡ record seat.old { seen = if nat_lt seat.old.seen (receipt.now.number + 1) then receipt.now.number + 1 else seat.old.seen } }
+    ensures { seat.new ≡ record seat.old {
+      seen = if nat_lt seat.old.seen (receipt.now.number + 1)
+          then receipt.now.number + 1 else seat.old.seen;
+    } }
 {
     seat.saw(receipt.number() + 1)
 }
@@ -256,7 +263,8 @@ fn header_of(locks: u32, tables: FixedTables, limit: Limit, seats: u32) -> Heade
 
 /// The mismatch of a difference, with the entry that the history has at its place.
 fn mismatch_of<L: Ledger>(difference: Difference, history: Vec<Entry>) -> Mismatch<L>
-    ensures { result ≡ OtherEntry difference.seat difference.index difference.kept (entry_at history.items difference.place) }
+    ensures { result ≡ OtherEntry difference.seat difference.index difference.kept
+        (entry_at history.items difference.place) }
 {
     let Difference {
         seat,

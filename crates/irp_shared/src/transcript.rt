@@ -27,9 +27,17 @@ impl Model for Transcript {
 
     ghost Value = { TranscriptValue };
 
-    ghost view = { λ own. record { header = own.header; entries = own.entries; words = own.words } };
+    ghost view = { λ own. record {
+      header = own.header;
+      entries = own.entries;
+      words = own.words;
+    } };
 
-    ghost invariant = { λ own. IsTranscript (record { header = own.header; entries = own.entries; words = own.words }) };
+    ghost invariant = { λ own. IsTranscript (record {
+      header = own.header;
+      entries = own.entries;
+      words = own.words;
+    }) };
 }
 
 /// A transcript's header, its entries and its word lines, apart.
@@ -98,7 +106,11 @@ impl Transcript {
 
     /// Gives them apart. It takes no memory.
     pub fn into_parts(self) -> TranscriptParts
-        ensures { self ≡ record { header = result.header; entries = result.entries; words = result.words } }
+        ensures { self ≡ record {
+          header = result.header;
+          entries = result.entries;
+          words = result.words;
+        } }
     {
         TranscriptParts {
             header: self.header,

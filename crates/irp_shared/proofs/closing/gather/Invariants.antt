@@ -11,7 +11,7 @@ invariant-loop-seat g l =
     (l.all.parts + vec_len l.left ≡ vec_len l.fn.seats)
     × (l.all.amount + sum_by count_of l.left.items ≡ sum_by count_of l.fn.seats.items)
     × IfNone l.difference (All (IsKept l.history) l.left.items → All (IsKept l.history) l.fn.seats.items)
-    × IfSome l.difference (λ difference. Differs l.fn.seats.items l.history difference.seat difference.index difference.kept difference.place)
+    × IfSome l.difference (Differs l.fn.seats.items l.history)
     × ((place : ℕ) (seat : Seated) → slice_get l.left.items place ≡ Some seat → slice_get l.fn.seats.items place ≡ Some seat)
 
 abbrev pub decreases-loop-seat : goal.decreases-loop-seat
