@@ -1,4 +1,5 @@
 pub mod AskedOnce
 pub mod FirstTold
+pub mod Firsts
 pub mod MadeAgain
 pub mod Verdicts

@@ -1,3 +1,4 @@
+pub mod Between
 pub mod Recorded
 pub mod Replayed
 pub mod Checked

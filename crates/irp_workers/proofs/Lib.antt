@@ -2,7 +2,6 @@ pub mod Accounted
 pub mod Carried
 pub mod Chains
 pub mod Dealing
-pub mod Firsts
 pub mod Handing
 pub mod Making
 pub mod Numbers
@@ -10,7 +9,5 @@ pub mod Outcomes
 pub mod Pairs
 pub mod Places
 pub mod Shares
-pub mod Slotted
-pub mod Tokenless
-pub mod Tokens
+pub mod StepCalls
 pub mod Working

@@ -1,59 +1,25 @@
 -- How one step comes out: what it adds to the word lines and to the calls of seats.
 use Rattle.std.proofs.Common.{◌≡◌, ◌≢◌, ◌<◌, ◌==◌, ℕ, Bool, true, false, cond, eq-eqb, Option, Some, None, List, [], ◌∷◌, ◌++◌, length, map, get_or, set, refl, sym, subst, ap, ◌∙◌, arith, inl, inr}
-use Rattle.std.specs.Option.{option_map, option_to_list}
+use Rattle.std.specs.Option.{option_to_list}
 use Rattle.std.specs.List.{cons_option}
 use Rattle.std.proofs.lemmas.List.{append-nil, get_or-set_other, length-set, map_push}
 use Rattle.std.proofs.lemmas.Option.{get_or_from_slice_get, slice_get_within}
-use Rattle.irp_types.specs.declared.names.IrpRef.{IrpRef}
 use Rattle.irp_types.specs.declared.names.LockNo.{LockNo}
 use Rattle.irp_types.specs.declared.call.Call.{Call}
 use Rattle.irp_types.specs.declared.entry.Entry.{Entry}
 use Rattle.irp_shared.specs.declared.word_line.WordLine.{WordLine}
 use Rattle.irp_script_reader.specs.declared.act.Step.{Step}
-use Rattle.irp_script_reader.specs.declared.act.StepAct.{StepAct}
-use Rattle.irp_script_reader.specs.declared.act.StepAct.TheVariants.{CreateDevice, Attach, Detach, Delete, Allocate, Free, Reuse, SetNext, CopyToNext, Skip, SetRoutine, MarkPending, CallDriver, Complete, SetCancelRoutine, Cancel, Look, Acquire, Release, BeginRemove, Drained, Hand, Publish, Withdraw, Request, FinishTaken}
-use Rattle.irp_workers.specs.declared.acts.Deed.{Deed}
-use Rattle.irp_workers.specs.declared.acts.Deed.TheVariants.{Calls, OnLock, Hands, OnSlot, Finishes}
+use Rattle.irp_workers.specs.declared.deed.Deed.{Deed}
+use Rattle.irp_workers.specs.declared.deed.Deed.TheVariants.{Calls, OnLock, Hands, OnSlot, Finishes}
 use Rattle.irp_workers.specs.Accounts.{calls_at, pair_at}
-use Rattle.irp_workers.specs.Deeds.{call_of, deed_of}
+use Rattle.irp_workers.specs.Deeds.{deed_of}
 use Rattle.irp_workers.specs.Made.{NoneTwice, SeatCalls, nameless, once_made}
-use Rattle.irp_workers.specs.Outcomes.{Outcome, any_packet, nameless_call, told_act}
+use Rattle.irp_workers.specs.Outcomes.{Outcome, nameless_call, told_act}
 use Rattle.irp_workers.specs.Words.{told_by, word_step, word_step_of}
 use Rattle.irp_workers.specs.Working.{AtWork, Does, Makes, MakesAlone, MakesBy, MakesHand, Working}
 use Rattle.irp_workers.proofs.Making.{called_at}
 use Rattle.irp_workers.proofs.Numbers.{map_set_same}
-
--- the call of an act, but for the packet, doesn't depend on the packet
-each_nameless : (act : StepAct) (irp : IrpRef) → option_map nameless (call_of act irp) ≡ call_of act any_packet
-each_nameless (CreateDevice driver lock) irp = refl
-each_nameless (Attach device to) irp = refl
-each_nameless (Detach lower) irp = refl
-each_nameless (Delete device) irp = refl
-each_nameless (Allocate size label) irp = refl
-each_nameless (Free named) irp = refl
-each_nameless (Reuse named status) irp = refl
-each_nameless (SetNext party named major word) irp = refl
-each_nameless (CopyToNext party named) irp = refl
-each_nameless (Skip party named) irp = refl
-each_nameless (SetRoutine party named setting) irp = refl
-each_nameless (MarkPending party named) irp = refl
-each_nameless (CallDriver party named target) irp = refl
-each_nameless (Complete party named status information) irp = refl
-each_nameless (SetCancelRoutine party named cancel) irp = refl
-each_nameless (Cancel named) irp = refl
-each_nameless (Look named) irp = refl
-each_nameless (Acquire lock tag) irp = refl
-each_nameless (Release lock tag) irp = refl
-each_nameless (BeginRemove lock tag) irp = refl
-each_nameless (Drained lock) irp = refl
-each_nameless (Hand lock tag to) irp = refl
-each_nameless (Publish slot named) irp = refl
-each_nameless (Withdraw slot) irp = refl
-each_nameless (Request slot) irp = refl
-each_nameless (FinishTaken named slot status information) irp = refl
-
-nameless_of : (act : StepAct) (irp : IrpRef) (made : Call) → call_of act irp ≡ Some made → call_of act any_packet ≡ Some (nameless made)
-nameless_of act irp made is = sym (each_nameless act irp) ∙ ap (option_map nameless) is
+use Rattle.irp_workers.proofs.StepCalls.{nameless_of}
 
 abbrev calls_in : List Entry → List Call
 calls_in entries = map (λ (entry : Entry). nameless entry.call) entries

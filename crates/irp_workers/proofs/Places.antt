@@ -1,14 +1,6 @@
 -- The places of seats by their numbers.
-use Rattle.std.proofs.Common.{◌≡◌, ◌≢◌, ◌<◌, ℕ, zero, suc, List, [], ◌∷◌, Contains, length, map, get_or, sym, ap, ◌∙◌, arith}
-use Rattle.std.proofs.lemmas.List.{get_or-map, length-map}
-use Rattle.std.proofs.lemmas.Option.{get_or_from_slice_get}
-use Rattle.std.specs.Prelude.{slice_get, Some}
-
--- what an item tells that stands where the telling of it was found
-pub told_at : {S : Type 0} (f : S → ℕ) (seats : List S) (place number : ℕ) (one : S) → slice_get (map f seats) place ≡ Some number
-    → one ≡ get_or seats place one → place < length seats → f one ≡ number
-told_at f seats place number one there is lt =
-    ap f is ∙ sym (get_or-map f seats place one number lt) ∙ get_or_from_slice_get (map f seats) place number number there
+use Rattle.std.proofs.Common.{◌≡◌, ◌≢◌, ◌<◌, ℕ, zero, suc, List, [], ◌∷◌, Contains, length, map, get_or, arith}
+use Rattle.std.proofs.lemmas.List.{length-map}
 
 told_there : {S : Type 0} (f : S → ℕ) (seats : List S) (k number : ℕ) → k < length (map f seats) → get_or (map f seats) k number ≡ number
     → (one : S) → f (get_or seats k one) ≡ number

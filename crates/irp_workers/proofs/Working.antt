@@ -20,10 +20,10 @@ use Rattle.irp_slots.specs.declared.answers.Token.{Token}
 use Rattle.irp_shared.specs.Sharing.{Called, IsAsBefore, given_back}
 use Rattle.irp_shared.specs.declared.word_line.WordLine.{WordLine}
 use Rattle.irp_script_reader.specs.declared.act.Step.{Step}
-use Rattle.irp_workers.specs.declared.acts.Deed.{Deed}
-use Rattle.irp_workers.specs.declared.acts.Deed.TheVariants.{Calls, OnLock, Hands, OnSlot, Finishes}
-use Rattle.irp_workers.specs.declared.taken.Taken.{Taken}
-use Rattle.irp_workers.specs.AtSlots.{AtSlots, fresh}
+use Rattle.irp_workers.specs.declared.deed.Deed.{Deed}
+use Rattle.irp_workers.specs.declared.deed.Deed.TheVariants.{Calls, OnLock, Hands, OnSlot, Finishes}
+use Rattle.irp_slot_parties.specs.declared.taken.Taken.{Taken}
+use Rattle.irp_slot_parties.specs.AtSlots.{AtSlots, fresh}
 use Rattle.irp_workers.specs.Calling.{CallsFor, found_drained}
 use Rattle.irp_workers.specs.Deeds.{IsNamed, deed_of}
 use Rattle.irp_workers.specs.Outcomes.{is_own_placed, own_placed}

@@ -1,4 +1,4 @@
--- What acts on remove locks do to remove seats, by what they were answered.
+-- What acts on remove locks and cancel slots do to seats, by what they were answered.
 use Rattle.std.specs.Prelude.{ℕ}
 use Rattle.irp_remove.specs.Calls.{Acquired, AcquireRefused, Released, ReleaseRefused, Begun, BeginRefused, Looked, DrainRefused, Handed, HandRefused}
 use Rattle.irp_remove.specs.Seats.{Holder}
@@ -7,10 +7,16 @@ use Rattle.irp_remove.specs.declared.refusal.ReleaseRefusal.TheVariants as relea
 use Rattle.irp_remove.specs.declared.refusal.BeginRefusal.TheVariants as begin
 use Rattle.irp_remove.specs.declared.refusal.DrainRefusal.TheVariants as drain
 use Rattle.irp_remove.specs.declared.refusal.HandRefusal.TheVariants as hand
+use Rattle.irp_types.specs.declared.names.IrpRef.{IrpRef}
 use Rattle.irp_shared.specs.declared.word_line.WordReply.{WordReply}
 use Rattle.irp_shared.specs.declared.word_line.WordReply.TheVariants as answered
-use Rattle.irp_workers.specs.declared.acts.LockAct.{LockAct}
-use Rattle.irp_workers.specs.declared.acts.LockAct.TheVariants.{Acquire, Release, BeginRemove, Drained}
+use Rattle.irp_script_reader.specs.declared.act.StepAct.{StepAct}
+use Rattle.irp_slot_parties.specs.AtSlots.{AtSlots, Publishing, Requesting, Withdrawing}
+use Rattle.irp_workers.specs.declared.deed.LockAct.{LockAct}
+use Rattle.irp_workers.specs.declared.deed.LockAct.TheVariants.{Acquire, Release, BeginRemove, Drained}
+use Rattle.irp_workers.specs.declared.deed.SlotAct.{SlotAct}
+use Rattle.irp_workers.specs.declared.deed.SlotAct.TheVariants.{Publish, Withdraw, Request}
+use Rattle.irp_workers.specs.Deeds.{IsNamed}
 
 -- an acquisition, of so many locks
 abbrev pub AcquireActs : ℕ → ℕ → ℕ → Holder → Holder → WordReply → Type 0
@@ -60,3 +66,10 @@ HandActs count lock tag giver giver_after taker taker_after answered.NotHeld =
 HandActs count lock tag giver giver_after taker taker_after answered.SeatFull =
     HandRefused count lock tag giver giver_after taker taker_after hand.SeatFull
 HandActs count lock tag giver giver_after taker taker_after other = ⊥
+
+-- an act on a slot did that, of the packet that the step names
+abbrev pub SlotActs : StepAct → SlotAct → AtSlots → AtSlots → WordReply → Type 0
+SlotActs act (Publish slot) before after reply =
+    (irp : IrpRef) × IsNamed act irp × Publishing slot irp.use_no before after reply
+SlotActs act (Withdraw slot) before after reply = Withdrawing slot before after reply
+SlotActs act (Request slot) before after reply = Requesting slot before after reply

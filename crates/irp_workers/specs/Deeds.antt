@@ -9,12 +9,12 @@ use Rattle.irp_script_reader.specs.declared.act.Named.{Named}
 use Rattle.irp_script_reader.specs.declared.act.Named.TheVariants.{Irp}
 use Rattle.irp_script_reader.specs.declared.act.StepAct.{StepAct}
 use Rattle.irp_script_reader.specs.declared.act.StepAct.TheVariants.{CreateDevice, Attach, Detach, Delete, Allocate, Free, Reuse, SetNext, CopyToNext, Skip, SetRoutine, MarkPending, CallDriver, Complete, SetCancelRoutine, Cancel, Look, Acquire, Release, BeginRemove, Drained, Hand, Publish, Withdraw, Request, FinishTaken}
-use Rattle.irp_workers.specs.declared.acts.LockAct.{LockAct}
-use Rattle.irp_workers.specs.declared.acts.LockAct.TheVariants as on_lock
-use Rattle.irp_workers.specs.declared.acts.SlotAct.{SlotAct}
-use Rattle.irp_workers.specs.declared.acts.SlotAct.TheVariants as on_slot
-use Rattle.irp_workers.specs.declared.acts.Deed.{Deed}
-use Rattle.irp_workers.specs.declared.acts.Deed.TheVariants as deed
+use Rattle.irp_workers.specs.declared.deed.LockAct.{LockAct}
+use Rattle.irp_workers.specs.declared.deed.LockAct.TheVariants as on_lock
+use Rattle.irp_workers.specs.declared.deed.SlotAct.{SlotAct}
+use Rattle.irp_workers.specs.declared.deed.SlotAct.TheVariants as on_slot
+use Rattle.irp_workers.specs.declared.deed.Deed.{Deed}
+use Rattle.irp_workers.specs.declared.deed.Deed.TheVariants as deed
 
 -- the packet that an act names
 abbrev pub named_by : StepAct → Option Named

@@ -1,8 +1,6 @@
 pub mod Accounts
 pub mod Acts
-pub mod AtSlots
 pub mod Behaviours
-pub mod Between
 pub mod Calling
 pub mod Deeds
 pub mod Labels

@@ -9,8 +9,8 @@ use Rattle.irp_shared.specs.declared.word_line.Act.{Act}
 use Rattle.irp_shared.specs.declared.word_line.Act.TheVariants as act
 use Rattle.irp_script_reader.specs.declared.act.Step.{Step}
 use Rattle.irp_script_reader.specs.declared.act.StepAct.{StepAct}
-use Rattle.irp_workers.specs.declared.acts.Deed.{Deed}
-use Rattle.irp_workers.specs.declared.acts.Deed.TheVariants.{Calls, OnLock, Hands, OnSlot, Finishes}
+use Rattle.irp_workers.specs.declared.deed.Deed.{Deed}
+use Rattle.irp_workers.specs.declared.deed.Deed.TheVariants.{Calls, OnLock, Hands, OnSlot, Finishes}
 use Rattle.irp_workers.specs.Deeds.{call_of, lock_act, slot_act}
 
 -- a step, its place among the steps, and whether it was a finish that found no token

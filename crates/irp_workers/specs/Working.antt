@@ -17,12 +17,12 @@ use Rattle.irp_shared.specs.declared.word_line.WordLine.{WordLine}
 use Rattle.irp_shared.specs.declared.word_line.WordReply.{WordReply}
 use Rattle.irp_shared.specs.declared.word_line.WordReply.TheVariants.{NoToken}
 use Rattle.irp_script_reader.specs.declared.act.Step.{Step}
-use Rattle.irp_workers.specs.declared.acts.LockAct.{LockAct}
-use Rattle.irp_workers.specs.declared.acts.SlotAct.{SlotAct}
-use Rattle.irp_workers.specs.declared.acts.Deed.{Deed}
-use Rattle.irp_workers.specs.declared.acts.Deed.TheVariants.{Calls, OnLock, Hands, OnSlot, Finishes}
-use Rattle.irp_workers.specs.Acts.{Acts, HandActs}
-use Rattle.irp_workers.specs.AtSlots.{AtSlots, IsSpent, SlotActs, fresh}
+use Rattle.irp_workers.specs.declared.deed.LockAct.{LockAct}
+use Rattle.irp_workers.specs.declared.deed.SlotAct.{SlotAct}
+use Rattle.irp_workers.specs.declared.deed.Deed.{Deed}
+use Rattle.irp_workers.specs.declared.deed.Deed.TheVariants.{Calls, OnLock, Hands, OnSlot, Finishes}
+use Rattle.irp_workers.specs.Acts.{Acts, HandActs, SlotActs}
+use Rattle.irp_slot_parties.specs.AtSlots.{AtSlots, IsSpent, fresh}
 use Rattle.irp_workers.specs.Calling.{CallsFor}
 use Rattle.irp_workers.specs.Deeds.{IsNamed, deed_of, lock_act, slot_act}
 use Rattle.irp_workers.specs.Outcomes.{is_own_step, own_placed}

@@ -1,161 +1,50 @@
-//! What a step comes to, and what it asks for, once the packet that it names is known.
+//! What a step comes to. A file of its own, since definitions that clauses cite name these enums.
 
-ghost use Rattle.std.specs.Prelude.{◌≡◌};
-ghost use Rattle.irp_workers.specs.Deeds.{call_of, deed_of, lock_act, named_by, owners_call_of, plain_call_of, preparing_call_of, slot_act};
+use irp_types::{LockNo, Status};
 
-use crate::acts::{Deed, LockAct, SlotAct};
-use irp_script_reader::{Named, StepAct};
-use irp_shared::Act;
-use irp_types::{Call, IrpRef};
+/// What a step does on a remove lock in its own seat alone.
+#[derive(Clone, Copy, PartialEq, Eq, Debug)]
+pub enum LockAct {
+    /// Acquires the lock with this tag.
+    Acquire { lock: LockNo, tag: u32 },
+    /// Gives back one acquisition with this tag.
+    Release { lock: LockNo, tag: u32 },
+    /// Begins the removal, and gives back one acquisition with this tag.
+    BeginRemove { lock: LockNo, tag: u32 },
+    /// Asks whether removal has begun and nobody holds the lock.
+    Drained { lock: LockNo },
+}
 
-/// The packet that an act names. None for an act that names none.
-pub fn named_by(act: StepAct) -> Option<Named>
-    ensures { result ≡ named_by act }
-{
-    match act {
-        StepAct::Free { irp }
-        | StepAct::Reuse { irp, .. }
-        | StepAct::SetNext { irp, .. }
-        | StepAct::CopyToNext { irp, .. }
-        | StepAct::Skip { irp, .. }
-        | StepAct::SetRoutine { irp, .. }
-        | StepAct::MarkPending { irp, .. }
-        | StepAct::CallDriver { irp, .. }
-        | StepAct::Complete { irp, .. }
-        | StepAct::SetCancelRoutine { irp, .. }
-        | StepAct::Cancel { irp }
-        | StepAct::Look { irp }
-        | StepAct::Publish { irp, .. }
-        | StepAct::FinishTaken { irp, .. } => Some(irp),
-        _ => None,
-    }
+/// What a step does on a cancel slot.
+#[derive(Clone, Copy, PartialEq, Eq, Debug)]
+pub enum SlotAct {
+    /// Puts the use of the packet that the step names into the slot.
+    Publish { slot: u32 },
+    /// Takes the seat's own use out of the slot again.
+    Withdraw { slot: u32 },
+    /// Takes what stands in the slot.
+    Request { slot: u32 },
 }
 
 /// What a step comes to.
-pub fn deed_of(act: StepAct) -> Deed
-    ensures { result ≡ deed_of act }
-{
-    match act {
-        StepAct::Acquire { lock, tag } => Deed::OnLock(LockAct::Acquire { lock, tag }),
-        StepAct::Release { lock, tag } => Deed::OnLock(LockAct::Release { lock, tag }),
-        StepAct::BeginRemove { lock, tag } => Deed::OnLock(LockAct::BeginRemove { lock, tag }),
-        StepAct::Drained { lock } => Deed::OnLock(LockAct::Drained { lock }),
-        StepAct::Hand { lock, tag, to } => Deed::Hands { lock, tag, to },
-        StepAct::Publish { slot, .. } => Deed::OnSlot(SlotAct::Publish { slot }),
-        StepAct::Withdraw { slot } => Deed::OnSlot(SlotAct::Withdraw { slot }),
-        StepAct::Request { slot } => Deed::OnSlot(SlotAct::Request { slot }),
-        StepAct::FinishTaken {
-            slot,
-            status,
-            information,
-            ..
-        } => Deed::Finishes {
-            slot,
-            status,
-            information,
-        },
-        _ => Deed::Calls,
-    }
-}
-
-/// The act on a lock, as a word line tells it.
-pub fn lock_act(on: LockAct) -> Act
-    ensures { result ≡ lock_act on }
-{
-    match on {
-        LockAct::Acquire { lock, tag } => Act::Acquire { lock, tag },
-        LockAct::Release { lock, tag } => Act::Release { lock, tag },
-        LockAct::BeginRemove { lock, tag } => Act::BeginRemove { lock, tag },
-        LockAct::Drained { lock } => Act::Drained { lock },
-    }
-}
-
-/// The act on a slot, as a word line tells it.
-pub fn slot_act(on: SlotAct) -> Act
-    ensures { result ≡ slot_act on }
-{
-    match on {
-        SlotAct::Publish { slot } => Act::Publish { slot },
-        SlotAct::Withdraw { slot } => Act::Withdraw { slot },
-        SlotAct::Request { slot } => Act::Request { slot },
-    }
-}
-
-/// The call that an act makes which names no party, of this packet where it names one.
-fn plain_call_of(act: StepAct, irp: IrpRef) -> Option<Call>
-    ensures { result ≡ plain_call_of act irp }
-{
-    match act {
-        StepAct::CreateDevice { driver, lock } => Some(Call::CreateDevice { driver, lock }),
-        StepAct::Attach { device, to } => Some(Call::Attach { device, to }),
-        StepAct::Detach { lower } => Some(Call::Detach { lower }),
-        StepAct::Delete { device } => Some(Call::Delete { device }),
-        StepAct::Allocate { size, .. } => Some(Call::Allocate { size }),
-        StepAct::Free { .. } => Some(Call::Free { irp }),
-        StepAct::Reuse { status, .. } => Some(Call::Reuse { irp, status }),
-        StepAct::Cancel { .. } => Some(Call::Cancel { irp }),
-        StepAct::Look { .. } => Some(Call::Look { irp }),
-        _ => None,
-    }
-}
-
-/// The call that an act makes in which a party prepares this packet.
-fn preparing_call_of(act: StepAct, irp: IrpRef) -> Option<Call>
-    ensures { result ≡ preparing_call_of act irp }
-{
-    match act {
-        StepAct::SetNext {
-            party,
-            major,
-            word,
-            ..
-        } => Some(Call::SetNext {
-            party,
-            irp,
-            major,
-            word,
-        }),
-        StepAct::CopyToNext { party, .. } => Some(Call::CopyToNext { party, irp }),
-        StepAct::Skip { party, .. } => Some(Call::Skip { party, irp }),
-        StepAct::SetRoutine { party, setting, .. } => Some(Call::SetRoutine {
-            party,
-            irp,
-            setting,
-        }),
-        _ => None,
-    }
-}
-
-/// The call that an act makes in which the owner of this packet holds it or lets it go.
-fn owners_call_of(act: StepAct, irp: IrpRef) -> Option<Call>
-    ensures { result ≡ owners_call_of act irp }
-{
-    match act {
-        StepAct::MarkPending { party, .. } => Some(Call::MarkPending { party, irp }),
-        StepAct::CallDriver { party, target, .. } => Some(Call::CallDriver { party, irp, target }),
-        StepAct::Complete {
-            party,
-            status,
-            information,
-            ..
-        } => Some(Call::Complete {
-            party,
-            irp,
-            status,
-            information,
-        }),
-        StepAct::SetCancelRoutine { party, cancel, .. } => {
-            Some(Call::SetCancelRoutine { party, irp, cancel })
-        }
-        _ => None,
-    }
-}
-
-/// The call of the manager that an act makes without a token, of this packet where it names one. None for other acts.
-pub fn call_of(act: StepAct, irp: IrpRef) -> Option<Call>
-    ensures { result ≡ call_of act irp }
-{
-    plain_call_of(act, irp)
-        .or(preparing_call_of(act, irp))
-        .or(owners_call_of(act, irp))
+#[derive(Clone, Copy, PartialEq, Eq, Debug)]
+pub enum Deed {
+    /// A call of the manager that needs no token.
+    Calls,
+    /// An act on a remove lock, in the step's own seat alone.
+    OnLock(LockAct),
+    /// Hands one acquisition of the lock with this tag to another seat.
+    Hands {
+        lock: LockNo,
+        tag: u32,
+        to: u32,
+    },
+    /// An act on a cancel slot.
+    OnSlot(SlotAct),
+    /// Finishes the packet that the step names, with the token that the seat took from the slot.
+    Finishes {
+        slot: u32,
+        status: Status,
+        information: u64,
+    },
 }

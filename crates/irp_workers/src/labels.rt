@@ -6,7 +6,7 @@ ghost use Rattle.irp_script_reader.specs.declared.act.Named.TheVariants.{Irp as 
 ghost use Rattle.irp_workers.specs.Deeds.{IsNamed};
 ghost use Rattle.irp_workers.specs.Labels.{label_of};
 
-use crate::deed::named_by;
+use crate::step_call::named_by;
 use irp_script_reader::{Named, StepAct};
 use irp_types::{IrpRef, Reply};
 use std::alloc::{AllocError, Global};

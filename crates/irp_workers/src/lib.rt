@@ -1,24 +1,19 @@
 //! Scripts at work: what their closures answer, and the workers that run their steps.
 #![tactic(auto)]
 
-mod acts;
 mod behaviours;
-mod between;
 mod deed;
 mod gate;
 mod labels;
 mod meeting;
-mod parties;
-mod replies;
 mod run;
 mod script_seat;
-mod taken;
+mod step_call;
 mod words;
 mod worker;
 mod workplace;
 
 pub use behaviours::{cancel_rule, table_answer, table_cancel, table_plan};
-pub use between::hand_between;
 pub use gate::{AlwaysOpen, Gate};
 pub use run::{Worked, run_workers, script_seats};
 pub use script_seat::ScriptSeat;

@@ -4,15 +4,13 @@ ghost use Rattle.std.specs.Prelude.{◌≡◌, ◌<◌, ◌++◌, ◌∷◌, [],
 ghost use Rattle.irp_remove.specs.Calls.{IsSameSeat};
 ghost use Rattle.irp_remove.specs.Pairing.{IsSeatOf, lock_count};
 ghost use Rattle.irp_shared.specs.Sharing.{IsAsBefore};
-ghost use Rattle.irp_workers.specs.Acts.{Acts, HandActs};
-ghost use Rattle.irp_workers.specs.AtSlots.{SlotActs};
+ghost use Rattle.irp_workers.specs.Acts.{Acts, SlotActs};
 ghost use Rattle.irp_workers.specs.Calling.{CallsFor};
 ghost use Rattle.irp_workers.specs.Deeds.{deed_of};
 ghost use Rattle.irp_workers.specs.Working.{ActsOnLock, ActsOnSlot, Does, HandsOver, Stays, Tells, at_work};
 
-use crate::acts::{Deed, LockAct, SlotAct};
-use crate::deed::{call_of, deed_of, lock_act, slot_act};
-use crate::parties::SlotParties;
+use crate::deed::{Deed, LockAct, SlotAct};
+use crate::step_call::{call_of, deed_of, lock_act, slot_act};
 use crate::workplace::Workplace;
 use irp_remove::{
     AcquireRefusal, BeginRefusal, DrainRefusal, HandRefusal, Locks, ReleaseRefusal, RemoveSeat,
@@ -20,6 +18,7 @@ use irp_remove::{
 use irp_routines::Ask;
 use irp_script_reader::Step;
 use irp_shared::{Act, Seat, Session, WordLine, WordReply};
+use irp_slot_parties::SlotParties;
 use irp_slots::SlotOwner;
 use irp_types::{LockNo, Status};
 use std::alloc::AllocError;
@@ -130,7 +129,8 @@ impl<'a, L: Session> ScriptSeat<'a, L> {
         ensures seat { self.new.seat ≡ self.old.seat }
         ensures parties { self.new.parties ≡ self.old.parties }
         ensures remove { IsSameSeat self.old.remove self.new.remove }
-        ensures acts { Acts (lock_count self.old.locks.now) (LockAct.Acquire lock tag) self.old.remove self.new.remove result }
+        ensures acts { Acts (lock_count self.old.locks.now) (LockAct.Acquire lock tag)
+            self.old.remove self.new.remove result }
     {
         match self.locks.acquire(&mut self.remove, lock, tag) {
             Ok(()) => WordReply::Acquired,
@@ -144,7 +144,8 @@ impl<'a, L: Session> ScriptSeat<'a, L> {
         ensures seat { self.new.seat ≡ self.old.seat }
         ensures parties { self.new.parties ≡ self.old.parties }
         ensures remove { IsSameSeat self.old.remove self.new.remove }
-        ensures acts { Acts (lock_count self.old.locks.now) (LockAct.Release lock tag) self.old.remove self.new.remove result }
+        ensures acts { Acts (lock_count self.old.locks.now) (LockAct.Release lock tag)
+            self.old.remove self.new.remove result }
     {
         match self.locks.release(&mut self.remove, lock, tag) {
             Ok(()) => WordReply::Done,
@@ -157,7 +158,8 @@ impl<'a, L: Session> ScriptSeat<'a, L> {
         ensures seat { self.new.seat ≡ self.old.seat }
         ensures parties { self.new.parties ≡ self.old.parties }
         ensures remove { IsSameSeat self.old.remove self.new.remove }
-        ensures acts { Acts (lock_count self.old.locks.now) (LockAct.BeginRemove lock tag) self.old.remove self.new.remove result }
+        ensures acts { Acts (lock_count self.old.locks.now) (LockAct.BeginRemove lock tag)
+            self.old.remove self.new.remove result }
     {
         match self.locks.begin_remove(&mut self.remove, lock, tag) {
             Ok(()) => WordReply::Done,
@@ -171,7 +173,8 @@ impl<'a, L: Session> ScriptSeat<'a, L> {
         ensures seat { self.new.seat ≡ self.old.seat }
         ensures parties { self.new.parties ≡ self.old.parties }
         ensures remove { IsSameSeat self.old.remove self.new.remove }
-        ensures acts { Acts (lock_count self.old.locks.now) (LockAct.Drained lock) self.old.remove self.new.remove result }
+        ensures acts { Acts (lock_count self.old.locks.now) (LockAct.Drained lock)
+            self.old.remove self.new.remove result }
     {
         match self.locks.drained(&mut self.remove, lock) {
             Ok(()) => WordReply::Yes,
@@ -249,10 +252,12 @@ impl<'a, L: Session> ScriptSeat<'a, L> {
     ) -> Option<()>
         ensures { MatchOption result
             (Stays (at_work self.old.seat self.old.remove self.old.parties)
-            (at_work self.new.seat self.new.remove self.new.parties) words.old.items words.new.items)
+            (at_work self.new.seat self.new.remove self.new.parties) words.old.items
+            words.new.items)
             (λ _. ActsOnLock L.fixed.locks index step on
             (at_work self.old.seat self.old.remove self.old.parties)
-            (at_work self.new.seat self.new.remove self.new.parties) words.old.items words.new.items) }
+            (at_work self.new.seat self.new.remove self.new.parties) words.old.items
+            words.new.items) }
     {
         words.reserve(1).ok()?;
         let reply = self.act(on);
@@ -273,10 +278,12 @@ impl<'a, L: Session> ScriptSeat<'a, L> {
     ) -> Option<()>
         ensures { MatchOption result
             (Stays (at_work self.old.seat self.old.remove self.old.parties)
-            (at_work self.new.seat self.new.remove self.new.parties) words.old.items words.new.items)
+            (at_work self.new.seat self.new.remove self.new.parties) words.old.items
+            words.new.items)
             (λ _. ActsOnSlot index step on
             (at_work self.old.seat self.old.remove self.old.parties)
-            (at_work self.new.seat self.new.remove self.new.parties) words.old.items words.new.items) }
+            (at_work self.new.seat self.new.remove self.new.parties) words.old.items
+            words.new.items) }
     {
         words.reserve(1).ok()?;
         let reply = self.act_at_slot(rt, place, step, on)?;
@@ -293,7 +300,8 @@ impl<'a, L: Session> ScriptSeat<'a, L> {
         words: &mut Vec<WordLine>,
     ) -> Option<()>
         ensures { MatchOption result (words.new.items ≡ words.old.items)
-            (λ _. Tells index step (Act.FinishTaken slot) WordReply.NoToken words.old.items words.new.items) }
+            (λ _. Tells index step (Act.FinishTaken slot) WordReply.NoToken words.old.items
+            words.new.items) }
     {
         words.reserve(1).ok()?;
         tell(
@@ -322,10 +330,12 @@ impl<'a, L: Session> ScriptSeat<'a, L> {
     ) -> Option<()>
         ensures { MatchOption result
             (Stays (at_work self.old.seat self.old.remove self.old.parties)
-            (at_work self.new.seat self.new.remove self.new.parties) words.old.items words.new.items)
+            (at_work self.new.seat self.new.remove self.new.parties) words.old.items
+            words.new.items)
             (λ _. Does L.fixed.locks index step (Deed.Finishes slot status information)
             (at_work self.old.seat self.old.remove self.old.parties)
-            (at_work self.new.seat self.new.remove self.new.parties) words.old.items words.new.items) }
+            (at_work self.new.seat self.new.remove self.new.parties) words.old.items
+            words.new.items) }
     {
         let Some((at, token)) = self.parties.take(slot) else {
             return self.finish_none(index, step, slot, words);
@@ -362,10 +372,12 @@ impl<'a, L: Session> ScriptSeat<'a, L> {
     ) -> Option<()>
         ensures does { MatchOption result
             (Stays (at_work self.old.seat self.old.remove self.old.parties)
-            (at_work self.new.seat self.new.remove self.new.parties) words.old.items words.new.items)
+            (at_work self.new.seat self.new.remove self.new.parties) words.old.items
+            words.new.items)
             (λ _. Does L.fixed.locks index step (deed_of step.act)
             (at_work self.old.seat self.old.remove self.old.parties)
-            (at_work self.new.seat self.new.remove self.new.parties) words.old.items words.new.items) }
+            (at_work self.new.seat self.new.remove self.new.parties) words.old.items
+            words.new.items) }
         ensures same { IsSameSeat self.old.remove self.new.remove }
     {
         match deed_of(step.act) {

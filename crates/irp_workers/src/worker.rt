@@ -4,11 +4,11 @@ ghost use Rattle.std.specs.Prelude.{◌≡◌, ◌≢◌, ◌<◌, ◌+◌, ◌%
 ghost use Rattle.irp_remove.specs.Pairing.{IsSeatOf};
 ghost use Rattle.irp_workers.specs.Working.{HandsBetween, Makes, MakesEach, MakesHand, MakesOwn, at_work, if_own, working};
 
-use crate::acts::Deed;
-use crate::deed::deed_of;
+use crate::deed::Deed;
 use crate::gate::Gate;
 use crate::meeting::Meeting;
 use crate::script_seat::{ScriptSeat, tell};
+use crate::step_call::deed_of;
 use crate::workplace::Workplace;
 use irp_remove::Locks;
 use irp_routines::Ask;
@@ -110,7 +110,8 @@ impl<'a, L: Session> Worker<'a, L> {
         ensures same { (self.new.number ≡ self.old.number) × (self.new.workers ≡ self.old.workers)
             × (self.new.stopped ≡ self.old.stopped) × (self.new.locks.now ≡ self.old.locks.now) }
         ensures words { self.new.words.items ≡ self.old.words.items }
-        ensures seats { IfOk result (λ _. self.new.seats.items ≡ self.old.seats.items ++ seat.entry ∷ []) }
+        ensures seats { IfOk result (λ _. self.new.seats.items
+            ≡ self.old.seats.items ++ seat.entry ∷ []) }
     {
         self.seats.reserve(1)?;
         self.seats.push_reserved(seat);
@@ -120,8 +121,10 @@ impl<'a, L: Session> Worker<'a, L> {
     /// The place among its seats of the first one with this number. None where there is none.
     fn place_of(&self, number: u32) -> Option<usize>
         ensures place { IfSome result (λ place. place < vec_len self.now.seats) }
-        ensures some { IfSome result (λ place. slice_get (map (λ own. own.seat.number) self.now.seats.items) place ≡ Some number) }
-        ensures none { IfNone result (¬ Contains (map (λ own. own.seat.number) self.now.seats.items) number) }
+        ensures some { IfSome result (λ place. slice_get (map
+            (λ own. own.seat.number) self.now.seats.items) place ≡ Some number) }
+        ensures none { IfNone result (¬ Contains (map
+            (λ own. own.seat.number) self.now.seats.items) number) }
     {
         for (place, seat) in self.seats.iter().enumerate() {
             if seat.number() == number {
@@ -136,11 +139,19 @@ impl<'a, L: Session> Worker<'a, L> {
     fn hand(&mut self, index: u32, step: Step, lock: LockNo, tag: u32, to: u32) -> Option<()>
         ensures same { (self.new.number ≡ self.old.number) × (self.new.workers ≡ self.old.workers)
             × (self.new.stopped ≡ self.old.stopped) × (self.new.locks.now ≡ self.old.locks.now) }
-        ensures made { MatchOption result (working (map (λ own. at_work own.seat own.remove own.parties) self.new.seats.items) self.new.words.items
-            ≡ working (map (λ own. at_work own.seat own.remove own.parties) self.old.seats.items) self.old.words.items)
+        ensures made { MatchOption result (working (map
+            (λ own. at_work own.seat own.remove own.parties) self.new.seats.items)
+            self.new.words.items
+            ≡ working (map
+            (λ own. at_work own.seat own.remove own.parties) self.old.seats.items)
+            self.old.words.items)
             (λ _. MakesHand L.fixed.locks index step lock tag to
-            (working (map (λ own. at_work own.seat own.remove own.parties) self.old.seats.items) self.old.words.items)
-            (working (map (λ own. at_work own.seat own.remove own.parties) self.new.seats.items) self.new.words.items)) }
+            (working (map
+            (λ own. at_work own.seat own.remove own.parties) self.old.seats.items)
+            self.old.words.items)
+            (working (map
+            (λ own. at_work own.seat own.remove own.parties) self.new.seats.items)
+            self.new.words.items)) }
     {
         let from_at = self.place_of(step.seat)?;
         let to_at = self.place_of(to)?;
@@ -171,11 +182,19 @@ impl<'a, L: Session> Worker<'a, L> {
     ) -> Option<()>
         ensures same { (self.new.number ≡ self.old.number) × (self.new.workers ≡ self.old.workers)
             × (self.new.stopped ≡ self.old.stopped) × (self.new.locks.now ≡ self.old.locks.now) }
-        ensures made { MatchOption result (working (map (λ own. at_work own.seat own.remove own.parties) self.new.seats.items) self.new.words.items
-            ≡ working (map (λ own. at_work own.seat own.remove own.parties) self.old.seats.items) self.old.words.items)
+        ensures made { MatchOption result (working (map
+            (λ own. at_work own.seat own.remove own.parties) self.new.seats.items)
+            self.new.words.items
+            ≡ working (map
+            (λ own. at_work own.seat own.remove own.parties) self.old.seats.items)
+            self.old.words.items)
             (λ _. Makes L.fixed.locks index step
-            (working (map (λ own. at_work own.seat own.remove own.parties) self.old.seats.items) self.old.words.items)
-            (working (map (λ own. at_work own.seat own.remove own.parties) self.new.seats.items) self.new.words.items)) }
+            (working (map
+            (λ own. at_work own.seat own.remove own.parties) self.old.seats.items)
+            self.old.words.items)
+            (working (map
+            (λ own. at_work own.seat own.remove own.parties) self.new.seats.items)
+            self.new.words.items)) }
     {
         if let Deed::Hands { lock, tag, to } = deed_of(step.act) {
             return self.hand(index, step, lock, tag, to);
@@ -196,11 +215,19 @@ impl<'a, L: Session> Worker<'a, L> {
     ) -> Option<()>
         ensures same { (self.new.number ≡ self.old.number) × (self.new.workers ≡ self.old.workers)
             × (self.new.stopped ≡ self.old.stopped) × (self.new.locks.now ≡ self.old.locks.now) }
-        ensures made { MatchOption result (working (map (λ own. at_work own.seat own.remove own.parties) self.new.seats.items) self.new.words.items
-            ≡ working (map (λ own. at_work own.seat own.remove own.parties) self.old.seats.items) self.old.words.items)
+        ensures made { MatchOption result (working (map
+            (λ own. at_work own.seat own.remove own.parties) self.new.seats.items)
+            self.new.words.items
+            ≡ working (map
+            (λ own. at_work own.seat own.remove own.parties) self.old.seats.items)
+            self.old.words.items)
             (λ _. Makes L.fixed.locks index step
-            (working (map (λ own. at_work own.seat own.remove own.parties) self.old.seats.items) self.old.words.items)
-            (working (map (λ own. at_work own.seat own.remove own.parties) self.new.seats.items) self.new.words.items)) }
+            (working (map
+            (λ own. at_work own.seat own.remove own.parties) self.old.seats.items)
+            self.old.words.items)
+            (working (map
+            (λ own. at_work own.seat own.remove own.parties) self.new.seats.items)
+            self.new.words.items)) }
     {
         let Ok(index) = u32::try_from(index) else {
             return None;
@@ -230,11 +257,20 @@ impl<'a, L: Session> Worker<'a, L> {
     ) -> bool
         ensures same { (self.new.number ≡ self.old.number) × (self.new.workers ≡ self.old.workers)
             × (self.new.stopped ≡ self.old.stopped) × (self.new.locks.now ≡ self.old.locks.now) }
-        ensures turned { result ≡ true → MakesEach L.fixed.locks (if_own self.old.number self.old.workers index step)
-            (working (map (λ own. at_work own.seat own.remove own.parties) self.old.seats.items) self.old.words.items)
-            (working (map (λ own. at_work own.seat own.remove own.parties) self.new.seats.items) self.new.words.items) }
-        ensures stayed { result ≡ false → working (map (λ own. at_work own.seat own.remove own.parties) self.new.seats.items) self.new.words.items
-            ≡ working (map (λ own. at_work own.seat own.remove own.parties) self.old.seats.items) self.old.words.items }
+        ensures turned { result ≡ true
+            → MakesEach L.fixed.locks (if_own self.old.number self.old.workers index step)
+            (working (map
+            (λ own. at_work own.seat own.remove own.parties) self.old.seats.items)
+            self.old.words.items)
+            (working (map
+            (λ own. at_work own.seat own.remove own.parties) self.new.seats.items)
+            self.new.words.items) }
+        ensures stayed { result ≡ false → working (map
+            (λ own. at_work own.seat own.remove own.parties) self.new.seats.items)
+            self.new.words.items
+            ≡ working (map
+            (λ own. at_work own.seat own.remove own.parties) self.old.seats.items)
+            self.old.words.items }
     {
         if !self.has(step) {
             return true;
@@ -257,8 +293,12 @@ impl<'a, L: Session> Worker<'a, L> {
     ) -> Worker<'a, L>
         ensures locks { result.locks.now ≡ self.entry.locks.now }
         ensures made { MakesOwn L.fixed.locks self.entry.number self.entry.workers steps.now
-            (working (map (λ own. at_work own.seat own.remove own.parties) self.entry.seats.items) self.entry.words.items)
-            (working (map (λ own. at_work own.seat own.remove own.parties) result.seats.items) result.words.items) result.stopped }
+            (working (map
+            (λ own. at_work own.seat own.remove own.parties) self.entry.seats.items)
+            self.entry.words.items)
+            (working (map
+            (λ own. at_work own.seat own.remove own.parties) result.seats.items)
+            result.words.items) result.stopped }
     {
         for (index, step) in steps.iter().enumerate() {
             if !self.turn(rt, place, meeting, gate, index, *step) {

@@ -22,8 +22,8 @@ use Rattle.irp_script_reader.specs.declared.script.CompletionRoutine.{Completion
 use Rattle.irp_script_reader.specs.declared.script.Script.{Script}
 use Rattle.irp_script_reader.specs.declared.script.ScriptForm.{ScriptForm}
 use Rattle.irp_script_reader.specs.declared.script.ScriptForm.TheVariants as script_form
+use Rattle.irp_script.specs.Between.{hands_between}
 use Rattle.irp_workers.specs.Behaviours.{cancel_rule_of}
-use Rattle.irp_workers.specs.Between.{hands_between}
 use Rattle.irp_workers.specs.Made.{calls_of, nameless}
 use Rattle.irp_workers.specs.Numbers.{EachAsOften, NoneMoreOften}
 use Rattle.irp_workers.specs.Outcomes.{Outcome, Test, outcomes}

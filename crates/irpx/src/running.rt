@@ -27,6 +27,7 @@ ghost use Rattle.irpx.specs.Running.{
 use crate::input::{InputFault, read_up_to};
 use crate::writing::{Unwritten, write};
 use irp_routines::{CancelRoutine, Dispatch, Routine, Store, guarded_answer, guarded_plan};
+use irp_script::hand_between;
 use irp_script_reader::{
     CompletionRoutine, Script, ScriptFault, ScriptForm, ScriptRefusal, read_script,
 };
@@ -34,8 +35,8 @@ use irp_shared::{Form, Seat, Session, Transcript, TranscriptParts, WordLine, ope
 use irp_transcript_writer::Out;
 use irp_types::{Answer, Known, Plan, Row, Shown};
 use irp_workers::{
-    AlwaysOpen, ScriptSeat, cancel_rule, hand_between, run_workers, script_seats, table_answer,
-    table_cancel, table_plan,
+    AlwaysOpen, ScriptSeat, cancel_rule, run_workers, script_seats, table_answer, table_cancel,
+    table_plan,
 };
 use std::alloc::{AllocError, AllocFailed, Global};
 use std::io::Read;

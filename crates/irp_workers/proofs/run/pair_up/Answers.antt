@@ -2,7 +2,7 @@ use Rattle.std.proofs.Common.{◌≡◌, ◌++◌, ◌∷◌, All, map, sym, sub
 use Rattle.std.proofs.lemmas.List.Elements.{All-cons, All-pop}
 use Rattle.irp_remove.specs.Pairing.{IsSeatOf}
 use Rattle.irp_slots.specs.Pairing.{IsCancellerOf, slot_count}
-use Rattle.irp_workers.specs.AtSlots.{IsFresh}
+use Rattle.irp_slot_parties.specs.AtSlots.{IsFresh}
 use Rattle.irp_workers.proofs.Pairs.{moved}
 use Rattle.irp_workers.proofs.run.pair_up.Goals as goal
 

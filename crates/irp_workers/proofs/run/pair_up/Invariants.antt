@@ -1,7 +1,7 @@
 use Rattle.std.proofs.Common.{◌≡◌, ◌++◌, All, map, vec_len}
 use Rattle.irp_remove.specs.Pairing.{IsSeatOf}
 use Rattle.irp_slots.specs.Pairing.{IsCancellerOf, slot_count}
-use Rattle.irp_workers.specs.AtSlots.{IsFresh}
+use Rattle.irp_slot_parties.specs.AtSlots.{IsFresh}
 use Rattle.irp_workers.proofs.run.pair_up.Given as goal
 
 -- those left fit, and those paired stand behind them in order

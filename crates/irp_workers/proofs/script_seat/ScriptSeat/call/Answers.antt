@@ -1,5 +1,5 @@
 use Rattle.std.proofs.Common.{sym, ◌∙◌}
-use Rattle.irp_workers.proofs.Tokenless.{tokenless}
+use Rattle.irp_workers.proofs.StepCalls.{tokenless}
 use Rattle.irp_workers.proofs.script_seat.ScriptSeat.call.Goals as goal
 
 pub call-requires : goal.call-requires

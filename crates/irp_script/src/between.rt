@@ -1,7 +1,7 @@
 //! References that are handed over between workers.
 
 ghost use Rattle.std.specs.Prelude.{◌≡◌, ◌<◌, position};
-ghost use Rattle.irp_workers.specs.Between.{hands_between};
+ghost use Rattle.irp_script.specs.Between.{hands_between};
 
 use irp_script_reader::{Script, Step, StepAct};
 

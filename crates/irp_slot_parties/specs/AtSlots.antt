@@ -1,6 +1,5 @@
 -- What a seat has at the cancel slots, and what acts on slots do to it, by what they were answered.
 use Rattle.std.specs.Prelude.{ℕ, ◌≡◌, ◌%◌, All, Option, Some, None, List, [], ◌∷◌, ◌++◌, slice_get, slice_set}
-use Rattle.irp_types.specs.declared.names.IrpRef.{IrpRef}
 use Rattle.irp_slots.specs.Models.{Publisher, Asker}
 use Rattle.irp_slots.specs.Calls.{Publishes, PublishSteps, Withdraws, WithdrawSteps, Requests, RequestSteps}
 use Rattle.irp_slots.specs.declared.answers.Token.{Token}
@@ -12,11 +11,7 @@ use Rattle.irp_slots.specs.declared.answers.Request.{Request as Requested}
 use Rattle.irp_slots.specs.declared.answers.Request.TheVariants as request
 use Rattle.irp_shared.specs.declared.word_line.WordReply.{WordReply}
 use Rattle.irp_shared.specs.declared.word_line.WordReply.TheVariants as answered
-use Rattle.irp_script_reader.specs.declared.act.StepAct.{StepAct}
-use Rattle.irp_workers.specs.declared.acts.SlotAct.{SlotAct}
-use Rattle.irp_workers.specs.declared.acts.SlotAct.TheVariants.{Publish, Withdraw, Request}
-use Rattle.irp_workers.specs.declared.taken.Taken.{Taken}
-use Rattle.irp_workers.specs.Deeds.{IsNamed}
+use Rattle.irp_slot_parties.specs.declared.taken.Taken.{Taken}
 
 -- how many slots there are, the seat's canceller and the owners of its slots, and what it has taken out of slots
 pub record AtSlots : Type 0 where
@@ -124,10 +119,3 @@ pub record Requesting (slot : ℕ) (before after : AtSlots) (reply : WordReply) 
     canceller = canceller_after;
     taken = kept slot (requested_token answer) before.taken;
   }
-
--- an act on a slot did that, of the packet that the step names
-abbrev pub SlotActs : StepAct → SlotAct → AtSlots → AtSlots → WordReply → Type 0
-SlotActs act (Publish slot) before after reply =
-    (irp : IrpRef) × IsNamed act irp × Publishing slot irp.use_no before after reply
-SlotActs act (Withdraw slot) before after reply = Withdrawing slot before after reply
-SlotActs act (Request slot) before after reply = Requesting slot before after reply

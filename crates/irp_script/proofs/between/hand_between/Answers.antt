@@ -1,8 +1,8 @@
 -- The place of the first step that hands a reference between workers.
 use Rattle.std.proofs.Common.{◌≡◌, Some, None, position, sym, subst, ◌∙◌, arith}
-use Rattle.irp_workers.specs.Between.{hands_between}
-use Rattle.irp_workers.proofs.Firsts.{first_at, none_passes}
-use Rattle.irp_workers.proofs.between.hand_between.Goals as goal
+use Rattle.irp_script.specs.Between.{hands_between}
+use Rattle.irp_script.proofs.Firsts.{first_at, none_passes}
+use Rattle.irp_script.proofs.between.hand_between.Goals as goal
 
 pub returns-then-hands_between : goal.returns-then-hands_between
 returns-then-hands_between c =
