@@ -1,5 +1,5 @@
 -- What was written is read again as the same.
-use Rattle.std.specs.Prelude.{◌≡◌, Some, Result, Ok, Err, ⊤}
+use Rattle.std.specs.Prelude.{◌≡◌, ℕ, List, Some, Result, Ok, Err, ⊤}
 use Rattle.serde_json.specs.Written.{compact_text}
 use Rattle.irp_types.specs.declared.entry.Entry.{Entry}
 use Rattle.irp_shared.specs.Transcripts.{TranscriptValue, IsTranscript, no_lines}
@@ -39,3 +39,7 @@ abbrev pub TextTells : Type 0
 TextTells =
     (one other : TranscriptValue) → IsTranscript one → IsTranscript other → Fits one → Fits other
     → text_of (lines one) ≡ text_of (lines other) → one ≡ other
+
+-- what is answered of the text, if it is the transcript's own, and the transcript fits
+abbrev pub ReadsOwnText : TranscriptValue → List ℕ → Result TranscriptValue ReadFault → Type 0
+ReadsOwnText transcript text answer = text ≡ text_of (lines transcript) → Fits transcript → IsReadAgain transcript answer

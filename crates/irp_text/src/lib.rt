@@ -2,7 +2,7 @@
 //! a form each.
 #![tactic(auto)]
 
-pub use irp_round_trip::{entry_is_read, written_is_read};
+pub use irp_round_trip::{entry_is_read, read_again, written_is_read};
 pub use irp_script_reader::{
     Behaviour, CompletionRoutine, Fault, Named, Script, ScriptFault, ScriptForm, ScriptRefusal,
     Section, Step, StepAct, read_script,
