@@ -1,0 +1,12 @@
+pub mod Stands
+pub mod ReadBack
+pub mod Plain
+pub mod Numbers
+pub mod Values
+pub mod Questions
+pub mod Calls
+pub mod Replies
+pub mod Entries
+pub mod Headers
+pub mod WordLines
+pub mod Whole
