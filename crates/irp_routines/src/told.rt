@@ -3,6 +3,7 @@
 ghost use Rattle.std.specs.Prelude.{◌≡◌, slice_index_or, [], IfOk};
 
 use crate::ask::Ask;
+use irp_types::limits::LAST_MAJOR;
 use irp_types::{CancelId, CancelRule, DispatchId, DriverId, Known, Row};
 use std::alloc::{AllocError, Global};
 
