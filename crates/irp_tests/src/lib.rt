@@ -3,8 +3,6 @@
 #![tactic(auto)]
 
 #[cfg(test)]
-mod manager;
-#[cfg(test)]
 mod remove;
 #[cfg(test)]
 mod routines;
