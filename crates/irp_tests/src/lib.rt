@@ -3,7 +3,7 @@
 #![tactic(auto)]
 
 #[cfg(test)]
-mod manager;
+mod handing;
 #[cfg(test)]
 mod remove;
 #[cfg(test)]

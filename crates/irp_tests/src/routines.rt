@@ -1,7 +1,5 @@
 //! Tables that answer by plain values, without closures.
 
-ghost use Rattle.std.specs.Prelude.{IfSome};
-
 use irp_routines::{AnswerTable, Ask, Behaviour, Reaction};
 use irp_types::{Answer, DeviceId, IrpRef, Replacement, RoutineId, Rule, Shown, Status};
 use std::test::Fail;
@@ -43,55 +41,70 @@ const FAILED: Shown = Shown {
     ..SHOWN
 };
 
-/// The completion routine of this rule and number.
-fn numbered(rule: Rule, no: u32) -> RoutineId {
-    RoutineId { rule, no }
-}
+/// The routine continues, and replaces by a failure.
+const TURNED: Answer = Answer {
+    keep: false,
+    mark: true,
+    replacement: Some(FAILURE),
+};
+
+/// It continues.
+const ON: Answer = Answer {
+    replacement: None,
+    ..TURNED
+};
+
+/// It keeps the packet.
+const KEPT: Answer = Answer {
+    keep: true,
+    mark: false,
+    replacement: None,
+};
+
+const RULES: [Rule; 5] = [
+    Rule::Change,
+    Rule::Free,
+    Rule::Watch,
+    Rule::Keeper,
+    Rule::KeepOnError,
+];
+
+/// A routine, what it is shown, and what it has to answer; none where there is no such routine. One of rule Change may not
+/// keep, and continues where its behaviour says that it keeps.
+const ROWS: [((Rule, u32), Shown, Option<Answer>); 10] = [
+    ((Rule::Change, 0), SHOWN, Some(TURNED)),
+    ((Rule::Change, 0), FAILED, Some(ON)),
+    ((Rule::Free, 0), SHOWN, Some(TURNED)),
+    ((Rule::Free, 0), FAILED, Some(KEPT)),
+    ((Rule::Watch, 0), SHOWN, Some(ON)),
+    ((Rule::Watch, 0), FAILED, Some(ON)),
+    ((Rule::Keeper, 0), SHOWN, Some(KEPT)),
+    ((Rule::KeepOnError, 0), SHOWN, Some(ON)),
+    ((Rule::KeepOnError, 0), FAILED, Some(KEPT)),
+    ((Rule::Free, 1), SHOWN, None),
+];
 
 /// What a completion routine answers, where it is there.
-fn answer_of<A: Ask>(ask: &A, id: RoutineId, shown: Shown) -> Option<Answer>
-    ensures { IfSome result (λ answer. A.may_answer ask.now id shown answer) }
-{
-    if id.no < ask.counts().count_of(id.rule) {
-        return Some(ask.answer(id, shown));
+fn answer_of(table: &AnswerTable, id: RoutineId, shown: Shown) -> Option<Answer> {
+    if id.no < table.counts().count_of(id.rule) {
+        return Some(table.answer(id, shown));
     }
     None
 }
 
-/// A routine of rule Change may not keep, and continues where its behaviour says that it keeps.
 #[test]
 fn a_table_answers_by_its_behaviours(rt: HostRuntime) -> Result<(), Fail> {
     let mut table = AnswerTable::new(rt.alloc());
-    let change = numbered(Rule::Change, 0);
-    let free = numbered(Rule::Free, 0);
-    let watch = numbered(Rule::Watch, 0);
-    let keeper = numbered(Rule::Keeper, 0);
-    let on_error = numbered(Rule::KeepOnError, 0);
-    for id in [change, free, watch, keeper, on_error] {
-        assert!(rt; table.add(id.rule, TURNS) == Ok(id));
+    for rule in RULES.iter() {
+        let added = table.add(*rule, TURNS);
+        assert!(rt; added == Ok(RoutineId { rule: *rule, no: 0 }));
     }
-    let turned = Answer {
-        keep: false,
-        mark: true,
-        replacement: Some(FAILURE),
-    };
-    let on = Answer {
-        replacement: None,
-        ..turned
-    };
-    let kept = Answer {
-        keep: true,
-        mark: false,
-        replacement: None,
-    };
-    let wants = [(change, turned, on), (free, turned, kept), (watch, on, on)];
-    for (id, on_success, on_failure) in wants {
-        assert!(rt; answer_of(&table, id, SHOWN) == Some(on_success));
-        assert!(rt; answer_of(&table, id, FAILED) == Some(on_failure));
+    for (place, ((rule, no), shown, answer)) in ROWS.iter().enumerate() {
+        let id = RoutineId {
+            rule: *rule,
+            no: *no,
+        };
+        assert!(rt; answer_of(&table, id, *shown) == *answer, "row {place}");
     }
-    assert!(rt; answer_of(&table, keeper, SHOWN) == Some(kept));
-    assert!(rt; answer_of(&table, on_error, SHOWN) == Some(on));
-    assert!(rt; answer_of(&table, on_error, FAILED) == Some(kept));
-    assert!(rt; answer_of(&table, numbered(Rule::Free, 1), SHOWN) == None);
     Ok(())
 }

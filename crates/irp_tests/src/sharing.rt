@@ -1,223 +1,185 @@
-//! Sessions with one remove lock. Each call is made with what a remove seat knows, and the entries of the transcript are
-//! compared whole.
-mod during;
-mod handing;
+//! A dispatch runs in a call, under the session's lock, while another thread acquires the remove lock. The test ends by
+//! itself: who waits for the other thread does so for a number of turns.
 
-ghost use Rattle.std.specs.Prelude.{◌≡◌};
-ghost use Rattle.irp_remove.specs.Pairing.{IsSeatOf};
+ghost use Rattle.std.specs.Prelude.{◌≡◌, true};
+ghost use Rattle.irp_types.specs.declared.limit.Limit.TheVariants.{ThirtyTwo};
+ghost use Rattle.irp_types.specs.Rules.{is_plan_allowed};
+ghost use Rattle.irp_types.specs.State.{no_routines};
 
-use irp_manager::DrainNote;
-use irp_remove::{Locks, RemoveSeat};
-use irp_routines::{AnswerTable, Ask};
-use irp_shared::{Seat, Session, Shared, Transcript, needs_token, open};
+use super::remove::{Holder, LOCK};
+use irp_manager::KnowsNothing;
+use irp_routines::{Ask, Dispatch, Store};
+use irp_shared::{Seat, Session, Shared, needs_token, open};
 use irp_types::{
-    Asked, Call, DeviceId, DispatchId, DriverId, Entry, IrpRef, Known, LockNo, Party, Plan,
-    Refusal, Reply, Row, Shown, Status,
+    Call, DeviceId, DispatchId, DriverId, IrpRef, Known, Owner, Party, Plan, Reply, Seen, Shown,
+    Status,
 };
-use std::alloc::{AllocError, Global};
-use std::process::Abort;
-use std::sync::Wait;
+use std::alloc::Global;
+use std::marker::Brand;
+use std::sync::atomic::{AtomicBool, Ordering};
+use std::sync::ledger::Blank;
+use std::sync::{Arc, Wait};
 use std::test::Fail;
+use std::thread;
+use std::thread::Threads;
 
 const READ: u8 = 0x03;
 
-const LOCK: LockNo = LockNo(0);
-
-const DEVICE: DeviceId = DeviceId(0);
-
 const IRP: IrpRef = IrpRef { slot: 0, use_no: 1 };
 
-const CREATE: Call = Call::CreateDevice {
-    driver: DriverId(0),
-    lock: LOCK,
-};
+/// A packet is sent to the one device, which finishes it, and is looked at.
+const CALLS: [Call; 5] = [
+    Call::CreateDevice {
+        driver: DriverId(0),
+        lock: LOCK,
+    },
+    Call::Allocate { size: 1 },
+    Call::SetNext {
+        party: Party::Originator,
+        irp: IRP,
+        major: READ,
+        word: 7,
+    },
+    Call::CallDriver {
+        party: Party::Originator,
+        irp: IRP,
+        target: DeviceId(0),
+    },
+    Call::Look { irp: IRP },
+];
 
-const ALLOCATE: Call = Call::Allocate { size: 1 };
-
-const FILL: Call = Call::SetNext {
-    party: Party::Originator,
-    irp: IRP,
-    major: READ,
-    word: 7,
-};
-
-const SEND: Call = Call::CallDriver {
-    party: Party::Originator,
-    irp: IRP,
-    target: DEVICE,
-};
-
-const DELETE: Call = Call::Delete { device: DEVICE };
-
-const IN_FLIGHT: Reply = Reply::Refused(Refusal::InFlight);
-
-const NOT_DRAINED: Reply = Reply::Refused(Refusal::NotDrained);
-
-const PENDING: Reply = Reply::Status(Status::PENDING);
-
-/// What the dispatch is shown of the packet that is sent.
-const SHOWN: Shown = Shown {
-    device: Some(DEVICE),
-    irp: IRP,
-    major: READ,
-    location: 1,
-    word: 7,
+/// What the look is answered where the other thread was answered while the dispatch ran.
+const MET: Reply = Reply::Seen(Seen {
+    owner: Owner::Ended,
+    current: 2,
     status: Status::SUCCESS,
-    information: 0,
-    pending_returned: false,
+    information: 1,
     cancel: false,
-    context: 0,
-    has_lower: false,
-};
+    cancel_routine: None,
+    pending_returned: false,
+    marked: false,
+});
 
-/// One remove lock and two seats of it.
+/// How many turns of a loop one thread waits for the other.
+const TURNS: u32 = 100_000_000;
+
+/// What the two threads tell each other: that the dispatch runs, and that the other thread was answered.
 #[derive(Drop)]
-struct RemoveLock {
-    locks: Locks,
-    first: RemoveSeat,
-    second: RemoveSeat,
-    ghost first_fits: { IsSeatOf locks first },
-    ghost second_fits: { IsSeatOf locks second },
+struct Meeting {
+    asked: AtomicBool,
+    answered: AtomicBool,
 }
 
-fn remove_lock(alloc: Global) -> Result<RemoveLock, Fail> {
-    let (locks, mut seats) = irp_remove::open(alloc, 1, 2)?;
-    let second = seats.pop();
-    let first = seats.pop();
-    let (Some(first), Some(second)) = (first, second) else {
-        return Err(Fail::from("two seats were asked for"));
-    };
-    Ok(RemoveLock {
-        locks,
-        first,
-        second,
-    })
-}
-
-/// Answers with one driver, which holds reads.
-fn holds_reads(alloc: Global) -> Result<AnswerTable, Fail> {
-    let mut table = AnswerTable::new(alloc);
-    let Ok(dispatch) = table.add_dispatch(Known::NONE, Plan::Hold { cancel: None }) else {
-        return Err(Fail::from("a dispatch"));
-    };
-    let Ok(_driver) = table.add_driver([(READ, dispatch)].to_vec(alloc)?) else {
-        return Err(Fail::from("a driver"));
-    };
-    Ok(table)
-}
-
-/// The seat makes the calls. What they are answered is told by the transcript.
-fn make<A: Ask, L: Session, N: DrainNote>(
-    rt: &impl Wait,
-    shared: &Shared<A, L>,
-    seat: &mut Seat<L>,
-    note: &N,
-    calls: &[Call],
-) {
-    for call in calls {
-        if !needs_token(*call) {
-            let _ = shared.call(rt, seat, *call, note);
+/// Waits until this is told. Whether it was, within the turns.
+fn waits(told: &AtomicBool) -> bool {
+    for _ in 0..TURNS {
+        if told.load(Ordering::SeqCst) {
+            return true;
         }
     }
+    false
 }
 
-/// The transcript of a session with these two seats.
-fn closed<A: Drop, L: Session>(
-    shared: Shared<A, L>,
-    room: Vec<Seat<L>>,
-    first: Seat<L>,
-    second: Seat<L>,
-) -> Result<Transcript, Fail>
-    requires { L.seats ≡ L.parts }
+/// What the dispatch plans: to finish, with information 1 where the other thread was answered while the dispatch ran.
+fn plan_after(meeting: &Meeting, shown: Shown) -> Plan
+    ensures { is_plan_allowed no_routines shown result ≡ true }
 {
-    let mut seats = room;
-    seats.push(first)?;
-    seats.push(second)?;
-    let Ok(transcript) = shared.close(seats) else {
-        return Err(Fail::from("the seats kept what was recorded"));
-    };
-    Ok(transcript)
-}
-
-/// An entry of a transcript, as a test expects it.
-#[derive(Clone, Copy)]
-struct Expected {
-    number: u64,
-    seat: u32,
-    call: Call,
-    /// Of a deletion of the device: whether the seat knows its lock drained.
-    drained: Option<bool>,
-    /// What the dispatch planned, where it was asked.
-    plan: Option<Plan>,
-    reply: Reply,
-}
-
-/// An entry of a call that deletes nothing, in which nothing was asked.
-const fn entry(number: u64, seat: u32, call: Call, reply: Reply) -> Expected {
-    Expected {
-        number,
-        seat,
-        call,
-        drained: None,
-        plan: None,
-        reply,
+    meeting.asked.store(true, Ordering::SeqCst);
+    let _ = shown;
+    Plan::Finish {
+        status: Status::SUCCESS,
+        information: u64::from(waits(&meeting.answered)),
     }
 }
 
-/// An entry of a deletion of the device, by a seat that knows its lock drained or doesn't.
-const fn deletion(number: u64, seat: u32, drained: bool, reply: Reply) -> Expected {
-    Expected {
-        drained: Some(drained),
-        ..entry(number, seat, DELETE, reply)
+/// Acquires and releases the lock once the dispatch runs, and tells so. Whether the dispatch ran, and both were answered Ok.
+fn takes(mut taker: Holder<'_>, meeting: &Meeting) -> bool {
+    let is_asked = waits(&meeting.asked);
+    let is_taken = taker.acquires(1) && taker.releases(1);
+    meeting.answered.store(true, Ordering::SeqCst);
+    is_asked && is_taken
+}
+
+/// The seat makes the calls. What the last is answered; none where one wasn't recorded.
+fn sends<A: Ask, L: Session>(
+    rt: &impl Wait,
+    shared: &Shared<A, L>,
+    mut seat: Seat<L>,
+) -> Option<Reply> {
+    let mut last = None;
+    for call in CALLS.iter() {
+        if needs_token(*call) {
+            return None;
+        }
+        let receipt = shared.call(rt, &mut seat, *call, &KnowsNothing).ok()?;
+        last = Some(receipt.reply());
     }
+    last
 }
 
-/// The entry of the call by the first seat that sends the packet, in which the dispatch planned this.
-const fn sending(number: u64, plan: Plan, reply: Reply) -> Expected {
-    Expected {
-        plan: Some(plan),
-        ..entry(number, 0, SEND, reply)
-    }
+/// The seat sends a packet in one thread, and the other takes the lock in another.
+fn meets<A: Ask + Send, L: Session + Send + Sync, R: Threads + Wait + Sync>(
+    rt: &R,
+    shared: &Shared<A, L>,
+    seat: Seat<L>,
+    taker: Holder<'_>,
+    meeting: &Meeting,
+) -> (Option<Reply>, bool) {
+    let sending = move || sends(rt, shared, seat);
+    let taking = move || takes(taker, meeting);
+    thread::join(rt, sending, taking)
 }
 
-/// What was asked, where the dispatch planned this.
-fn asked(alloc: Global, plan: Option<Plan>) -> Result<Row<Asked>, AllocError> {
-    let Some(plan) = plan else {
-        return Ok(Row::from_vec(Vec::new(alloc)));
-    };
-    let asked = Asked::Dispatch {
-        id: DispatchId(0),
-        shown: SHOWN,
-        plan,
-    };
-    Ok(Row::from_vec([asked].to_vec(alloc)?))
-}
-
-impl Expected {
-    fn entry(&self, alloc: Global) -> Result<Entry, AllocError> {
-        Ok(Entry {
-            number: self.number,
-            seat: self.seat,
-            call: self.call,
-            lock: self.drained.map(|_| LOCK),
-            drained: self.drained == Some(true),
-            asked: asked(alloc, self.plan)?,
-            reply: self.reply,
-        })
-    }
-}
-
-/// The entries of the transcript are these, each whole.
-fn has_entries(
-    rt: &impl Abort,
+/// The same, in a session of one seat. None where memory was missing.
+fn session<L: Session + Send + Sync, R: Threads + Wait + Sync>(
+    rt: &R,
     alloc: Global,
-    transcript: &Transcript,
-    expected: &[Expected],
-) -> Result<(), Fail> {
-    assert_eq!(rt; transcript.entries().len(), expected.len());
-    for (found, expected) in transcript.entries().iter().zip(expected) {
-        let entry = expected.entry(alloc)?;
-        assert!(rt; found.is_same(&entry), "entry {}", expected.number);
+    blank: Blank,
+    store: Store,
+    taker: Holder<'_>,
+    meeting: &Meeting,
+) -> Option<(Option<Reply>, bool)>
+    requires blank { (blank.name ≡ L.name) × (blank.parts ≡ L.parts) }
+    requires seats { (L.parts ≡ 1) × (L.seats ≡ 1) }
+    requires fixed { L.fixed ≡ record { locks = 1; tables = store.tables; limit = ThirtyTwo } }
+{
+    let (shared, mut seats) = open::<Store, L>(alloc, blank, store, 1, 1).ok()?;
+    let seat = seats.pop()?;
+    Some(meets(rt, &shared, seat, taker, meeting))
+}
+
+/// A store of one driver, with this dispatch for reads.
+fn store_of(alloc: Global, dispatch: Dispatch) -> Result<Store, Fail> {
+    let mut store = Store::new(alloc);
+    let dispatches = [(READ, DispatchId(0))].to_vec(alloc)?;
+    if store.add_dispatch(dispatch).is_ok() && store.add_driver(dispatches).is_ok() {
+        return Ok(store);
     }
+    Err(Fail::from("a store"))
+}
+
+#[test]
+fn acquire_during_call(rt: HostRuntime) -> Result<(), Fail> {
+    let alloc = rt.alloc();
+    let meeting = Arc::new(
+        alloc,
+        Meeting {
+            asked: AtomicBool::new(false),
+            answered: AtomicBool::new(false),
+        },
+    )?;
+    let own = meeting.clone()?;
+    let run = Box::new(alloc, move |shown: Shown| plan_after(&own, shown))?;
+    let store = store_of(alloc, Dispatch::new(Known::NONE, run))?;
+    let (locks, mut seats) = irp_remove::open(alloc, 1, 1)?;
+    let Some(seat) = seats.pop() else {
+        return Err(Fail::from("a seat was asked for"));
+    };
+    let taker = Holder {
+        locks: &locks,
+        seat,
+    };
+    let met = session::<Brand, HostRuntime>(&rt, alloc, Blank::new(1), store, taker, &meeting);
+    assert!(rt; met == Some((Some(MET), true)));
     Ok(())
 }

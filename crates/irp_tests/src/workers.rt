@@ -5,26 +5,21 @@ mod working;
 ghost use Rattle.std.specs.Prelude.{◌<◌, ◌≡◌, IfOk};
 ghost use Rattle.irp_types.specs.declared.limit.Limit.TheVariants.{ThirtyTwo};
 
-use irp_routines::{AnswerTable, Ask};
-use irp_script::{AlwaysOpen, Gate, run_workers, script_seats};
-use irp_shared::{Act, Session, Transcript, WordLine, WordReply, open};
-use irp_text::{Named, Script, ScriptForm, Step, StepAct};
-use irp_types::{DeviceId, DriverId, IrpRef, Known, LockNo, Plan, Reply, Row, Status};
+use irp_routines::AnswerTable;
+use irp_script::{Gate, ScriptSeat, Worked, run_workers, script_seats};
+use irp_script_reader::{Named, Script, ScriptForm, Step, StepAct};
+use irp_shared::{Act, Seat, Session, WordLine, WordReply, open};
+use irp_types::{DriverId, LockNo, Reply, Row};
 use std::alloc::{AllocError, Global};
 use std::marker::Brand;
-use std::process::Abort;
 use std::sync::Wait;
 use std::sync::ledger::Blank;
 use std::test::Fail;
 use std::thread::Threads;
 
-const READ: u8 = 0x03;
-
 const LOCK: LockNo = LockNo(0);
 
 const LABEL: Named = Named::Label(0);
-
-const IRP: IrpRef = IrpRef { slot: 0, use_no: 1 };
 
 const CREATE: StepAct = StepAct::CreateDevice {
     driver: DriverId(0),
@@ -34,11 +29,6 @@ const CREATE: StepAct = StepAct::CreateDevice {
 const ALLOCATE: StepAct = StepAct::Allocate { size: 1, label: 0 };
 
 const LOOK: StepAct = StepAct::Look { irp: LABEL };
-
-const FINISH: Plan = Plan::Finish {
-    status: Status::SUCCESS,
-    information: 5,
-};
 
 /// An acquisition of the lock with this tag.
 fn acquire(tag: u32) -> StepAct {
@@ -81,37 +71,42 @@ fn script(
     })
 }
 
-/// Answers with one driver, whose reads are planned so.
-fn plans_reads(alloc: Global, plan: Plan) -> Result<AnswerTable, Fail> {
-    let mut table = AnswerTable::new(alloc);
-    let Ok(dispatch) = table.add_dispatch(Known::NONE, plan) else {
-        return Err(Fail::from("a dispatch"));
-    };
-    let Ok(_driver) = table.add_driver([(READ, dispatch)].to_vec(alloc)?) else {
-        return Err(Fail::from("a driver"));
-    };
-    Ok(table)
-}
-
 /// What workers made of a script.
 #[derive(Drop)]
 struct Made {
-    transcript: Transcript,
+    /// The replies of the entries that the seats kept.
+    replies: Vec<Reply>,
     words: Vec<WordLine>,
     stopped: bool,
 }
 
+/// Puts the replies of the entries that a seat kept.
+fn put_replies<L: Session>(replies: &mut Vec<Reply>, seat: &Seat<L>) -> Result<(), AllocError> {
+    for entry in seat.entries() {
+        replies.push(entry.reply)?;
+    }
+    Ok(())
+}
+
+/// The replies of the entries that these seats kept, seat by seat.
+fn replies_of<L: Session>(
+    alloc: Global,
+    seats: Vec<ScriptSeat<'_, L>>,
+) -> Result<Vec<Reply>, AllocError> {
+    let mut replies = Vec::new(alloc);
+    for own in seats {
+        let (seat, _remove) = own.into_pair();
+        put_replies(&mut replies, &seat)?;
+    }
+    Ok(replies)
+}
+
 /// Has so many workers run the script in a session of its seats.
-fn session<
-    A: Ask + Send + Drop,
-    L: Session + Send + Sync,
-    G: Gate + Sync,
-    R: Threads + Wait + Sync,
->(
+fn session<L: Session + Send + Sync, G: Gate + Sync, R: Threads + Wait + Sync>(
     rt: &R,
     alloc: Global,
     blank: Blank,
-    ask: A,
+    ask: AnswerTable,
     script: &Script,
     gate: &G,
     workers: u32,
@@ -119,58 +114,42 @@ fn session<
     requires workers { 0 < workers }
     requires blank { (blank.name ≡ L.name) × (blank.parts ≡ L.parts) }
     requires seats { (L.parts ≡ script.now.seats) × (L.seats ≡ script.now.seats) }
-    requires fixed { L.fixed ≡ record { locks = script.now.locks; tables = A.tables ask; limit = ThirtyTwo } }
+    requires fixed { L.fixed ≡ record { locks = script.now.locks; tables = ask.tables; limit = ThirtyTwo } }
 {
-    let (shared, seats) = open::<A, L>(alloc, blank, ask, script.locks, script.seats)?;
+    let (shared, seats) = open::<AnswerTable, L>(alloc, blank, ask, script.locks, script.seats)?;
     let (locks, removes) = irp_remove::open(alloc, script.locks, script.seats)?;
     let (slots, owners, cancellers) = irp_slots::open(alloc, 0, script.seats)?;
     let pairs = script_seats(alloc, &locks, &slots, seats, removes, cancellers, owners)?;
-    let mut worked = run_workers(
+    let Worked {
+        seats,
+        words,
+        stopped,
+    } = run_workers(
         rt, alloc, &shared, &locks, &slots, pairs, script, gate, workers,
     )?;
-    let mut seats = Vec::new(alloc);
-    while let Some(own) = worked.seats.pop() {
-        let (seat, _remove) = own.into_pair();
-        seats.push(seat)?;
-    }
-    let Ok(transcript) = shared.close(seats) else {
-        return Err(Fail::from("all seats came back, and kept what was recorded"));
-    };
     Ok(Made {
-        transcript,
-        words: worked.words,
-        stopped: worked.stopped,
+        replies: replies_of(alloc, seats)?,
+        words,
+        stopped,
     })
 }
 
-/// What so many workers make of a script whose reads are finished at once, with every step let through.
-fn worked<R: Threads + Wait + Sync>(
+/// What so many workers make of a script, with one driver that dispatches nothing.
+fn worked<G: Gate + Sync, R: Threads + Wait + Sync>(
     rt: &R,
     alloc: Global,
     script: &Script,
+    gate: &G,
     workers: u32,
 ) -> Result<Made, Fail>
     requires { 0 < workers }
 {
-    let ask = plans_reads(alloc, FINISH)?;
-    session::<AnswerTable, Brand, AlwaysOpen, R>(
-        rt,
-        alloc,
-        Blank::new(u64::from(script.seats)),
-        ask,
-        script,
-        &AlwaysOpen,
-        workers,
-    )
-}
-
-/// The seats and the replies of the transcript's entries are these.
-fn has_replies(rt: &impl Abort, made: &Made, expected: &[(u32, Reply)]) {
-    assert_eq!(rt; made.transcript.entries().len(), expected.len());
-    for (entry, (seat, reply)) in made.transcript.entries().iter().zip(expected) {
-        assert_eq!(rt; entry.seat, *seat);
-        assert_eq!(rt; entry.reply, *reply);
+    let mut ask = AnswerTable::new(alloc);
+    if ask.add_driver(Vec::new(alloc)).is_err() {
+        return Err(Fail::from("a driver"));
     }
+    let blank = Blank::new(u64::from(script.seats));
+    session::<Brand, G, R>(rt, alloc, blank, ask, script, gate, workers)
 }
 
 /// A word line of this step.

@@ -1,12 +1,9 @@
 //! Two calls at once: a gate that holds each seat's step until the other seat's step of the same place among its own has
 //! entered. It ends by itself: who waits does so for a number of turns.
 
-use super::{ALLOCATE, CREATE, FINISH, plans_reads, script, session};
-use irp_routines::AnswerTable;
+use super::{ALLOCATE, CREATE, script, worked};
 use irp_script::Gate;
-use std::marker::Brand;
 use std::sync::atomic::{AtomicBool, AtomicU64, Ordering};
-use std::sync::ledger::Blank;
 use std::test::Fail;
 
 /// How many turns of a loop one seat waits for the other.
@@ -51,32 +48,21 @@ impl Gate for Meeting {
 
 #[test]
 fn two_calls_at_once(rt: HostRuntime) -> Result<(), Fail> {
-    let alloc = rt.alloc();
     let mut steps = [(0, ALLOCATE); 20];
     for place in 10..20 {
         steps[place] = (1, ALLOCATE);
     }
-    let script = script(alloc, 2, &[(0, CREATE)], &steps)?;
-    let ask = plans_reads(alloc, FINISH)?;
+    let script = script(rt.alloc(), 2, &[(0, CREATE)], &steps)?;
     let gate = Meeting {
         first: AtomicU64::new(0),
         second: AtomicU64::new(0),
         late: AtomicBool::new(false),
     };
-    let made = session::<AnswerTable, Brand, Meeting, HostRuntime>(
-        &rt,
-        alloc,
-        Blank::new(2),
-        ask,
-        &script,
-        &gate,
-        2,
-    )?;
+    let made = worked(&rt, rt.alloc(), &script, &gate, 2)?;
     assert!(rt;
         !gate.late.load(Ordering::SeqCst),
         "each waited for the other in time"
     );
-    assert_eq!(rt; made.transcript.entries().len(), 21);
-    assert!(rt; !made.stopped);
+    assert!(rt; made.replies.len() == 21 && !made.stopped);
     Ok(())
 }

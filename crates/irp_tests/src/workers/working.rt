@@ -1,24 +1,17 @@
 //! Which steps workers run, when one stops, and what the gate is told.
 
-use super::{
-    ALLOCATE, CREATE, FINISH, LOCK, LOOK, acquire, has_replies, plans_reads, script, session, word,
-    worked,
-};
-use irp_routines::AnswerTable;
-use irp_script::Gate;
+use super::{ALLOCATE, CREATE, LOCK, LOOK, acquire, script, word, worked};
+use irp_script::{AlwaysOpen, Gate};
 use irp_shared::{Act, WordReply};
 use irp_types::{DeviceId, Reply};
-use std::marker::Brand;
 use std::sync::atomic::{AtomicBool, AtomicU64, Ordering};
-use std::sync::ledger::Blank;
 use std::test::Fail;
 
 #[test]
 fn a_seat_that_is_not_there_stops_its_worker_alone(rt: HostRuntime) -> Result<(), Fail> {
-    let alloc = rt.alloc();
     let steps = [(0, acquire(1)), (2, LOOK), (0, acquire(2)), (1, acquire(3))];
-    let script = script(alloc, 2, &[], &steps)?;
-    let made = worked(&rt, alloc, &script, 2)?;
+    let script = script(rt.alloc(), 2, &[], &steps)?;
+    let made = worked(&rt, rt.alloc(), &script, &AlwaysOpen, 2)?;
     let words = [
         word(
             0,
@@ -34,24 +27,17 @@ fn a_seat_that_is_not_there_stops_its_worker_alone(rt: HostRuntime) -> Result<()
         ),
     ];
     assert!(rt; made.words.as_slice() == words.as_slice());
-    assert!(rt; made.transcript.entries().is_empty());
-    assert!(rt; made.stopped);
+    assert!(rt; made.replies.is_empty() && made.stopped);
     Ok(())
 }
 
 #[test]
 fn a_stop_in_the_setup_stops_all(rt: HostRuntime) -> Result<(), Fail> {
-    let alloc = rt.alloc();
-    let script = script(
-        alloc,
-        1,
-        &[(0, CREATE), (1, LOOK), (0, CREATE)],
-        &[(0, CREATE)],
-    )?;
-    let made = worked(&rt, alloc, &script, 1)?;
-    has_replies(&rt, &made, &[(0, Reply::Device(DeviceId(0)))]);
-    assert!(rt; made.words.is_empty());
-    assert!(rt; made.stopped);
+    let setup = [(0, CREATE), (1, LOOK), (0, CREATE)];
+    let script = script(rt.alloc(), 1, &setup, &[(0, CREATE)])?;
+    let made = worked(&rt, rt.alloc(), &script, &AlwaysOpen, 1)?;
+    assert!(rt; made.replies.as_slice() == &[Reply::Device(DeviceId(0))][..]);
+    assert!(rt; made.words.is_empty() && made.stopped);
     Ok(())
 }
 
@@ -93,31 +79,20 @@ impl Gate for Turns {
 
 #[test]
 fn the_gate_is_told_before_and_after_each_step(rt: HostRuntime) -> Result<(), Fail> {
-    let alloc = rt.alloc();
-    let script = script(
-        alloc,
-        3,
-        &[(0, CREATE)],
-        &[(2, ALLOCATE), (0, acquire(1)), (1, LOOK)],
-    )?;
+    let steps = [(2, ALLOCATE), (0, acquire(1)), (1, LOOK)];
+    let script = script(rt.alloc(), 3, &[(0, CREATE)], &steps)?;
     let gate = Turns {
         begun: AtomicU64::new(0),
         answered: AtomicU64::new(0),
         astray: AtomicBool::new(false),
     };
-    let ask = plans_reads(alloc, FINISH)?;
-    let made = session::<AnswerTable, Brand, Turns, HostRuntime>(
-        &rt,
-        alloc,
-        Blank::new(3),
-        ask,
-        &script,
-        &gate,
-        1,
-    )?;
-    assert!(rt; !gate.astray.load(Ordering::SeqCst));
-    assert_eq!(rt; gate.begun.load(Ordering::SeqCst), 3);
-    assert_eq!(rt; gate.answered.load(Ordering::SeqCst), 3);
-    assert!(rt; !made.stopped);
+    let made = worked(&rt, rt.alloc(), &script, &gate, 1)?;
+    let begun = gate.begun.load(Ordering::SeqCst);
+    let answered = gate.answered.load(Ordering::SeqCst);
+    let astray = gate.astray.load(Ordering::SeqCst);
+    assert_eq!(rt;
+        (begun, answered, astray, made.stopped),
+        (3, 3, false, false)
+    );
     Ok(())
 }

@@ -5,10 +5,10 @@ abbrev pub ghosts-third_receipt-L-Ledger : goal.ghosts-third_receipt-L-Ledger
 ghosts-third_receipt-L-Ledger g a = record { name = a.blank.name; parts = a.blank.parts }
 
 abbrev pub ghosts-third_receipt-L-Session : goal.ghosts-third_receipt-L-Session
-ghosts-third_receipt-L-Session g a = record { seats = a.seats; fixed = record { locks = a.locks; tables = a.table.tables; limit = ThirtyTwo } }
+ghosts-third_receipt-L-Session g a = record { seats = 1; fixed = record { locks = 1; tables = a.table.tables; limit = ThirtyTwo } }
 
 abbrev pub ghosts-behind-L-Ledger : goal.ghosts-behind-L-Ledger
 ghosts-behind-L-Ledger g a = record { name = a.blank.name; parts = a.blank.parts }
 
 abbrev pub ghosts-behind-L-Session : goal.ghosts-behind-L-Session
-ghosts-behind-L-Session g a = record { seats = a.seats; fixed = record { locks = a.locks; tables = a.table.tables; limit = ThirtyTwo } }
+ghosts-behind-L-Session g a = record { seats = 2; fixed = record { locks = 1; tables = a.table.tables; limit = ThirtyTwo } }
