@@ -1,2 +1,3 @@
+pub mod Batches
 pub mod Makes
 pub mod Slots

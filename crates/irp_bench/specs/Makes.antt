@@ -1,10 +1,11 @@
 -- What becomes of a caller by its calls, and of a text.
 use Rattle.std.specs.Prelude.{ℕ, ◌≡◌, zero, suc, List, [], ◌∷◌, ◌++◌, map, length, Ok}
 use Rattle.irp_types.specs.Status.{success, pending}
+use Rattle.irp_types.specs.declared.names.DeviceId.{DeviceId}
 use Rattle.irp_types.specs.declared.names.IrpRef.{IrpRef}
 use Rattle.irp_types.specs.declared.refusal.Refusal.{Refusal}
 use Rattle.irp_types.specs.declared.call.Call.{Call}
-use Rattle.irp_types.specs.declared.call.Call.TheVariants.{Allocate, SetNext, CallDriver, Complete, Free}
+use Rattle.irp_types.specs.declared.call.Call.TheVariants.{Allocate, CallDriver, Complete, Free}
 use Rattle.irp_types.specs.declared.call.Party.TheVariants.{Originator}
 use Rattle.irp_types.specs.declared.reply.Reply.{Reply}
 use Rattle.irp_types.specs.declared.reply.Reply.TheVariants.{Done, Irp, Status as StatusIs, Refused}
@@ -13,7 +14,9 @@ use Rattle.irp_manager.specs.Seats.{Seated}
 use Rattle.irp_shared.specs.Transcripts.{TranscriptValue, no_lines}
 use Rattle.irp_transcript_reader.specs.Reading.{ReadsFrom, cut}
 use Rattle.irp_bench.specs.declared.packets.Packet.{Packet}
-use Rattle.irp_bench.specs.declared.packets.Packet.TheVariants.{Round, Unused, Unsent, Sent}
+use Rattle.irp_bench.specs.declared.packets.Packet.TheVariants.{Round, Unused}
+use Rattle.irp_bench.specs.declared.packets.Batch.{Batch}
+use Rattle.irp_bench.specs.declared.packets.Batch.TheVariants.{Repeated, Sent}
 
 -- what a call with its reply makes of a caller
 abbrev pub Making : Type 0 → Type 1
@@ -30,15 +33,20 @@ MakesPacket making Round old new = (irp : IrpRef) × (completed again : Refusal)
     × Makes making ((Allocate 1, Irp irp) ∷ (Complete Originator irp pending 0, Refused completed) ∷ (Free irp, Done) ∷ (Free irp, Refused again) ∷ []) old new
 MakesPacket making Unused old new = (irp : IrpRef)
     × Makes making ((Allocate 16, Irp irp) ∷ (Free irp, Done) ∷ []) old new
-MakesPacket making Unsent old new = (irp : IrpRef)
-    × Makes making ((Allocate 16, Irp irp) ∷ (SetNext Originator irp 0x03 7, Done) ∷ (Free irp, Done) ∷ []) old new
-MakesPacket making (Sent target) old new = (irp : IrpRef)
-    × Makes making ((Allocate 16, Irp irp) ∷ (SetNext Originator irp 0x03 7, Done) ∷ (CallDriver Originator irp target, StatusIs success) ∷ (Free irp, Done) ∷ []) old new
+
+-- a packet was sent to this device, and came back with success
+abbrev pub MakesSend : {C : Type 0} → Making C → DeviceId → C → C → Type 0
+MakesSend making target old new = (irp : IrpRef) × making old (CallDriver Originator irp target) (StatusIs success) new
 
 -- one thing was made so many times
 abbrev pub Repeats : {C : Type 0} → (C → C → Type 0) → ℕ → C → C → Type 0
 Repeats made zero old new = new ≡ old
 Repeats {C} made (suc count) old new = (last : C) × Repeats made count old last × made last new
+
+-- the calls of a batch were made, where so many packets are there
+abbrev pub MakesBatch : {C : Type 0} → Making C → Batch → ℕ → C → C → Type 0
+MakesBatch making (Repeated packet count) packets old new = Repeats (MakesPacket making packet) count old new
+MakesBatch making (Sent target) packets old new = Repeats (MakesSend making target) packets old new
 
 -- the calls of these entries, each with its reply
 abbrev pub calls_of : List Entry → List (Call × Reply)

@@ -13,6 +13,15 @@ use irp_manager::{KnowsNothing, Manager};
 use irp_routines::Ask;
 use irp_types::{Call, Reply};
 
+/// How a call was answered.
+#[derive(Clone, Copy)]
+pub struct Answered {
+    /// The reply.
+    pub reply: Reply,
+    /// How many questions were asked in the call: of dispatches, and of completion and cancel routines.
+    pub questions: usize,
+}
+
 /// Who makes calls of a manager, one after another.
 pub trait Caller {
     /// What has to hold for a call to be made.
@@ -21,11 +30,11 @@ pub trait Caller {
     /// What a call with its reply makes of the caller.
     ghost makes: { Self → Call → Reply → Self → Type 0 };
 
-    /// Makes a call, and answers the reply.
-    fn reply_to(&mut self, call: Call) -> Result<Reply, Fault>
+    /// Makes a call, and tells how it was answered.
+    fn make(&mut self, call: Call) -> Result<Answered, Fault>
         requires { is_ready self.old }
         ensures ready { is_ready self.new }
-        ensures made { IfOk result (λ reply. makes self.old call reply self.new) };
+        ensures made { IfOk result (λ answered. makes self.old call answered.reply self.new) };
 }
 
 /// The manager alone: each call is one of its steps.
@@ -34,8 +43,11 @@ impl<A: Ask> Caller for Manager<A> {
 
     ghost makes = { λ old call reply new. (drained : Bool) × (asked : List Asked) × Stepped slabbed (A.tables old.ask) drained old.core call asked reply new.core };
 
-    fn reply_to(&mut self, call: Call) -> Result<Reply, Fault> {
+    fn make(&mut self, call: Call) -> Result<Answered, Fault> {
         let applied = self.apply(call, &KnowsNothing)?;
-        Ok(applied.reply)
+        Ok(Answered {
+            reply: applied.reply,
+            questions: applied.asked.len(),
+        })
     }
 }

@@ -5,6 +5,7 @@
 mod caller;
 mod done;
 mod fault;
+mod loads;
 mod locks;
 mod packets;
 mod sessions;

@@ -1,20 +1,20 @@
-//! Packets by the manager alone, and in a session, where each call is recorded.
+//! Batches by the manager alone, and in a session, where each call is recorded.
 
 ghost use Rattle.std.specs.Prelude.{◌≡◌, ⊤, true, IfOk};
 ghost use Rattle.irp_types.specs.declared.limit.Limit.TheVariants.{ThirtyTwo};
 ghost use Rattle.irp_types.specs.Rules.{is_allowed, is_plan_allowed};
 ghost use Rattle.irp_types.specs.State.{no_routines};
 ghost use Rattle.irp_types.specs.declared.routine.Rule.TheVariants.{Watch};
-ghost use Rattle.irp_bench.specs.Makes.{Keeps, MakesPacket, Repeats};
+ghost use Rattle.irp_bench.specs.Batches.{MakesBatches};
+ghost use Rattle.irp_bench.specs.Makes.{Keeps};
 
-use crate::caller::Caller;
-use crate::done::Done;
+use crate::caller::{Answered, Caller};
 use crate::fault::Fault;
-use crate::packets::{Packet, READ, repeat, set_up};
+use crate::packets::{Batch, READ, Scene, WATCH, make_batch, make_ready, set_up};
 use irp_manager::{KnowsNothing, Manager, NotRecorded};
 use irp_routines::{Ask, Dispatch, Routine, Store};
 use irp_shared::{Seat, Session, Shared, Transcript, needs_token, open};
-use irp_types::{Answer, Call, Known, Plan, Reply, RoutineId, Rule, Setting, Shown, Status};
+use irp_types::{Answer, Call, DispatchId, Known, Plan, Reply, Rule, Shown, Status};
 use std::alloc::Global;
 use std::marker::Brand;
 use std::rt::Clock;
@@ -29,37 +29,36 @@ const KNOWN: Known = Known {
     ..Known::NONE
 };
 
-/// The routine of rule Watch, on success, on error and on cancel.
-const SETTING: Setting = Setting {
-    routine: RoutineId {
-        rule: Rule::Watch,
-        no: 0,
-    },
-    context: 0,
-    on_success: true,
-    on_error: true,
-    on_cancel: true,
-};
-
-/// What is done, and what is there before.
+/// What is timed, and what is there before.
 #[derive(Clone, Copy)]
 pub struct Work {
-    /// What is done with each packet.
-    pub packet: Packet,
-    /// With how many packets, by each caller.
-    pub count: u32,
-    /// How many devices stand in the stack.
-    pub devices: u32,
-    /// How many packets are live all the time.
-    pub live: u32,
+    /// What is there before.
+    pub scene: Scene,
+    /// What is timed.
+    pub batch: Batch,
+    /// How often, by each caller.
+    pub batches: u32,
     /// In how many seats of a session, each in a thread of its own; none: by the manager alone.
     pub seats: Option<u32>,
 }
 
-/// How long the work took, and the transcript where it was recorded.
+impl Work {
+    /// How often it does what is timed, all callers together: so many calls of rounds, packets, or sends.
+    pub fn count(self) -> u32 {
+        let (each, callers) = (self.batches, self.seats.unwrap_or(1));
+        let once = match self.batch {
+            Batch::Repeated { packet, count } => count.saturating_mul(packet.counted()),
+            Batch::Sent { .. } => self.scene.packets,
+        };
+        once.saturating_mul(each).saturating_mul(callers)
+    }
+}
+
+/// How long the batches took, and the transcript where they were recorded.
 #[derive(Drop)]
 pub struct Outcome {
-    /// How long it took. What is there before is not in the time, nor is the closing of the session.
+    /// How long the batches took, without what came before each. Where there is more than one seat: how long it took from
+    /// the first thread's start to the last thread's end.
     pub taken: Duration,
     /// The transcript of the session.
     pub transcript: Option<Transcript>,
@@ -73,13 +72,11 @@ struct Recorder<'a, R, A, L: Session> {
     seat: Seat<L>,
 }
 
-/// Each call is recorded, and the seat keeps its entry.
-impl<R: Wait, A: Ask, L: Session> Caller for Recorder<'_, R, A, L> {
-    ghost is_ready = { λ _. ⊤ };
-
-    ghost makes = { λ old call reply new. Keeps old.seat call reply new.seat };
-
-    fn reply_to(&mut self, call: Call) -> Result<Reply, Fault> {
+impl<R: Wait, A: Ask, L: Session> Recorder<'_, R, A, L> {
+    /// Makes a call, and answers the reply.
+    fn reply_to(&mut self, call: Call) -> Result<Reply, Fault>
+        ensures { IfOk result (λ reply. Keeps self.old.seat call reply self.new.seat) }
+    {
         if needs_token(call) {
             return Err(Fault::Failed);
         }
@@ -92,6 +89,27 @@ impl<R: Wait, A: Ask, L: Session> Caller for Recorder<'_, R, A, L> {
             Err(_) => Err(Fault::Failed),
         }
     }
+
+    /// How many questions were asked in the seat's last call.
+    fn questions(&self) -> usize {
+        match self.seat.entries().last() {
+            Some(entry) => entry.asked.as_slice().len(),
+            None => 0,
+        }
+    }
+}
+
+/// Each call is recorded, and the seat keeps its entry.
+impl<R: Wait, A: Ask, L: Session> Caller for Recorder<'_, R, A, L> {
+    ghost is_ready = { λ _. ⊤ };
+
+    ghost makes = { λ old call reply new. Keeps old.seat call reply new.seat };
+
+    fn make(&mut self, call: Call) -> Result<Answered, Fault> {
+        let reply = self.reply_to(call)?;
+        let questions = self.questions();
+        Ok(Answered { reply, questions })
+    }
 }
 
 /// What the dispatch plans: it passes the packet down with the completion routine where a device stands below, and else
@@ -100,7 +118,7 @@ fn forwards(shown: Shown) -> Plan
     ensures { is_plan_allowed (record no_routines { watch = 1 }) shown result ≡ true }
 {
     if shown.has_lower {
-        Plan::Forward { set: Some(SETTING) }
+        Plan::Forward { set: Some(WATCH) }
     } else {
         Plan::Finish {
             status: Status::SUCCESS,
@@ -120,51 +138,53 @@ fn watches(shown: Shown) -> Answer
     }
 }
 
-/// Does the work with this caller, and answers how long it took.
-fn timed<C: Caller, R: Clock>(rt: &R, caller: &mut C, work: Work) -> Result<Duration, Fault>
+/// Builds the scene, and does the work with this caller. Answers how long the batches took. Before each batch the packets
+/// that are there are made ready to be sent, which is not in the time.
+fn timed<C: Caller, R: Clock>(
+    rt: &R,
+    alloc: Global,
+    caller: &mut C,
+    work: Work,
+) -> Result<Duration, Fault>
     requires { C.is_ready caller.old }
-    ensures { IfOk result (λ _. Repeats (MakesPacket C.makes work.packet) work.count caller.old caller.new) }
+    ensures { IfOk result (λ _. MakesBatches C.makes work work.batches caller.new) }
 {
-    let start = Instant::now(rt)?;
-    repeat(caller, work.packet, work.count)?;
-    Ok(start.elapsed(rt)?)
+    let mut packets = set_up(caller, alloc, work.scene)?;
+    let mut taken = Duration::ZERO;
+    for batch in 0..work.batches {
+        make_ready(caller, packets.as_mut_slice())?;
+        let start = Instant::now(rt)?;
+        make_batch(caller, work.batch, packets.as_slice())?;
+        taken = taken.saturating_add(start.elapsed(rt)?);
+    }
+    Ok(taken)
 }
 
 /// Does the work by the manager alone.
-fn alone<A: Ask + Drop, R: Clock>(
-    rt: &R,
-    alloc: Global,
-    ask: A,
-    work: Work,
-) -> Result<Outcome, Fault> {
-    let mut manager = Manager::new(alloc, ask, 1);
-    set_up(&mut manager, work.devices, work.live)?;
+fn alone<R: Clock>(rt: &R, alloc: Global, store: Store, work: Work) -> Result<Outcome, Fault> {
+    let mut manager = Manager::new(alloc, store, 1);
     Ok(Outcome {
-        taken: timed(rt, &mut manager, work)?,
+        taken: timed(rt, alloc, &mut manager, work)?,
         transcript: None,
     })
 }
 
-/// Makes calls in a seat, and gives it back.
-fn in_seat<A: Ask, L: Session, R: Wait>(
+/// Does the work in a seat, and gives it back.
+fn in_seat<A: Ask, L: Session, R: Wait + Clock>(
     rt: &R,
+    alloc: Global,
     shared: &Shared<A, L>,
     seat: Seat<L>,
     work: Work,
-    is_first: bool,
-) -> Result<Seat<L>, Fault> {
+) -> Result<(Seat<L>, Duration), Fault> {
     let mut caller = Recorder { rt, shared, seat };
-    if is_first {
-        set_up(&mut caller, work.devices, work.live)?;
-    } else {
-        repeat(&mut caller, work.packet, work.count)?;
-    }
+    let taken = timed(rt, alloc, &mut caller, work)?;
     let Recorder {
         rt: _,
         shared: _,
         seat,
     } = caller;
-    Ok(seat)
+    Ok((seat, taken))
 }
 
 /// Does the work in a session of so many seats, each in a thread of its own.
@@ -181,21 +201,21 @@ fn recorded<A: Ask + Send + Drop, L: Session + Send + Sync, R: Threads + Wait + 
     requires seats { (L.parts ≡ seats) × (L.seats ≡ seats) }
     requires fixed { L.fixed ≡ record { locks = locks; tables = A.tables ask; limit = ThirtyTwo } }
 {
-    let Ok((shared, mut places)) = open::<A, L>(alloc, blank, ask, locks, seats) else {
+    let Ok((shared, places)) = open::<A, L>(alloc, blank, ask, locks, seats) else {
         return Err(Fault::Memory);
     };
     let lent = &shared;
-    if let Some(seat) = places.pop() {
-        if places.push(in_seat(rt, lent, seat, work, true)?).is_err() {
-            return Err(Fault::Memory);
-        }
-    }
     let start = Instant::now(rt)?;
-    let made = thread::map_vec(rt, places, &|seat| in_seat(rt, lent, seat, work, false))?;
-    let taken = start.elapsed(rt)?;
+    let each = &|seat| in_seat(rt, alloc, lent, seat, work);
+    let made = thread::map_vec(rt, places, each)?;
+    let mut taken = start.elapsed(rt)?;
     let mut done = Vec::new(alloc);
-    for seat in made {
-        if done.push(seat?).is_err() {
+    for one in made {
+        let (seat, own) = one?;
+        if seats == 1 {
+            taken = own;
+        }
+        if done.push(seat).is_err() {
             return Err(Fault::Memory);
         }
     }
@@ -224,6 +244,20 @@ fn with_store<R: Threads + Wait + Sync + Clock>(
     }
 }
 
+/// A store of one driver, whose reads this dispatch plans, and of one routine.
+fn store_of(alloc: Global, watch: Routine, forward: Dispatch) -> Result<Store, Fault> {
+    let mut store = Store::new(alloc);
+    let watches = store.add(watch).is_ok();
+    let forwards = store.add_dispatch(forward).is_ok();
+    let reads = [(READ, DispatchId(0))].to_vec(alloc)?;
+    let drives = store.add_driver(reads).is_ok();
+    if watches && forwards && drives {
+        Ok(store)
+    } else {
+        Err(Fault::Memory)
+    }
+}
+
 /// Does the work, with one driver, whose reads each device passes down with a completion routine of rule Watch, and the
 /// lowest finishes.
 pub fn do_work<R: Threads + Wait + Sync + Clock + AllocGlobal>(
@@ -231,42 +265,15 @@ pub fn do_work<R: Threads + Wait + Sync + Clock + AllocGlobal>(
     work: Work,
 ) -> Result<Outcome, Fault> {
     let alloc = rt.alloc();
-    let Ok(watch) = Box::new(alloc, |shown: Shown| watches(shown)) else {
+    let Ok(watch) = Box::new(alloc, watches) else {
         return Err(Fault::Memory);
     };
-    let Ok(forward) = Box::new(alloc, |shown: Shown| forwards(shown)) else {
+    let Ok(forward) = Box::new(alloc, forwards) else {
         return Err(Fault::Memory);
     };
-    let mut store = Store::new(alloc);
-    if store.add(Routine::new(Rule::Watch, watch)).is_err() {
-        return Err(Fault::Memory);
-    }
-    let Ok(reads) = store.add_dispatch(Dispatch::new(KNOWN, forward)) else {
-        return Err(Fault::Memory);
-    };
-    if store.add_driver([(READ, reads)].to_vec(alloc)?).is_err() {
-        return Err(Fault::Memory);
-    }
-    with_store(rt, alloc, store, work)
-}
-
-/// How many packets are timed, by each caller. A history has at most 1,000,000 entries.
-const PACKETS: u32 = 20_000;
-
-/// Times what is done with packets, in a stack of so many devices, while so many packets are live.
-pub fn packets<R: Threads + Wait + Sync + Clock + AllocGlobal>(
-    rt: &R,
-    packet: Packet,
-    devices: u32,
-    live: u32,
-    seats: Option<u32>,
-) -> Result<Done, Fault> {
-    let work = Work {
-        packet,
-        count: PACKETS,
-        devices,
-        live,
-        seats,
-    };
-    Ok(Done::new(PACKETS, 0, do_work(rt, work)?.taken))
+    let (watch, forward) = (
+        Routine::new(Rule::Watch, watch),
+        Dispatch::new(KNOWN, forward),
+    );
+    with_store(rt, alloc, store_of(alloc, watch, forward)?, work)
 }

@@ -2,12 +2,10 @@
 
 use crate::done::Done;
 use crate::fault::Fault;
+use crate::loads::{Calls, time_calls};
 use crate::locks::{acquire_and_release, add_and_subtract};
-use crate::packets::Packet;
-use crate::sessions::packets;
 use crate::slots::{Pair, pairs_on_slots};
 use crate::texts::{Sample, Task, perform, record_sample};
-use irp_types::DeviceId;
 use std::rt::Clock;
 use std::sync::Wait;
 use std::thread::Threads;
@@ -21,14 +19,8 @@ enum Load {
     Lock,
     Word,
     Slot(Pair),
-    Rounds,
-    RecordedRounds,
-    Unused,
-    RecordedUnused,
-    Unsent,
-    Sent,
-    RecordedUnsent,
-    RecordedSent,
+    Alone(Calls),
+    Recorded(Calls),
     Text(Task),
 }
 
@@ -44,7 +36,7 @@ struct Row {
 }
 
 /// All that the program times, in this order.
-const TABLE: [Row; 10] = [
+const TABLE: [Row; 9] = [
     Row {
         word: "locks",
         name: "acquire and release, threads",
@@ -71,35 +63,27 @@ const TABLE: [Row; 10] = [
     },
     Row {
         word: "calls",
-        name: "four recorded calls, threads",
-        load: Load::RecordedRounds,
-        beside_name: "four calls by the manager alone",
-        beside: Load::Rounds,
-        numbers: &[1, 4],
+        name: "a recorded call, of four, threads",
+        load: Load::Recorded(Calls::Rounds),
+        beside_name: "by the manager alone",
+        beside: Load::Alone(Calls::Rounds),
+        numbers: &[1, 2, 4, 8],
     },
     Row {
         word: "calls",
         name: "a packet allocated and given back, live packets",
-        load: Load::Unused,
+        load: Load::Alone(Calls::Unused),
         beside_name: "recorded",
-        beside: Load::RecordedUnused,
-        numbers: &[1, 4_096],
+        beside: Load::Recorded(Calls::Unused),
+        numbers: &[1, 64, 4_096],
     },
     Row {
         word: "calls",
-        name: "a packet sent, devices",
-        load: Load::Sent,
-        beside_name: "not sent",
-        beside: Load::Unsent,
-        numbers: &[1, 4, 16],
-    },
-    Row {
-        word: "calls",
-        name: "a packet sent, recorded, devices",
-        load: Load::RecordedSent,
-        beside_name: "recorded, not sent",
-        beside: Load::RecordedUnsent,
-        numbers: &[1, 4, 16],
+        name: "a send, devices",
+        load: Load::Alone(Calls::Sends),
+        beside_name: "recorded",
+        beside: Load::Recorded(Calls::Sends),
+        numbers: &[1, 4, 16, 32],
     },
     Row {
         word: "write",
@@ -134,20 +118,12 @@ fn run<R: Threads + Wait + Sync + Clock + AllocGlobal>(
     number: u32,
     sample: Option<&Sample>,
 ) -> Result<Done, Fault> {
-    let below = number.saturating_sub(1);
-    let sent = Packet::Sent(DeviceId(below));
     match load {
         Load::Lock => acquire_and_release(rt, number),
         Load::Word => add_and_subtract(rt, number),
         Load::Slot(pair) => pairs_on_slots(rt, pair, number),
-        Load::Rounds => packets(rt, Packet::Round, 0, 1, None),
-        Load::RecordedRounds => packets(rt, Packet::Round, 0, 1, Some(number)),
-        Load::Unused => packets(rt, Packet::Unused, 0, below, None),
-        Load::RecordedUnused => packets(rt, Packet::Unused, 0, below, Some(1)),
-        Load::Unsent => packets(rt, Packet::Unsent, number, 1, None),
-        Load::Sent => packets(rt, sent, number, 1, None),
-        Load::RecordedUnsent => packets(rt, Packet::Unsent, number, 1, Some(1)),
-        Load::RecordedSent => packets(rt, sent, number, 1, Some(1)),
+        Load::Alone(calls) => time_calls(rt, calls, number, false),
+        Load::Recorded(calls) => time_calls(rt, calls, number, true),
         Load::Text(task) => match sample {
             Some(sample) => perform(rt, rt.alloc(), task, sample),
             None => Err(Fault::Failed),
@@ -198,10 +174,10 @@ pub fn time_rows<R: Threads + Wait + Sync + Clock + Eprint + AllocGlobal>(
     asked: &str,
 ) -> Result<(), Fault> {
     let mut is_known = false;
-    for row in TABLE {
+    for row in TABLE.iter() {
         if row.word == asked {
             is_known = true;
-            time_row(rt, row)?;
+            time_row(rt, *row)?;
         }
     }
     if is_known { Ok(()) } else { Err(Fault::Usage) }

@@ -8,13 +8,12 @@ ghost use Rattle.irp_bench.specs.Makes.{IsReadAs};
 
 use crate::done::Done;
 use crate::fault::Fault;
-use crate::packets::Packet;
-use crate::sessions::{Work, do_work};
+use crate::loads::sends;
+use crate::sessions::do_work;
 use irp_script::{Verdict, check};
 use irp_shared::Transcript;
 use irp_transcript_reader::read_transcript;
 use irp_transcript_writer::{Failed, Out, write_transcript};
-use irp_types::DeviceId;
 use serde_json::Value;
 use std::alloc::{AllocError, Global};
 use std::rt::Clock;
@@ -25,10 +24,10 @@ use std::time::Instant;
 /// How many lines' values are written by `serde_json` alone.
 const LINES: usize = 10_000;
 
-/// How many devices stand in the stack that packets are sent through.
+/// How many devices stand in the stack that the packet is sent through.
 const DEVICES: u32 = 4;
 
-/// How many calls come first: four devices are created, three attached, and a packet is allocated that stays.
+/// How many calls come first: four devices are created, three attached, and a packet is allocated.
 const FIRST_CALLS: u32 = 8;
 
 /// What is done with a transcript or its text.
@@ -91,7 +90,8 @@ fn text(alloc: Global, transcript: &Transcript, room: usize) -> Result<Vec<u8>, 
     Ok(bytes)
 }
 
-/// A transcript of so many entries, and its text: in a session of one seat, packets are sent through four devices.
+/// A transcript of so many entries, and its text: in a session of one seat, a packet is sent through four devices again
+/// and again, with the three calls before each send that make it ready.
 ///
 /// # Errors
 ///
@@ -105,13 +105,8 @@ pub fn record_sample<R: Threads + Wait + Sync + Clock + AllocGlobal>(
     ensures entries { IfOk result (λ sample. length sample.transcript.entries ≡ entries) }
     ensures text { IfOk result (λ sample. sample.text.items ≡ text_of (lines sample.transcript)) }
 {
-    let work = Work {
-        packet: Packet::Sent(DeviceId(DEVICES - 1)),
-        count: entries.saturating_sub(FIRST_CALLS) / 4,
-        devices: DEVICES,
-        live: 1,
-        seats: Some(1),
-    };
+    let times = entries.saturating_sub(FIRST_CALLS) / 4;
+    let work = sends(DEVICES, 1, times, Some(1));
     let Some(transcript) = do_work(rt, work)?.transcript else {
         return Err(Fault::Failed);
     };

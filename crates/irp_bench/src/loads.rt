@@ -1,0 +1,104 @@
+//! The loads of calls, as works.
+
+use crate::done::Done;
+use crate::fault::Fault;
+use crate::packets::{Batch, Packet, Scene};
+use crate::sessions::{Work, do_work};
+use irp_types::DeviceId;
+use std::rt::Clock;
+use std::sync::Wait;
+use std::thread::Threads;
+
+/// How many rounds are timed, by all callers together. With four calls in each, their entries fill a history.
+const ROUNDS: u32 = 250_000;
+
+/// How many packets are allocated and given back.
+const UNUSED: u32 = 20_000;
+
+/// How many packets are sent, one after another, by the manager alone; and in a session.
+const PACKETS: u32 = 1_000;
+
+const RECORDED_PACKETS: u32 = 500;
+
+/// How often each of them is sent.
+const SENDS: u32 = 40;
+
+/// What is done in calls, for a number.
+#[derive(Clone, Copy)]
+pub enum Calls {
+    /// Rounds of four calls, by so many threads.
+    Rounds,
+    /// Packets are allocated and given back, while so many are live, this one too.
+    Unused,
+    /// Packets are sent through so many devices.
+    Sends,
+}
+
+/// Rounds in so many seats, or by the manager alone.
+fn rounds(seats: Option<u32>) -> Work {
+    Work {
+        scene: Scene {
+            devices: 0,
+            packets: 0,
+            locations: 1,
+        },
+        batch: Batch::Repeated {
+            packet: Packet::Round,
+            count: ROUNDS.checked_div(seats.unwrap_or(1)).unwrap_or(0),
+        },
+        batches: 1,
+        seats,
+    }
+}
+
+/// Packets that are allocated and given back, while so many are live.
+fn unused(live: u32, seats: Option<u32>) -> Work {
+    Work {
+        scene: Scene {
+            devices: 0,
+            packets: live.saturating_sub(1),
+            locations: 16,
+        },
+        batch: Batch::Repeated {
+            packet: Packet::Unused,
+            count: UNUSED,
+        },
+        batches: 1,
+        seats,
+    }
+}
+
+/// So many packets, each with as many locations as there are devices, and each sent so often.
+pub fn sends(devices: u32, packets: u32, batches: u32, seats: Option<u32>) -> Work {
+    Work {
+        scene: Scene {
+            devices,
+            packets,
+            locations: u8::try_from(devices).unwrap_or(u8::MAX),
+        },
+        batch: Batch::Sent {
+            target: DeviceId(devices.saturating_sub(1)),
+        },
+        batches,
+        seats,
+    }
+}
+
+/// Times calls, by the manager alone or in a session. The time is that of a call of a round, of a packet, or of a send;
+/// where there are more threads than one, those of all threads count.
+pub fn time_calls<R: Threads + Wait + Sync + Clock + AllocGlobal>(
+    rt: &R,
+    calls: Calls,
+    number: u32,
+    is_recorded: bool,
+) -> Result<Done, Fault> {
+    let work = match (calls, is_recorded) {
+        (Calls::Rounds, false) => rounds(None),
+        (Calls::Rounds, true) => rounds(Some(number)),
+        (Calls::Unused, false) => unused(number, None),
+        (Calls::Unused, true) => unused(number, Some(1)),
+        (Calls::Sends, false) => sends(number, PACKETS, SENDS, None),
+        (Calls::Sends, true) => sends(number, RECORDED_PACKETS, SENDS, Some(1)),
+    };
+    Ok(Done::new(work.count(), 0, do_work(rt, work)?.taken))
+}
