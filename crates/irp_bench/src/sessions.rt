@@ -14,7 +14,7 @@ use crate::packets::{Batch, READ, Scene, WATCH, make_batch, make_ready, set_up};
 use irp_manager::{KnowsNothing, Manager, NotRecorded};
 use irp_routines::{Ask, Dispatch, Routine, Store};
 use irp_shared::{Seat, Session, Shared, Transcript, needs_token, open};
-use irp_types::{Answer, Call, DispatchId, Known, Plan, Reply, Rule, Shown, Status};
+use irp_types::{Answer, Call, Known, Plan, Reply, Rule, Shown, Status};
 use std::alloc::Global;
 use std::marker::Brand;
 use std::rt::Clock;
@@ -244,20 +244,6 @@ fn with_store<R: Threads + Wait + Sync + Clock>(
     }
 }
 
-/// A store of one driver, whose reads this dispatch plans, and of one routine.
-fn store_of(alloc: Global, watch: Routine, forward: Dispatch) -> Result<Store, Fault> {
-    let mut store = Store::new(alloc);
-    let watches = store.add(watch).is_ok();
-    let forwards = store.add_dispatch(forward).is_ok();
-    let reads = [(READ, DispatchId(0))].to_vec(alloc)?;
-    let drives = store.add_driver(reads).is_ok();
-    if watches && forwards && drives {
-        Ok(store)
-    } else {
-        Err(Fault::Memory)
-    }
-}
-
 /// Does the work, with one driver, whose reads each device passes down with a completion routine of rule Watch, and the
 /// lowest finishes.
 pub fn do_work<R: Threads + Wait + Sync + Clock + AllocGlobal>(
@@ -271,9 +257,15 @@ pub fn do_work<R: Threads + Wait + Sync + Clock + AllocGlobal>(
     let Ok(forward) = Box::new(alloc, forwards) else {
         return Err(Fault::Memory);
     };
-    let (watch, forward) = (
-        Routine::new(Rule::Watch, watch),
-        Dispatch::new(KNOWN, forward),
-    );
-    with_store(rt, alloc, store_of(alloc, watch, forward)?, work)
+    let mut store = Store::new(alloc);
+    if store.add(Routine::new(Rule::Watch, watch)).is_err() {
+        return Err(Fault::Memory);
+    }
+    let Ok(reads) = store.add_dispatch(Dispatch::new(KNOWN, forward)) else {
+        return Err(Fault::Memory);
+    };
+    if store.add_driver([(READ, reads)].to_vec(alloc)?).is_err() {
+        return Err(Fault::Memory);
+    }
+    with_store(rt, alloc, store, work)
 }
