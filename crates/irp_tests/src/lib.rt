@@ -5,6 +5,8 @@
 #[cfg(test)]
 mod handing;
 #[cfg(test)]
+mod manager;
+#[cfg(test)]
 mod remove;
 #[cfg(test)]
 mod routines;
