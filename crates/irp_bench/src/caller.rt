@@ -6,7 +6,7 @@ ghost use Rattle.irp_types.specs.declared.asked.Asked.{Asked};
 ghost use Rattle.irp_types.specs.declared.call.Call.{Call};
 ghost use Rattle.irp_types.specs.declared.reply.Reply.{Reply};
 ghost use Rattle.irp_manager.specs.Keeps.{slabbed};
-ghost use Rattle.irp_manager.specs.Cores.{state_of, Stepped};
+ghost use Rattle.irp_manager.specs.ManagerStates.{state_of, Stepped};
 
 use crate::fault::Fault;
 use irp_manager::{KnowsNothing, Manager};

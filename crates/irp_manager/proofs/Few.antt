@@ -38,10 +38,10 @@ use Rattle.irp_types.specs.declared.reply.Reply.TheVariants.{Refused}
 use Rattle.irp_unwind.proofs.Lists.{all_by_index}
 use Rattle.irp_unwind.proofs.Frames.{last_has}
 use Rattle.irp_manager.specs.Slots.{Slots}
-use Rattle.irp_manager.specs.Cores.{state_of, fixed_with, most_asked, Stepped}
+use Rattle.irp_manager.specs.ManagerStates.{state_of, fixed_with, most_asked, Stepped}
 use Rattle.irp_unwind.specs.Descents.{can_ask_down}
 use Rattle.irp_manager.specs.Rooms.{can_ask}
-use Rattle.irp_manager.specs.declared.sequential.Core.{Core}
+use Rattle.irp_manager.specs.declared.manager_state.ManagerState.{ManagerState}
 use Rattle.irp_manager.proofs.Named.{sound_named}
 
 -- a location that has a routine is one of the packet's
@@ -243,7 +243,7 @@ at_most counts state (Cancel irp) stands =
 at_most counts state (Look irp) stands = omega arith
 
 -- a call that was answered by its step asked no more than it can ask
-pub few_stepped : {K : Type 0} (live : K → Slots) (tables : Tables) (drained : Bool) (old : Core K) (call : Call) (asked : List Asked) (reply : Reply) (new : Core K)
+pub few_stepped : {K : Type 0} (live : K → Slots) (tables : Tables) (drained : Bool) (old : ManagerState K) (call : Call) (asked : List Asked) (reply : Reply) (new : ManagerState K)
     → Stepped live tables drained old call asked reply new → StandingFacts tables.counts (state_of live old) → length asked ≤ can_ask (state_of live old) call
 few_stepped live tables drained old call asked reply new stepped stands =
     let fixed : Fixed = fixed_with old tables in

@@ -6,11 +6,11 @@ use Rattle.irp_types.specs.declared.call.Call.{Call}
 use Rattle.irp_types.specs.declared.asked.Asked.{Asked}
 use Rattle.irp_types.specs.declared.reply.Reply.{Reply}
 use Rattle.irp_manager.specs.Slots.{Slots}
-use Rattle.irp_manager.specs.Cores.{Stepped}
-use Rattle.irp_manager.specs.declared.sequential.Core.{Core}
+use Rattle.irp_manager.specs.ManagerStates.{Stepped}
+use Rattle.irp_manager.specs.declared.manager_state.ManagerState.{ManagerState}
 
 -- a call that asked nothing
-pub handed : {K : Type 0} (live : K → Slots) (tables : Tables) (drained : Bool) (old : Core K) (call is : Call) (asked : List Asked) (reply : Reply) (new : Core K) → call ≡ is → asked ≡ []
+pub handed : {K : Type 0} (live : K → Slots) (tables : Tables) (drained : Bool) (old : ManagerState K) (call is : Call) (asked : List Asked) (reply : Reply) (new : ManagerState K) → call ≡ is → asked ≡ []
     → Stepped live tables drained old is [] reply new → Stepped live tables drained old call asked reply new
 handed live tables drained old call is asked reply new same empty stepped =
     subst (λ (given : Call × List Asked). Stepped live tables drained old given.0 given.1 reply new) (λ i. (sym same i, sym empty i)) stepped

@@ -10,7 +10,7 @@ use Rattle.irp_types.specs.declared.reply.Reply.TheVariants.{Done}
 use Rattle.irp_types.specs.declared.entry.Entry.{Entry}
 use Rattle.irp_types.specs.declared.asked.Asked.{Asked}
 use Rattle.irp_manager.specs.Notes.{known_by}
-use Rattle.irp_manager.specs.Cores.{most_asked}
+use Rattle.irp_manager.specs.ManagerStates.{most_asked}
 use Rattle.irp_manager.specs.Seats.{Seated}
 
 -- entries that a history may have

@@ -72,7 +72,8 @@ fn follow<A: Ask>(
     requires placed { packet.old.current ≤ size_of packet.old }
     requires room { vec_len asked.old + can_ask_up packet.old ≤ vec_capacity asked.old }
     ensures capacity { vec_capacity asked.new ≡ vec_capacity asked.old }
-    ensures followed { Followed (AreAnswered (A.may_plan ask.now) (A.may_answer ask.now) (A.may_cancel ask.now))
+    ensures followed { Followed
+        (AreAnswered (A.may_plan ask.now) (A.may_answer ask.now) (A.may_cancel ask.now))
         irp packet.old packet.new answer asked.old.items asked.new.items }
     ensures sound { IsSound (A.tables ask.now).counts packet.new }
 {
@@ -91,8 +92,10 @@ fn cancel_packet<A: Ask>(packet: &mut Packet, irp: IrpRef, ask: &A, asked: &mut 
     requires empty { asked.old.items ≡ [] }
     requires room { vec_len asked.old + (1 + can_ask_up packet.old) ≤ vec_capacity asked.old }
     ensures capacity { vec_capacity asked.new ≡ vec_capacity asked.old }
-    ensures cancelled { Cancels (A.tables ask.now) irp packet.old packet.old.cancel_routine asked.new.items result packet.new }
-    ensures may { AreAnswered (A.may_plan ask.now) (A.may_answer ask.now) (A.may_cancel ask.now) asked.new.items }
+    ensures cancelled { Cancels (A.tables ask.now) irp packet.old packet.old.cancel_routine
+        asked.new.items result packet.new }
+    ensures may { AreAnswered (A.may_plan ask.now) (A.may_answer ask.now) (A.may_cancel ask.now)
+        asked.new.items }
     ensures sound { IsSound (A.tables ask.now).counts packet.new }
 {
     let routine = packet.cancel_routine();
@@ -114,9 +117,13 @@ pub fn cancel<A: Ask>(live: &mut Live, irp: IrpRef, ask: &A, asked: &mut Vec<Ask
     requires empty { asked.old.items ≡ [] }
     requires room { vec_len asked.old + (1 + can_ask_up live.old.packet) ≤ vec_capacity asked.old }
     ensures capacity { vec_capacity asked.new ≡ vec_capacity asked.old }
-    ensures goes { Goes (or_else (packet_refusal_in (Some live.old) irp) (first_failing (ended_check live.old.packet ∷ [])))
-        (IsCancelled (A.tables ask.now) irp asked.new.items result live.old.packet) live.old live.new asked.new.items result }
-    ensures may { AreAnswered (A.may_plan ask.now) (A.may_answer ask.now) (A.may_cancel ask.now) asked.new.items }
+    ensures goes { Goes
+        (or_else (packet_refusal_in (Some live.old) irp)
+        (first_failing (ended_check live.old.packet ∷ [])))
+        (IsCancelled (A.tables ask.now) irp asked.new.items result live.old.packet) live.old
+        live.new asked.new.items result }
+    ensures may { AreAnswered (A.may_plan ask.now) (A.may_answer ask.now) (A.may_cancel ask.now)
+        asked.new.items }
     ensures sound { IsSound (A.tables ask.now).counts live.new.packet }
 {
     if let Some(refusal) = packet_refusal(live, irp) {

@@ -8,10 +8,10 @@ ghost use Rattle.irp_types.specs.Standing.{StandingFacts};
 ghost use Rattle.irp_routines.specs.Answers.{AreAnswered};
 ghost use Rattle.irp_manager.specs.Notes.{known_by};
 ghost use Rattle.irp_manager.specs.Keeps.{slabbed, IsNext};
-ghost use Rattle.irp_manager.specs.Cores.{state_of, most_asked, KeepsFixed, Stepped, SenderStays, SlotGranted};
+ghost use Rattle.irp_manager.specs.ManagerStates.{state_of, most_asked, KeepsFixed, Stepped, SenderStays, SlotGranted};
 
+use crate::manager_state::{Applied, ManagerState};
 use crate::note::DrainNote;
-use crate::sequential::{Applied, Core};
 use crate::slab_keep::SlabKeep;
 use irp_routines::{Ask, FixedTables};
 use irp_types::{Call, Limit};
@@ -22,15 +22,15 @@ use std::alloc::{AllocError, Global};
 #[derive(Drop)]
 pub struct Manager<A> {
     ask: A,
-    core: Core<SlabKeep>,
+    state: ManagerState<SlabKeep>,
 }
 
 impl<A> Manager<A> {
     /// Whom it asks, and its state.
-    pub(super) fn into_parts(self) -> (A, Core<SlabKeep>)
-        ensures { (result.0 ≡ self.ask) × (result.1 ≡ self.core) }
+    pub(super) fn into_parts(self) -> (A, ManagerState<SlabKeep>)
+        ensures { (result.0 ≡ self.ask) × (result.1 ≡ self.state) }
     {
-        (self.ask, self.core)
+        (self.ask, self.state)
     }
 }
 
@@ -39,16 +39,16 @@ impl<A: Ask> Manager<A> {
     pub(super) fn copied_tables(&self) -> Result<FixedTables, AllocError>
         ensures { IfOk result (λ tables. tables ≡ A.tables self.now.ask) }
     {
-        FixedTables::told_by(self.core.alloc(), &self.ask)
+        FixedTables::told_by(self.state.alloc(), &self.ask)
     }
 
     /// A manager without packets and devices, that asks so, with this many remove locks. Packets have 32 locations at
     /// most, and stacks 32 devices. It takes no memory.
     pub fn new(alloc: Global, ask: A, locks: u32) -> Manager<A>
         ensures ask { result.ask ≡ ask }
-        ensures state { state_of slabbed result.core ≡ opening_state }
-        ensures stands { StandingFacts (A.tables ask).counts (state_of slabbed result.core) }
-        ensures fixed { (result.core.locks ≡ locks) × (result.core.stacks.limit ≡ ThirtyTwo) }
+        ensures state { state_of slabbed result.state ≡ opening_state }
+        ensures stands { StandingFacts (A.tables ask).counts (state_of slabbed result.state) }
+        ensures fixed { (result.state.locks ≡ locks) × (result.state.stacks.limit ≡ ThirtyTwo) }
     {
         Manager::with_limit(alloc, ask, locks, Limit::ThirtyTwo)
     }
@@ -56,13 +56,13 @@ impl<A: Ask> Manager<A> {
     /// The same, with packets and stacks within this limit.
     pub fn with_limit(alloc: Global, ask: A, locks: u32, limit: Limit) -> Manager<A>
         ensures ask { result.ask ≡ ask }
-        ensures state { state_of slabbed result.core ≡ opening_state }
-        ensures stands { StandingFacts (A.tables ask).counts (state_of slabbed result.core) }
-        ensures fixed { (result.core.locks ≡ locks) × (result.core.stacks.limit ≡ limit) }
+        ensures state { state_of slabbed result.state ≡ opening_state }
+        ensures stands { StandingFacts (A.tables ask).counts (state_of slabbed result.state) }
+        ensures fixed { (result.state.locks ≡ locks) × (result.state.stacks.limit ≡ limit) }
     {
         Manager {
             ask,
-            core: Core::with_limit(alloc, SlabKeep::new(alloc), locks, limit),
+            state: ManagerState::with_limit(alloc, SlabKeep::new(alloc), locks, limit),
         }
     }
 
@@ -73,19 +73,31 @@ impl<A: Ask> Manager<A> {
     ///
     /// `AllocError` where a growth was refused. The state stays as it was.
     pub fn apply<N: DrainNote>(&mut self, call: Call, note: &N) -> Result<Applied, AllocError>
-        requires stands { StandingFacts (A.tables self.old.ask).counts (state_of slabbed self.old.core) }
+        requires stands { StandingFacts (A.tables self.old.ask).counts
+            (state_of slabbed self.old.state) }
         ensures ask { self.new.ask ≡ self.old.ask }
-        ensures stepped { IfOk result (λ applied. Stepped slabbed (A.tables self.old.ask) applied.drained self.old.core call applied.asked.items applied.reply self.new.core) }
-        ensures stands { StandingFacts (A.tables self.old.ask).counts (state_of slabbed self.new.core) }
-        ensures may { IfOk result (λ applied. AreAnswered (A.may_plan self.old.ask) (A.may_answer self.old.ask) (A.may_cancel self.old.ask) applied.asked.items) }
+        ensures stepped { IfOk result
+            (λ applied. Stepped slabbed (A.tables self.old.ask) applied.drained self.old.state call
+            applied.asked.items applied.reply self.new.state) }
+        ensures stands { StandingFacts (A.tables self.old.ask).counts
+            (state_of slabbed self.new.state) }
+        ensures may { IfOk result
+            (λ applied. AreAnswered (A.may_plan self.old.ask) (A.may_answer self.old.ask)
+            (A.may_cancel self.old.ask) applied.asked.items) }
         ensures few { IfOk result (λ applied. length applied.asked.items ≤ most_asked call) }
-        ensures stays { IfOk result (λ applied. SenderStays slabbed self.old.core call applied.reply self.new.core) }
-        ensures next { IfOk result (λ applied. SlotGranted (λ keep wish slot. IsNext keep slot) self.old.core None call applied.reply) }
-        ensures lock { IfOk result (λ applied. applied.lock ≡ lock_of (state_of slabbed self.old.core) call) }
-        ensures drained { IfOk result (λ applied. applied.drained ≡ known_by (N.knows_drained note.now) applied.lock) }
-        ensures err { OnErr result (state_of slabbed self.new.core ≡ state_of slabbed self.old.core) }
-        ensures fixed { KeepsFixed self.old.core self.new.core }
+        ensures stays { IfOk result
+            (λ applied. SenderStays slabbed self.old.state call applied.reply self.new.state) }
+        ensures next { IfOk result
+            (λ applied. SlotGranted (λ keep wish slot. IsNext keep slot) self.old.state None call
+            applied.reply) }
+        ensures lock { IfOk result
+            (λ applied. applied.lock ≡ lock_of (state_of slabbed self.old.state) call) }
+        ensures drained { IfOk result
+            (λ applied. applied.drained ≡ known_by (N.knows_drained note.now) applied.lock) }
+        ensures err { OnErr result
+            (state_of slabbed self.new.state ≡ state_of slabbed self.old.state) }
+        ensures fixed { KeepsFixed self.old.state self.new.state }
     {
-        self.core.apply(&self.ask, call, note, None)
+        self.state.apply(&self.ask, call, note, None)
     }
 }

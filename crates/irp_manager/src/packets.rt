@@ -80,7 +80,9 @@ pub fn party_refusal(live: &Live, party: Party, irp: IrpRef) -> Option<Refusal>
 /// Fills the next lower location, where the party may.
 #[inline]
 pub fn set_next(live: &mut Live, party: Party, irp: IrpRef, major: u8, word: u64) -> Reply
-    ensures goes { Goes (or_else (party_refusal_in (Some live.old) party irp) (set_next_refusal live.old.packet major))
+    ensures goes { Goes
+        (or_else (party_refusal_in (Some live.old) party irp)
+        (set_next_refusal live.old.packet major))
         (Fills major word [] result live.old.packet) live.old live.new [] result }
 {
     if let Some(refusal) = party_refusal(live, party, irp) {
@@ -94,7 +96,9 @@ pub fn set_next(live: &mut Live, party: Party, irp: IrpRef, major: u8, word: u64
 
 /// Copies the current location to the next lower one, where the party may.
 pub fn copy_to_next(live: &mut Live, party: Party, irp: IrpRef) -> Reply
-    ensures goes { Goes (or_else (party_refusal_in (Some live.old) party irp) (copy_to_next_refusal live.old.packet))
+    ensures goes { Goes
+        (or_else (party_refusal_in (Some live.old) party irp)
+        (copy_to_next_refusal live.old.packet))
         (Copies [] result live.old.packet) live.old live.new [] result }
 {
     if let Some(refusal) = party_refusal(live, party, irp) {
@@ -136,7 +140,8 @@ fn leave_check(packet: &Packet) -> Option<Refusal>
 
 /// Gives the current location to the next lower device, where the party may.
 pub fn skip(live: &mut Live, party: Party, irp: IrpRef) -> Reply
-    ensures goes { Goes (or_else (party_refusal_in (Some live.old) party irp) (leave_refusal live.old.packet))
+    ensures goes { Goes
+        (or_else (party_refusal_in (Some live.old) party irp) (leave_refusal live.old.packet))
         (Leaves [] result live.old.packet) live.old live.new [] result }
 {
     if let Some(refusal) = party_refusal(live, party, irp) {
@@ -153,7 +158,9 @@ pub fn skip(live: &mut Live, party: Party, irp: IrpRef) -> Reply
 
 /// Marks the current location pending, where the party may.
 pub fn mark_pending(live: &mut Live, party: Party, irp: IrpRef) -> Reply
-    ensures goes { Goes (or_else (party_refusal_in (Some live.old) party irp) (mark_pending_refusal live.old.packet))
+    ensures goes { Goes
+        (or_else (party_refusal_in (Some live.old) party irp)
+        (mark_pending_refusal live.old.packet))
         (Marks [] result live.old.packet) live.old live.new [] result }
 {
     if let Some(refusal) = party_refusal(live, party, irp) {
@@ -191,7 +198,9 @@ pub fn set_cancel_routine(
     irp: IrpRef,
     cancel: Option<CancelId>,
 ) -> Reply
-    ensures goes { Goes (or_else (party_refusal_in (Some live.old) party irp) (cancel_refusal counts live.old.packet cancel))
+    ensures goes { Goes
+        (or_else (party_refusal_in (Some live.old) party irp)
+        (cancel_refusal counts live.old.packet cancel))
         (SetsCancel cancel [] result live.old.packet) live.old live.new [] result }
 {
     if let Some(refusal) = party_refusal(live, party, irp) {
@@ -219,7 +228,9 @@ fn stands_at(packet: &Packet, device: DeviceId, number: u32) -> bool
 
 /// Whether a device stands in a location of the packet, from the current one up.
 fn stands_in(packet: &Packet, device: DeviceId) -> bool
-    ensures { result ≡ list_any (stands_at packet.now device.0) (from_to packet.now.current (size_of packet.now)) }
+    ensures { result
+        ≡ list_any (stands_at packet.now device.0)
+        (from_to packet.now.current (size_of packet.now)) }
 {
     let start = packet.current();
     let size = packet.size();
@@ -294,7 +305,9 @@ pub fn set_routine(
     irp: IrpRef,
     setting: Setting,
 ) -> Reply
-    ensures goes { Goes (or_else (party_refusal_in (Some live.old) party irp) (routine_refusal counts live.old.packet setting))
+    ensures goes { Goes
+        (or_else (party_refusal_in (Some live.old) party irp)
+        (routine_refusal counts live.old.packet setting))
         (Sets setting [] result live.old.packet) live.old live.new [] result }
 {
     if let Some(refusal) = party_refusal(live, party, irp) {
@@ -370,10 +383,15 @@ pub fn send<A: Ask>(
     requires room { vec_len asked.old + can_ask_down stacks.now.devices live.old.packet target.0
         ≤ vec_capacity asked.old }
     ensures capacity { vec_capacity asked.new ≡ vec_capacity asked.old }
-    ensures goes { Goes (or_else (party_refusal_in (Some live.old) party irp) (send_refusal stacks.now.devices party live.old.packet target.0))
-        (Sends (A.tables ask.now) irp stacks.now.devices target.0 asked.new.items result live.old.packet) live.old live.new asked.new.items result }
-    ensures may { AreAnswered (A.may_plan ask.now) (A.may_answer ask.now) (A.may_cancel ask.now) asked.new.items }
-    ensures stays { (status : Status) → result ≡ StatusIs status → StaysUp live.old.packet live.new.packet status }
+    ensures goes { Goes
+        (or_else (party_refusal_in (Some live.old) party irp)
+        (send_refusal stacks.now.devices party live.old.packet target.0))
+        (Sends (A.tables ask.now) irp stacks.now.devices target.0 asked.new.items result
+        live.old.packet) live.old live.new asked.new.items result }
+    ensures may { AreAnswered (A.may_plan ask.now) (A.may_answer ask.now) (A.may_cancel ask.now)
+        asked.new.items }
+    ensures stays { (status : Status) → result ≡ StatusIs status
+        → StaysUp live.old.packet live.new.packet status }
     ensures sound { IsSound (A.tables ask.now).counts live.new.packet }
 {
     if let Some(refusal) = party_refusal(live, party, irp) {
@@ -421,9 +439,13 @@ pub fn complete<A: Ask>(
     requires empty { asked.old.items ≡ [] }
     requires room { vec_len asked.old + can_ask_up live.old.packet ≤ vec_capacity asked.old }
     ensures capacity { vec_capacity asked.new ≡ vec_capacity asked.old }
-    ensures goes { Goes (or_else (party_refusal_in (Some live.old) party irp) (complete_refusal live.old.packet status))
-        (Finishes irp status information asked.new.items result live.old.packet) live.old live.new asked.new.items result }
-    ensures may { AreAnswered (A.may_plan ask.now) (A.may_answer ask.now) (A.may_cancel ask.now) asked.new.items }
+    ensures goes { Goes
+        (or_else (party_refusal_in (Some live.old) party irp)
+        (complete_refusal live.old.packet status))
+        (Finishes irp status information asked.new.items result live.old.packet) live.old live.new
+        asked.new.items result }
+    ensures may { AreAnswered (A.may_plan ask.now) (A.may_answer ask.now) (A.may_cancel ask.now)
+        asked.new.items }
     ensures sound { IsSound (A.tables ask.now).counts live.new.packet }
 {
     if let Some(refusal) = party_refusal(live, party, irp) {
@@ -472,9 +494,13 @@ pub fn finish_taken<A: Ask>(
     requires empty { asked.old.items ≡ [] }
     requires room { vec_len asked.old + can_ask_up live.old.packet ≤ vec_capacity asked.old }
     ensures capacity { vec_capacity asked.new ≡ vec_capacity asked.old }
-    ensures goes { Goes (or_else (packet_refusal_in (Some live.old) irp) (take_refusal live.old.packet irp.use_no token status))
-        (Takes irp status information asked.new.items result live.old.packet) live.old live.new asked.new.items result }
-    ensures may { AreAnswered (A.may_plan ask.now) (A.may_answer ask.now) (A.may_cancel ask.now) asked.new.items }
+    ensures goes { Goes
+        (or_else (packet_refusal_in (Some live.old) irp)
+        (take_refusal live.old.packet irp.use_no token status))
+        (Takes irp status information asked.new.items result live.old.packet) live.old live.new
+        asked.new.items result }
+    ensures may { AreAnswered (A.may_plan ask.now) (A.may_answer ask.now) (A.may_cancel ask.now)
+        asked.new.items }
     ensures sound { IsSound (A.tables ask.now).counts live.new.packet }
 {
     if let Some(refusal) = packet_refusal(live, irp) {

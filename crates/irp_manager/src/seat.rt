@@ -26,9 +26,15 @@ impl<L: Ledger> Model for Seat<L> {
 
     ghost Value = { Seated };
 
-    ghost view = { λ seat. record { number = seat.number; seen = seat.seen; entries = seat.entries.items; room = vec_capacity seat.entries - vec_len seat.entries } };
+    ghost view = { λ seat. record {
+      number = seat.number;
+      seen = seat.seen;
+      entries = seat.entries.items;
+      room = vec_capacity seat.entries - vec_len seat.entries;
+    } };
 
-    ghost invariant = { λ seat. (seat.share.parts ≡ 1) × (seat.share.amount ≡ length seat.entries.items) };
+    ghost invariant = { λ seat. (seat.share.parts ≡ 1)
+        × (seat.share.amount ≡ length seat.entries.items) };
 }
 
 impl<L: Ledger> Seat<L> {
@@ -89,7 +95,8 @@ impl<L: Ledger> Seat<L> {
     pub fn room(&mut self) -> Result<(), AllocError>
         ensures ok { OnOk result (0 < self.new.room) }
         ensures err { OnErr result (self.new ≡ self.old) }
-        ensures same { (self.new.number ≡ self.old.number) × (self.new.seen ≡ self.old.seen) × (self.new.entries ≡ self.old.entries) }
+        ensures same { (self.new.number ≡ self.old.number) × (self.new.seen ≡ self.old.seen)
+            × (self.new.entries ≡ self.old.entries) }
     {
         self.entries.reserve(1)
     }
@@ -107,7 +114,9 @@ impl<L: Ledger> Seat<L> {
 
     /// The seat has seen this many entries, or more if it had seen more.
     pub fn saw(&mut self, length: u64)
-        ensures { self.new ≡ record self.old { seen = if nat_lt self.old.seen length then length else self.old.seen } }
+        ensures { self.new ≡ record self.old {
+          seen = if nat_lt self.old.seen length then length else self.old.seen;
+        } }
     {
         if self.seen < length {
             self.seen = length;

@@ -82,8 +82,8 @@ impl Packet {
     /// `BadSize` exactly where `size` is 0 or above 32 (this project's own rule).
     #[inline(always)]
     pub fn new(alloc: Global, size: u8) -> Result<Packet, Refusal>
-        ensures { result
-            ≡ (if (size == 0) || nat_lt most_locations size then Err BadSize else Ok (new_packet size)) }
+        ensures { result ≡ (if (size == 0) || nat_lt most_locations size
+            then Err BadSize else Ok (new_packet size)) }
     {
         if size == 0 || size as usize > MOST_LOCATIONS {
             return Err(Refusal::BadSize);
@@ -226,7 +226,8 @@ impl Packet {
     pub fn set_next(&mut self, major: u8, word: u64) -> Result<(), Refusal>
         ensures answer { result ≡ answer_unless (set_next_refusal self.old major) tt }
         ensures changed { self.new
-            ≡ value_unless (set_next_refusal self.old major) self.old (after_set_next self.old major word) }
+            ≡ value_unless (set_next_refusal self.old major) self.old
+            (after_set_next self.old major word) }
     {
         if matches!(self.preparation, Preparation::Skipped) {
             return Err(Refusal::AfterSkip);
@@ -300,7 +301,8 @@ impl Packet {
     pub fn set_routine(&mut self, setting: Setting) -> Result<(), Refusal>
         ensures answer { result ≡ answer_unless (set_routine_refusal self.old) tt }
         ensures changed { self.new
-            ≡ value_unless (set_routine_refusal self.old) self.old (after_set_routine self.old setting) }
+            ≡ value_unless (set_routine_refusal self.old) self.old
+            (after_set_routine self.old setting) }
     {
         match self.preparation {
             Preparation::Skipped => Err(Refusal::AfterSkip),
@@ -322,7 +324,8 @@ impl Packet {
     pub fn mark_pending(&mut self) -> Result<(), Refusal>
         ensures answer { result ≡ answer_unless (mark_pending_refusal self.old) tt }
         ensures changed { self.new
-            ≡ value_unless (mark_pending_refusal self.old) self.old (after_mark self.old self.old.current) }
+            ≡ value_unless (mark_pending_refusal self.old) self.old
+            (after_mark self.old self.old.current) }
     {
         self.check_location()?;
         let current = self.current;

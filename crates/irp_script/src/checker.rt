@@ -6,7 +6,7 @@ ghost use Rattle.irp_shared.specs.Headers.{fixed_of};
 ghost use Rattle.irp_script.specs.Checked.{IsVerdict, IsVerdictOn};
 
 use crate::replaying::makes_again;
-use irp_manager::{Core, MapKeep};
+use irp_manager::{ManagerState, MapKeep};
 use irp_shared::{Header, Transcript};
 use irp_types::{Entry, history_goes_on, history_settles_states};
 use std::alloc::{AllocError, Global};
@@ -28,7 +28,7 @@ fn judge(alloc: Global, header: &Header, entries: &[Entry]) -> Result<Verdict, A
     history_goes_on();
     history_settles_states();
     let keep = MapKeep::new(alloc);
-    let mut core = Core::with_limit(alloc, keep, header.locks, header.form.limit());
+    let mut core = ManagerState::with_limit(alloc, keep, header.locks, header.form.limit());
     for place in 0..entries.len() {
         if !makes_again(&mut core, header, &entries[place], place as u64)? {
             return Ok(Verdict::Illegal { at: place as u64 });

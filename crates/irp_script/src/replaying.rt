@@ -3,13 +3,13 @@
 ghost use Rattle.std.specs.Prelude.{◌≡◌, IfOk};
 ghost use Rattle.irp_types.specs.State.{AreTables};
 ghost use Rattle.irp_types.specs.Standing.{StandingFacts};
-ghost use Rattle.irp_manager.specs.Cores.{state_of, Agrees};
+ghost use Rattle.irp_manager.specs.ManagerStates.{state_of, Agrees};
 ghost use Rattle.irp_manager.specs.Keeps.{mapped};
 ghost use Rattle.irp_shared.specs.Headers.{fixed_of};
 ghost use Rattle.irp_script.specs.Replayed.{MakesAgain, slot_named};
 
 use crate::recorded_answers::RecordedAnswers;
-use irp_manager::{Core, DrainNote, MapKeep, step_is_settled};
+use irp_manager::{ManagerState, DrainNote, MapKeep, step_is_settled};
 use irp_shared::Header;
 use irp_types::{Entry, LockNo, Reply, Row};
 use std::alloc::AllocError;
@@ -44,7 +44,7 @@ fn slot_named(reply: Reply) -> Option<usize>
 ///
 /// `AllocError` where a growth was refused.
 pub fn makes_again(
-    core: &mut Core<MapKeep>,
+    core: &mut ManagerState<MapKeep>,
     header: &Header,
     entry: &Entry,
     place: u64,

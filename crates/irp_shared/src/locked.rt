@@ -38,7 +38,8 @@ impl<A: Ask, L: Session> Locked<A, L> {
         note: &N,
     ) -> Result<Receipt, NotRecorded>
         requires room { 0 < seat.old.room }
-        ensures called { IfOk result (λ receipt. CalledIn self.old.book.history self.new.book.history
+        ensures called { IfOk result
+            (λ receipt. CalledIn self.old.book.history self.new.book.history
             seat.old call (N.knows_drained note.now) receipt seat.new) }
         ensures err { OnErr result
             ((self.new.book ≡ self.old.book) × IsAsBefore seat.old seat.new) }
@@ -65,7 +66,8 @@ fn keep<A: Ask, L: Ledger, N: DrainNote>(
     ensures fixed { book.new.fixed ≡ book.old.fixed }
     ensures err { OnErr result ((book.new ≡ book.old) × (total.new.total ≡ total.old.total)
         × IsAsBefore seat.old seat.new) }
-    ensures behind { (told : ℕ) → (result ≡ Err (Behind told)) ↔ IsBehind book.old.history seat.old told }
+    ensures behind { (told : ℕ) → (result ≡ Err (Behind told))
+        ↔ IsBehind book.old.history seat.old told }
     ensures full { (result ≡ Err HistoryFull) ↔ IsFull book.old.history seat.old }
 {
     let made = book.record_copied(&*seat, call, note)?;

@@ -298,9 +298,12 @@ impl<A: Drop, L: Session> Shared<A, L> {
     pub fn close(self, seats: Vec<Seat<L>>) -> Result<Transcript, Mismatch<L>>
         requires { L.seats ≡ L.parts }
         ensures closes { IfOk result (Closes L.fixed L.seats seats.items) }
-        ensures seats { (AllHere seats.items L.seats → ⊥) → result ≡ Err (OtherSeats L.seats seats) }
-        ensures only_seats { (expected : ℕ) (given : _) → result ≡ Err (OtherSeats expected given) → AllHere seats.items L.seats → ⊥ }
-        ensures entry { (seat index : ℕ) (kept found : Option Entry) → result ≡ Err (OtherEntry seat index kept found)
+        ensures seats { (AllHere seats.items L.seats → ⊥)
+            → result ≡ Err (OtherSeats L.seats seats) }
+        ensures only_seats { (expected : ℕ) (given : _) → result ≡ Err (OtherSeats expected given)
+            → AllHere seats.items L.seats → ⊥ }
+        ensures entry { (seat index : ℕ) (kept found : Option Entry)
+            → result ≡ Err (OtherEntry seat index kept found)
             → Kept seats.items seat index kept × (kept ≡ found → ⊥) }
     {
         let Shared {

@@ -61,7 +61,8 @@ pub fn can_unwind<A: Ask>(packet: &Packet, ask: &A) -> bool
 /// down, each location in use has a device, and from the prepared one up each routine is there. A packet
 /// that a manager has, and that passes the checks of CallDriver, is always so (this project's own rule).
 pub fn can_descend<A: Ask>(packet: &Packet, stacks: &Stacks, ask: &A, target: DeviceId) -> bool
-    ensures { result ≡ true ↔ CanDescend (A.tables ask.now).counts stacks.now.devices packet.now target.0 }
+    ensures { result ≡ true
+        ↔ CanDescend (A.tables ask.now).counts stacks.now.devices packet.now target.0 }
 {
     let current = packet.current();
     stacks.facts(target).is_some()

@@ -33,7 +33,10 @@ fn descend_from<A: Ask>(
     requires routines { HasRoutines (A.tables ask.now).counts packet.old (packet.old.current - 1) }
     requires room { vec_len asked.old + can_ask_down stacks.now.devices packet.old target.0
         ≤ vec_capacity asked.old }
-    ensures descends { Descends (IsAnswered (A.may_plan ask.now) (A.may_answer ask.now) (A.may_cancel ask.now)) (A.tables ask.now) irp stacks.now.devices packet.old target.0 packet.new asked.old.items asked.new.items result }
+    ensures descends { Descends
+        (IsAnswered (A.may_plan ask.now) (A.may_answer ask.now) (A.may_cancel ask.now))
+        (A.tables ask.now) irp stacks.now.devices packet.old target.0 packet.new asked.old.items
+        asked.new.items result }
     ensures capacity { vec_capacity asked.new ≡ vec_capacity asked.old }
 {
     packet.enter(target);
@@ -86,10 +89,15 @@ pub fn descend<A: Ask>(
     requires routines { HasRoutines (A.tables ask.now).counts packet.old (packet.old.current - 1) }
     requires room { vec_len asked.old + can_ask_down stacks.now.devices packet.old target.0
         ≤ vec_capacity asked.old }
-    ensures descends { Descends (IsAnswered (A.may_plan ask.now) (A.may_answer ask.now) (A.may_cancel ask.now)) (A.tables ask.now) irp stacks.now.devices packet.old target.0 packet.new asked.old.items asked.new.items result }
+    ensures descends { Descends
+        (IsAnswered (A.may_plan ask.now) (A.may_answer ask.now) (A.may_cancel ask.now))
+        (A.tables ask.now) irp stacks.now.devices packet.old target.0 packet.new asked.old.items
+        asked.new.items result }
     ensures capacity { vec_capacity asked.new ≡ vec_capacity asked.old }
     ensures stays { StaysUp packet.old packet.new result.status }
-    ensures sound { packet.old.cancel_routine ≡ None → is_nothing packet.old.preparation ≡ false → IsSound (A.tables ask.now).counts packet.old → IsSound (A.tables ask.now).counts packet.new }
+    ensures sound { packet.old.cancel_routine ≡ None → is_nothing packet.old.preparation ≡ false
+        → IsSound (A.tables ask.now).counts packet.old
+        → IsSound (A.tables ask.now).counts packet.new }
 {
     // the two tell that the stacks are in order, and that `current` is at most one above the size
     stacks.are_stacks();

@@ -90,7 +90,10 @@ pub(crate) fn ask_plan<A: Ask>(
     requires placed { packet.now.current ≤ size_of packet.now }
     requires created { device.0 < length stacks.now.devices.facts }
     requires room { vec_len asked.old < vec_capacity asked.old }
-    ensures planned { IsPlannedHere (IsAnswered (A.may_plan ask.now) (A.may_answer ask.now) (A.may_cancel ask.now)) (A.tables ask.now) irp stacks.now.devices packet.now (frame_at packet.now device.0 result) asked.old.items asked.new.items }
+    ensures planned { IsPlannedHere
+        (IsAnswered (A.may_plan ask.now) (A.may_answer ask.now) (A.may_cancel ask.now))
+        (A.tables ask.now) irp stacks.now.devices packet.now (frame_at packet.now device.0 result)
+        asked.old.items asked.new.items }
     ensures length { vec_len asked.new ≤ vec_len asked.old + 1 }
     ensures capacity { vec_capacity asked.new ≡ vec_capacity asked.old }
 {
@@ -136,7 +139,8 @@ pub(crate) fn pass_on(packet: &mut Packet, plan: Option<Plan>)
 #[inline]
 fn hold(packet: &mut Packet, device: DeviceId, cancel: Option<CancelId>) -> Sent
     requires { packet.old.current ≤ size_of packet.old }
-    ensures held { packet.new ≡ record (marked_here packet.old) { owner = HeldBy device; cancel_routine = cancel } }
+    ensures held { packet.new
+        ≡ record (marked_here packet.old) { owner = HeldBy device; cancel_routine = cancel } }
     ensures status { result.status ≡ pending }
     ensures ending { result.ending ≡ Held device }
 {
@@ -166,7 +170,8 @@ pub(crate) fn end_at<A: Ask>(
     requires routines { HasRoutines (A.tables ask.now).counts packet.old packet.old.current }
     requires room { vec_len asked.old + can_ask_up packet.old ≤ vec_capacity asked.old }
     requires stops { option_map_or is_passing plan false ≡ false }
-    ensures ends { EndsHere (A.may_answer ask.now) irp packet.old device.0 plan packet.new asked.old.items asked.new.items result.ending }
+    ensures ends { EndsHere (A.may_answer ask.now) irp packet.old device.0 plan packet.new
+        asked.old.items asked.new.items result.ending }
     ensures status { result.status ≡ final_status plan }
     ensures capacity { vec_capacity asked.new ≡ vec_capacity asked.old }
 {

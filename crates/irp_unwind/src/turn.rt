@@ -80,7 +80,8 @@ fn ask_routine<A: Ask>(ask: &A, setting: Setting, shown: Shown, asked: &mut Vec<
     requires known { is_known (A.tables ask.now).counts setting ≡ true }
     requires room { vec_len asked.old < vec_capacity asked.old }
     ensures given { A.may_answer ask.now setting.routine shown result }
-    ensures listed { asked.new.items ≡ asked.old.items ++ Completion setting.routine shown result ∷ [] }
+    ensures listed { asked.new.items ≡ asked.old.items
+        ++ Completion setting.routine shown result ∷ [] }
     ensures capacity { vec_capacity asked.new ≡ vec_capacity asked.old }
 {
     let id = setting.routine;
@@ -100,7 +101,8 @@ pub(crate) fn consult<A: Ask>(
     requires placed { packet.now.current ≤ size_of packet.now }
     requires routines { HasRoutines (A.tables ask.now).counts packet.now packet.now.current }
     requires room { vec_len asked.old < vec_capacity asked.old }
-    ensures consulted { IsConsulted (A.may_answer ask.now) irp packet.now asked.old.items asked.new.items result }
+    ensures consulted { IsConsulted (A.may_answer ask.now) irp packet.now asked.old.items
+        asked.new.items result }
     ensures mark { IsMark packet.now result }
     ensures length { vec_len asked.new ≤ vec_len asked.old + 1 }
     ensures capacity { vec_capacity asked.new ≡ vec_capacity asked.old }

@@ -32,7 +32,8 @@ fn unwind_from<A: Ask>(packet: &mut Packet, irp: IrpRef, ask: &A, asked: &mut Ve
     requires devices { HasDevices packet.old (packet.old.current + 1) }
     requires routines { HasRoutines (A.tables ask.now).counts packet.old packet.old.current }
     requires room { vec_len asked.old + can_ask_up packet.old ≤ vec_capacity asked.old }
-    ensures unwinds { Unwinds (A.may_answer ask.now) irp packet.old packet.new asked.old.items asked.new.items result }
+    ensures unwinds { Unwinds (A.may_answer ask.now) irp packet.old packet.new asked.old.items
+        asked.new.items result }
     ensures capacity { vec_capacity asked.new ≡ vec_capacity asked.old }
 {
     let number = packet.current();
@@ -77,8 +78,11 @@ pub fn unwind<A: Ask>(packet: &mut Packet, irp: IrpRef, ask: &A, asked: &mut Vec
     requires devices { HasDevices packet.old (packet.old.current + 1) }
     requires routines { HasRoutines (A.tables ask.now).counts packet.old packet.old.current }
     requires room { vec_len asked.old + can_ask_up packet.old ≤ vec_capacity asked.old }
-    ensures unwinds { Unwinds (A.may_answer ask.now) irp packet.old packet.new asked.old.items asked.new.items result }
-    ensures sound { packet.old.cancel_routine ≡ None → packet.old.slot_held ≡ false → IsSound (A.tables ask.now).counts packet.old → IsSound (A.tables ask.now).counts packet.new }
+    ensures unwinds { Unwinds (A.may_answer ask.now) irp packet.old packet.new asked.old.items
+        asked.new.items result }
+    ensures sound { packet.old.cancel_routine ≡ None → packet.old.slot_held ≡ false
+        → IsSound (A.tables ask.now).counts packet.old
+        → IsSound (A.tables ask.now).counts packet.new }
     ensures capacity { vec_capacity asked.new ≡ vec_capacity asked.old }
 {
     clear_below(packet);

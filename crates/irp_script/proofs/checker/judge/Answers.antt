@@ -5,7 +5,7 @@ use Rattle.std.proofs.lemmas.Option.{slice_get-get_or}
 use Rattle.irp_types.specs.State.{StateValue, Fixed}
 use Rattle.irp_types.specs.Histories.{LeadsTo, IsLegal}
 use Rattle.irp_types.specs.declared.entry.Entry.{Entry}
-use Rattle.irp_manager.specs.Cores.{state_of}
+use Rattle.irp_manager.specs.ManagerStates.{state_of}
 use Rattle.irp_manager.specs.Keeps.{mapped}
 use Rattle.irp_shared.specs.Headers.{fixed_of}
 use Rattle.irp_script.specs.Replayed.{MakesAgain}

@@ -4,7 +4,7 @@ use Rattle.irp_types.specs.Steps.{Step}
 use Rattle.irp_types.specs.declared.asked.Asked.{Asked}
 use Rattle.irp_types.specs.declared.entry.Entry.{Entry}
 use Rattle.irp_routines.specs.Answers.{AreAnswered}
-use Rattle.irp_manager.specs.Cores.{state_of}
+use Rattle.irp_manager.specs.ManagerStates.{state_of}
 use Rattle.irp_manager.specs.Keeps.{mapped}
 use Rattle.irp_manager.specs.Slots.{IsGranted}
 use Rattle.irp_shared.specs.Headers.{fixed_of}

@@ -10,7 +10,7 @@ use Rattle.irp_types.proofs.LongerLists.{get_last}
 use Rattle.irp_routines.specs.Answers.{AreAnswered}
 use Rattle.irp_manager.specs.Passing.{PassesPlan, PassesAnswer, PassesCancel}
 use Rattle.irp_manager.specs.Keeps.{slabbed}
-use Rattle.irp_manager.specs.Cores.{state_of, fixed_with, most_asked}
+use Rattle.irp_manager.specs.ManagerStates.{state_of, fixed_with, most_asked}
 use Rattle.irp_manager.specs.Booked.{Receipted}
 use Rattle.irp_manager.specs.Rooms.{can_ask}
 use Rattle.irp_manager.proofs.Few.{few_stepped}
@@ -39,19 +39,19 @@ place g c = search rules
 
 -- what is fixed, before the call
 before : (g : Over) → goal.After-history_goes_on g → Fixed
-before g c = fixed_with c.self.inside.core c.self.inside.held.tables
+before g c = fixed_with c.self.inside.state c.self.inside.guarded.tables
 
 -- the step that is recorded
-stepped : (g : Over) (c : goal.After-history_goes_on g) → Step (before g c) (state_of slabbed c.self.inside.core) c.in-Ok-apply.applied.drained c.args.call c.from_vec.result c.in-Ok-apply.applied.reply (state_of slabbed c.apply.new.self)
+stepped : (g : Over) (c : goal.After-history_goes_on g) → Step (before g c) (state_of slabbed c.self.inside.state) c.in-Ok-apply.applied.drained c.args.call c.from_vec.result c.in-Ok-apply.applied.reply (state_of slabbed c.apply.new.self)
 unfolding before
 stepped g c =
-    subst (λ (asked : List Asked). Step (before g c) (state_of slabbed c.self.inside.core) c.in-Ok-apply.applied.drained c.args.call asked c.in-Ok-apply.applied.reply (state_of slabbed c.apply.new.self))
+    subst (λ (asked : List Asked). Step (before g c) (state_of slabbed c.self.inside.state) c.in-Ok-apply.applied.drained c.args.call asked c.in-Ok-apply.applied.reply (state_of slabbed c.apply.new.self))
     (sym c.from_vec.ensures) (c.in-Ok-apply.ensures.stepped.step (before g c) refl (refl, refl))
 
 leads : (g : Over) (c : goal.After-history_goes_on g) → LeadsTo (before g c) c.push_reserved.new.self.items (state_of slabbed c.apply.new.self)
 unfolding entry before
 leads g c =
-    let old = state_of slabbed c.self.inside.core in
+    let old = state_of slabbed c.self.inside.state in
     let new = state_of slabbed c.apply.new.self in
     let applied = c.in-Ok-apply.applied in
     let holds : IsEntryAt (before g c) (length c.self.inside.history.items) old (entry g c) new = record {
@@ -63,10 +63,10 @@ leads g c =
     leads_more c.history_goes_on.ensures (before g c) c.self.inside.history.items c.push_reserved.new.self.items old new (entry g c) c.self.invariant.leads holds (grown g c)
 
 -- the same, with what is fixed after the call
-leads_on : (g : Over) (c : goal.After-history_goes_on g) → LeadsTo (fixed_with c.apply.new.self c.self.inside.held.tables) c.push_reserved.new.self.items (state_of slabbed c.apply.new.self)
+leads_on : (g : Over) (c : goal.After-history_goes_on g) → LeadsTo (fixed_with c.apply.new.self c.self.inside.guarded.tables) c.push_reserved.new.self.items (state_of slabbed c.apply.new.self)
 unfolding before
 leads_on g c =
-    let tables = c.self.inside.held.tables in
+    let tables = c.self.inside.guarded.tables in
     let kept = c.in-Ok-apply.ensures.stepped.fixed in
     subst (λ (fixed : Fixed). LeadsTo fixed c.push_reserved.new.self.items (state_of slabbed c.apply.new.self))
     (λ i. record { locks = sym kept.0 i; tables = tables; limit = sym kept.1 i }) (leads g c)
@@ -83,14 +83,14 @@ invariant_of-self-2 g c =
 
 pub returns-clause-legal : goal.returns-clause-legal
 returns-clause-legal g c =
-    let fixed : Fixed = fixed_with c.apply.new.self c.self.inside.held.tables in
+    let fixed : Fixed = fixed_with c.apply.new.self c.self.inside.guarded.tables in
     legal fixed c.push_reserved.new.self.items (state_of slabbed c.apply.new.self) (leads_on g c)
 
 pub returns-clause-recorded : goal.returns-clause-recorded
 unfolding entry
 returns-clause-recorded g c =
     let here = place g c in
-    let held = c.self.inside.held in
+    let held = c.self.inside.guarded in
     let own = g.A.Ask.tables held.ask ≡ held.tables in
     let may = subst (λ (asked : List Asked). AreAnswered (PassesPlan held.tables own (g.A.Ask.may_plan held.ask)) (PassesAnswer held.tables own (g.A.Ask.may_answer held.ask)) (PassesCancel held.tables own (g.A.Ask.may_cancel held.ask)) asked)
     (sym c.from_vec.ensures) c.in-Ok-apply.ensures.may in
@@ -105,8 +105,8 @@ returns-clause-recorded g c =
         by = c.number.ensures;
         asks = refl;
         noted = c.in-Ok-apply.ensures.drained;
-        deletes = λ device deletes done. done_is_drained (before g c) (state_of slabbed c.self.inside.core) c.in-Ok-apply.applied.drained device c.from_vec.result c.in-Ok-apply.applied.reply (state_of slabbed c.apply.new.self)
-            (subst (λ (call : Call). Step (before g c) (state_of slabbed c.self.inside.core) c.in-Ok-apply.applied.drained call c.from_vec.result c.in-Ok-apply.applied.reply (state_of slabbed c.apply.new.self)) deletes (stepped g c)) done;
+        deletes = λ device deletes done. done_is_drained (before g c) (state_of slabbed c.self.inside.state) c.in-Ok-apply.applied.drained device c.from_vec.result c.in-Ok-apply.applied.reply (state_of slabbed c.apply.new.self)
+            (subst (λ (call : Call). Step (before g c) (state_of slabbed c.self.inside.state) c.in-Ok-apply.applied.drained call c.from_vec.result c.in-Ok-apply.applied.reply (state_of slabbed c.apply.new.self)) deletes (stepped g c)) done;
         few = few;
         told = c.of-receipt.ensures;
       };
@@ -115,7 +115,7 @@ returns-clause-recorded g c =
 
 pub copied-copy-requires-clause-ample : goal.copied-copy-requires-clause-ample
 copied-copy-requires-clause-ample g c =
-    let state = state_of slabbed c.self.inside.core in
+    let state = state_of slabbed c.self.inside.state in
     let few : length c.in-Ok-apply.applied.asked.items ≤ can_ask state c.args.call = few_stepped _ _ _ _ _ _ _ _ c.in-Ok-apply.ensures.stepped c.self.invariant.stands in
     let ample : can_ask state c.args.call ≤ vec_capacity c.in-Ok.room = c.in-Ok.ensures.1 in
     let same : length c.from_vec.result ≡ length c.in-Ok-apply.applied.asked.items = ap length c.from_vec.ensures in

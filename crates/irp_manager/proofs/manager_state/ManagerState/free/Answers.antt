@@ -1,0 +1,24 @@
+use Rattle.std.proofs.Common.{◌≡◌, refl, sym, ◌∙◌, subst, [], Option, MatchOption}
+use Rattle.std.specs.FinMap as fin
+use Rattle.irp_types.specs.State.{StateValue}
+use Rattle.irp_types.specs.Standing.{StandingFacts}
+use Rattle.irp_types.specs.Steps.{Unasked}
+use Rattle.irp_types.specs.declared.refusal.Refusal.{Refusal}
+use Rattle.irp_types.specs.declared.reply.Reply.TheVariants.{Done, Refused}
+use Rattle.irp_manager.specs.ManagerStates.{state_of}
+use Rattle.irp_manager.proofs.Fresh.{stands_without}
+use Rattle.irp_manager.proofs.manager_state.ManagerState.free.Goals as goal
+
+pub returns : goal.returns
+returns g c tables drained stands =
+    let state : StateValue = state_of g.K.Keep.live c.args.self.now in
+    let irp = c.args.irp in
+    let new : StateValue = record state { live = g.K.Keep.live c.take-gone.new.self } in
+    let left : new ≡ record state { live = fin.remove state.live irp.slot } = λ i. record state { live = c.take-gone.ensures.others i } in
+    record {
+      step = λ fixed same agrees.
+          subst (λ (given : Option Refusal). MatchOption given (Unasked [] Done new Done (record state { live = fin.remove state.live irp.slot })) (λ refusal. Unasked [] Done new (Refused refusal) state))
+          (sym (sym c.flight_refusal.ensures ∙ c.in_default.is)) (refl, refl, left);
+      stands = subst (StandingFacts tables.counts) (sym left) (stands_without tables.counts state irp.slot stands);
+      fixed = (refl, refl);
+    }

@@ -1,0 +1,31 @@
+use Rattle.std.proofs.Common.{[], Some, refl}
+use Rattle.irp_types.specs.Checks.{or_else}
+use Rattle.irp_types.specs.Packet.{set_next_refusal}
+use Rattle.irp_types.specs.State.{StateValue, LivePacket}
+use Rattle.irp_manager.specs.ManagerStates.{state_of}
+use Rattle.irp_manager.specs.Calls.{party_refusal_in, Fills}
+use Rattle.irp_manager.proofs.Lent.{on_some, lent_at}
+use Rattle.irp_manager.proofs.OnePacket.{party_goes_on, stands_on, not_in_slot}
+use Rattle.irp_manager.proofs.Turns.{filled_step, filled_sound}
+use Rattle.irp_manager.proofs.manager_state.ManagerState.set_next.Goals as goal
+
+pub returns : goal.returns
+returns g c tables drained stands =
+    let state : StateValue = state_of g.K.Keep.live c.args.self.now in
+    let party = c.args.party in
+    let irp = c.args.irp in
+    let live : LivePacket = c.in-Some.live.now in
+    let new : LivePacket = c.set_next.new.live in
+    let reply = c.set_next.result in
+    let at = lent_at _ c.get_mut.result c.in-Some.live c.get_mut.ensures.value c.in-Some.is in
+    let slots = g.K.Keep.live (c.get_mut.follows.lender new) in
+    let put = on_some _ c.get_mut.result c.in-Some.live c.in-Some.is (c.get_mut.follows.holds new) in
+    let goes = c.set_next.ensures.goes in
+    let here = party_refusal_in (Some live) party irp in
+    record {
+      step = λ fixed same agrees. filled_step fixed drained state party irp c.args.major c.args.word reply (record state { live = slots })
+          (party_goes_on state party irp (λ packet. set_next_refusal packet c.args.major) (Fills c.args.major c.args.word [] reply) live new [] reply slots at put goes);
+      stands = stands_on tables.counts state irp.slot (or_else here (set_next_refusal live.packet c.args.major)) (Fills c.args.major c.args.word [] reply live.packet) live new [] reply slots at put goes
+          (filled_sound tables.counts here c.args.major c.args.word reply live new goes (not_in_slot party irp live) (stands.packets irp.slot live at)) stands;
+      fixed = (refl, refl);
+    }

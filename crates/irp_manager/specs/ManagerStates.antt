@@ -1,0 +1,64 @@
+-- The state that a manager is in, and what a call makes of it.
+use Rattle.std.specs.Prelude.{ℕ, ◌≡◌, ◌*◌, Bool, List, Option}
+use Rattle.irp_types.specs.Limits.{most_locations}
+use Rattle.irp_types.specs.State.{StateValue, Fixed, Tables, packet_of}
+use Rattle.irp_types.specs.Descent.{StaysUp}
+use Rattle.irp_types.specs.Steps.{Step}
+use Rattle.irp_types.specs.Standing.{StandingFacts}
+use Rattle.irp_types.specs.declared.asked.Asked.{Asked}
+use Rattle.irp_types.specs.declared.call.Call.{Call}
+use Rattle.irp_types.specs.declared.call.Call.TheVariants.{Allocate, CallDriver, Complete, FinishTaken, Cancel}
+use Rattle.irp_types.specs.declared.call.Party.{Party}
+use Rattle.irp_types.specs.declared.names.IrpRef.{IrpRef}
+use Rattle.irp_types.specs.declared.names.DeviceId.{DeviceId}
+use Rattle.irp_types.specs.declared.status.Status.{Status}
+use Rattle.irp_types.specs.declared.reply.Reply.{Reply}
+use Rattle.irp_types.specs.declared.reply.Reply.TheVariants.{Irp, Status as StatusIs}
+use Rattle.irp_manager.specs.Slots.{Slots}
+use Rattle.irp_manager.specs.declared.manager_state.ManagerState.{ManagerState}
+
+-- the state of a manager, by what its keep has
+abbrev pub state_of : {K : Type 0} → (K → Slots) → ManagerState K → StateValue
+state_of live manager = record { live = live manager.keep; devices = manager.stacks.devices; next_use = manager.next_use }
+
+-- what is fixed of a manager whose asker has these tables
+abbrev pub fixed_with : {K : Type 0} → ManagerState K → Tables → Fixed
+fixed_with manager tables = record { locks = manager.locks; tables = tables; limit = manager.stacks.limit }
+
+-- what is fixed agrees with a manager: it has its locks and its limit
+abbrev pub Agrees : {K : Type 0} → Fixed → ManagerState K → Type 0
+Agrees fixed manager = (fixed.locks ≡ manager.locks) × (fixed.limit ≡ manager.stacks.limit)
+
+-- locks and limit stay
+abbrev pub KeepsFixed : {K : Type 0} → ManagerState K → ManagerState K → Type 0
+KeepsFixed old new = (new.locks ≡ old.locks) × (new.stacks.limit ≡ old.stacks.limit)
+
+-- a call was answered by its step, and the standing facts are kept
+pub record Stepped {K : Type 0} (live : K → Slots) (tables : Tables) (drained : Bool) (old : ManagerState K) (call : Call) (asked : List Asked) (reply : Reply) (new : ManagerState K) : Type 0 where
+  pub step : (fixed : Fixed) → fixed.tables ≡ tables → Agrees fixed old → Step fixed (state_of live old) drained call asked reply (state_of live new)
+  pub stands : StandingFacts tables.counts (state_of live new)
+  pub fixed : KeepsFixed old new
+
+-- so it was with any tables, where the standing facts held
+abbrev pub SteppedAny : {K : Type 0} → (K → Slots) → ManagerState K → Call → List Asked → Reply → ManagerState K → Type 0
+SteppedAny live old call asked reply new = (tables : Tables) (drained : Bool) → StandingFacts tables.counts (state_of live old) → Stepped live tables drained old call asked reply new
+
+-- a reply with a status to one who sent this packet: the packet stands as `StaysUp` says
+abbrev pub SentStays : {K : Type 0} → (K → Slots) → ManagerState K → IrpRef → Reply → ManagerState K → Type 0
+SentStays live old irp reply new = (status : Status) → reply ≡ StatusIs status → StaysUp (packet_of (state_of live old) irp) (packet_of (state_of live new) irp) status
+
+-- where the call sends a packet, the packet stands so
+abbrev pub SenderStays : {K : Type 0} → (K → Slots) → ManagerState K → Call → Reply → ManagerState K → Type 0
+SenderStays live old call reply new = (party : Party) (irp : IrpRef) (target : DeviceId) → call ≡ CallDriver party irp target → SentStays live old irp reply new
+
+-- where the call allocates a packet, its slot is as the keep promises for the wish
+abbrev pub SlotGranted : {K : Type 0} → (K → Option ℕ → ℕ → Type 0) → ManagerState K → Option ℕ → Call → Reply → Type 0
+SlotGranted grants old wish call reply = (size : ℕ) (irp : IrpRef) → call ≡ Allocate size → reply ≡ Irp irp → grants old.keep wish irp.slot
+
+-- how many questions a call may ask: one to each device and one to each location where it sends, completes or cancels
+abbrev pub most_asked : Call → ℕ
+most_asked (CallDriver party irp target) = 2 * most_locations
+most_asked (Complete party irp status information) = 2 * most_locations
+most_asked (FinishTaken irp token status information) = 2 * most_locations
+most_asked (Cancel irp) = 2 * most_locations
+most_asked _ = 0
