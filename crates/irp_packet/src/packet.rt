@@ -88,8 +88,10 @@ impl Packet {
         if size == 0 || size as usize > MOST_LOCATIONS {
             return Err(Refusal::BadSize);
         }
-        let mut locations = ArrayVec::from([CLEARED; MOST_LOCATIONS]);
-        locations.truncate(size as usize);
+        let mut locations = ArrayVec::new();
+        for _number in 0..size {
+            locations.push(CLEARED);
+        }
         Ok(Packet {
             locations,
             current: size as u32 + 1,

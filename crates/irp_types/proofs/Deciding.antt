@@ -155,8 +155,8 @@ setting =
 shown : Tells shown_eq.eq-value.it
 shown =
     fields what_is_shown.struct what_is_shown.the_propositions
-    (also (option device) (also irp (also unsigned_Decides (also unsigned_Decides (also unsigned_Decides (also status
-    (also unsigned_Decides (also booleans_Decides (also booleans_Decides (also unsigned_Decides (last booleans_Decides)))))))))))
+    (also irp (also unsigned_Decides (also unsigned_Decides (also unsigned_Decides (also (option device) (also unsigned_Decides
+    (also status (also unsigned_Decides (also booleans_Decides (also booleans_Decides (last booleans_Decides)))))))))))
 
 replacement : Tells replacement_eq.eq-value.it
 replacement = fields a_replacement.struct a_replacement.the_propositions (also status (last unsigned_Decides))

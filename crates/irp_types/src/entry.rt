@@ -9,21 +9,21 @@ use crate::names::LockNo;
 use crate::reply::Reply;
 use crate::row::Row;
 
-/// One recorded call (this project's own rule).
+/// One recorded call (this project's own rule). Large fields come first, since fields lie in this order.
 #[derive(Drop)]
 pub struct Entry {
     /// The entry's place in the history, from 0.
     pub number: u64,
+    pub call: Call,
+    /// What was asked of closures, in order.
+    pub asked: Row<Asked>,
+    pub reply: Reply,
     /// The seat that made the call, from 0.
     pub seat: u32,
-    pub call: Call,
     /// The lock of the device that the call deletes, where it is one that was created.
     pub lock: Option<LockNo>,
     /// Whether that lock was known to be drained.
     pub drained: bool,
-    /// What was asked of closures, in order.
-    pub asked: Row<Asked>,
-    pub reply: Reply,
 }
 
 /// Whether two lists of questions are equal.

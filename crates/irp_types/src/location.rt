@@ -24,17 +24,18 @@ pub enum Preparation {
     Skipped,
 }
 
-/// An I/O stack location (WDK: "I/O Stack Locations"). The default is a cleared one.
+/// An I/O stack location (WDK: "I/O Stack Locations"). The default is a cleared one. Large fields come first, since
+/// fields lie in this order.
 #[derive(Clone, Copy, PartialEq, Eq, Debug, Default)]
 pub struct Location {
-    /// Who was sent the packet in this location.
-    pub device: Option<DeviceId>,
-    /// The major function code.
-    pub major: u8,
     /// One word of parameters.
     pub word: u64,
     /// The completion routine that the sender set here, with its context and flags.
     pub setting: Option<Setting>,
+    /// Who was sent the packet in this location.
+    pub device: Option<DeviceId>,
+    /// The major function code.
+    pub major: u8,
     /// The pending bit, SL_PENDING_RETURNED.
     pub pending: bool,
 }

@@ -6,26 +6,27 @@ ghost use Rattle.irp_types.specs.Rules.{CanShow};
 use crate::names::{DeviceId, IrpRef};
 use crate::status::Status;
 
-/// What a dispatch, a completion routine or a cancel routine is shown of a packet.
+/// What a dispatch, a completion routine or a cancel routine is shown of a packet. Large fields come first, since fields
+/// lie in this order.
 #[derive(Clone, Copy, PartialEq, Eq, Debug)]
 pub struct Shown {
+    /// The packet's own reference.
+    pub irp: IrpRef,
+    pub word: u64,
+    pub information: u64,
+    /// A completion routine's context; 0 for the others.
+    pub context: u64,
     /// The dispatch's device; the device that set a completion routine, none for the originator; the owner of a
     /// packet that is cancelled.
     pub device: Option<DeviceId>,
-    /// The packet's own reference.
-    pub irp: IrpRef,
-    pub major: u8,
     /// The location's number, from 1 at the bottom.
     pub location: u32,
-    pub word: u64,
     pub status: Status,
-    pub information: u64,
+    pub major: u8,
     /// PendingReturned; false for a dispatch and a cancel routine.
     pub pending_returned: bool,
     /// The packet's cancel flag.
     pub cancel: bool,
-    /// A completion routine's context; 0 for the others.
-    pub context: u64,
     /// Whether a device stands below a dispatch's own; false for the others.
     pub has_lower: bool,
 }

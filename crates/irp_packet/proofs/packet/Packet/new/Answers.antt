@@ -1,9 +1,19 @@
--- The first locations of sixteen cleared ones are as many cleared ones.
-use Rattle.std.proofs.Common.{arith}
+-- As many cleared locations are pushed as are asked for.
+use Rattle.std.proofs.Common.{arith, ◌++◌, ◌∷◌, [], ◌∙◌, ap}
 use Rattle.std.proofs.lemmas.Grind.{common_steps}
-use Rattle.std.proofs.lemmas.List.{take-replicate}
+use Rattle.std.proofs.lemmas.List.{replicate-append-replicate, length-replicate}
 use Rattle.irp_types.specs.Packet.{cleared}
 use Rattle.irp_packet.proofs.packet.Packet.new.Goals as goal
 
+pub push-requires : goal.push-requires
+push-requires c = grind (arith, common_steps, c.loop-number.invariant, length-replicate c.loop-number._number cleared)
+
+pub loop-number-preserved : goal.loop-number-preserved
+loop-number-preserved c =
+    c.push.ensures.items ∙ ap (λ items. items ++ cleared ∷ []) c.loop-number.invariant ∙ replicate-append-replicate c.loop-number._number 1 cleared
+
+pub invariant_of-result : goal.invariant_of-result
+invariant_of-result c = grind (arith, common_steps, c.loop-number.invariant, length-replicate c.args.size cleared)
+
 pub returns : goal.returns
-returns c = grind (arith, common_steps, take-replicate c.args.size 32 cleared)
+returns c = grind (arith, common_steps, c.loop-number.invariant)
