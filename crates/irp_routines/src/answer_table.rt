@@ -40,7 +40,8 @@ pub struct AnswerTable {
     ghost agree: { AreTables tables } by { Prim.hlevel props },
     ghost changes_told: { length change.items ≡ tables.counts.change } by { Prim.hlevel props },
     ghost frees_told: { length free.items ≡ tables.counts.free } by { Prim.hlevel props },
-    ghost cancels_told: { length cancels.items ≡ length tables.cancel_rules } by { Prim.hlevel props },
+    ghost cancels_told: { length cancels.items
+        ≡ length tables.cancel_rules } by { Prim.hlevel props },
     ghost plans_told: { length plans.items ≡ length tables.dispatches } by { Prim.hlevel props },
 }
 
@@ -123,7 +124,8 @@ impl AnswerTable {
             × (self.new.tables ≡ with_routine self.old.tables rule)) }
         ensures change { OnOk result
             (self.new.change.items ≡ put_under Change rule behaviour self.old.change.items) }
-        ensures free { OnOk result (self.new.free.items ≡ put_under Free rule behaviour self.old.free.items) }
+        ensures free { OnOk result
+            (self.new.free.items ≡ put_under Free rule behaviour self.old.free.items) }
         ensures unrefused { routine_refusal self.old.tables rule ≡ None
             → IfErr result (λ reason. reason ≡ Memory) }
         ensures err { OnErr result ((self.new.tables ≡ self.old.tables)
@@ -153,12 +155,15 @@ impl AnswerTable {
             → result ≡ Err reason }
         ensures added { IfOk result (λ id. (id.0 ≡ length self.old.tables.cancel_rules)
             × (self.new.tables ≡ with_cancel self.old.tables rule)) }
-        ensures answers { OnOk result (self.new.cancels.items ≡ self.old.cancels.items ++ answer ∷ []) }
-        ensures unrefused { cancel_refusal self.old.tables ≡ None → IfErr result (λ reason. reason ≡ Memory) }
+        ensures answers { OnOk result
+            (self.new.cancels.items ≡ self.old.cancels.items ++ answer ∷ []) }
+        ensures unrefused { cancel_refusal self.old.tables ≡ None
+            → IfErr result (λ reason. reason ≡ Memory) }
         ensures err { OnErr result ((self.new.tables ≡ self.old.tables)
             × (self.new.cancels.items ≡ self.old.cancels.items)) }
         ensures others { (self.new.change.items ≡ self.old.change.items)
-            × (self.new.free.items ≡ self.old.free.items) × (self.new.plans.items ≡ self.old.plans.items) }
+            × (self.new.free.items ≡ self.old.free.items)
+            × (self.new.plans.items ≡ self.old.plans.items) }
     {
         if let Some(reason) = self.tables.cancel_refusal() {
             return Err(reason);
@@ -219,7 +224,8 @@ impl AnswerTable {
         &mut self,
         pairs: Vec<(u8, DispatchId)>,
     ) -> Result<DriverId, NotAdded<Vec<(u8, DispatchId)>>>
-        ensures refused { (reason : Reason) → driver_refusal self.old.tables pairs.items ≡ Some reason
+        ensures refused { (reason : Reason)
+            → driver_refusal self.old.tables pairs.items ≡ Some reason
             → result ≡ Err (record { reason = reason; item = pairs }) }
         ensures added { IfOk result (λ id. (id.0 ≡ length self.old.tables.drivers)
             × (self.new.tables ≡ with_driver self.old.tables (by_major pairs.items))) }
@@ -238,11 +244,14 @@ impl AnswerTable {
 impl Ask for AnswerTable {
     ghost tables = { λ table. table.tables };
 
-    ghost may_answer = { λ table id shown answer. IsTableAnswer table.tables table.change.items table.free.items id shown answer };
+    ghost may_answer = { λ table id shown answer.
+        IsTableAnswer table.tables table.change.items table.free.items id shown answer };
 
-    ghost may_plan = { λ table id shown plan. IsTablePlan table.tables table.plans.items id shown plan };
+    ghost may_plan = { λ table id shown plan.
+        IsTablePlan table.tables table.plans.items id shown plan };
 
-    ghost may_cancel = { λ table id shown answer. IsTableCancel table.tables table.cancels.items id answer };
+    ghost may_cancel = { λ table id shown answer.
+        IsTableCancel table.tables table.cancels.items id answer };
 
     fn counts(&self) -> Known {
         self.tables.counts()
@@ -288,11 +297,14 @@ impl Ask for AnswerTable {
         guarded_cancel(rule, self.cancels[id.0 as usize])
     }
 
-    ghost answers_allowed = { λ table id shown answer may. table_answer_allowed table.tables table.change.items table.free.items id shown answer may };
+    ghost answers_allowed = { λ table id shown answer may.
+        table_answer_allowed table.tables table.change.items table.free.items id shown answer may };
 
-    ghost plans_allowed = { λ table id shown plan may. table_plan_allowed table.tables table.plans.items id shown plan may };
+    ghost plans_allowed = { λ table id shown plan may.
+        table_plan_allowed table.tables table.plans.items id shown plan may };
 
-    ghost cancels_allowed = { λ table id shown answer may. table_cancel_allowed table.tables table.cancels.items id answer may };
+    ghost cancels_allowed = { λ table id shown answer may.
+        table_cancel_allowed table.tables table.cancels.items id answer may };
 
     ghost tables_agree = { λ table. table.agree };
 }

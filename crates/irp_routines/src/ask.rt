@@ -77,13 +77,16 @@ pub trait Ask {
         ensures { may_cancel self.now id shown result };
 
     /// What a completion routine may answer is allowed by its rule.
-    ghost answers_allowed: { (asker : Self) (id : RoutineId) (shown : Shown) (answer : Answer) → may_answer asker id shown answer → IsAnswerAllowed (tables asker) id shown answer };
+    ghost answers_allowed: { (asker : Self) (id : RoutineId) (shown : Shown) (answer : Answer)
+        → may_answer asker id shown answer → IsAnswerAllowed (tables asker) id shown answer };
 
     /// What a dispatch may plan is allowed to it.
-    ghost plans_allowed: { (asker : Self) (id : DispatchId) (shown : Shown) (plan : Plan) → may_plan asker id shown plan → IsPlanAllowed (tables asker) id shown plan };
+    ghost plans_allowed: { (asker : Self) (id : DispatchId) (shown : Shown) (plan : Plan)
+        → may_plan asker id shown plan → IsPlanAllowed (tables asker) id shown plan };
 
     /// What a cancel routine may answer is allowed by its rule.
-    ghost cancels_allowed: { (asker : Self) (id : CancelId) (shown : Shown) (answer : CancelAnswer) → may_cancel asker id shown answer → IsCancelAllowed (tables asker) id answer };
+    ghost cancels_allowed: { (asker : Self) (id : CancelId) (shown : Shown) (answer : CancelAnswer)
+        → may_cancel asker id shown answer → IsCancelAllowed (tables asker) id answer };
 
     /// The tables agree with each other, and are within the limits.
     ghost tables_agree: { (asker : Self) → AreTables (tables asker) };

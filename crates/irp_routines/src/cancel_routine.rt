@@ -17,7 +17,8 @@ pub struct CancelRoutine {
     rule: CancelRule,
     run: CancelClosure,
     ghost callable: { (shown : Shown) → CanShow shown → CancelClosure.pre run shown },
-    ghost keeps_rule: { (shown : Shown) (answer : CancelAnswer) → CanShow shown → CancelClosure.post run shown answer → is_cancel_allowed rule answer ≡ true },
+    ghost keeps_rule: { (shown : Shown) (answer : CancelAnswer) → CanShow shown
+        → CancelClosure.post run shown answer → is_cancel_allowed rule answer ≡ true },
 }
 
 impl CancelRoutine {
@@ -25,7 +26,8 @@ impl CancelRoutine {
     /// that each answer which it may give there is allowed by the rule. It takes no memory.
     pub fn new(rule: CancelRule, run: CancelClosure) -> CancelRoutine
         requires callable { (shown : Shown) → CanShow shown → CancelClosure.pre run shown }
-        requires keeps_rule { (shown : Shown) (answer : CancelAnswer) → CanShow shown → CancelClosure.post run shown answer → is_cancel_allowed rule answer ≡ true }
+        requires keeps_rule { (shown : Shown) (answer : CancelAnswer) → CanShow shown
+            → CancelClosure.post run shown answer → is_cancel_allowed rule answer ≡ true }
         ensures { result.rule ≡ rule }
     {
         CancelRoutine { rule, run }

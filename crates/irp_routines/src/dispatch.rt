@@ -17,7 +17,8 @@ pub struct Dispatch {
     known: Known,
     run: DispatchClosure,
     ghost callable: { (shown : Shown) → CanShow shown → DispatchClosure.pre run shown },
-    ghost keeps_rule: { (shown : Shown) (plan : Plan) → CanShow shown → DispatchClosure.post run shown plan → is_plan_allowed known shown plan ≡ true },
+    ghost keeps_rule: { (shown : Shown) (plan : Plan) → CanShow shown
+        → DispatchClosure.post run shown plan → is_plan_allowed known shown plan ≡ true },
 }
 
 impl Dispatch {
@@ -25,7 +26,8 @@ impl Dispatch {
     /// shown, and that each plan which it may answer there is allowed. It takes no memory.
     pub fn new(known: Known, run: DispatchClosure) -> Dispatch
         requires callable { (shown : Shown) → CanShow shown → DispatchClosure.pre run shown }
-        requires keeps_rule { (shown : Shown) (plan : Plan) → CanShow shown → DispatchClosure.post run shown plan → is_plan_allowed known shown plan ≡ true }
+        requires keeps_rule { (shown : Shown) (plan : Plan) → CanShow shown
+            → DispatchClosure.post run shown plan → is_plan_allowed known shown plan ≡ true }
         ensures { result.known ≡ known }
     {
         Dispatch { known, run }

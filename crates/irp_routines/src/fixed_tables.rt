@@ -37,9 +37,19 @@ impl Model for FixedTables {
 
     ghost Value = { Tables };
 
-    ghost view = { λ own. record { counts = own.counts; drivers = own.drivers.items; dispatches = own.dispatches.items; cancel_rules = own.cancel_rules.items } };
+    ghost view = { λ own. record {
+      counts = own.counts;
+      drivers = own.drivers.items;
+      dispatches = own.dispatches.items;
+      cancel_rules = own.cancel_rules.items;
+    } };
 
-    ghost invariant = { λ own. AreTables (record { counts = own.counts; drivers = own.drivers.items; dispatches = own.dispatches.items; cancel_rules = own.cancel_rules.items }) };
+    ghost invariant = { λ own. AreTables (record {
+      counts = own.counts;
+      drivers = own.drivers.items;
+      dispatches = own.dispatches.items;
+      cancel_rules = own.cancel_rules.items;
+    }) };
 }
 
 /// What a store tells of its closures, apart.
@@ -134,7 +144,12 @@ impl FixedTables {
 
     /// Gives them apart. It takes no memory.
     pub fn into_parts(self) -> Parts
-        ensures { self ≡ record { counts = result.counts; drivers = result.drivers; dispatches = result.dispatches; cancel_rules = result.cancel_rules } }
+        ensures { self ≡ record {
+          counts = result.counts;
+          drivers = result.drivers;
+          dispatches = result.dispatches;
+          cancel_rules = result.cancel_rules;
+        } }
     {
         Parts {
             counts: self.counts,
@@ -246,8 +261,10 @@ impl FixedTables {
     ///
     /// `Full` exactly where there are 256 of the rule. Nothing changes then.
     pub fn add_routine(&mut self, rule: Rule) -> Result<RoutineId, Reason>
-        ensures answer { result ≡ answer_unless (routine_refusal self.old rule) (record { rule = rule; no = count_of_rule self.old.counts rule }) }
-        ensures tables { self.new ≡ value_unless (routine_refusal self.old rule) self.old (with_routine self.old rule) }
+        ensures answer { result ≡ answer_unless (routine_refusal self.old rule)
+            (record { rule = rule; no = count_of_rule self.old.counts rule }) }
+        ensures tables { self.new ≡ value_unless (routine_refusal self.old rule)
+            self.old (with_routine self.old rule) }
     {
         if let Some(reason) = self.routine_refusal(rule) {
             return Err(reason);
@@ -261,9 +278,12 @@ impl FixedTables {
     ///
     /// `Full` exactly where there are 256; else `Memory`, where a growth was refused. Nothing changes then.
     pub fn add_cancel(&mut self, rule: CancelRule) -> Result<CancelId, Reason>
-        ensures refused { (reason : Reason) → cancel_refusal self.old ≡ Some reason → result ≡ Err reason }
-        ensures added { IfOk result (λ id. (id.0 ≡ length self.old.cancel_rules) × (self.new ≡ with_cancel self.old rule)) }
-        ensures unrefused { cancel_refusal self.old ≡ None → IfErr result (λ reason. reason ≡ Memory) }
+        ensures refused { (reason : Reason) → cancel_refusal self.old ≡ Some reason
+            → result ≡ Err reason }
+        ensures added { IfOk result (λ id. (id.0 ≡ length self.old.cancel_rules)
+            × (self.new ≡ with_cancel self.old rule)) }
+        ensures unrefused { cancel_refusal self.old ≡ None
+            → IfErr result (λ reason. reason ≡ Memory) }
         ensures err { OnErr result (self.new ≡ self.old) }
         ensures agree { AreTables self.new }
     {
@@ -286,9 +306,12 @@ impl FixedTables {
     /// `NoRoutine` exactly where it may name more of a kind than there are, else `Full` exactly where there are 256
     /// dispatches; else `Memory`, where a growth was refused. Nothing changes then.
     pub fn add_dispatch(&mut self, known: Known) -> Result<DispatchId, Reason>
-        ensures refused { (reason : Reason) → dispatch_refusal self.old known ≡ Some reason → result ≡ Err reason }
-        ensures added { IfOk result (λ id. (id.0 ≡ length self.old.dispatches) × (self.new ≡ with_dispatch self.old known)) }
-        ensures unrefused { dispatch_refusal self.old known ≡ None → IfErr result (λ reason. reason ≡ Memory) }
+        ensures refused { (reason : Reason) → dispatch_refusal self.old known ≡ Some reason
+            → result ≡ Err reason }
+        ensures added { IfOk result (λ id. (id.0 ≡ length self.old.dispatches)
+            × (self.new ≡ with_dispatch self.old known)) }
+        ensures unrefused { dispatch_refusal self.old known ≡ None
+            → IfErr result (λ reason. reason ≡ Memory) }
         ensures err { OnErr result (self.new ≡ self.old) }
         ensures agree { AreTables self.new }
     {
@@ -316,9 +339,12 @@ impl FixedTables {
         &mut self,
         pairs: Vec<(u8, DispatchId)>,
     ) -> Result<DriverId, NotAdded<Vec<(u8, DispatchId)>>>
-        ensures refused { (reason : Reason) → driver_refusal self.old pairs.items ≡ Some reason → result ≡ Err (record { reason = reason; item = pairs }) }
-        ensures added { IfOk result (λ id. (id.0 ≡ length self.old.drivers) × (self.new ≡ with_driver self.old (by_major pairs.items))) }
-        ensures unrefused { driver_refusal self.old pairs.items ≡ None → IfErr result (λ back. back ≡ record { reason = Memory; item = pairs }) }
+        ensures refused { (reason : Reason) → driver_refusal self.old pairs.items ≡ Some reason
+            → result ≡ Err (record { reason = reason; item = pairs }) }
+        ensures added { IfOk result (λ id. (id.0 ≡ length self.old.drivers)
+            × (self.new ≡ with_driver self.old (by_major pairs.items))) }
+        ensures unrefused { driver_refusal self.old pairs.items ≡ None
+            → IfErr result (λ back. back ≡ record { reason = Memory; item = pairs }) }
         ensures err { OnErr result (self.new ≡ self.old) }
         ensures agree { AreTables self.new }
     {

@@ -17,7 +17,8 @@ pub struct Routine {
     rule: Rule,
     run: CompletionClosure,
     ghost callable: { (shown : Shown) → CanShow shown → CompletionClosure.pre run shown },
-    ghost keeps_rule: { (shown : Shown) (answer : Answer) → CanShow shown → CompletionClosure.post run shown answer → is_allowed rule shown answer ≡ true },
+    ghost keeps_rule: { (shown : Shown) (answer : Answer) → CanShow shown
+        → CompletionClosure.post run shown answer → is_allowed rule shown answer ≡ true },
 }
 
 impl Routine {
@@ -25,7 +26,8 @@ impl Routine {
     /// that each answer which it may give there is allowed by the rule. It takes no memory.
     pub fn new(rule: Rule, run: CompletionClosure) -> Routine
         requires callable { (shown : Shown) → CanShow shown → CompletionClosure.pre run shown }
-        requires keeps_rule { (shown : Shown) (answer : Answer) → CanShow shown → CompletionClosure.post run shown answer → is_allowed rule shown answer ≡ true }
+        requires keeps_rule { (shown : Shown) (answer : Answer) → CanShow shown
+            → CompletionClosure.post run shown answer → is_allowed rule shown answer ≡ true }
         ensures { result.rule ≡ rule }
     {
         Routine { rule, run }

@@ -39,13 +39,20 @@ pub struct Store {
     cancels: Vec<CancelRoutine>,
     dispatches: Vec<Dispatch>,
     ghost agree: { AreTables tables } by { Prim.hlevel props },
-    ghost watch_told: { map (λ routine. routine.rule) watch.items ≡ replicate tables.counts.watch Watch } by { rules_set _ _ },
-    ghost change_told: { map (λ routine. routine.rule) change.items ≡ replicate tables.counts.change Change } by { rules_set _ _ },
-    ghost keeper_told: { map (λ routine. routine.rule) keeper.items ≡ replicate tables.counts.keeper Keeper } by { rules_set _ _ },
-    ghost keep_on_error_told: { map (λ routine. routine.rule) keep_on_error.items ≡ replicate tables.counts.keep_on_error KeepOnError } by { rules_set _ _ },
-    ghost free_told: { map (λ routine. routine.rule) free.items ≡ replicate tables.counts.free Free } by { rules_set _ _ },
-    ghost cancels_told: { map (λ routine. routine.rule) cancels.items ≡ tables.cancel_rules } by { cancel_rules_set _ _ },
-    ghost dispatches_told: { map (λ dispatch. dispatch.known) dispatches.items ≡ tables.dispatches } by { known_set _ _ },
+    ghost watch_told: { map (λ routine. routine.rule) watch.items
+        ≡ replicate tables.counts.watch Watch } by { rules_set _ _ },
+    ghost change_told: { map (λ routine. routine.rule) change.items
+        ≡ replicate tables.counts.change Change } by { rules_set _ _ },
+    ghost keeper_told: { map (λ routine. routine.rule) keeper.items
+        ≡ replicate tables.counts.keeper Keeper } by { rules_set _ _ },
+    ghost keep_on_error_told: { map (λ routine. routine.rule) keep_on_error.items
+        ≡ replicate tables.counts.keep_on_error KeepOnError } by { rules_set _ _ },
+    ghost free_told: { map (λ routine. routine.rule) free.items
+        ≡ replicate tables.counts.free Free } by { rules_set _ _ },
+    ghost cancels_told: { map (λ routine. routine.rule) cancels.items
+        ≡ tables.cancel_rules } by { cancel_rules_set _ _ },
+    ghost dispatches_told: { map (λ dispatch. dispatch.known) dispatches.items
+        ≡ tables.dispatches } by { known_set _ _ },
 }
 
 /// Puts a routine behind the others of its rule, or hands it back where a growth was refused.
@@ -111,16 +118,21 @@ impl Store {
     /// `Full` exactly where there are 256 of its rule; else `Memory`, where a growth was refused. The routine is handed
     /// back, and the store stays as it was.
     pub fn add(&mut self, routine: Routine) -> Result<RoutineId, NotAdded<Routine>>
-        ensures refused { (reason : Reason) → routine_refusal self.old.tables routine.rule ≡ Some reason
+        ensures refused { (reason : Reason)
+            → routine_refusal self.old.tables routine.rule ≡ Some reason
             → result ≡ Err (record { reason = reason; item = routine }) }
         ensures added { IfOk result (λ id.
-            (id ≡ record { rule = routine.rule; no = count_of_rule self.old.tables.counts routine.rule })
+            (id ≡ record {
+              rule = routine.rule;
+              no = count_of_rule self.old.tables.counts routine.rule;
+            })
             × (self.new.tables ≡ with_routine self.old.tables routine.rule)) }
         ensures shelves { OnOk result
             ((self.new.watch.items ≡ put_under Watch routine.rule routine self.old.watch.items)
             × (self.new.change.items ≡ put_under Change routine.rule routine self.old.change.items)
             × (self.new.keeper.items ≡ put_under Keeper routine.rule routine self.old.keeper.items)
-            × (self.new.keep_on_error.items ≡ put_under KeepOnError routine.rule routine self.old.keep_on_error.items)
+            × (self.new.keep_on_error.items
+            ≡ put_under KeepOnError routine.rule routine self.old.keep_on_error.items)
             × (self.new.free.items ≡ put_under Free routine.rule routine self.old.free.items)) }
         ensures unshelved { OnErr result ((self.new.watch.items ≡ self.old.watch.items)
             × (self.new.change.items ≡ self.old.change.items)
@@ -164,7 +176,8 @@ impl Store {
             → result ≡ Err (record { reason = reason; item = routine }) }
         ensures added { IfOk result (λ id. (id.0 ≡ length self.old.tables.cancel_rules)
             × (self.new.tables ≡ with_cancel self.old.tables routine.rule)) }
-        ensures put { OnOk result (self.new.cancels.items ≡ self.old.cancels.items ++ routine ∷ []) }
+        ensures put { OnOk result
+            (self.new.cancels.items ≡ self.old.cancels.items ++ routine ∷ []) }
         ensures unput { OnErr result (self.new.cancels.items ≡ self.old.cancels.items) }
         ensures others { (self.new.watch.items ≡ self.old.watch.items)
             × (self.new.change.items ≡ self.old.change.items)
@@ -199,11 +212,13 @@ impl Store {
     /// 256 dispatches; else `Memory`, where a growth was refused. The dispatch is handed back, and the store stays as it
     /// was.
     pub fn add_dispatch(&mut self, dispatch: Dispatch) -> Result<DispatchId, NotAdded<Dispatch>>
-        ensures refused { (reason : Reason) → dispatch_refusal self.old.tables dispatch.known ≡ Some reason
+        ensures refused { (reason : Reason)
+            → dispatch_refusal self.old.tables dispatch.known ≡ Some reason
             → result ≡ Err (record { reason = reason; item = dispatch }) }
         ensures added { IfOk result (λ id. (id.0 ≡ length self.old.tables.dispatches)
             × (self.new.tables ≡ with_dispatch self.old.tables dispatch.known)) }
-        ensures put { OnOk result (self.new.dispatches.items ≡ self.old.dispatches.items ++ dispatch ∷ []) }
+        ensures put { OnOk result
+            (self.new.dispatches.items ≡ self.old.dispatches.items ++ dispatch ∷ []) }
         ensures unput { OnErr result (self.new.dispatches.items ≡ self.old.dispatches.items) }
         ensures others { (self.new.watch.items ≡ self.old.watch.items)
             × (self.new.change.items ≡ self.old.change.items)
@@ -243,7 +258,8 @@ impl Store {
         &mut self,
         table: Vec<(u8, DispatchId)>,
     ) -> Result<DriverId, NotAdded<Vec<(u8, DispatchId)>>>
-        ensures refused { (reason : Reason) → driver_refusal self.old.tables table.items ≡ Some reason
+        ensures refused { (reason : Reason)
+            → driver_refusal self.old.tables table.items ≡ Some reason
             → result ≡ Err (record { reason = reason; item = table }) }
         ensures added { IfOk result (λ id. (id.0 ≡ length self.old.tables.drivers)
             × (self.new.tables ≡ with_driver self.old.tables (by_major table.items))) }

@@ -35,7 +35,8 @@ fn told_driver<A: Ask>(
     ask: &A,
     driver: DriverId,
 ) -> Result<Vec<(u8, DispatchId)>, AllocError>
-    ensures { IfOk result (λ pairs. pairs.items ≡ slice_index_or (A.tables ask.now).drivers driver.0 []) }
+    ensures { IfOk result (λ pairs.
+        pairs.items ≡ slice_index_or (A.tables ask.now).drivers driver.0 []) }
 {
     let mut pairs = Vec::new(alloc);
     for major in 0..LAST_MAJOR + 1 {
