@@ -72,7 +72,11 @@ pub fn cancel_rule_at(value: &Value) -> Option<CancelRule>
 
 /// These flags.
 fn flagged(on_success: bool, on_error: bool, on_cancel: bool) -> Flags
-    ensures { result ≡ record { on_success = on_success; on_error = on_error; on_cancel = on_cancel } }
+    ensures { result ≡ record {
+      on_success = on_success;
+      on_error = on_error;
+      on_cancel = on_cancel;
+    } }
 {
     Flags {
         on_success,

@@ -156,7 +156,8 @@ impl Slots {
         requires slot { slot < slot_count self.now }
         requires flagged { flag canceller.old.asking.flagged slot ≡ true }
         ensures table { canceller.new.table ≡ canceller.old.table }
-        ensures took { IfSome result (λ token. TookOut slot token canceller.old.asking canceller.new.asking) }
+        ensures took { IfSome result (λ token.
+            TookOut slot token canceller.old.asking canceller.new.asking) }
         ensures missed { IfNone result (FoundNone slot canceller.old.asking canceller.new.asking) }
     {
         let words = &self.table.shared;

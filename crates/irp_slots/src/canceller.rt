@@ -18,7 +18,10 @@ impl Model for Canceller {
 
     ghost Value = { Asker };
 
-    ghost view = { λ canceller. record { table = canceller.seat.table_id; asking = asking_of canceller.seat.me.0 } };
+    ghost view = { λ canceller. record {
+      table = canceller.seat.table_id;
+      asking = asking_of canceller.seat.me.0;
+    } };
 
     ghost invariant = { λ canceller. IsAsker canceller.seat };
 }

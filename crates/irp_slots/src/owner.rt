@@ -24,7 +24,10 @@ impl Model for SlotOwner {
 
     ghost Value = { Publisher };
 
-    ghost view = { λ owner. record { table = owner.seat.table_id; owning = owning_of owner.seat.me.0 } };
+    ghost view = { λ owner. record {
+      table = owner.seat.table_id;
+      owning = owning_of owner.seat.me.0;
+    } };
 
     ghost invariant = { λ owner. IsOwner owner.seat owner.slot owner.used owner.stands };
 }

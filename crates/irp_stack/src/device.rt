@@ -66,7 +66,8 @@ fn set_place(
     size: u32,
 ) -> Option<DeviceId>
     requires { device.0 < length devices.old.items }
-    ensures set { devices.new.items ≡ edit devices.old.items device.0 (λ old. record old { bottom = bottom; size = size }) }
+    ensures set { devices.new.items ≡ edit devices.old.items device.0
+        (λ old. record old { bottom = bottom; size = size }) }
     ensures upper { result ≡ (record_of devices.old.items device.0).upper }
 {
     let placed = &mut devices[device.0 as usize];
@@ -79,8 +80,10 @@ fn set_place(
 pub fn renumber(devices: &mut Vec<Device>, device: DeviceId, bottom: DeviceId, size: u32)
     requires some { 1 ≤ size }
     requires few { size ≤ most_locations }
-    requires known { AllByRecursion (λ member. member < length devices.old.items) (walk (most_locations + 1 - size) devices.old.items device.0) }
-    ensures { devices.new.items ≡ renumbered bottom size (walk (most_locations + 1 - size) devices.old.items device.0) devices.old.items }
+    requires known { AllByRecursion (λ member. member < length devices.old.items)
+        (walk (most_locations + 1 - size) devices.old.items device.0) }
+    ensures { devices.new.items ≡ renumbered bottom size
+        (walk (most_locations + 1 - size) devices.old.items device.0) devices.old.items }
 {
     let upper = set_place(devices, device, bottom, size);
     if size < MOST_IN_STACK {

@@ -39,9 +39,13 @@ impl Model for Stacks {
 
     ghost Value = { StacksValue };
 
-    ghost view = { λ stacks. record { devices = value_of stacks.devices.items; limit = stacks.limit } };
+    ghost view = { λ stacks. record {
+      devices = value_of stacks.devices.items;
+      limit = stacks.limit;
+    } };
 
-    ghost invariant = { λ stacks. (length stacks.devices.items ≤ most_devices) × IsTidy stacks.devices.items };
+    ghost invariant = { λ stacks. (length stacks.devices.items ≤ most_devices)
+        × IsTidy stacks.devices.items };
 }
 
 /// What is kept of a device beside its place in a stack.
@@ -88,9 +92,15 @@ impl Stacks {
     /// The error is `Full` exactly where 64 devices were created before, deleted ones among them. It is `Memory` only
     /// where there was room. Either changes nothing.
     pub fn create(&mut self, driver: DriverId, lock: LockNo) -> Result<DeviceId, NotCreated>
-        ensures created { IfOk result (λ device. (device.0 ≡ length self.old.devices.facts) × (first_failing (create_checks self.old.devices) ≡ None) × (self.new ≡ record self.old { devices = after_create self.old.devices driver lock })) }
+        ensures created { IfOk result (λ device. (device.0 ≡ length self.old.devices.facts)
+            × (first_failing (create_checks self.old.devices) ≡ None)
+            × (self.new ≡ record self.old {
+              devices = after_create self.old.devices driver lock;
+            })) }
         ensures refused { OnErr result (self.new ≡ self.old) }
-        ensures full { IfErr result (λ error. (error ≡ NotCreated_Full → first_failing (create_checks self.old.devices) ≡ Some Full) × (error ≡ NotCreated_Memory → first_failing (create_checks self.old.devices) ≡ None)) }
+        ensures full { IfErr result (λ error.
+            (error ≡ NotCreated_Full → first_failing (create_checks self.old.devices) ≡ Some Full)
+            × (error ≡ NotCreated_Memory → first_failing (create_checks self.old.devices) ≡ None)) }
     {
         let count = self.devices.len();
         if count >= MOST_DEVICES {
@@ -121,8 +131,12 @@ impl Stacks {
     /// one stack, as a device is with itself; `StillAttached` if `device` has a neighbour; `TooDeep` if the stack of
     /// `to` has as many devices as the limit allows. It takes constant time.
     pub fn attach(&mut self, device: DeviceId, to: DeviceId) -> Result<DeviceId, Refusal>
-        ensures answer { result ≡ answer_unless (first_failing (attach_checks self.old.limit self.old.devices device.0 to.0)) (id (top_of self.old.devices to.0)) }
-        ensures changed { self.new.devices ≡ value_unless (first_failing (attach_checks self.old.limit self.old.devices device.0 to.0)) self.old.devices (after_attach self.old.devices device.0 to.0) }
+        ensures answer { result ≡ answer_unless
+            (first_failing (attach_checks self.old.limit self.old.devices device.0 to.0))
+            (id (top_of self.old.devices to.0)) }
+        ensures changed { self.new.devices ≡ value_unless
+            (first_failing (attach_checks self.old.limit self.old.devices device.0 to.0))
+            self.old.devices (after_attach self.old.devices device.0 to.0) }
         ensures limit { self.new.limit ≡ self.old.limit }
     {
         let own = live_device(&self.devices, device)?;
@@ -150,8 +164,12 @@ impl Stacks {
     /// `lower` was never created, `DeviceGone` if it was deleted, `NothingAttached` if it is the top of its stack. It
     /// goes once over the devices above the cut.
     pub fn detach(&mut self, lower: DeviceId) -> Result<DeviceId, Refusal>
-        ensures answer { result ≡ answer_unless (first_failing (detach_checks self.old.devices lower.0)) (id (cut_off_by self.old.devices lower.0)) }
-        ensures changed { self.new.devices ≡ value_unless (first_failing (detach_checks self.old.devices lower.0)) self.old.devices (after_detach self.old.devices lower.0) }
+        ensures answer { result ≡ answer_unless
+            (first_failing (detach_checks self.old.devices lower.0))
+            (id (cut_off_by self.old.devices lower.0)) }
+        ensures changed { self.new.devices ≡ value_unless
+            (first_failing (detach_checks self.old.devices lower.0))
+            self.old.devices (after_detach self.old.devices lower.0) }
         ensures limit { self.new.limit ≡ self.old.limit }
     {
         let below = live_device(&self.devices, lower)?;
@@ -170,8 +188,11 @@ impl Stacks {
     /// the device was never created, `DeviceGone` if it was deleted before, `StillAttached` if it has a neighbour. It
     /// doesn't look at packets or remove locks.
     pub fn delete(&mut self, device: DeviceId) -> Result<(), Refusal>
-        ensures answer { result ≡ answer_unless (first_failing (delete_checks self.old.devices device.0)) tt }
-        ensures changed { self.new.devices ≡ value_unless (first_failing (delete_checks self.old.devices device.0)) self.old.devices (after_delete self.old.devices device.0) }
+        ensures answer { result ≡ answer_unless
+            (first_failing (delete_checks self.old.devices device.0)) tt }
+        ensures changed { self.new.devices ≡ value_unless
+            (first_failing (delete_checks self.old.devices device.0))
+            self.old.devices (after_delete self.old.devices device.0) }
         ensures limit { self.new.limit ≡ self.old.limit }
     {
         let found = live_device(&self.devices, device)?;
