@@ -1,22 +1,15 @@
 -- Parts of lines, as texts.
-use Rattle.std.specs.Prelude.{ℕ, List, ◌++◌, map, codes}
+use Rattle.std.specs.Prelude.{ℕ, List, ◌++◌, codes}
 use Rattle.serde_json.specs.Data.{Data}
 use Rattle.serde_json.specs.Written.{compact_text}
-use Rattle.irp_transcript_writer.specs.Json.{list, natural}
-use Rattle.irp_transcript_writer.specs.Lines.{cancel_rule_json, completions_json, driver_json, known_json, lock_json, word_reply_json}
+use Rattle.irp_transcript_writer.specs.Json.{natural}
+use Rattle.irp_transcript_writer.specs.Lines.{lock_json, word_reply_json}
 use Rattle.irp_types.specs.declared.names.LockNo.{LockNo}
-use Rattle.irp_shared.specs.declared.header.Header.{Header}
 use Rattle.irp_shared.specs.declared.word_line.WordLine.{WordLine}
 
 -- a text, and then the compact text of a value
 abbrev pub behind : List ℕ → Data → List ℕ
 behind text value = text ++ compact_text value
-
--- a header up to the number of its form
-abbrev pub lists_text : Header → List ℕ
-lists_text header =
-    behind (codes "{\"cancels\":") (list (map cancel_rule_json header.cancels)) ++ (behind (codes ",\"completions\":") (completions_json header.completions)
-    ++ (behind (codes ",\"dispatches\":") (list (map known_json header.dispatches)) ++ (behind (codes ",\"drivers\":") (list (map driver_json header.drivers)) ++ codes ",\"form\":")))
 
 -- the line of a step on a remove lock, from the lock to the place
 abbrev pub locked_text : LockNo → WordLine → List ℕ

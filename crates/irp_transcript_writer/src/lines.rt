@@ -4,7 +4,6 @@
 ghost use Rattle.std.specs.Prelude.{◌≡◌, ◌++◌, OnOk};
 ghost use Rattle.serde_json.specs.Written.{compact_text};
 ghost use Rattle.irp_transcript_writer.specs.Lines.{asked_json, completions_json, entry_json, header_json, reply_json};
-ghost use Rattle.irp_transcript_writer.specs.Texts.{lists_text};
 
 use crate::calls::put_call;
 use crate::form::{Written, put, put_list, put_one, put_text, put_two};
@@ -83,29 +82,24 @@ fn put_completions(out: &mut Vec<u8>, known: Known) -> Result<(), AllocError>
     put_list(out, &[watch, change, keeper, keep_on_error, free])
 }
 
-/// Writes a header's lists, each behind its key, up to the key of the form.
-fn put_lists(out: &mut Vec<u8>, header: &Header) -> Result<(), AllocError>
-    ensures { OnOk result (out.new.items ≡ out.old.items ++ lists_text header.now) }
-{
-    put(out, "{\"cancels\":", &header.cancels)?;
-    put_text(out, ",\"completions\":")?;
-    put_completions(out, header.completions)?;
-    put(out, ",\"dispatches\":", &header.dispatches)?;
-    put_one(out, ",\"drivers\":", &header.drivers, ",\"form\":")
-}
-
 impl Written for Header {
     ghost json = { header_json };
 
     fn write(&self, out: &mut Vec<u8>) -> Result<(), AllocError> {
-        put_lists(out, self)?;
+        put(out, "{\"cancels\":", &self.cancels)?;
+        put_text(out, ",\"completions\":")?;
+        put_completions(out, self.completions)?;
+        put(out, ",\"dispatches\":", &self.dispatches)?;
+        put(out, ",\"drivers\":", &self.drivers)?;
         match self.form {
             Form::One => {
-                put(out, "1,\"locks\":", &self.locks)?;
+                put(out, ",\"form\":", &1u8)?;
+                put(out, ",\"locks\":", &self.locks)?;
                 put_one(out, ",\"seats\":", &self.seats, "}")
             }
             Form::Two { slots } => {
-                put(out, "2,\"locks\":", &self.locks)?;
+                put(out, ",\"form\":", &2u8)?;
+                put(out, ",\"locks\":", &self.locks)?;
                 put(out, ",\"seats\":", &self.seats)?;
                 put_one(out, ",\"slots\":", &slots, "}")
             }

@@ -181,12 +181,17 @@ impl Written for Shown {
     ghost json = { shown_json };
 
     fn write(&self, out: &mut Vec<u8>) -> Result<(), AllocError> {
-        put_two(out, "[", &self.device, ",", &self.irp.slot, ",")?;
-        put_two(out, "", &self.irp.use_no, ",", &self.major, ",")?;
-        put_two(out, "", &self.location, ",", &self.word, ",")?;
-        put_two(out, "", &self.status, ",", &self.information, ",")?;
-        put_two(out, "", &self.pending_returned, ",", &self.cancel, ",")?;
-        put_two(out, "", &self.context, ",", &self.has_lower, "]")
+        put(out, "[", &self.device)?;
+        put(out, ",", &self.irp.slot)?;
+        put(out, ",", &self.irp.use_no)?;
+        put(out, ",", &self.major)?;
+        put(out, ",", &self.location)?;
+        put(out, ",", &self.word)?;
+        put(out, ",", &self.status)?;
+        put(out, ",", &self.information)?;
+        put(out, ",", &self.pending_returned)?;
+        put(out, ",", &self.cancel)?;
+        put_two(out, ",", &self.context, ",", &self.has_lower, "]")
     }
 }
 

@@ -6,8 +6,8 @@ use Rattle.irp_transcript_writer.specs.Puts.{Stopped}
 use Rattle.irp_transcript_writer.proofs.Puts.{stopped_at, stopped_first}
 use Rattle.irp_transcript_writer.proofs.write.put_line.Goals as goal
 
-pub returns : goal.returns
-returns g c =
+pub returns-in-Err : goal.returns-in-Err
+returns-in-Err g c =
     let text : List ℕ = line_text (g.T.Written.json c.args.value.now) in
     let same : c.as_slice.result.now ≡ text = c.as_slice.ensures.value ∙ c.in-Ok.ensures in
     let bound : c.in-Err.done < length text = subst (λ line. c.in-Err.done < length line) same c.in-Err.ensures.short in
