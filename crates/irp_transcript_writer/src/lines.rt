@@ -7,7 +7,6 @@ ghost use Rattle.irp_transcript_writer.specs.Lines.{asked_json, completions_json
 
 use crate::calls::put_call;
 use crate::form::{Written, put, put_list, put_one, put_text, put_two};
-use crate::names::name_of_refusal;
 use irp_shared::{Form, Header};
 use irp_types::{Asked, Entry, Known, Reply};
 use std::alloc::AllocError;
@@ -45,11 +44,7 @@ impl Written for Reply {
             Reply::Previous(cancel) => put_one(out, "{\"previous\":", &cancel, "}"),
             Reply::Cancelled(cancelled) => put_one(out, "{\"cancelled\":", &cancelled, "}"),
             Reply::Seen(seen) => put_one(out, "{\"seen\":", &seen, "}"),
-            Reply::Refused(refusal) => {
-                put_text(out, "{\"refused\":")?;
-                put_text(out, name_of_refusal(refusal))?;
-                put_text(out, "}")
-            }
+            Reply::Refused(refusal) => put_one(out, "{\"refused\":", &refusal, "}"),
         }
     }
 }

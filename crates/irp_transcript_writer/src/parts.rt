@@ -5,7 +5,6 @@ ghost use Rattle.irp_transcript_writer.specs.Lines.{
   answer_json,
   cancel_answer_json,
   cancel_json,
-  cancel_rule_json,
   device_json,
   dispatch_json,
   handler_json,
@@ -24,10 +23,10 @@ ghost use Rattle.irp_transcript_writer.specs.Lines.{
 };
 
 use crate::form::{Written, put, put_list, put_one, put_text, put_two};
-use crate::names::{flags_of, name_of_answer, name_of_cancel_rule, name_of_rule};
+use crate::names::{letters_of_flags, name_of_answer};
 use irp_types::{
-    Answer, CancelAnswer, CancelId, CancelRule, DeviceId, DispatchId, IrpRef, Known, LockNo, Owner,
-    Party, Plan, Replacement, RoutineId, Seen, Setting, Shown, Status,
+    Answer, CancelAnswer, CancelId, DeviceId, DispatchId, IrpRef, Known, LockNo, Owner, Party,
+    Plan, Replacement, RoutineId, Seen, Setting, Shown, Status,
 };
 use std::alloc::AllocError;
 
@@ -102,21 +101,11 @@ impl Written for Owner {
     }
 }
 
-impl Written for CancelRule {
-    ghost json = { cancel_rule_json };
-
-    fn write(&self, out: &mut Vec<u8>) -> Result<(), AllocError> {
-        put_text(out, name_of_cancel_rule(*self))
-    }
-}
-
 impl Written for RoutineId {
     ghost json = { routine_json };
 
     fn write(&self, out: &mut Vec<u8>) -> Result<(), AllocError> {
-        put_text(out, "[")?;
-        put_text(out, name_of_rule(self.rule))?;
-        put_one(out, ",", &self.no, "]")
+        put_two(out, "[", &self.rule, ",", &self.no, "]")
     }
 }
 
@@ -124,10 +113,12 @@ impl Written for Setting {
     ghost json = { setting_json };
 
     fn write(&self, out: &mut Vec<u8>) -> Result<(), AllocError> {
-        put_text(out, "[")?;
-        put_text(out, name_of_rule(self.routine.rule))?;
+        put(out, "[", &self.routine.rule)?;
         put(out, ",", &self.routine.no)?;
-        put_one(out, ",", &self.context, flags_of(*self))
+        put(out, ",", &self.context)?;
+        put_text(out, ",")?;
+        put_text(out, letters_of_flags(*self))?;
+        put_text(out, "]")
     }
 }
 
@@ -161,8 +152,9 @@ impl Written for Answer {
     ghost json = { answer_json };
 
     fn write(&self, out: &mut Vec<u8>) -> Result<(), AllocError> {
+        put_text(out, "[")?;
         put_text(out, name_of_answer(self.keep))?;
-        put_two(out, "", &self.mark, ",", &self.replacement, "]")
+        put_two(out, ",", &self.mark, ",", &self.replacement, "]")
     }
 }
 
@@ -199,10 +191,13 @@ impl Written for Seen {
     ghost json = { seen_json };
 
     fn write(&self, out: &mut Vec<u8>) -> Result<(), AllocError> {
-        put_two(out, "[", &self.owner, ",", &self.current, ",")?;
-        put_two(out, "", &self.status, ",", &self.information, ",")?;
-        put_two(out, "", &self.cancel, ",", &self.cancel_routine, ",")?;
-        put_two(out, "", &self.pending_returned, ",", &self.marked, "]")
+        put(out, "[", &self.owner)?;
+        put(out, ",", &self.current)?;
+        put(out, ",", &self.status)?;
+        put(out, ",", &self.information)?;
+        put(out, ",", &self.cancel)?;
+        put(out, ",", &self.cancel_routine)?;
+        put_two(out, ",", &self.pending_returned, ",", &self.marked, "]")
     }
 }
 

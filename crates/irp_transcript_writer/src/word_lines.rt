@@ -47,15 +47,18 @@ fn put_locked(
 ) -> Result<(), AllocError>
     ensures { OnOk result (out.new.items ≡ out.old.items ++ (before.now ++ locked_text lock line.now)) }
 {
-    put_two(out, before, &lock, ",\"reply\":", &line.reply, "")?;
-    put_two(out, ",\"seat\":", &line.seat, ",\"step\":", &line.step, "")
+    put(out, before, &lock)?;
+    put(out, ",\"reply\":", &line.reply)?;
+    put(out, ",\"seat\":", &line.seat)?;
+    put(out, ",\"step\":", &line.step)
 }
 
 /// Writes the line of a step on a cancel slot, whose name stands in the text before.
 fn put_slot(out: &mut Vec<u8>, before: &str, slot: u32, line: &WordLine) -> Result<(), AllocError>
     ensures { OnOk result (out.new.items ≡ out.old.items ++ (before.now ++ slot_text slot line.now)) }
 {
-    put_two(out, before, &line.reply, ",\"seat\":", &line.seat, "")?;
+    put(out, before, &line.reply)?;
+    put(out, ",\"seat\":", &line.seat)?;
     put_two(out, ",\"slot\":", &slot, ",\"step\":", &line.step, "}")
 }
 

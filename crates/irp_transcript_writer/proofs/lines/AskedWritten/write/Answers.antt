@@ -3,9 +3,9 @@ use Rattle.std.proofs.Common.{append_assoc}
 use Rattle.json.specs.Print.{escape_byte}
 use Rattle.irp_transcript_writer.proofs.lines.AskedWritten.write.Goals as goal
 
-pub returns-in_ok-put : goal.returns-in_ok-put
+pub returns-in_ok-put-in-Dispatch : goal.returns-in_ok-put-in-Dispatch
 unfolding escape_byte
-returns-in_ok-put c = rw c.in-Dispatch.is (rw (c.in_ok-put.ensures, append_assoc) at c.put_two.ensures)
+returns-in_ok-put-in-Dispatch c = rw c.in-Dispatch.is (rw (c.in_ok-put-in-Dispatch.ensures, append_assoc) at c.put_two.ensures)
 
 pub returns-in_ok-put-in-Completion : goal.returns-in_ok-put-in-Completion
 unfolding escape_byte
