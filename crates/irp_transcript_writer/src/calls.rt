@@ -132,7 +132,8 @@ fn put_by(out: &mut Vec<u8>, party: Party, between: &str, irp: IrpRef) -> Result
 /// Writes a call that names a party.
 fn put_party_call(out: &mut Vec<u8>, call: Call) -> Result<(), AllocError>
     requires { names_party call ≡ true }
-    ensures { OnOk result (out.new.items ≡ out.old.items ++ compact_text (call_json call None false)) }
+    ensures { OnOk result (out.new.items ≡ out.old.items
+        ++ compact_text (call_json call None false)) }
 {
     match call {
         Call::SetNext {
@@ -175,7 +176,8 @@ pub fn put_call(
     lock: Option<LockNo>,
     drained: bool,
 ) -> Result<(), AllocError>
-    ensures { OnOk result (out.new.items ≡ out.old.items ++ compact_text (call_json call lock drained)) }
+    ensures { OnOk result (out.new.items ≡ out.old.items
+        ++ compact_text (call_json call lock drained)) }
 {
     match call {
         Call::CreateDevice { driver, lock } => {

@@ -13,7 +13,8 @@ pub trait Written {
     /// The form.
     ghost json: { Self → Data };
 
-    /// Writes the compact text of the form behind what the buffer holds. The one error is want of memory.
+    /// Writes the compact text of the form behind what the buffer holds. The one error is want of memory; then a part
+    /// of the text may stand there.
     fn write(&self, out: &mut Vec<u8>) -> Result<(), AllocError>
         ensures { OnOk result (out.new.items ≡ out.old.items ++ compact_text (json self.now)) };
 }
@@ -27,7 +28,8 @@ pub fn put_text(out: &mut Vec<u8>, text: &str) -> Result<(), AllocError>
 
 /// Writes a text, and then a value. The one error is want of memory.
 pub fn put<T: Written>(out: &mut Vec<u8>, before: &str, value: &T) -> Result<(), AllocError>
-    ensures { OnOk result (out.new.items ≡ out.old.items ++ (before.now ++ compact_text (T.json value.now))) }
+    ensures { OnOk result (out.new.items ≡ out.old.items
+        ++ (before.now ++ compact_text (T.json value.now))) }
 {
     put_text(out, before)?;
     value.write(out)
@@ -40,7 +42,8 @@ pub fn put_one<T: Written>(
     value: &T,
     after: &str,
 ) -> Result<(), AllocError>
-    ensures { OnOk result (out.new.items ≡ out.old.items ++ (before.now ++ (compact_text (T.json value.now) ++ after.now))) }
+    ensures { OnOk result (out.new.items ≡ out.old.items
+        ++ (before.now ++ (compact_text (T.json value.now) ++ after.now))) }
 {
     put(out, before, value)?;
     put_text(out, after)
@@ -55,8 +58,8 @@ pub fn put_two<T: Written, U: Written>(
     second: &U,
     after: &str,
 ) -> Result<(), AllocError>
-    ensures { OnOk result (out.new.items
-        ≡ out.old.items ++ (before.now ++ (compact_text (T.json first.now)
+    ensures { OnOk result (out.new.items ≡ out.old.items
+        ++ (before.now ++ (compact_text (T.json first.now)
         ++ (between.now ++ (compact_text (U.json second.now) ++ after.now))))) }
 {
     put(out, before, first)?;
@@ -131,7 +134,8 @@ fn comma_if(later: bool) -> &'static str
 
 /// Writes the array of the items' forms, in order. The one error is want of memory.
 pub fn put_list<T: Written>(out: &mut Vec<u8>, items: &[T]) -> Result<(), AllocError>
-    ensures { OnOk result (out.new.items ≡ out.old.items ++ compact_text (list (map T.json items.now))) }
+    ensures { OnOk result (out.new.items ≡ out.old.items
+        ++ compact_text (list (map T.json items.now))) }
 {
     put_text(out, "[")?;
     let mut later = false;
@@ -151,8 +155,9 @@ impl<T: Written> Written for Row<T> {
     }
 }
 
-/// Writes the line of a value, the compact text of its form and a newline, in place of what the buffer has. The one
-/// error is want of memory (this project's own format, docs/FORMATS.md).
+/// Writes the line of a value, the compact text of its form and a newline, in place of what the buffer has, whose room
+/// stays (this project's own format, docs/FORMATS.md). The one error is want of memory; then the buffer may have a part
+/// of the line.
 #[tactic(auto, unfolding(crate::specs::Json::line_text))]
 pub fn write_line<T: Written>(line: &mut Vec<u8>, value: &T) -> Result<(), AllocError>
     ensures { OnOk result (line.new.items ≡ line_text (T.json value.now)) }

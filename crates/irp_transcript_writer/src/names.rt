@@ -4,7 +4,14 @@
 ghost use Rattle.std.specs.Prelude.{◌≡◌};
 ghost use Rattle.serde_json.specs.Data.{string};
 ghost use Rattle.serde_json.specs.Written.{compact_text};
-ghost use Rattle.irp_transcript_writer.specs.Lines.{answer_name, cancel_rule_json, cancel_rule_name, flags_text, refusal_name, rule_name};
+ghost use Rattle.irp_transcript_writer.specs.Lines.{
+  answer_name,
+  cancel_rule_json,
+  cancel_rule_name,
+  flags_text,
+  refusal_name,
+  rule_name,
+};
 
 use crate::form::{Written, put_text};
 use irp_types::{CancelRule, Refusal, Rule, Setting};
@@ -66,8 +73,8 @@ pub fn letters_of_flags(setting: Setting) -> &'static str
     }
 }
 
-/// The name of a completion routine's answer, which keeps the packet or continues, in quotes (this project's own format,
-/// docs/FORMATS.md).
+/// The name of a completion routine's answer, which keeps the packet or continues, in quotes
+/// (this project's own format, docs/FORMATS.md).
 pub fn name_of_answer(keep: bool) -> &'static str
     ensures { result.now ≡ compact_text (string (answer_name keep)) }
 {

@@ -45,7 +45,8 @@ fn put_locked(
     lock: LockNo,
     line: &WordLine,
 ) -> Result<(), AllocError>
-    ensures { OnOk result (out.new.items ≡ out.old.items ++ (before.now ++ locked_text lock line.now)) }
+    ensures { OnOk result (out.new.items ≡ out.old.items
+        ++ (before.now ++ locked_text lock line.now)) }
 {
     put(out, before, &lock)?;
     put(out, ",\"reply\":", &line.reply)?;
@@ -55,7 +56,8 @@ fn put_locked(
 
 /// Writes the line of a step on a cancel slot, whose name stands in the text before.
 fn put_slot(out: &mut Vec<u8>, before: &str, slot: u32, line: &WordLine) -> Result<(), AllocError>
-    ensures { OnOk result (out.new.items ≡ out.old.items ++ (before.now ++ slot_text slot line.now)) }
+    ensures { OnOk result (out.new.items ≡ out.old.items
+        ++ (before.now ++ slot_text slot line.now)) }
 {
     put(out, before, &line.reply)?;
     put(out, ",\"seat\":", &line.seat)?;
