@@ -1,6 +1,5 @@
 pub mod Out
 pub mod Json
 pub mod Lines
-pub mod Lists
-pub mod Whole
+pub mod Texts
 pub mod Puts

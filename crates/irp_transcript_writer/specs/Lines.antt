@@ -1,5 +1,5 @@
 -- The forms that a transcript's lines are made of, and the lines.
-use Rattle.std.specs.Prelude.{◌≡◌, ℕ, List, [], ◌∷◌, ◌++◌, Bool, true, false, map, codes, Option, Some, None}
+use Rattle.std.specs.Prelude.{ℕ, List, [], ◌∷◌, ◌++◌, Bool, true, false, map, codes, Option, Some, None}
 use Rattle.std.specs.List.{flat_map}
 use Rattle.serde_json.specs.Data.{Data, boolean, string}
 use Rattle.irp_transcript_writer.specs.Json.{natural, list, fields, or_null, line_text}
@@ -210,10 +210,6 @@ call_json (call.SetCancelRoutine party irp cancel) _ _ =
     ∷ (codes "do", string (codes "set_cancel_routine")) ∷ (codes "irp", irp_json irp) ∷ [])
 call_json (call.Cancel irp) _ _ = irp_call_json (codes "cancel") irp
 call_json (call.Look irp) _ _ = irp_call_json (codes "look") irp
-
--- the form is the call's in every entry, whatever the entry's lock and `drained`
-abbrev pub IsFormOf : Call → Data → Type 0
-IsFormOf call form = (lock : Option LockNo) (drained : Bool) → form ≡ call_json call lock drained
 
 -- the name of a refusal
 abbrev pub refusal_name : Refusal → List ℕ

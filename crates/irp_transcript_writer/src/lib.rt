@@ -11,7 +11,7 @@ mod word_lines;
 mod write;
 mod writer_out;
 
-pub use form::{ToJson, array_of, line_of};
+pub use form::{Written, line_of};
 pub use out::{Failed, Out, put_all};
 pub use write::{Cause, WriteFault, write_transcript};
 pub use writer_out::WriterOut;

@@ -1,112 +1,102 @@
 //! The forms of word lines.
+#![tactic(auto, unfolding(json::specs::Print::escape_byte))]
 
-ghost use Rattle.std.specs.Prelude.{◌≡◌, IfOk};
-ghost use Rattle.serde_json.specs.View.{view};
-ghost use Rattle.irp_transcript_writer.specs.Lines.{hand_json, slot_json, tagged_json, word_json, word_reply_json};
-ghost use Rattle.irp_transcript_writer.specs.Whole.{word_whole, word_reply_whole};
+ghost use Rattle.std.specs.Prelude.{◌≡◌, ◌++◌, OnOk};
+ghost use Rattle.serde_json.specs.Written.{compact_text};
+ghost use Rattle.irp_transcript_writer.specs.Lines.{word_json, word_reply_json};
+ghost use Rattle.irp_transcript_writer.specs.Texts.{locked_text, slot_text};
 
-use crate::form::ToJson;
+use crate::form::{Written, put, put_one, put_text, put_two};
 use irp_shared::{Act, WordLine, WordReply};
 use irp_types::{LockNo, Status};
-use serde_json::{Value, json};
-use std::alloc::{AllocError, Global};
+use std::alloc::AllocError;
 
-impl ToJson for WordReply {
+impl Written for WordReply {
     ghost json = { word_reply_json };
 
-    fn to_json(&self, alloc: Global) -> Result<Value, AllocError> {
+    fn write(&self, out: &mut Vec<u8>) -> Result<(), AllocError> {
         match *self {
-            WordReply::Acquired => json!(in alloc; {"status": (Status::SUCCESS.0)}),
-            WordReply::DeletePending => json!(in alloc; {"status": (Status::DELETE_PENDING.0)}),
-            WordReply::Done => Value::try_from_str(alloc, "ok"),
-            WordReply::SeatFull => Value::try_from_str(alloc, "seat_full"),
-            WordReply::NotHeld => Value::try_from_str(alloc, "not_held"),
-            WordReply::AlreadyRemoving => Value::try_from_str(alloc, "already_removing"),
-            WordReply::NoLock => Value::try_from_str(alloc, "no_lock"),
-            WordReply::Yes => Value::try_from_str(alloc, "yes"),
-            WordReply::Busy { word } => json!(in alloc; {"busy": word}),
-            WordReply::Standing => Value::try_from_str(alloc, "standing"),
-            WordReply::Taken { use_no } => json!(in alloc; {"taken": use_no}),
-            WordReply::Lost => Value::try_from_str(alloc, "lost"),
-            WordReply::Nothing => Value::try_from_str(alloc, "nothing"),
-            WordReply::Used => Value::try_from_str(alloc, "used"),
-            WordReply::NotStanding => Value::try_from_str(alloc, "not_standing"),
-            WordReply::NoSlot => Value::try_from_str(alloc, "no_slot"),
-            WordReply::NoToken => Value::try_from_str(alloc, "no_token"),
+            WordReply::Acquired => put_one(out, "{\"status\":", &Status::SUCCESS, "}"),
+            WordReply::DeletePending => put_one(out, "{\"status\":", &Status::DELETE_PENDING, "}"),
+            WordReply::Done => put_text(out, "\"ok\""),
+            WordReply::SeatFull => put_text(out, "\"seat_full\""),
+            WordReply::NotHeld => put_text(out, "\"not_held\""),
+            WordReply::AlreadyRemoving => put_text(out, "\"already_removing\""),
+            WordReply::NoLock => put_text(out, "\"no_lock\""),
+            WordReply::Yes => put_text(out, "\"yes\""),
+            WordReply::Busy { word } => put_one(out, "{\"busy\":", &word, "}"),
+            WordReply::Standing => put_text(out, "\"standing\""),
+            WordReply::Taken { use_no } => put_one(out, "{\"taken\":", &use_no, "}"),
+            WordReply::Lost => put_text(out, "\"lost\""),
+            WordReply::Nothing => put_text(out, "\"nothing\""),
+            WordReply::Used => put_text(out, "\"used\""),
+            WordReply::NotStanding => put_text(out, "\"not_standing\""),
+            WordReply::NoSlot => put_text(out, "\"no_slot\""),
+            WordReply::NoToken => put_text(out, "\"no_token\""),
         }
     }
-
-    ghost whole = { word_reply_whole };
 }
 
-/// The form of a line whose step has a tag.
-fn form_of_tagged(
-    alloc: Global,
-    name: &str,
+/// Writes what each line of a step on a remove lock begins with: the step's name and the lock, behind a text, and what
+/// the step was answered, its seat and its place.
+fn put_locked(
+    out: &mut Vec<u8>,
+    before: &str,
     lock: LockNo,
-    tag: u32,
-    line: WordLine,
-) -> Result<Value, AllocError>
-    ensures { IfOk result (λ value. view value ≡ tagged_json name.now lock tag line) }
+    line: &WordLine,
+) -> Result<(), AllocError>
+    ensures { OnOk result (out.new.items ≡ out.old.items
+        ++ (before.now ++ locked_text lock line.now)) }
 {
-    let reply = line.reply.to_json(alloc)?;
-    let WordLine { seat, step, .. } = line;
-    json!(in alloc; {"do": name, "lock": (lock.0), "reply": reply, "seat": seat, "step": step, "tag": tag})
+    put(out, before, &lock)?;
+    put(out, ",\"reply\":", &line.reply)?;
+    put(out, ",\"seat\":", &line.seat)?;
+    put(out, ",\"step\":", &line.step)
 }
 
-/// The form of a line whose step hands a reference to another seat.
-fn form_of_hand(
-    alloc: Global,
-    lock: LockNo,
-    tag: u32,
-    to: u32,
-    line: WordLine,
-) -> Result<Value, AllocError>
-    ensures { IfOk result (λ value. view value ≡ hand_json lock tag to line) }
+/// Writes the line of a step on a cancel slot, whose name stands in the text before.
+fn put_slot(out: &mut Vec<u8>, before: &str, slot: u32, line: &WordLine) -> Result<(), AllocError>
+    ensures { OnOk result (out.new.items ≡ out.old.items
+        ++ (before.now ++ slot_text slot line.now)) }
 {
-    let reply = line.reply.to_json(alloc)?;
-    let WordLine { seat, step, .. } = line;
-    json!(in alloc; {
-        "do": "hand", "lock": (lock.0), "reply": reply, "seat": seat, "step": step, "tag": tag, "to": to
-    })
+    put(out, before, &line.reply)?;
+    put(out, ",\"seat\":", &line.seat)?;
+    put_two(out, ",\"slot\":", &slot, ",\"step\":", &line.step, "}")
 }
 
-/// The form of a line of a step on a cancel slot, by the step's name.
-fn form_of_slot(alloc: Global, name: &str, slot: u32, line: WordLine) -> Result<Value, AllocError>
-    ensures { IfOk result (λ value. view value ≡ slot_json name.now slot line) }
-{
-    let reply = line.reply.to_json(alloc)?;
-    let WordLine { seat, step, .. } = line;
-    json!(in alloc; {"do": name, "reply": reply, "seat": seat, "slot": slot, "step": step})
-}
-
-impl ToJson for WordLine {
+impl Written for WordLine {
     ghost json = { word_json };
 
-    fn to_json(&self, alloc: Global) -> Result<Value, AllocError> {
-        let line = *self;
-        match line.act {
-            Act::Acquire { lock, tag } => form_of_tagged(alloc, "acquire", lock, tag, line),
-            Act::Release { lock, tag } => form_of_tagged(alloc, "release", lock, tag, line),
-            Act::BeginRemove { lock, tag } => form_of_tagged(
-                alloc,
-                "begin_remove",
-                lock,
-                tag,
-                line,
-            ),
-            Act::Drained { lock } => {
-                let reply = line.reply.to_json(alloc)?;
-                let WordLine { seat, step, .. } = line;
-                json!(in alloc; {"do": "drained", "lock": (lock.0), "reply": reply, "seat": seat, "step": step})
+    fn write(&self, out: &mut Vec<u8>) -> Result<(), AllocError> {
+        match self.act {
+            Act::Acquire { lock, tag } => {
+                put_locked(out, "{\"do\":\"acquire\",\"lock\":", lock, self)?;
+                put_one(out, ",\"tag\":", &tag, "}")
             }
-            Act::Hand { lock, tag, to } => form_of_hand(alloc, lock, tag, to, line),
-            Act::Publish { slot } => form_of_slot(alloc, "publish", slot, line),
-            Act::Withdraw { slot } => form_of_slot(alloc, "withdraw", slot, line),
-            Act::Request { slot } => form_of_slot(alloc, "request", slot, line),
-            Act::FinishTaken { slot } => form_of_slot(alloc, "finish_taken", slot, line),
+            Act::Release { lock, tag } => {
+                put_locked(out, "{\"do\":\"release\",\"lock\":", lock, self)?;
+                put_one(out, ",\"tag\":", &tag, "}")
+            }
+            Act::BeginRemove { lock, tag } => {
+                put_locked(out, "{\"do\":\"begin_remove\",\"lock\":", lock, self)?;
+                put_one(out, ",\"tag\":", &tag, "}")
+            }
+            Act::Drained { lock } => {
+                put_locked(out, "{\"do\":\"drained\",\"lock\":", lock, self)?;
+                put_text(out, "}")
+            }
+            Act::Hand { lock, tag, to } => {
+                put_locked(out, "{\"do\":\"hand\",\"lock\":", lock, self)?;
+                put_two(out, ",\"tag\":", &tag, ",\"to\":", &to, "}")
+            }
+            Act::Publish { slot } => { put_slot(out, "{\"do\":\"publish\",\"reply\":", slot, self) }
+            Act::Withdraw { slot } => {
+                put_slot(out, "{\"do\":\"withdraw\",\"reply\":", slot, self)
+            }
+            Act::Request { slot } => put_slot(out, "{\"do\":\"request\",\"reply\":", slot, self),
+            Act::FinishTaken { slot } => {
+                put_slot(out, "{\"do\":\"finish_taken\",\"reply\":", slot, self)
+            }
         }
     }
-
-    ghost whole = { word_whole };
 }

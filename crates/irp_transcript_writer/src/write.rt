@@ -7,7 +7,7 @@ ghost use Rattle.irp_transcript_writer.specs.Json.{line_text};
 ghost use Rattle.irp_transcript_writer.specs.Lines.{header_lines, lines, text_of};
 ghost use Rattle.irp_transcript_writer.specs.Puts.{Begins, CountsFault, PutsText};
 
-use crate::form::{ToJson, line_of};
+use crate::form::{Written, write_line};
 use crate::out::{Out, put_all};
 use irp_shared::{Header, Transcript};
 use std::alloc::Global;
@@ -34,9 +34,9 @@ pub struct WriteFault {
     pub cause: Cause,
 }
 
-/// Puts a value's line after so many bytes, and tells how many there are then.
-fn put_line<O: Out, T: ToJson>(
-    alloc: Global,
+/// Puts a value's line after so many bytes, and tells how many there are then. The line is made in the buffer.
+fn put_line<O: Out, T: Written>(
+    line: &mut Vec<u8>,
     out: &mut O,
     value: &T,
     before: u64,
@@ -44,7 +44,7 @@ fn put_line<O: Out, T: ToJson>(
     ensures { PutsText (line_text (T.json value.now)) before
         (O.gone out.old) (O.gone out.new) (O.failures out.old) (O.failures out.new) result }
 {
-    let Ok(line) = line_of(alloc, value) else {
+    let Ok(()) = write_line(line, value) else {
         return Err(WriteFault {
             written: before,
             cause: Cause::Memory,
@@ -60,8 +60,8 @@ fn put_line<O: Out, T: ToJson>(
 }
 
 /// Puts the lines of these values after so many bytes, and tells how many there are then.
-fn put_lines<O: Out, T: ToJson>(
-    alloc: Global,
+fn put_lines<O: Out, T: Written>(
+    line: &mut Vec<u8>,
     out: &mut O,
     values: &[T],
     before: u64,
@@ -71,14 +71,14 @@ fn put_lines<O: Out, T: ToJson>(
 {
     let mut written = before;
     for value in values {
-        written = put_line(alloc, out, value, written)?;
+        written = put_line(line, out, value, written)?;
     }
     Ok(written)
 }
 
 /// Puts the header's line, where there is a header, and tells how many bytes there are then.
 fn put_header<O: Out>(
-    alloc: Global,
+    line: &mut Vec<u8>,
     out: &mut O,
     header: Option<&Header>,
 ) -> Result<u64, WriteFault>
@@ -86,7 +86,7 @@ fn put_header<O: Out>(
         (O.gone out.old) (O.gone out.new) (O.failures out.old) (O.failures out.new) result }
 {
     match header {
-        Some(header) => put_line(alloc, out, header, 0),
+        Some(header) => put_line(line, out, header, 0),
         None => Ok(0),
     }
 }
@@ -109,8 +109,9 @@ pub fn write_transcript<O: Out>(
         Begins (text_of (lines transcript.now)) (O.gone out.old) (O.gone out.new) fault.written) }
     ensures cause { CountsFault (O.failures out.old) (O.failures out.new) result }
 {
-    let written = put_header(alloc, out, transcript.header())?;
-    let written = put_lines(alloc, out, transcript.entries(), written)?;
-    put_lines(alloc, out, transcript.words(), written)?;
+    let mut line = Vec::new(alloc);
+    let written = put_header(&mut line, out, transcript.header())?;
+    let written = put_lines(&mut line, out, transcript.entries(), written)?;
+    put_lines(&mut line, out, transcript.words(), written)?;
     Ok(())
 }

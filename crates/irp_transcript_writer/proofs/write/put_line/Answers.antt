@@ -6,9 +6,9 @@ use Rattle.irp_transcript_writer.specs.Puts.{Stopped}
 use Rattle.irp_transcript_writer.proofs.Puts.{stopped_at, stopped_first}
 use Rattle.irp_transcript_writer.proofs.write.put_line.Goals as goal
 
-pub returns : goal.returns
-returns g c =
-    let text : List ℕ = line_text (g.T.ToJson.json c.args.value.now) in
+pub returns-in-Err : goal.returns-in-Err
+returns-in-Err g c =
+    let text : List ℕ = line_text (g.T.Written.json c.args.value.now) in
     let same : c.as_slice.result.now ≡ text = c.as_slice.ensures.value ∙ c.in-Ok.ensures in
     let bound : c.in-Err.done < length text = subst (λ line. c.in-Err.done < length line) same c.in-Err.ensures.short in
     let front : Appends (g.O.Out.gone c.args.out.now) (g.O.Out.gone c.put_all.new.out) (take c.in-Err.done text) =
@@ -19,4 +19,4 @@ returns g c =
     )
 
 pub returns-in_default : goal.returns-in_default
-returns-in_default g c = (stopped_first (g.T.ToJson.json c.args.value.now) c.args.before (g.O.Out.gone c.args.out.now) c.ranges.before.fits, refl)
+returns-in_default g c = (stopped_first (g.T.Written.json c.args.value.now) c.args.before (g.O.Out.gone c.args.out.now) c.ranges.before.fits, refl)

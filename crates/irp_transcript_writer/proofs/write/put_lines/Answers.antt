@@ -10,7 +10,7 @@ loop-value-init g c = record { sent = sent_none c.args.before (g.O.Out.gone c.ar
 
 pub loop-value-preserved : goal.loop-value-preserved
 loop-value-preserved g c = record {
-  sent = sent_next g.T.ToJson.json c.args.values.now c.loop-value.value-index c.value-item.result c.args.before _ _ _ _ _
+  sent = sent_next g.T.Written.json c.args.values.now c.loop-value.value-index c.value-item.result c.args.before _ _ _ _ _
       c.loop-value-test.true c.value-item.is c.loop-value.invariant.sent c.in_ok-written.ensures.0;
   calm = c.in_ok-written.ensures.1 ∙ c.loop-value.invariant.calm;
 }
@@ -19,13 +19,13 @@ pub returns-in_err-written : goal.returns-in_err-written
 returns-in_err-written g c =
     let p = err_from_is_err_and c.from_residual.result c.from_residual.ensures.1 in
     rw (p.1, p.2) (
-      stopped_next g.T.ToJson.json c.args.values.now c.loop-value.value-index c.value-item.result c.args.before _ _ _ _ _
+      stopped_next g.T.Written.json c.args.values.now c.loop-value.value-index c.value-item.result c.args.before _ _ _ _ _
           c.loop-value-test.true c.value-item.is c.loop-value.invariant.sent c.in_err-written.ensures.0,
       c.in_err-written.ensures.1 ∙ ap (counts_for c.in_err-written.field-0.0.cause) c.loop-value.invariant.calm,
     )
 
 pub returns : goal.returns
 returns g c = (
-  sent_all g.T.ToJson.json c.args.values.now c.loop-value.value-index c.args.before _ _ _ c.loop-value-test.false c.loop-value.invariant.sent,
+  sent_all g.T.Written.json c.args.values.now c.loop-value.value-index c.args.before _ _ _ c.loop-value-test.false c.loop-value.invariant.sent,
   c.loop-value.invariant.calm,
 )
