@@ -9,7 +9,7 @@ ghost use Rattle.irp_shared.specs.Headers.{fixed_of};
 ghost use Rattle.irp_script.specs.Replayed.{MakesAgain, slot_named};
 
 use crate::recorded_answers::RecordedAnswers;
-use irp_manager::{ManagerState, DrainNote, MapKeep, step_is_settled};
+use irp_manager::{DrainNote, ManagerState, MapKeep, step_is_settled};
 use irp_shared::Header;
 use irp_types::{Entry, LockNo, Reply, Row};
 use std::alloc::AllocError;
