@@ -17,7 +17,7 @@ AnswerTable::add_dispatch
 AnswerTable::add_driver
 Book::new
 Book::record
-Core::apply
+ManagerState::apply
 FixedTables::add_cancel
 FixedTables::add_dispatch
 FixedTables::add_driver

@@ -39,9 +39,11 @@ pub trait Caller {
 
 /// The manager alone: each call is one of its steps.
 impl<A: Ask> Caller for Manager<A> {
-    ghost is_ready = { λ manager. StandingFacts (A.tables manager.ask).counts (state_of slabbed manager.core) };
+    ghost is_ready = { λ manager. StandingFacts (A.tables manager.ask).counts
+        (state_of slabbed manager.state) };
 
-    ghost makes = { λ old call reply new. (drained : Bool) × (asked : List Asked) × Stepped slabbed (A.tables old.ask) drained old.core call asked reply new.core };
+    ghost makes = { λ old call reply new. (drained : Bool) × (asked : List Asked)
+        × Stepped slabbed (A.tables old.ask) drained old.state call asked reply new.state };
 
     fn make(&mut self, call: Call) -> Result<Answered, Fault> {
         let applied = self.apply(call, &KnowsNothing)?;

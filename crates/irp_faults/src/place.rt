@@ -2,7 +2,7 @@
 
 ghost use Rattle.irp_types.specs.Standing.{StandingFacts};
 ghost use Rattle.irp_manager.specs.Keeps.{slabbed};
-ghost use Rattle.irp_manager.specs.Cores.{state_of};
+ghost use Rattle.irp_manager.specs.ManagerStates.{state_of};
 
 use crate::example::Deed;
 use irp_manager::{KnowsNothing, Manager, NotRecorded, Receipt};
@@ -54,7 +54,8 @@ pub trait Place {
 
 /// The manager alone.
 impl<A: Ask> Place for Manager<A> {
-    ghost is_ready = { λ manager. StandingFacts (A.tables manager.ask).counts (state_of slabbed manager.core) };
+    ghost is_ready = { λ manager. StandingFacts (A.tables manager.ask).counts
+        (state_of slabbed manager.state) };
 
     const NAME: &'static str = "Manager::apply";
 

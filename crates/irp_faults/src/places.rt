@@ -4,13 +4,13 @@ ghost use Rattle.std.specs.Prelude.{◌≡◌, ⊤};
 ghost use Rattle.irp_types.specs.State.{opening_state};
 ghost use Rattle.irp_types.specs.Standing.{StandingFacts};
 ghost use Rattle.irp_manager.specs.Keeps.{slabbed, mapped};
-ghost use Rattle.irp_manager.specs.Cores.{state_of};
+ghost use Rattle.irp_manager.specs.ManagerStates.{state_of};
 
 use crate::example::{Deed, Example};
 use crate::place::{Lack, Place, told};
 use crate::playing::play;
 use crate::tried::{Halt, Tried};
-use irp_manager::{Book, Core, KnowsNothing, Manager, MapKeep, Seat};
+use irp_manager::{Book, KnowsNothing, Manager, ManagerState, MapKeep, Seat};
 use irp_routines::Ask;
 use irp_types::{Call, Limit, Reply};
 use std::alloc::Global;
@@ -48,7 +48,7 @@ impl<A: Ask, L: Ledger> Place for InBook<A, L> {
 
 /// A book over a manager. A refused one has to hand the manager back, of which it is made again.
 fn book_of<A: Ask + Drop>(manager: Manager<A>, tried: &mut Tried) -> Result<Book<A>, Halt>
-    requires { state_of slabbed manager.core ≡ opening_state }
+    requires { state_of slabbed manager.state ≡ opening_state }
 {
     match Book::new(manager) {
         Ok(book) => Ok(book),
@@ -82,14 +82,15 @@ pub fn in_book<A: Ask + Drop, L: Ledger>(
 /// A core that keeps its packets in a map, and whom it asks.
 #[derive(Drop)]
 struct Bare<A> {
-    core: Core<MapKeep>,
+    core: ManagerState<MapKeep>,
     ask: A,
 }
 
 impl<A: Ask> Place for Bare<A> {
-    ghost is_ready = { λ bare. StandingFacts (A.tables bare.ask).counts (state_of mapped bare.core) };
+    ghost is_ready = { λ bare. StandingFacts (A.tables bare.ask).counts
+        (state_of mapped bare.core) };
 
-    const NAME: &'static str = "Core::apply";
+    const NAME: &'static str = "ManagerState::apply";
 
     fn make(&mut self, seat: u32, call: Call) -> Result<Reply, Lack> {
         let _ = seat;
@@ -117,6 +118,6 @@ pub fn in_core<A: Ask + Drop>(
     example: Example,
     tried: &mut Tried,
 ) -> Result<(), Halt> {
-    let core = Core::with_limit(alloc, MapKeep::new(alloc), 1, Limit::Sixteen);
+    let core = ManagerState::with_limit(alloc, MapKeep::new(alloc), 1, Limit::Sixteen);
     play(&mut Bare { core, ask }, asked, tried, example)
 }
