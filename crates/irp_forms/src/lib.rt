@@ -9,8 +9,9 @@ mod unread;
 mod values;
 
 pub use list::{FromJson, list_at};
-pub use names::rule_at;
+pub use names::{Flags, flags_named, rule_at, rule_named};
 pub use parts::{has_items, has_keys, u8_at, u32_at, u64_at};
+pub use questions::keep_named;
 pub use unread::{Unread, form_of};
 pub use values::{
     cancel_answer_at, cancel_or_null_at, completions_at, device_at, driver_at, handler_at, irp_at,

@@ -18,9 +18,9 @@ pub struct Flags {
     pub on_cancel: bool,
 }
 
-/// The rule of a completion routine that has this name.
+/// The rule of a completion routine that has this name (this project's own format, docs/FORMATS.md).
 #[tactic(auto, unfolding(crate::specs::Names::rule_named))]
-fn rule_named(name: &str) -> Option<Rule>
+pub fn rule_named(name: &str) -> Option<Rule>
     ensures { result ≡ rule_named name.now }
 {
     if name == "watch" {
@@ -85,9 +85,9 @@ fn flagged(on_success: bool, on_error: bool, on_cancel: bool) -> Flags
     }
 }
 
-/// The flags that have these letters.
+/// The flags that have these letters: some of s, e, c in this order (this project's own format, docs/FORMATS.md).
 #[tactic(auto, unfolding(crate::specs::Names::flags_named))]
-fn flags_named(letters: &str) -> Option<Flags>
+pub fn flags_named(letters: &str) -> Option<Flags>
     ensures { result ≡ flags_named letters.now }
 {
     if letters == "" {

@@ -34,9 +34,10 @@ pub struct Place {
     pub word: u64,
 }
 
-/// Whether a completion routine keeps the packet or continues.
+/// Whether a completion routine whose answer has this name keeps the packet or continues (this project's own format,
+/// docs/FORMATS.md).
 #[tactic(auto, unfolding(crate::specs::Questions::keep_named))]
-fn keep_named(name: &str) -> Option<bool>
+pub fn keep_named(name: &str) -> Option<bool>
     ensures { result ≡ keep_named name.now }
 {
     if name == "keep" {

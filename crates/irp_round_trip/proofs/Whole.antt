@@ -14,7 +14,7 @@ use Rattle.irp_shared.specs.Transcripts.{TranscriptValue, IsTranscript, no_lines
 use Rattle.irp_shared.specs.declared.header.Header.{Header}
 use Rattle.irp_shared.specs.declared.word_line.WordLine.{WordLine}
 use Rattle.irp_transcript_reader.specs.Lines.{entry_at, header_at}
-use Rattle.irp_transcript_reader.specs.Reading.{IsLine, IsNext, IsNextUnder, ReadsFrom, RefusedAt, Takes, TakesAll, cut, most_bytes, most_entries, onto, seated_entry_at, seated_word_at, with_entry, with_line, with_word}
+use Rattle.irp_transcript_reader.specs.Reading.{IsLine, IsNext, IsNextUnder, ReadsFrom, RefusedAt, Takes, TakesAll, cut, most_bytes, most_entries, onto, seated_word_at, with_entry, with_entry_at, with_line, with_word}
 use Rattle.irp_transcript_reader.specs.declared.read_fault.ReadFault.{ReadFault}
 use Rattle.irp_transcript_reader.specs.declared.read_fault.ReadFault.TheVariants.{Line, NoMemory}
 use Rattle.irp_transcript_writer.specs.Json.{line_text}
@@ -70,9 +70,9 @@ made header entries words = record { header = Some header; entries = entries; wo
 
 entry_taken : (header : Header) (before : List Entry) (entry : Entry) → length before < most_entries → EntryUnder header entry
     → with_line header.form header.seats (made header before []) (entry_json entry) ≡ Some (made header (before ++ entry ∷ []) [])
-unfolding with_line with_entry seated_entry_at
+unfolding with_line with_entry_at with_entry
 entry_taken header before entry few h =
-    rw (lt-ltb (length before) most_entries few, entry_back entry h.fits, lt-ltb entry.seat header.seats h.seated, h.of_form)
+    rw (entry_back entry h.fits, lt-ltb (length before) most_entries few, lt-ltb entry.seat header.seats h.seated, h.of_form)
 
 word_taken : (header : Header) (entries : List Entry) (before : List WordLine) (line : WordLine) → WordUnder header line
     → with_line header.form header.seats (made header entries before) (word_json line) ≡ Some (made header entries (before ++ line ∷ []))

@@ -1,16 +1,20 @@
 -- The lines of a text, and what becomes of it where one more line is taken or refused.
-use Rattle.std.proofs.Common.{◌≡◌, ◌≢◌, ℕ, zero, suc, ◌+◌, ◌-◌, ◌<◌, List, [], ◌∷◌, ◌≤◌, length, length-drop, take, drop, get_or, Some, Result, Ok, Err, refl, sym, subst, ap, ◌∙◌, arith}
+use Rattle.std.proofs.Common.{◌≡◌, ◌≢◌, ℕ, zero, suc, ◌+◌, ◌-◌, ◌<◌, List, [], ◌∷◌, ◌≤◌, length, length-drop, take, drop, get_or, true, Some, Result, Ok, Err, refl, sym, subst, ap, ◌∙◌, arith}
 use Rattle.std.specs.Prelude.{IsUtf8}
 use Rattle.std.proofs.Math.Seq.{take-length}
 use Rattle.std.proofs.lemmas.Bool.{ne_eqb, eq-eqb}
-use Rattle.std.proofs.lemmas.Option.{same_Some}
+use Rattle.std.proofs.lemmas.Option.{none-some, same_Some}
 use Rattle.serde_json.specs.Data.{Data}
 use Rattle.serde_json.specs.Read.{read}
 use Rattle.irp_forms.proofs.Texts.{some_text}
 use Rattle.irp_forms.specs.declared.unread.Unread.{Unread}
 use Rattle.irp_forms.specs.declared.unread.Unread.TheVariants as unread
+use Rattle.irp_types.specs.declared.entry.Entry.{Entry}
 use Rattle.irp_shared.specs.Transcripts.{TranscriptValue}
-use Rattle.irp_transcript_reader.specs.Reading.{cut, most_bytes, onto, IsNext, ReadsFrom, Takes, TakesLine, TakesMemory, TakesValue, Refuses}
+use Rattle.irp_shared.specs.declared.header.Form.{Form}
+use Rattle.irp_shared.specs.declared.header.Header.{Header}
+use Rattle.irp_transcript_reader.specs.Lines.{entry_at}
+use Rattle.irp_transcript_reader.specs.Reading.{cut, is_entry, most_bytes, onto, with_entry, with_entry_at, with_line, GivesLine, IsEntryLine, IsNext, IsNextUnder, ReadsFrom, Takes, TakesLine, TakesMemory, TakesValue, Refuses}
 use Rattle.irp_transcript_reader.specs.declared.read_fault.ReadFault.{ReadFault}
 use Rattle.irp_transcript_reader.specs.declared.read_fault.ReadFault.TheVariants.{Line, NoMemory}
 
@@ -75,3 +79,23 @@ line_gives (Ok done) before after line form few utf8 is next = (form, (few, utf8
 line_gives (Err unread.Form) before after line form few utf8 is none =
     λ other taken. none other (subst (λ (given : Data). IsNext before given other) (same_Some taken.0 form (sym taken.1.2 ∙ is)) taken.2)
 line_gives (Err unread.NoMemory) before after line form few utf8 is next = (some_text line form is, few)
+
+value_gives : (answer : Result (Unit {0}) Unread) (before after : TranscriptValue) (form : Data) (header : Header) → before.header ≡ Some header
+    → GivesLine answer (with_line header.form header.seats before form) after → TakesValue answer before form after
+value_gives (Ok done) before after form header under made = subst (λ known. IsNextUnder known before form after) (sym under) made
+value_gives (Err unread.Form) before after form header under none =
+    λ other next. none-some other (sym none ∙ subst (λ known. IsNextUnder known before form other) under next)
+value_gives (Err unread.NoMemory) before after form header under made = tt
+
+line_of_entry : (kind : Form) (seats : ℕ) (before : TranscriptValue) (form : Data) (entry : Entry) → entry_at form ≡ Some entry → is_entry form ≡ true
+    → with_entry kind seats before entry ≡ with_line kind seats before form
+unfolding with_line with_entry_at
+line_of_entry kind seats before form entry reads named = rw (named, reads) refl
+
+-- what the entry gives that a line is read as is what the line gives
+pub entry_gives : (answer : Result (Unit {0}) Unread) (before after : TranscriptValue) (line : List ℕ) (entry : Entry) (header : Header) → before.header ≡ Some header
+    → IsEntryLine line entry → GivesLine answer (with_entry header.form header.seats before entry) after → TakesLine answer before line after
+entry_gives answer before after line entry header under known gives =
+    let same = line_of_entry header.form header.seats before known.0 entry known.2 known.3 in
+    line_gives answer before after line known.0 known.1.0 known.1.1 known.1.2
+    (value_gives answer before after known.0 header under (subst (λ made. GivesLine answer made after) same gives))

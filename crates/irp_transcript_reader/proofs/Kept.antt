@@ -1,33 +1,44 @@
 -- What a line that is taken leaves as it was: a transcript stays one, and its header stays.
-use Rattle.std.proofs.Common.{◌≡◌, ℕ, ◌==◌, ◌&&◌, nat_lt, Bool, true, false, length, Option, Some, None, refl, sym, subst, ◌∙◌, if◌then◌else◌}
+use Rattle.std.proofs.Common.{◌≡◌, ℕ, ◌&&◌, nat_lt, Bool, true, false, Option, Some, None, refl, sym, subst, ◌∙◌, if◌then◌else◌}
 use Rattle.std.proofs.lemmas.Option.{none-some, same_Some}
 use Rattle.serde_json.specs.Data.{Data}
 use Rattle.irp_forms.specs.Parts.{◌>>=◌}
+use Rattle.irp_types.specs.declared.entry.Entry.{Entry}
 use Rattle.irp_shared.specs.Transcripts.{TranscriptValue, IsTranscript}
 use Rattle.irp_shared.specs.declared.header.Form.{Form}
 use Rattle.irp_shared.specs.declared.header.Header.{Header}
-use Rattle.irp_transcript_reader.specs.Reading.{IsNext, IsNextUnder, is_entry, most_entries, seated_entry_at, seated_word_at, with_entry, with_line, with_word}
+use Rattle.irp_transcript_reader.specs.Forms.{has_entry}
+use Rattle.irp_transcript_reader.specs.Lines.{entry_at}
+use Rattle.irp_transcript_reader.specs.Reading.{IsNext, IsNextUnder, has_room, is_entry, seated_word_at, with_entry, with_entry_at, with_line, with_word}
 
 -- whatever is put to it, its header stays
-stays : {T : Type 0} (known : Option Header) (given : Option T) (put : T → TranscriptValue) (after : TranscriptValue)
-    → ((value : T) → (put value).header ≡ known) → (given >>= λ value. Some (put value)) ≡ Some after → after.header ≡ known
-stays known None put after same made = absurd (none-some after made)
-stays known (Some value) put after same made = subst (λ (transcript : TranscriptValue). transcript.header ≡ known) (same_Some (put value) after made) (same value)
+stays : (known : Option Header) (put after : TranscriptValue) → put.header ≡ known → Some put ≡ Some after → after.header ≡ known
+stays known put after same made = subst (λ (transcript : TranscriptValue). transcript.header ≡ known) (same_Some put after made) same
+
+follows : {T : Type 0} (known : Option Header) (given : Option T) (next : T → Option TranscriptValue) (after : TranscriptValue)
+    → ((value : T) → next value ≡ Some after → after.header ≡ known) → (given >>= next) ≡ Some after → after.header ≡ known
+follows known None next after keeps made = absurd (none-some after made)
+follows known (Some value) next after keeps made = keeps value made
 
 guarded : (known : Option Header) (test : Bool) (made : Option TranscriptValue) (after : TranscriptValue)
     → (made ≡ Some after → after.header ≡ known) → (if test then made else None) ≡ Some after → after.header ≡ known
 guarded known true made after same is = same is
 guarded known false made after same is = absurd (none-some after is)
 
-entry_keeps : (kind : Form) (seats : ℕ) (before after : TranscriptValue) (form : Data) → with_entry kind seats before form ≡ Some after → after.header ≡ before.header
+entry_keeps : (kind : Form) (seats : ℕ) (before after : TranscriptValue) (entry : Entry) → with_entry kind seats before entry ≡ Some after → after.header ≡ before.header
 unfolding with_entry
-entry_keeps kind seats before after form is =
-    guarded before.header ((length before.words == 0) && nat_lt (length before.entries) most_entries) _ after
-    (stays before.header (seated_entry_at kind seats form) _ after (λ _. refl)) is
+entry_keeps kind seats before after entry is =
+    guarded before.header (has_room before && (nat_lt entry.seat seats && has_entry kind entry)) _ after (stays before.header _ after refl) is
+
+value_keeps : (kind : Form) (seats : ℕ) (before after : TranscriptValue) (form : Data) → with_entry_at kind seats before form ≡ Some after → after.header ≡ before.header
+unfolding with_entry_at
+value_keeps kind seats before after form is =
+    follows before.header (entry_at form) (with_entry kind seats before) after (entry_keeps kind seats before after) is
 
 word_keeps : (kind : Form) (seats : ℕ) (before after : TranscriptValue) (form : Data) → with_word kind seats before form ≡ Some after → after.header ≡ before.header
 unfolding with_word
-word_keeps kind seats before after form is = stays before.header (seated_word_at kind seats form) _ after (λ _. refl) is
+word_keeps kind seats before after form is =
+    follows before.header (seated_word_at kind seats form) _ after (λ line. stays before.header _ after refl) is
 
 chosen : (known : Option Header) (test : Bool) (one other : Option TranscriptValue) (after : TranscriptValue)
     → (one ≡ Some after → after.header ≡ known) → (other ≡ Some after → after.header ≡ known) → (if test then one else other) ≡ Some after → after.header ≡ known
@@ -37,8 +48,8 @@ chosen known false one other after first second is = second is
 line_keeps : (kind : Form) (seats : ℕ) (before after : TranscriptValue) (form : Data) → with_line kind seats before form ≡ Some after → after.header ≡ before.header
 unfolding with_line
 line_keeps kind seats before after form is =
-    chosen before.header (is_entry form) (with_entry kind seats before form) (with_word kind seats before form) after
-    (entry_keeps kind seats before after form) (word_keeps kind seats before after form) is
+    chosen before.header (is_entry form) (with_entry_at kind seats before form) (with_word kind seats before form) after
+    (value_keeps kind seats before after form) (word_keeps kind seats before after form) is
 
 kept_under : (known : Option Header) (before after : TranscriptValue) (form : Data) → before.header ≡ known → IsTranscript before
     → IsNextUnder known before form after → IsTranscript after

@@ -34,10 +34,6 @@ most_entries = 1000000
 abbrev pub is_entry : Data → Bool
 is_entry form = is_some (get (codes "call") form)
 
--- an entry of one of these seats, which the form has
-unfoldable pub seated_entry_at : Form → ℕ → Data → Option Entry
-seated_entry_at kind seats form = entry_at form >>= λ entry. if nat_lt entry.seat seats && has_entry kind entry then Some entry else None
-
 -- a step hands over to one of these seats, if it hands over
 abbrev pub hands_within : ℕ → Act → Bool
 hands_within seats (acts.Hand lock tag receiver) = nat_lt receiver seats
@@ -48,12 +44,20 @@ unfoldable pub seated_word_at : Form → ℕ → Data → Option WordLine
 seated_word_at kind seats form = word_line_at form >>= λ line.
     if (nat_lt line.seat seats && hands_within seats line.act) && has_word kind line then Some line else None
 
--- the transcript with one more entry, before the word lines and where there are not too many
-unfoldable pub with_entry : Form → ℕ → TranscriptValue → Data → Option TranscriptValue
-with_entry kind seats before form =
-    if (length before.words == 0) && nat_lt (length before.entries) most_entries
-    then (seated_entry_at kind seats form >>= λ entry. Some (record before { entries = before.entries ++ entry ∷ [] }))
+-- another entry may stand here: before the word lines, and where there are not too many
+abbrev pub has_room : TranscriptValue → Bool
+has_room before = (length before.words == 0) && nat_lt (length before.entries) most_entries
+
+-- the transcript with this entry more, where it may stand: one of these seats, which the form has
+unfoldable pub with_entry : Form → ℕ → TranscriptValue → Entry → Option TranscriptValue
+with_entry kind seats before entry =
+    if has_room before && (nat_lt entry.seat seats && has_entry kind entry)
+    then Some (record before { entries = before.entries ++ entry ∷ [] })
     else None
+
+-- the transcript with the entry more that the value is
+unfoldable pub with_entry_at : Form → ℕ → TranscriptValue → Data → Option TranscriptValue
+with_entry_at kind seats before form = entry_at form >>= with_entry kind seats before
 
 -- the transcript with one more word line
 unfoldable pub with_word : Form → ℕ → TranscriptValue → Data → Option TranscriptValue
@@ -61,7 +65,7 @@ with_word kind seats before form = seated_word_at kind seats form >>= λ line. S
 
 -- the transcript with the entry or the word line that the value is
 unfoldable pub with_line : Form → ℕ → TranscriptValue → Data → Option TranscriptValue
-with_line kind seats before form = if is_entry form then with_entry kind seats before form else with_word kind seats before form
+with_line kind seats before form = if is_entry form then with_entry_at kind seats before form else with_word kind seats before form
 
 -- the next value makes the one transcript of the other: first a header that the formats accept, and then entries and
 -- word lines of its form and its seats
@@ -77,6 +81,10 @@ IsNext before form after = IsNextUnder before.header before form after
 -- a line, without its newline, isn't too long, and serde_json reads it as this value
 abbrev pub IsLine : List ℕ → Data → Type 0
 IsLine line form = (length line ≤ most_bytes) × IsUtf8 line × (read line ≡ Some form)
+
+-- a line is read as this entry
+abbrev pub IsEntryLine : List ℕ → Entry → Type 0
+IsEntryLine line entry = (form : Data) × IsLine line form × (entry_at form ≡ Some entry) × (is_entry form ≡ true)
 
 -- the next line makes the one transcript of the other
 abbrev pub Takes : TranscriptValue → List ℕ → TranscriptValue → Type 0

@@ -13,5 +13,8 @@ mod refusals;
 mod replies;
 mod word_lines;
 
-pub use read::read_transcript;
+pub use calls::EntryCall;
+pub use read::{ByValue, TakeLine, read_lines, read_transcript};
 pub use read_fault::ReadFault;
+pub use reading::{MOST_BYTES, Reading};
+pub use refusals::refusal_named;

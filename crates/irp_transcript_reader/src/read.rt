@@ -2,27 +2,24 @@
 
 ghost use Rattle.std.specs.Prelude.{◌≡◌, [], MatchOption};
 ghost use Rattle.irp_shared.specs.Transcripts.{IsTranscript, no_lines};
-ghost use Rattle.irp_transcript_reader.specs.Reading.{ReadsFrom, Splits, cut, so_far};
+ghost use Rattle.irp_transcript_reader.specs.Reading.{ReadsFrom, Splits, TakesLine, cut, so_far};
 
 use crate::read_fault::ReadFault;
 use crate::reading::Reading;
 use irp_forms::Unread;
 use irp_shared::Transcript;
 use irp_types::Row;
+use memchr::memchr;
 use std::alloc::Global;
 
 /// The first line and what follows its newline, or none where there is no newline.
 fn split_line(bytes: &[u8]) -> Option<(&[u8], &[u8])>
     ensures { MatchOption result (cut bytes.now ≡ ([], bytes.now)) (λ parts. Splits bytes.now parts.0.now parts.1.now) }
 {
-    let mut place = 0;
-    while place < bytes.len() {
-        if bytes[place] == b'\n' {
-            return Some((&bytes[..place], &bytes[place + 1..]));
-        }
-        place += 1;
+    match memchr(b'\n', bytes) {
+        Some(place) => Some((&bytes[..place], &bytes[place + 1..])),
+        None => None,
     }
-    None
 }
 
 /// The transcript of what was read. It takes no memory.
@@ -41,9 +38,34 @@ fn transcript_of(alloc: Global, reading: Reading) -> Transcript
     }
 }
 
+/// How each line is taken (this project's own interface).
+pub trait TakeLine {
+    /// Takes the next line, without its newline. After an error the reading is of no use.
+    ///
+    /// # Errors
+    ///
+    /// As `Reading::take_line`: `Unread::Form` where the line is refused; `Unread::NoMemory` where memory ran out.
+    fn take_line(&mut self, alloc: Global, reading: &mut Reading, line: &[u8]) -> Result<(), Unread>
+        ensures { TakesLine result (so_far reading.old) line.now (so_far reading.new) };
+}
+
+/// Each line is taken by its JSON value (this project's own rule).
+#[derive(Drop)]
+pub struct ByValue;
+
+impl TakeLine for ByValue {
+    fn take_line(
+        &mut self,
+        alloc: Global,
+        reading: &mut Reading,
+        line: &[u8],
+    ) -> Result<(), Unread> {
+        reading.take_line(alloc, line)
+    }
+}
+
 /// Reads a transcript: the header's line, then a line for each entry, then the word lines, each in order; no lines
-/// are the transcript without entries (this project's own format, docs/FORMATS.md). It holds one line's JSON value at a
-/// time.
+/// are the transcript without entries (this project's own format, docs/FORMATS.md). Each line is taken as told.
 ///
 /// # Errors
 ///
@@ -53,7 +75,11 @@ fn transcript_of(alloc: Global, reading: Reading) -> Transcript
 /// header doesn't count, is an entry after a word line or past 1,000,000 entries, or ends without a newline.
 /// `ReadFault::NoMemory` where memory ran out at a line behind lines that are all taken: never before the first line,
 /// for a line that is empty or too long, or for one without its newline.
-pub fn read_transcript(alloc: Global, bytes: &[u8]) -> Result<Transcript, ReadFault>
+pub fn read_lines<T: TakeLine>(
+    alloc: Global,
+    bytes: &[u8],
+    taker: &mut T,
+) -> Result<Transcript, ReadFault>
     ensures { ReadsFrom no_lines 0 result (cut bytes.now) }
 {
     let mut reading = Reading::new(alloc);
@@ -63,7 +89,7 @@ pub fn read_transcript(alloc: Global, bytes: &[u8]) -> Result<Transcript, ReadFa
         let Some((line, more)) = split_line(rest) else {
             return Err(ReadFault::Line(lines + 1));
         };
-        match reading.take_line(alloc, line) {
+        match taker.take_line(alloc, &mut reading, line) {
             Ok(()) => {}
             Err(Unread::Form) => return Err(ReadFault::Line(lines + 1)),
             Err(Unread::NoMemory) => return Err(ReadFault::NoMemory),
@@ -72,4 +98,17 @@ pub fn read_transcript(alloc: Global, bytes: &[u8]) -> Result<Transcript, ReadFa
         lines += 1;
     }
     Ok(transcript_of(alloc, reading))
+}
+
+/// Reads a transcript as `read_lines` does, each line by its JSON value: one at a time is held (this project's own format,
+/// docs/FORMATS.md).
+///
+/// # Errors
+///
+/// As `read_lines`: `ReadFault::Line` with the number, from 1, of the first line that is refused; `ReadFault::NoMemory`
+/// where memory ran out.
+pub fn read_transcript(alloc: Global, bytes: &[u8]) -> Result<Transcript, ReadFault>
+    ensures { ReadsFrom no_lines 0 result (cut bytes.now) }
+{
+    read_lines(alloc, bytes, &mut ByValue)
 }

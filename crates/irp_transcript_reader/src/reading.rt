@@ -7,13 +7,14 @@ ghost use Rattle.irp_shared.specs.Transcripts.{no_lines};
 ghost use Rattle.irp_transcript_reader.specs.Reading.{
   GivesHeader,
   GivesLine,
+  IsEntryLine,
   TakesLine,
   TakesValue,
   hands_within,
-  seated_entry_at,
   seated_word_at,
   so_far,
   with_entry,
+  with_entry_at,
   with_line,
   with_word,
 };
@@ -29,28 +30,19 @@ use irp_types::limits::MOST_ENTRIES;
 use serde_json::Value;
 use std::alloc::Global;
 
-/// As many bytes as a line may have, without its newline.
-const MOST_BYTES: usize = 65_536;
+/// As many bytes as a line may have, without its newline (this project's own format, docs/FORMATS.md).
+pub const MOST_BYTES: usize = 65_536;
 
-/// The lines of a transcript so far.
+/// What is read of a transcript so far (this project's own format, docs/FORMATS.md). Contracts see it as the transcript
+/// `so_far`.
 #[derive(Drop)]
 pub struct Reading {
+    /// The header, once its line is taken.
     pub header: Option<Header>,
+    /// The entries, in order.
     pub entries: Vec<Entry>,
+    /// The word lines, in order.
     pub words: Vec<WordLine>,
-}
-
-/// An entry of one of these seats, which the form has.
-#[tactic(auto, unfolding(crate::specs::Reading::seated_entry_at))]
-fn seated_entry_at(alloc: Global, form: Form, seats: u32, value: &Value) -> Result<Entry, Unread>
-    ensures { Gives result (seated_entry_at form seats (view value.now)) }
-{
-    let entry = entry_at(alloc, value)?;
-    if entry.seat < seats && has_entry(form, &entry) {
-        Ok(entry)
-    } else {
-        Err(Unread::Form)
-    }
 }
 
 /// Whether a step hands over to one of these seats, if it hands over.
@@ -89,7 +81,7 @@ fn accepted_header_at(alloc: Global, value: &Value) -> Result<Header, Unread>
 }
 
 impl Reading {
-    /// No lines. It takes no memory.
+    /// No lines. It takes no memory (this project's own rule).
     pub fn new(alloc: Global) -> Reading
         ensures { so_far result ≡ no_lines }
     {
@@ -100,26 +92,37 @@ impl Reading {
         }
     }
 
-    /// Takes an entry, before the word lines and where there are not too many.
+    /// Takes an entry where it may stand: one of these seats, which the form has.
     #[tactic(auto, unfolding(crate::specs::Reading::with_entry))]
-    fn take_entry(
+    fn take_entry(&mut self, form: Form, seats: u32, entry: Entry) -> Result<(), Unread>
+        ensures { GivesLine result (with_entry form seats (so_far self.old) entry) (so_far self.new) }
+    {
+        if !self.words.is_empty() || self.entries.len() >= MOST_ENTRIES {
+            return Err(Unread::Form);
+        }
+        if entry.seat >= seats || !has_entry(form, &entry) {
+            return Err(Unread::Form);
+        }
+        match self.entries.push(entry) {
+            Ok(()) => Ok(()),
+            Err(_) => Err(Unread::NoMemory),
+        }
+    }
+
+    /// Takes the entry that the value is.
+    #[tactic(auto, unfolding(crate::specs::Reading::with_entry_at))]
+    fn take_entry_at(
         &mut self,
         alloc: Global,
         form: Form,
         seats: u32,
         value: &Value,
     ) -> Result<(), Unread>
-        ensures { GivesLine result (with_entry form seats (so_far self.old) (view value.now))
+        ensures { GivesLine result (with_entry_at form seats (so_far self.old) (view value.now))
             (so_far self.new) }
     {
-        if !self.words.is_empty() || self.entries.len() >= MOST_ENTRIES {
-            return Err(Unread::Form);
-        }
-        let entry = seated_entry_at(alloc, form, seats, value)?;
-        match self.entries.push(entry) {
-            Ok(()) => Ok(()),
-            Err(_) => Err(Unread::NoMemory),
-        }
+        let entry = entry_at(alloc, value)?;
+        self.take_entry(form, seats, entry)
     }
 
     /// Takes a word line.
@@ -148,7 +151,7 @@ impl Reading {
             (so_far self.new) }
     {
         if value.get("call").is_some() {
-            self.take_entry(alloc, form, seats, value)
+            self.take_entry_at(alloc, form, seats, value)
         } else {
             self.take_word(form, seats, value)
         }
@@ -172,7 +175,8 @@ impl Reading {
         }
     }
 
-    /// Takes the next line, without its newline. After an error it is of no use.
+    /// Takes the next line, without its newline, by its JSON value (this project's own format, docs/FORMATS.md). After an
+    /// error the reading is of no use.
     ///
     /// # Errors
     ///
@@ -193,6 +197,26 @@ impl Reading {
                 } else {
                     Err(Unread::Form)
                 }
+            }
+        }
+    }
+
+    /// Takes the next line, without its newline, of which the caller knows that it is read as this entry. Where the header
+    /// is there it makes no JSON value. The answer is that of `take_line` (this project's own rule).
+    ///
+    /// # Errors
+    ///
+    /// As `take_line`: `Unread::Form` where the line is refused; `Unread::NoMemory` where memory ran out.
+    pub fn take_known(&mut self, alloc: Global, entry: Entry, line: &[u8]) -> Result<(), Unread>
+        requires { IsEntryLine line.now entry }
+        ensures { TakesLine result (so_far self.old) line.now (so_far self.new) }
+    {
+        match &self.header {
+            None => self.take_line(alloc, line),
+            Some(header) => {
+                let form = header.form;
+                let seats = header.seats;
+                self.take_entry(form, seats, entry)
             }
         }
     }

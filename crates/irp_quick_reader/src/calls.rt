@@ -1,0 +1,163 @@
+//! Guesses of calls.
+
+use crate::parts::{
+    guess_cancel_after, guess_device_after, guess_irp_after, guess_party, guess_setting,
+    guess_status_after,
+};
+use crate::scan::Scan;
+use irp_transcript_reader::EntryCall;
+use irp_types::{Call, DriverId, IrpRef, LockNo, Party};
+
+/// The call that sets a cancel routine, from the routine on.
+fn guess_set_cancel_routine(scan: &mut Scan, party: Party) -> Option<Call> {
+    let cancel = guess_cancel_after(scan, ":")?;
+    let irp = guess_irp_after(scan, ",\"do\":\"set_cancel_routine\",\"irp\":")?;
+    Some(Call::SetCancelRoutine { party, irp, cancel })
+}
+
+/// The call that completes a packet, from behind its name on.
+fn guess_complete(scan: &mut Scan, party: Party) -> Option<Call> {
+    let information = scan.wide_after(",\"information\":")?;
+    let irp = guess_irp_after(scan, ",\"irp\":")?;
+    let status = guess_status_after(scan, ",\"status\":")?;
+    Some(Call::Complete {
+        party,
+        irp,
+        status,
+        information,
+    })
+}
+
+/// The call of a party on its packet, from behind the packet on.
+fn guess_call_on(scan: &mut Scan, name: &str, party: Party, irp: IrpRef) -> Option<Call> {
+    if name == "set_next" {
+        let major = u8::try_from(scan.number_after(",\"major\":")?).ok()?;
+        let word = scan.wide_after(",\"word\":")?;
+        Some(Call::SetNext {
+            party,
+            irp,
+            major,
+            word,
+        })
+    } else if name == "set_routine" {
+        scan.pass(",\"set\":")?;
+        let setting = guess_setting(scan)?;
+        Some(Call::SetRoutine {
+            party,
+            irp,
+            setting,
+        })
+    } else if name == "call_driver" {
+        let target = guess_device_after(scan, ",\"target\":")?;
+        Some(Call::CallDriver { party, irp, target })
+    } else if name == "copy_to_next" {
+        Some(Call::CopyToNext { party, irp })
+    } else if name == "skip" {
+        Some(Call::Skip { party, irp })
+    } else {
+        Some(Call::MarkPending { party, irp })
+    }
+}
+
+/// The call of a party, from the party on.
+fn guess_party_call(scan: &mut Scan) -> Option<Call> {
+    let party = guess_party(scan)?;
+    if scan.word_after(",\"")? == "cancel" {
+        return guess_set_cancel_routine(scan, party);
+    }
+    let name = scan.word_after(":\"")?;
+    if name == "complete" {
+        return guess_complete(scan, party);
+    }
+    let irp = guess_irp_after(scan, ",\"irp\":")?;
+    guess_call_on(scan, name, party, irp)
+}
+
+/// The call that completes a packet which was taken from a cancel slot, from behind its name on.
+fn guess_finish_taken(scan: &mut Scan) -> Option<Call> {
+    let information = scan.wide_after(",\"information\":")?;
+    let irp = guess_irp_after(scan, ",\"irp\":")?;
+    let status = guess_status_after(scan, ",\"status\":")?;
+    let token = scan.wide_after(",\"token\":")?;
+    Some(Call::FinishTaken {
+        irp,
+        token,
+        status,
+        information,
+    })
+}
+
+/// The call on a packet that no party makes, from behind its name on.
+fn guess_packet_call(scan: &mut Scan, name: &str) -> Option<Call> {
+    let irp = guess_irp_after(scan, ",\"irp\":")?;
+    if name == "free" {
+        Some(Call::Free { irp })
+    } else if name == "cancel" {
+        Some(Call::Cancel { irp })
+    } else if name == "look" {
+        Some(Call::Look { irp })
+    } else {
+        let status = guess_status_after(scan, ",\"status\":")?;
+        Some(Call::Reuse { irp, status })
+    }
+}
+
+/// The call whose name comes first, from the name on.
+fn guess_plain_call(scan: &mut Scan) -> Option<Call> {
+    let name = scan.word_after("\"")?;
+    if name == "allocate" {
+        let size = u8::try_from(scan.number_after(",\"size\":")?).ok()?;
+        Some(Call::Allocate { size })
+    } else if name == "create_device" {
+        let driver = DriverId(scan.number_after(",\"driver\":")?);
+        let lock = LockNo(scan.number_after(",\"lock\":")?);
+        Some(Call::CreateDevice { driver, lock })
+    } else if name == "detach" {
+        let lower = guess_device_after(scan, ",\"lower\":")?;
+        Some(Call::Detach { lower })
+    } else if name == "finish_taken" {
+        guess_finish_taken(scan)
+    } else {
+        guess_packet_call(scan, name)
+    }
+}
+
+/// The call whose device comes first, from the device on.
+fn guess_device_call(scan: &mut Scan) -> Option<EntryCall> {
+    let device = guess_device_after(scan, "")?;
+    if scan.word_after(",\"do\":\"")? == "attach" {
+        let to = guess_device_after(scan, ",\"to\":")?;
+        return Some(without_lock(Call::Attach { device, to }));
+    }
+    let drained = scan.flag_after(",\"drained\":")?;
+    let lock = scan.number_or_null_after(",\"lock\":")?.map(LockNo);
+    Some(EntryCall {
+        call: Call::Delete { device },
+        lock,
+        drained,
+    })
+}
+
+/// A call in an entry that tells no lock.
+fn without_lock(call: Call) -> EntryCall {
+    EntryCall {
+        call,
+        lock: None,
+        drained: false,
+    }
+}
+
+/// The call that is next.
+pub fn guess_call(scan: &mut Scan) -> Option<EntryCall> {
+    let first = scan.word_after("{\"")?;
+    scan.pass(":")?;
+    let call = if first == "by" {
+        without_lock(guess_party_call(scan)?)
+    } else if first == "do" {
+        without_lock(guess_plain_call(scan)?)
+    } else {
+        guess_device_call(scan)?
+    };
+    scan.pass("}")?;
+    Some(call)
+}

@@ -1,0 +1,155 @@
+//! Which entries fit: their lines tell them whole.
+
+ghost use Rattle.std.specs.Prelude.{◌≡◌, ◌<◌, ◌^◌, ◌↔◌, true};
+ghost use Rattle.std.specs.List.{All};
+ghost use Rattle.irp_round_trip.specs.Fits.{
+  AnswerFits,
+  AskedFits,
+  CallFits,
+  CancelAnswerFits,
+  EntryFits,
+  IrpFits,
+  PartyFits,
+  PlanFits,
+  ReplyFits,
+  SeenFits,
+  SettingFits,
+  ShownFits,
+  TellsLock,
+};
+
+use irp_types::{Answer, Asked, Call, CancelAnswer, Entry, IrpRef, LockNo, Plan, Reply, Shown};
+
+/// Tells that the number of one of 32 bits is within that range.
+fn in_u32(number: u32)
+    ensures { number < 2 ^ 32 }
+{
+    let _ = number;
+}
+
+/// Tells that the number of one of 64 bits is within that range.
+fn in_u64(number: u64)
+    ensures { number < 2 ^ 64 }
+{
+    let _ = number;
+}
+
+/// Tells that a plan's numbers are within the ranges of their types.
+fn plan_in_range(plan: Plan)
+    ensures { PlanFits plan }
+{
+    let _ = plan;
+}
+
+/// Tells that the numbers of a completion routine's answer are within the ranges of their types.
+fn answer_in_range(answer: Answer)
+    ensures { AnswerFits answer }
+{
+    let _ = answer;
+}
+
+/// Tells that the number of a cancel routine's answer is within the range of its type.
+fn cancel_answer_in_range(answer: CancelAnswer)
+    ensures { CancelAnswerFits answer }
+{
+    let _ = answer;
+}
+
+/// Whether a packet's slot has 32 bits.
+fn irp_fits(irp: IrpRef) -> bool
+    ensures { result ≡ true ↔ IrpFits irp }
+{
+    irp.slot <= u32::MAX as usize
+}
+
+/// Whether what is shown fits.
+fn shown_fits(shown: Shown) -> bool
+    ensures { result ≡ true ↔ ShownFits shown }
+{
+    shown.in_range();
+    shown.irp.slot <= u32::MAX as usize
+}
+
+/// Whether a question fits.
+fn question_fits(asked: Asked) -> bool
+    ensures { result ≡ true ↔ AskedFits asked }
+{
+    match asked {
+        Asked::Dispatch { id, shown, plan } => {
+            in_u32(id.0);
+            plan_in_range(plan);
+            shown_fits(shown)
+        }
+        Asked::Completion { id, shown, answer } => {
+            in_u32(id.no);
+            answer_in_range(answer);
+            shown_fits(shown)
+        }
+        Asked::Cancel { id, shown, answer } => {
+            in_u32(id.0);
+            cancel_answer_in_range(answer);
+            shown_fits(shown)
+        }
+    }
+}
+
+/// Whether each question fits.
+fn asked_fits(asked: &[Asked]) -> bool
+    ensures { result ≡ true ↔ All AskedFits asked.now }
+{
+    asked.iter().all(|question| question_fits(*question))
+}
+
+/// Whether a call fits.
+fn call_fits(call: Call) -> bool
+    ensures { result ≡ true ↔ CallFits call }
+{
+    match call {
+        Call::Free { irp }
+        | Call::Reuse { irp, .. }
+        | Call::SetNext { irp, .. }
+        | Call::CopyToNext { irp, .. }
+        | Call::Skip { irp, .. }
+        | Call::SetRoutine { irp, .. }
+        | Call::MarkPending { irp, .. }
+        | Call::CallDriver { irp, .. }
+        | Call::Complete { irp, .. }
+        | Call::FinishTaken { irp, .. }
+        | Call::SetCancelRoutine { irp, .. }
+        | Call::Cancel { irp }
+        | Call::Look { irp } => irp_fits(irp),
+        _ => true,
+    }
+}
+
+/// Whether the entry of this call may have this lock, which may be known to be drained.
+fn tells_lock(call: Call, lock: Option<LockNo>, drained: bool) -> bool
+    ensures { result ≡ true ↔ TellsLock call lock drained }
+{
+    match call {
+        Call::Delete { .. } => true,
+        _ => lock.is_none() && !drained,
+    }
+}
+
+/// Whether a reply fits.
+fn reply_fits(reply: Reply) -> bool
+    ensures { result ≡ true ↔ ReplyFits reply }
+{
+    match reply {
+        Reply::Irp(irp) => irp_fits(irp),
+        _ => true,
+    }
+}
+
+/// Whether the entry fits: its line tells it whole.
+pub fn fits(entry: &Entry) -> bool
+    ensures { result ≡ true ↔ EntryFits entry.now }
+{
+    in_u64(entry.number);
+    in_u32(entry.seat);
+    if !call_fits(entry.call) || !tells_lock(entry.call, entry.lock, entry.drained) {
+        return false;
+    }
+    asked_fits(entry.asked.as_slice()) && reply_fits(entry.reply)
+}
