@@ -51,8 +51,12 @@ pub fn pairs_refusal(dispatches: u32, pairs: &[(u8, DispatchId)]) -> Option<Reas
 pub fn dispatch_in(pairs: &[(u8, DispatchId)], major: u8) -> Option<DispatchId>
     ensures { result ≡ dispatch_in pairs.now major }
 {
-    let found = pairs.iter().find(|pair| pair.0 == major)?;
-    Some(found.1)
+    for pair in pairs {
+        if pair.0 == major {
+            return Some(pair.1);
+        }
+    }
+    None
 }
 
 /// The pairs by rising major function code. Of pairs that a driver is refused for, those of no major function code and
