@@ -17,6 +17,7 @@ AnswerTable::add_dispatch
 AnswerTable::add_driver
 Book::new
 Book::record
+Book::record_copied
 ManagerState::apply
 FixedTables::add_cancel
 FixedTables::add_dispatch
@@ -27,6 +28,7 @@ Manager::apply
 MapKeep::insert
 Seat::room
 Shared::call
+Shared::finish_taken
 SlabKeep::insert
 Stacks::create
 Store::add

@@ -2,22 +2,26 @@
 
 ghost use Rattle.std.specs.Prelude.{◌≡◌};
 
-use irp_routines::Ask;
+use irp_routines::{AnswerTable, Ask};
 use irp_types::{
     Answer, CancelAnswer, CancelId, CancelRule, DispatchId, DriverId, Known, Plan, RoutineId, Shown,
 };
+use std::sync::Arc;
 use std::sync::atomic::{AtomicU32, Ordering};
 
 /// An asker, and how often it was asked.
 #[derive(Drop)]
-pub struct Counting<'a, A> {
+pub struct Counting<A> {
     ask: A,
-    count: &'a AtomicU32,
+    count: Arc<AtomicU32>,
 }
 
-impl<'a, A> Counting<'a, A> {
+/// A table of answers that counts.
+pub type Asker = Counting<AnswerTable>;
+
+impl<A> Counting<A> {
     /// The asker, with each question added to this count.
-    pub fn new(ask: A, count: &'a AtomicU32) -> Counting<'a, A> {
+    pub fn new(ask: A, count: Arc<AtomicU32>) -> Counting<A> {
         Counting { ask, count }
     }
 
@@ -26,7 +30,7 @@ impl<'a, A> Counting<'a, A> {
     }
 }
 
-impl<A: Ask> Ask for Counting<'_, A> {
+impl<A: Ask> Ask for Counting<A> {
     ghost tables = { λ counting. A.tables counting.ask };
 
     ghost may_answer = { λ counting id shown answer. A.may_answer counting.ask id shown answer };

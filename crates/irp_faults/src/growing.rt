@@ -1,10 +1,11 @@
 //! Device stacks and tables of answers that grow.
 
-use crate::tables::{add, add_cancel, add_dispatch, add_driver};
+use crate::rows::EACH;
+use crate::tables::add_all;
 use crate::tried::{Halt, Tried, wanted};
 use irp_routines::{AnswerTable, FixedTables};
 use irp_stack::{NotCreated, Stacks};
-use irp_types::{CancelAnswer, CancelRule, DeviceId, DispatchId, DriverId, LockNo, Plan, Rule};
+use irp_types::{DeviceId, DriverId, LockNo};
 use std::alloc::Global;
 
 /// Creates a device, and once more where memory was missing. The number has to be this.
@@ -30,20 +31,6 @@ pub fn create_devices(alloc: Global, tried: &mut Tried) -> Result<(), Halt> {
     wanted(
         stacks.create(DriverId(0), LockNo(0)) == Err(NotCreated::Full),
         "there are more devices than there may be",
-    )
-}
-
-/// Adds to a table of answers: of each kind one.
-fn add_each(alloc: Global, table: &mut AnswerTable, tried: &mut Tried) -> Result<(), Halt> {
-    add(table, Rule::Change, tried)?;
-    add(table, Rule::Free, tried)?;
-    add_cancel(table, (CancelRule::MustLeave, CancelAnswer::Leave), tried)?;
-    add_dispatch(table, Plan::Hold { cancel: None }, tried)?;
-    add_driver(
-        alloc,
-        table,
-        &[(3, DispatchId(0)), (4, DispatchId(0))],
-        tried,
     )
 }
 
@@ -83,7 +70,7 @@ pub fn grow_table(alloc: Global, tried: &mut Tried) -> Result<(), Halt> {
     let mut table = AnswerTable::new(alloc);
     for number in 0..9 {
         tried.at(number);
-        add_each(alloc, &mut table, tried)?;
+        add_all(alloc, &mut table, &EACH, tried)?;
     }
     copy(alloc, &table, tried)
 }

@@ -5,9 +5,9 @@
 mod counting;
 mod example;
 mod growing;
+mod in_book;
 mod keeps;
 mod place;
-mod places;
 mod playing;
 mod removes;
 mod rows;
@@ -17,6 +17,7 @@ mod session;
 mod stores;
 mod tables;
 mod tables_alone;
+mod taking;
 mod texts;
 mod tried;
 
@@ -84,7 +85,8 @@ fn play_named<R: Wait, W: Write>(
     name: &str,
     fell: Fell,
 ) -> Result<(), Halt> {
-    for (known, work) in SCENARIOS {
+    for scenario in SCENARIOS.iter() {
+        let (known, work) = *scenario;
         if name == known || name == "every" {
             let mut tried = Tried::new(fell);
             let lines = lines_of(rt, alloc, work, &mut tried)?;
@@ -99,7 +101,7 @@ fn play_named<R: Wait, W: Write>(
 
 /// Lists the scenarios.
 fn list<W: Write>(writer: &mut W) -> Result<(), Halt> {
-    for (name, _work) in SCENARIOS {
+    for (name, _work) in SCENARIOS.iter() {
         writeln!(writer, "{name}")?;
     }
     Ok(())

@@ -1,6 +1,6 @@
 //! The loop that makes the steps of an example, and tries a refused call again.
 
-use crate::example::{Deed, Example, IRP, Wanted, call_of};
+use crate::example::{Deed, Example, IRP};
 use crate::place::{Lack, Place};
 use crate::tried::{Halt, Tried, wanted};
 use irp_types::{Call, Reply};
@@ -17,15 +17,16 @@ struct Sight {
 }
 
 /// Looks around. A look that finds no memory is tried again.
-fn look_around<P: Place>(place: &mut P, asked: &AtomicU32, tried: &mut Tried) -> Result<Sight, Halt>
-    requires { P.is_ready place.old }
-    ensures { P.is_ready place.new }
-{
+fn look_around<P: Place>(
+    place: &mut P,
+    asked: &AtomicU32,
+    tried: &mut Tried,
+) -> Result<Sight, Halt> {
     let look = match place.look(LOOK) {
         Ok(reply) => reply,
         Err(Lack::Wrong(what)) => return Err(Halt::Wrong(what)),
-        Err(Lack::Memory) => {
-            tried.refused(P::NAME, true)?;
+        Err(Lack::Memory(name)) => {
+            tried.refused(name, true)?;
             granted(place.look(LOOK))?
         }
     };
@@ -40,7 +41,7 @@ fn granted(made: Result<Reply, Lack>) -> Result<Reply, Halt> {
     match made {
         Ok(reply) => Ok(reply),
         Err(Lack::Wrong(what)) => Err(Halt::Wrong(what)),
-        Err(Lack::Memory) => Err(Halt::Wrong("a call was refused twice")),
+        Err(Lack::Memory(_)) => Err(Halt::Wrong("a call was refused twice")),
     }
 }
 
@@ -52,15 +53,12 @@ fn made<P: Place>(
     before: Sight,
     seat: u32,
     call: Call,
-) -> Result<Reply, Halt>
-    requires { P.is_ready place.old }
-    ensures { P.is_ready place.new }
-{
+) -> Result<Reply, Halt> {
     match place.make(seat, call) {
         Ok(reply) => Ok(reply),
         Err(Lack::Wrong(what)) => Err(Halt::Wrong(what)),
-        Err(Lack::Memory) => {
-            tried.refused(P::NAME, true)?;
+        Err(Lack::Memory(name)) => {
+            tried.refused(name, true)?;
             if look_around(place, asked, tried)? != before {
                 return Err(Halt::Wrong("a refused call changed something, or asked"));
             }
@@ -69,21 +67,18 @@ fn made<P: Place>(
     }
 }
 
-/// Makes a call, which has to come out as is wanted.
-fn call<P: Place>(
+/// Makes a call after a look. What it is answered, and how many questions it asks.
+fn outcome<P: Place>(
     place: &mut P,
     asked: &AtomicU32,
     tried: &mut Tried,
     seat: u32,
-    wanted: Wanted,
-) -> Result<bool, Halt>
-    requires { P.is_ready place.old }
-    ensures { P.is_ready place.new }
-{
+    call: Call,
+) -> Result<(Reply, u32), Halt> {
     let before = look_around(place, asked, tried)?;
-    let reply = made(place, asked, tried, before, seat, wanted.call)?;
-    let after = asked.load(Ordering::SeqCst);
-    Ok(reply == wanted.reply && after == before.asked.wrapping_add(wanted.asked))
+    let reply = made(place, asked, tried, before, seat, call)?;
+    let count = asked.load(Ordering::SeqCst).wrapping_sub(before.asked);
+    Ok((reply, count))
 }
 
 /// Makes a step, whose answer has to be the example's.
@@ -93,13 +88,12 @@ fn step<P: Place>(
     tried: &mut Tried,
     seat: u32,
     deed: Deed,
-) -> Result<(), Halt>
-    requires { P.is_ready place.old }
-    ensures { P.is_ready place.new }
-{
-    let is_so = match call_of(deed) {
-        Some(wanted) => call(place, asked, tried, seat, wanted)?,
-        None => place.acts(seat, deed),
+) -> Result<(), Halt> {
+    let is_so = match deed {
+        Deed::Call(call, reply, count) => {
+            outcome(place, asked, tried, seat, call)? == (reply, count)
+        }
+        Deed::Act(act, reply) => place.acts(seat, act) == Some(reply),
     };
     wanted(is_so, "an answer isn't the example's")
 }
@@ -110,11 +104,8 @@ pub fn play<P: Place>(
     place: &mut P,
     asked: &AtomicU32,
     tried: &mut Tried,
-    example: Example,
-) -> Result<(), Halt>
-    requires { P.is_ready place.old }
-    ensures { P.is_ready place.new }
-{
+    example: &Example,
+) -> Result<(), Halt> {
     look_around(place, asked, tried)?;
     for number in 0..example.steps.len() {
         tried.at(number);

@@ -1,28 +1,27 @@
 //! The scenarios by their names.
 
-use crate::counting::Counting;
+use crate::counting::{Asker, Counting};
 use crate::example::Example;
 use crate::growing::{create_devices, grow_table};
+use crate::in_book::in_book;
 use crate::keeps::{fill_map, fill_seat, fill_slab};
-use crate::places::{in_book, in_core};
+use crate::place::{Alone, Bare};
 use crate::playing::play;
-use crate::rows::{CANCELLED, DRAINED, FINISHED, KEPT};
+use crate::rows::{Which, example_of};
 use crate::seating::seat_pairs;
 use crate::session::session;
 use crate::stores::{add_cancels, add_dispatches, add_drivers, add_routines};
-use crate::tables::table_of;
+use crate::tables::add_all;
 use crate::tables_alone::grow_tables;
 use crate::texts::{put_transcript, read_the_script, read_the_transcript, write_the_transcript};
 use crate::tried::{Halt, Tried};
-use irp_manager::Manager;
 use irp_routines::AnswerTable;
 use irp_shared::Transcript;
-use irp_types::Limit;
 use std::alloc::Global;
 use std::marker::Brand;
-use std::sync::Wait;
 use std::sync::atomic::AtomicU32;
 use std::sync::ledger::Blank;
+use std::sync::{Arc, Wait};
 
 /// Where an example is played.
 #[derive(Clone, Copy)]
@@ -31,6 +30,8 @@ pub enum Where {
     Session,
     /// In a book.
     Book,
+    /// In a book that copies each entry as it is recorded.
+    Copied,
     /// By the manager alone.
     Manager,
     /// By a bare core.
@@ -64,38 +65,61 @@ pub enum Text {
 /// What a scenario does.
 #[derive(Clone, Copy)]
 pub enum Work {
-    Play(Where, Example),
+    Play(Where, Which),
     Grow(Growth),
     Text(Text),
 }
 
 /// The scenarios.
-pub const SCENARIOS: [(&str, Work); 27] = [
+pub const SCENARIOS: [(&str, Work); 29] = [
     (
         "finished_in_a_session",
-        Work::Play(Where::Session, FINISHED),
+        Work::Play(Where::Session, Which::Finished),
     ),
-    ("kept_in_a_session", Work::Play(Where::Session, KEPT)),
+    ("kept_in_a_session", Work::Play(Where::Session, Which::Kept)),
     (
         "cancelled_in_a_session",
-        Work::Play(Where::Session, CANCELLED),
+        Work::Play(Where::Session, Which::Cancelled),
     ),
-    ("drained_in_a_session", Work::Play(Where::Session, DRAINED)),
-    ("finished_in_a_book", Work::Play(Where::Book, FINISHED)),
-    ("kept_in_a_book", Work::Play(Where::Book, KEPT)),
-    ("cancelled_in_a_book", Work::Play(Where::Book, CANCELLED)),
+    (
+        "taken_in_a_session",
+        Work::Play(Where::Session, Which::Taken),
+    ),
+    (
+        "drained_in_a_session",
+        Work::Play(Where::Session, Which::Drained),
+    ),
+    (
+        "finished_in_a_book",
+        Work::Play(Where::Book, Which::Finished),
+    ),
+    ("kept_in_a_book", Work::Play(Where::Book, Which::Kept)),
+    (
+        "cancelled_in_a_book",
+        Work::Play(Where::Book, Which::Cancelled),
+    ),
+    ("kept_with_copies", Work::Play(Where::Copied, Which::Kept)),
     (
         "finished_by_the_manager",
-        Work::Play(Where::Manager, FINISHED),
+        Work::Play(Where::Manager, Which::Finished),
     ),
-    ("kept_by_the_manager", Work::Play(Where::Manager, KEPT)),
+    (
+        "kept_by_the_manager",
+        Work::Play(Where::Manager, Which::Kept),
+    ),
     (
         "cancelled_by_the_manager",
-        Work::Play(Where::Manager, CANCELLED),
+        Work::Play(Where::Manager, Which::Cancelled),
     ),
-    ("finished_by_a_core", Work::Play(Where::Core, FINISHED)),
-    ("kept_by_a_core", Work::Play(Where::Core, KEPT)),
-    ("cancelled_by_a_core", Work::Play(Where::Core, CANCELLED)),
+    (
+        "finished_by_a_core",
+        Work::Play(Where::Core, Which::Finished),
+    ),
+    ("kept_by_a_core", Work::Play(Where::Core, Which::Kept)),
+    (
+        "cancelled_by_a_core",
+        Work::Play(Where::Core, Which::Cancelled),
+    ),
     ("devices", Work::Grow(Growth::Devices)),
     ("a_table_of_answers", Work::Grow(Growth::AnswerTable)),
     ("tables", Work::Grow(Growth::Tables)),
@@ -116,28 +140,56 @@ pub const SCENARIOS: [(&str, Work); 27] = [
 fn shared<R: Wait>(
     rt: &R,
     alloc: Global,
-    ask: Counting<'_, AnswerTable>,
+    ask: Asker,
     asked: &AtomicU32,
-    example: Example,
+    example: &Example,
     tried: &mut Tried,
 ) -> Result<Transcript, Halt> {
     let seats = example.seats.wrapping_add(1);
     let blank = Blank::new(u64::from(seats));
-    session::<Counting<'_, AnswerTable>, Brand, R>(
-        rt, alloc, blank, ask, 1, seats, asked, example, tried,
+    let limit = example.limit;
+    session::<Brand, R>(
+        rt, alloc, blank, ask, 1, seats, limit, asked, example, tried,
     )
 }
 
 /// Plays an example in a book.
 fn recorded(
     alloc: Global,
-    ask: Counting<'_, AnswerTable>,
+    ask: Asker,
     asked: &AtomicU32,
-    example: Example,
+    example: &Example,
+    copies: bool,
     tried: &mut Tried,
 ) -> Result<(), Halt> {
     let blank = Blank::new(1);
-    in_book::<Counting<'_, AnswerTable>, Brand>(alloc, blank, ask, asked, example, tried)
+    in_book::<Brand>(alloc, blank, ask, asked, example, copies, tried)
+}
+
+/// Who is asked in an example, with the count of the questions.
+fn asker(
+    alloc: Global,
+    count: Arc<AtomicU32>,
+    example: &Example,
+    tried: &mut Tried,
+) -> Result<Asker, Halt> {
+    let mut table = AnswerTable::new(alloc);
+    add_all(alloc, &mut table, example, tried)?;
+    Ok(Counting::new(table, count))
+}
+
+/// Plays an example in a session, and puts its transcript.
+fn put_session<R: Wait>(
+    rt: &R,
+    alloc: Global,
+    ask: Asker,
+    asked: &AtomicU32,
+    example: &Example,
+    tried: &mut Tried,
+    out: &mut Vec<u8>,
+) -> Result<(), Halt> {
+    let transcript = shared(rt, alloc, ask, asked, example, tried)?;
+    put_transcript(alloc, out, transcript, example.seats, tried)
 }
 
 /// Plays an example.
@@ -145,30 +197,25 @@ fn play_there<R: Wait>(
     rt: &R,
     alloc: Global,
     place: Where,
-    example: Example,
+    example: &Example,
     tried: &mut Tried,
     out: &mut Vec<u8>,
 ) -> Result<(), Halt> {
-    let asked = AtomicU32::new(0);
-    let ask = Counting::new(table_of(alloc, example, tried)?, &asked);
+    let asked = Arc::new(alloc, AtomicU32::new(0))?;
+    let ask = asker(alloc, asked.clone()?, example, tried)?;
     match place {
-        Where::Session => {
-            let transcript = shared(rt, alloc, ask, &asked, example, tried)?;
-            put_transcript(alloc, out, transcript, example.seats, tried)
-        }
-        Where::Book => recorded(alloc, ask, &asked, example, tried),
-        Where::Manager => {
-            let mut manager = Manager::with_limit(alloc, ask, 1, Limit::Sixteen);
-            play(&mut manager, &asked, tried, example)
-        }
-        Where::Core => in_core(alloc, ask, &asked, example, tried),
+        Where::Session => put_session(rt, alloc, ask, &asked, example, tried, out),
+        Where::Book => recorded(alloc, ask, &asked, example, false, tried),
+        Where::Copied => recorded(alloc, ask, &asked, example, true, tried),
+        Where::Manager => play(&mut Alone::new(alloc, ask), &asked, tried, example),
+        Where::Core => play(&mut Bare::new(alloc, ask), &asked, tried, example),
     }
 }
 
 /// Puts seats of a session beside remove seats.
 fn pairs(alloc: Global, tried: &mut Tried) -> Result<(), Halt> {
     let table = AnswerTable::new(alloc);
-    seat_pairs::<AnswerTable, Brand>(alloc, Blank::new(9), table, 1, 9, tried)
+    seat_pairs::<Brand>(alloc, Blank::new(9), table, 1, 9, tried)
 }
 
 /// Has something grow.
@@ -197,7 +244,7 @@ pub fn perform<R: Wait>(
     out: &mut Vec<u8>,
 ) -> Result<(), Halt> {
     match work {
-        Work::Play(place, example) => play_there(rt, alloc, place, example, tried, out),
+        Work::Play(place, which) => { play_there(rt, alloc, place, example_of(which), tried, out) }
         Work::Grow(growth) => grow(alloc, growth, tried),
         Work::Text(Text::Script) => read_the_script(alloc, out, tried),
         Work::Text(Text::Read) => read_the_transcript(alloc, out, tried),

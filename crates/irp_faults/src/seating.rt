@@ -4,7 +4,7 @@ ghost use Rattle.std.specs.Prelude.{◌≡◌};
 ghost use Rattle.irp_types.specs.declared.limit.Limit.TheVariants.{ThirtyTwo};
 
 use crate::tried::{Halt, Tried, wanted};
-use irp_routines::Ask;
+use irp_routines::AnswerTable;
 use irp_script::script_seats;
 use irp_shared::{Session, open};
 use std::alloc::Global;
@@ -12,19 +12,19 @@ use std::sync::ledger::Blank;
 
 /// Opens a session, remove locks, and as many cancel slots as seats. Puts their seats side by side. Where memory is missing
 /// for that, the seats are gone.
-pub fn seat_pairs<A: Ask + Drop, L: Session>(
+pub fn seat_pairs<L: Session>(
     alloc: Global,
     blank: Blank,
-    ask: A,
+    ask: AnswerTable,
     locks: u32,
     seats: u32,
     tried: &mut Tried,
 ) -> Result<(), Halt>
     requires blank { (blank.name ≡ L.name) × (blank.parts ≡ L.parts) }
     requires seats { (L.parts ≡ seats) × (L.seats ≡ seats) }
-    requires fixed { L.fixed ≡ record { locks = locks; tables = A.tables ask; limit = ThirtyTwo } }
+    requires fixed { L.fixed ≡ record { locks = locks; tables = ask.tables; limit = ThirtyTwo } }
 {
-    let Ok((_shared, places)) = open::<A, L>(alloc, blank, ask, locks, seats) else {
+    let Ok((_shared, places)) = open::<AnswerTable, L>(alloc, blank, ask, locks, seats) else {
         tried.refused("irp_shared::open", true)?;
         return Err(Halt::Memory);
     };

@@ -19,7 +19,7 @@ const BEHAVIOUR: Behaviour = Behaviour {
 };
 
 /// Adds a completion routine.
-pub fn add(table: &mut AnswerTable, rule: Rule, tried: &mut Tried) -> Result<(), Halt> {
+fn add(table: &mut AnswerTable, rule: Rule, tried: &mut Tried) -> Result<(), Halt> {
     let before = extent_of(table.tables());
     match table.add(rule, BEHAVIOUR) {
         Ok(_) => Ok(()),
@@ -33,7 +33,7 @@ pub fn add(table: &mut AnswerTable, rule: Rule, tried: &mut Tried) -> Result<(),
 }
 
 /// Adds a cancel routine.
-pub fn add_cancel(
+fn add_cancel(
     table: &mut AnswerTable,
     routine: (CancelRule, CancelAnswer),
     tried: &mut Tried,
@@ -54,7 +54,7 @@ pub fn add_cancel(
 }
 
 /// Adds a dispatch, which may name all routines that there are.
-pub fn add_dispatch(table: &mut AnswerTable, plan: Plan, tried: &mut Tried) -> Result<(), Halt> {
+fn add_dispatch(table: &mut AnswerTable, plan: Plan, tried: &mut Tried) -> Result<(), Halt> {
     let before = extent_of(table.tables());
     match table.add_dispatch(before.counts, plan) {
         Ok(_) => Ok(()),
@@ -71,7 +71,7 @@ pub fn add_dispatch(table: &mut AnswerTable, plan: Plan, tried: &mut Tried) -> R
 }
 
 /// Adds a driver. A refused call has to hand its pairs back.
-pub fn add_driver(
+fn add_driver(
     alloc: Global,
     table: &mut AnswerTable,
     pairs: &[(u8, DispatchId)],
@@ -117,14 +117,27 @@ fn add_all_plans(table: &mut AnswerTable, plans: &[Plan], tried: &mut Tried) -> 
     Ok(())
 }
 
-/// The table of those who are asked in an example.
-pub fn table_of(alloc: Global, example: Example, tried: &mut Tried) -> Result<AnswerTable, Halt> {
-    let mut table = AnswerTable::new(alloc);
-    add_all_rules(&mut table, example.rules, tried)?;
-    add_all_cancels(&mut table, example.cancels, tried)?;
-    add_all_plans(&mut table, example.plans, tried)?;
-    for pairs in example.drivers {
-        add_driver(alloc, &mut table, pairs, tried)?;
+fn add_all_drivers(
+    alloc: Global,
+    table: &mut AnswerTable,
+    drivers: &[&[(u8, DispatchId)]],
+    tried: &mut Tried,
+) -> Result<(), Halt> {
+    for pairs in drivers {
+        add_driver(alloc, table, pairs, tried)?;
     }
-    Ok(table)
+    Ok(())
+}
+
+/// Adds those who are asked in an example.
+pub fn add_all(
+    alloc: Global,
+    table: &mut AnswerTable,
+    example: &Example,
+    tried: &mut Tried,
+) -> Result<(), Halt> {
+    add_all_rules(table, example.rules, tried)?;
+    add_all_cancels(table, example.cancels, tried)?;
+    add_all_plans(table, example.plans, tried)?;
+    add_all_drivers(alloc, table, example.drivers, tried)
 }

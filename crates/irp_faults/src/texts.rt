@@ -178,11 +178,9 @@ fn written(
     Ok((bytes, fault))
 }
 
-/// Whether a write that stopped found no memory, and what went out is a beginning of the text, as long as it tells.
-fn is_beginning(bytes: &[u8], fault: WriteFault) -> bool {
-    fault.cause == Cause::Memory
-        && fault.written == bytes.len() as u64
-        && TRANSCRIPT.starts_with(bytes)
+/// Whether a write stopped for this cause, and what went out is a beginning of the text, as long as it tells.
+fn is_beginning(bytes: &[u8], fault: WriteFault, cause: Cause) -> bool {
+    fault.cause == cause && fault.written == bytes.len() as u64 && TRANSCRIPT.starts_with(bytes)
 }
 
 /// Reads the transcript and writes it: the text has to be the same. Where memory is missing, it is written again.
@@ -196,7 +194,8 @@ pub fn write_the_transcript(
     let length = TRANSCRIPT.len();
     let (mut bytes, fault) = written(alloc, &transcript, length, length)?;
     if let Some(fault) = fault {
-        tried.refused("write_transcript", is_beginning(bytes.as_slice(), fault))?;
+        let is_same = is_beginning(bytes.as_slice(), fault, Cause::Memory);
+        tried.refused("write_transcript", is_same)?;
         bytes = written(alloc, &transcript, length, length)?.0;
     }
     if bytes.as_slice() != TRANSCRIPT {
@@ -209,11 +208,10 @@ pub fn write_the_transcript(
 /// Writes to an output that fails after so many bytes, and answers whether exactly these went out, and were told.
 fn is_cut(alloc: Global, transcript: &Transcript, room: usize) -> Result<bool, Halt> {
     let (bytes, fault) = written(alloc, transcript, TRANSCRIPT.len(), room)?;
-    let told = WriteFault {
-        written: room as u64,
-        cause: Cause::Io,
+    let Some(fault) = fault else {
+        return Ok(false);
     };
-    Ok(fault == Some(told) && bytes.len() == room && TRANSCRIPT.starts_with(bytes.as_slice()))
+    Ok(bytes.len() == room && is_beginning(bytes.as_slice(), fault, Cause::Io))
 }
 
 /// Whether an output that fails after as many bytes as the header's line has got that line.
