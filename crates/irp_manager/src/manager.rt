@@ -1,4 +1,4 @@
-//! The sequential manager with whom it asks.
+//! The sequential manager with its asker.
 
 ghost use Rattle.std.specs.Prelude.{◌≡◌, ◌≤◌, length, None, IfOk, OnErr};
 ghost use Rattle.irp_types.specs.Histories.{lock_of};
@@ -17,7 +17,7 @@ use irp_routines::{Ask, FixedTables};
 use irp_types::{Call, Limit};
 use std::alloc::{AllocError, Global};
 
-/// The sequential manager and whom it asks. It wishes for no slot, and keeps its packets in a slab (this project's own
+/// The sequential manager and its asker. It wishes for no slot, and keeps its packets in a slab (this project's own
 /// rule).
 #[derive(Drop)]
 pub struct Manager<A> {
@@ -35,7 +35,7 @@ impl<A> Manager<A> {
 }
 
 impl<A: Ask> Manager<A> {
-    /// A copy of the tables of whom it asks. The error where a growth was refused.
+    /// A copy of the tables of its asker. The error where a growth was refused.
     pub(super) fn copied_tables(&self) -> Result<FixedTables, AllocError>
         ensures { IfOk result (λ tables. tables ≡ A.tables self.now.ask) }
     {

@@ -66,7 +66,7 @@ pub struct Applied {
 }
 
 /// The state of the sequential manager: its live packets, its devices, the next use number, and how many remove locks there
-/// are (this project's own rule). It is lent whom it asks, for each call.
+/// are (this project's own rule). Each call borrows the asker that answers for the closures.
 #[derive(Drop)]
 pub struct ManagerState<K> {
     alloc: Global,
@@ -419,7 +419,7 @@ impl<K: Keep> ManagerState<K> {
     }
 
     /// Makes one call, in one step of the sequential manager, on condition that the standing facts hold with the routines of
-    /// whom it asks; they hold after it too. Room for what it can ask is made before anything changes, and the
+    /// the asker; they hold after it too. Room for what it can ask is made before anything changes, and the
     /// call asks into that; where more than half stays unused, the rest is given back. A new packet gets a slot as the keep
     /// promises for the wish.
     ///

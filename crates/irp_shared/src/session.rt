@@ -20,7 +20,7 @@ pub trait Session: Ledger {
     /// How many seats there are.
     ghost seats: { ℕ };
 
-    /// How many remove locks there are, the tables of whom is asked, and the limit on packets and stacks.
+    /// How many remove locks there are, the tables of the asker, and the limit on packets and stacks.
     ghost fixed: { Fixed };
 }
 

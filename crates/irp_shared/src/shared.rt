@@ -132,7 +132,7 @@ impl<A: Ask, L: Session> Shared<A, L> {
     /// # Errors
     ///
     /// `Memory` where a growth was refused, which may come first; else `Behind` and `HistoryFull` as `Book::record` answers
-    /// them. The clause says of `Behind` only that the length told is below what the seat had seen, since it can't name
+    /// them. The clause says of `Behind` only that the length that it gives is below what the seat had seen, since it can't name
     /// the history. The seat stays as it was, and nothing is recorded.
     pub fn call<N: DrainNote>(
         &self,
@@ -227,7 +227,7 @@ fn is_done(reply: Reply) -> bool
     matches!(reply, Reply::Done)
 }
 
-/// A seat that is told of a receipt has seen its entry, and all before it. A receipt of another session may be learned
+/// A seat that learns of a receipt has seen its entry, and all before it. A receipt of another session may be learned
 /// too: then `Behind` may answer the seat's next call (this project's own rule). It takes no memory.
 pub fn learn<L: Ledger>(seat: &mut Seat<L>, receipt: &Receipt)
     ensures { seat.new ≡ record seat.old {

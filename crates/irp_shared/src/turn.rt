@@ -1,4 +1,4 @@
-//! How a thread comes to its turn.
+//! How a thread gets its turn.
 
 use std::hint::spin_loop;
 use std::sync::{Mutex, MutexGuard, Wait};

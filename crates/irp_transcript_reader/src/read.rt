@@ -65,7 +65,8 @@ impl TakeLine for ByValue {
 }
 
 /// Reads a transcript: the header's line, then a line for each entry, then the word lines, each in order; no lines
-/// are the transcript without entries (this project's own format, docs/FORMATS.md). Each line is taken as told.
+/// are the transcript without entries (this project's own format, docs/FORMATS.md). Each line goes to the
+/// taker.
 ///
 /// # Errors
 ///

@@ -28,7 +28,7 @@ pub enum Cause {
 #[derive(Clone, Copy, Debug, PartialEq, Eq, Error)]
 #[error("{cause} after {written} bytes")]
 pub struct WriteFault {
-    /// How many bytes of the text had gone out, told up to the greatest `u64`.
+    /// How many bytes of the text had gone out, at most the greatest `u64`.
     pub written: u64,
     /// Why it stopped.
     pub cause: Cause,

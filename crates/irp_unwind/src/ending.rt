@@ -17,7 +17,7 @@ pub enum Ending {
 /// What became of a packet that was sent (WDK: "IoCallDriver").
 #[derive(Clone, Copy, PartialEq, Eq, Debug)]
 pub struct Sent {
-    /// The status that the sender is told.
+    /// The status that the sender gets.
     pub status: Status,
     pub ending: Ending,
 }

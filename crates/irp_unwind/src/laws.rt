@@ -9,7 +9,7 @@ pub fn unwinding_is_settled()
 {}
 
 /// Where each closure has one answer to what it is shown, a packet and the device that it is sent to settle which devices
-/// it comes to, what is asked, what is left of it and what the sender is told.
+/// it reaches, what is asked, what is left of it and what the sender gets.
 pub fn descent_is_settled()
     ensures { DescentIsSettled }
 {}

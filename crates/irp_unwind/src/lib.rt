@@ -1,4 +1,4 @@
-//! What becomes of a packet that is sent: which devices it comes to, which completion routines run when one of them
+//! What becomes of a packet that is sent: which devices it reaches, which completion routines run when one of them
 //! finishes it, what each is shown, and who owns the packet afterwards.
 #![tactic(auto)]
 
