@@ -63,13 +63,17 @@ reuse_at place form = if has_keys (codes "do" ∷ codes "irp" ∷ codes "seat" �
 unfoldable pub packet_at : ℕ → Data → Option Named
 packet_at place form = if has_keys (codes "do" ∷ codes "irp" ∷ codes "seat" ∷ []) form then (get (codes "irp") form >>= named_at place) else None
 
+-- what is done with a packet that the step names alone, by its name
+unfoldable pub packet_alone_act : List ℕ → Named → Option StepAct
+packet_alone_act name irp =
+    if bytes_eq name (codes "free") then Some (act.Free irp) else
+    (if bytes_eq name (codes "cancel") then Some (act.Cancel irp) else
+    (if bytes_eq name (codes "look") then Some (act.Look irp) else None))
+
 unfoldable pub packet_act_named : ℕ → List ℕ → Data → Option StepAct
 packet_act_named place name form =
     if bytes_eq name (codes "allocate") then allocate_at place form else
-    (if bytes_eq name (codes "free") then (packet_at place form >>= λ irp. Some (act.Free irp)) else
-    (if bytes_eq name (codes "reuse") then reuse_at place form else
-    (if bytes_eq name (codes "cancel") then (packet_at place form >>= λ irp. Some (act.Cancel irp)) else
-    (if bytes_eq name (codes "look") then (packet_at place form >>= λ irp. Some (act.Look irp)) else None))))
+    (if bytes_eq name (codes "reuse") then reuse_at place form else (packet_at place form >>= packet_alone_act name))
 
 -- ---- packets, by their owner
 
@@ -103,18 +107,13 @@ call_driver_at place form = if has_keys (codes "by" ∷ codes "do" ∷ codes "ir
   target ← get (codes "target") form >>= device_at
   Some (act.CallDriver sender.0 sender.1 target)) else None
 
--- what completes a packet, whatever its keys
-unfoldable pub completed_at : ℕ → Data → Option StepAct
-completed_at place form = do
-  sender ← sender_at place form
-  status ← get (codes "status") form >>= status_at
-  information ← get (codes "information") form >>= u64_at
-  Some (act.Complete sender.0 sender.1 status information)
-
 unfoldable pub complete_at : ℕ → Data → Option StepAct
 complete_at place form =
-    if has_keys (codes "by" ∷ codes "do" ∷ codes "information" ∷ codes "irp" ∷ codes "seat" ∷ codes "status" ∷ []) form
-    then completed_at place form else None
+    if has_keys (codes "by" ∷ codes "do" ∷ codes "information" ∷ codes "irp" ∷ codes "seat" ∷ codes "status" ∷ []) form then (do
+      sender ← sender_at place form
+      status ← get (codes "status") form >>= status_at
+      information ← get (codes "information") form >>= u64_at
+      Some (act.Complete sender.0 sender.1 status information)) else None
 
 unfoldable pub set_cancel_routine_at : ℕ → Data → Option StepAct
 set_cancel_routine_at place form = if has_keys (codes "by" ∷ codes "cancel" ∷ codes "do" ∷ codes "irp" ∷ codes "seat" ∷ []) form then (do
@@ -122,21 +121,22 @@ set_cancel_routine_at place form = if has_keys (codes "by" ∷ codes "cancel" �
   cancel ← get (codes "cancel") form >>= cancel_or_null_at
   Some (act.SetCancelRoutine sender.0 sender.1 cancel)) else None
 
--- what gets a packet ready for the next lower device
-unfoldable pub preparing_act_named : ℕ → List ℕ → Data → Option StepAct
-preparing_act_named place name form =
-    if bytes_eq name (codes "set_next") then set_next_at place form else
-    (if bytes_eq name (codes "copy_to_next") then (sender_alone_at place form >>= λ sender. Some (act.CopyToNext sender.0 sender.1)) else
-    (if bytes_eq name (codes "skip") then (sender_alone_at place form >>= λ sender. Some (act.Skip sender.0 sender.1)) else
-    (if bytes_eq name (codes "set_routine") then set_routine_at place form else None)))
+-- what its owner does with a packet, where the step names nothing else
+unfoldable pub sender_alone_act : List ℕ → Party × Named → Option StepAct
+sender_alone_act name sender =
+    if bytes_eq name (codes "copy_to_next") then Some (act.CopyToNext sender.0 sender.1) else
+    (if bytes_eq name (codes "skip") then Some (act.Skip sender.0 sender.1) else
+    (if bytes_eq name (codes "mark_pending") then Some (act.MarkPending sender.0 sender.1) else None))
 
--- what passes a packet on, and what its owner does else
+-- what its owner does with a packet
 unfoldable pub owner_act_named : ℕ → List ℕ → Data → Option StepAct
 owner_act_named place name form =
-    if bytes_eq name (codes "mark_pending") then (sender_alone_at place form >>= λ sender. Some (act.MarkPending sender.0 sender.1)) else
+    if bytes_eq name (codes "set_next") then set_next_at place form else
+    (if bytes_eq name (codes "set_routine") then set_routine_at place form else
     (if bytes_eq name (codes "call_driver") then call_driver_at place form else
     (if bytes_eq name (codes "complete") then complete_at place form else
-    (if bytes_eq name (codes "set_cancel_routine") then set_cancel_routine_at place form else None)))
+    (if bytes_eq name (codes "set_cancel_routine") then set_cancel_routine_at place form else
+    (sender_alone_at place form >>= sender_alone_act name)))))
 
 -- ---- remove locks
 
@@ -152,12 +152,16 @@ drained_at form = if has_keys (codes "do" ∷ codes "lock" ∷ codes "seat" ∷ 
   lock ← get (codes "lock") form >>= lock_at
   Some (act.Drained lock)) else None
 
+-- what is done with a lock under a tag, by its name
+unfoldable pub tagged_act : List ℕ → LockNo × ℕ → Option StepAct
+tagged_act name tagged =
+    if bytes_eq name (codes "acquire") then Some (act.Acquire tagged.0 tagged.1) else
+    (if bytes_eq name (codes "release") then Some (act.Release tagged.0 tagged.1) else
+    (if bytes_eq name (codes "begin_remove") then Some (act.BeginRemove tagged.0 tagged.1) else None))
+
 unfoldable pub lock_act_named : List ℕ → Data → Option StepAct
 lock_act_named name form =
-    if bytes_eq name (codes "acquire") then (tagged_at form >>= λ tagged. Some (act.Acquire tagged.0 tagged.1)) else
-    (if bytes_eq name (codes "release") then (tagged_at form >>= λ tagged. Some (act.Release tagged.0 tagged.1)) else
-    (if bytes_eq name (codes "begin_remove") then (tagged_at form >>= λ tagged. Some (act.BeginRemove tagged.0 tagged.1)) else
-    (if bytes_eq name (codes "drained") then drained_at form else None)))
+    if bytes_eq name (codes "drained") then drained_at form else (tagged_at form >>= tagged_act name)
 
 -- ---- all of them
 
@@ -170,8 +174,7 @@ or_else None other = other
 unfoldable pub act_named : ℕ → List ℕ → Data → Option StepAct
 act_named place name form =
     or_else (device_act_named name form) (or_else (packet_act_named place name form)
-    (or_else (preparing_act_named place name form) (or_else (owner_act_named place name form)
-    (or_else (lock_act_named name form) (slot_act_named place name form)))))
+    (or_else (owner_act_named place name form) (or_else (lock_act_named name form) (slot_act_named place name form))))
 
 -- by the name under `do`, where a label that it names has this place
 unfoldable pub act_at : ℕ → Data → Option StepAct

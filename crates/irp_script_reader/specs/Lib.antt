@@ -1,3 +1,4 @@
+pub mod Fields
 pub mod Labels
 pub mod Taking
 pub mod Routines

@@ -27,25 +27,24 @@ unfoldable pub slot_alone_at : Data → Option ℕ
 slot_alone_at form =
     if has_keys (codes "do" ∷ codes "seat" ∷ codes "slot" ∷ []) form then (get (codes "slot") form >>= u32_at) else None
 
--- what finishes a taken packet, whatever its keys
-unfoldable pub finished_at : ℕ → Data → Option StepAct
-finished_at place form = do
-  irp ← get (codes "irp") form >>= named_at place
-  slot ← get (codes "slot") form >>= u32_at
-  status ← get (codes "status") form >>= status_at
-  information ← get (codes "information") form >>= u64_at
-  Some (act.FinishTaken irp slot status information)
-
 unfoldable pub finish_taken_at : ℕ → Data → Option StepAct
 finish_taken_at place form =
-    if has_keys (codes "do" ∷ codes "information" ∷ codes "irp" ∷ codes "seat" ∷ codes "slot" ∷ codes "status" ∷ []) form
-    then finished_at place form else None
+    if has_keys (codes "do" ∷ codes "information" ∷ codes "irp" ∷ codes "seat" ∷ codes "slot" ∷ codes "status" ∷ []) form then (do
+      irp ← get (codes "irp") form >>= named_at place
+      slot ← get (codes "slot") form >>= u32_at
+      status ← get (codes "status") form >>= status_at
+      information ← get (codes "information") form >>= u64_at
+      Some (act.FinishTaken irp slot status information)) else None
+
+-- what is done with a slot that the step names alone, by its name
+unfoldable pub slot_alone_act : List ℕ → ℕ → Option StepAct
+slot_alone_act name slot =
+    if bytes_eq name (codes "withdraw") then Some (act.Withdraw slot) else
+    (if bytes_eq name (codes "request") then Some (act.Request slot) else None)
 
 -- by its name
 unfoldable pub slot_act_named : ℕ → List ℕ → Data → Option StepAct
 slot_act_named place name form =
     if bytes_eq name (codes "hand") then hand_at form else
     (if bytes_eq name (codes "publish") then publish_at place form else
-    (if bytes_eq name (codes "withdraw") then (slot_alone_at form >>= λ slot. Some (act.Withdraw slot)) else
-    (if bytes_eq name (codes "request") then (slot_alone_at form >>= λ slot. Some (act.Request slot)) else
-    (if bytes_eq name (codes "finish_taken") then finish_taken_at place form else None))))
+    (if bytes_eq name (codes "finish_taken") then finish_taken_at place form else (slot_alone_at form >>= slot_alone_act name)))

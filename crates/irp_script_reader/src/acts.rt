@@ -9,7 +9,6 @@ ghost use Rattle.irp_script_reader.specs.Acts.{
   attach_at,
   call_driver_at,
   complete_at,
-  completed_at,
   create_device_at,
   delete_at,
   detach_at,
@@ -18,25 +17,25 @@ ghost use Rattle.irp_script_reader.specs.Acts.{
   lock_act_named,
   owner_act_named,
   packet_act_named,
+  packet_alone_act,
   packet_at,
-  preparing_act_named,
   reuse_at,
+  sender_alone_act,
   sender_alone_at,
   sender_at,
   set_cancel_routine_at,
   set_next_at,
   set_routine_at,
   step_at,
+  tagged_act,
   tagged_at,
 };
 
 use crate::act::{Named, Step, StepAct};
-use crate::labels::{is_label, named_at};
+use crate::fields::{device_under, lock_in, packet_in, status_in, u8_under, u32_under, u64_under};
+use crate::labels::is_label;
 use crate::slot_acts::slot_act_named;
-use irp_forms::{
-    cancel_or_null_at, device_at, driver_at, has_keys, lock_at, party_at, setting_at, status_at,
-    u8_at, u32_at, u64_at,
-};
+use irp_forms::{cancel_or_null_at, driver_at, has_keys, party_at, setting_at};
 use irp_types::{LockNo, Party};
 use serde_json::Value;
 
@@ -49,7 +48,7 @@ fn create_device_at(value: &Value) -> Option<StepAct>
         return None;
     }
     let driver = driver_at(value.get("driver")?)?;
-    let lock = lock_at(value.get("lock")?)?;
+    let lock = lock_in(value)?;
     Some(StepAct::CreateDevice { driver, lock })
 }
 
@@ -61,8 +60,8 @@ fn attach_at(value: &Value) -> Option<StepAct>
     if !has_keys(value, &["device", "do", "seat", "to"]) {
         return None;
     }
-    let device = device_at(value.get("device")?)?;
-    let to = device_at(value.get("to")?)?;
+    let device = device_under("device", value)?;
+    let to = device_under("to", value)?;
     Some(StepAct::Attach { device, to })
 }
 
@@ -74,7 +73,7 @@ fn detach_at(value: &Value) -> Option<StepAct>
     if !has_keys(value, &["do", "lower", "seat"]) {
         return None;
     }
-    let lower = device_at(value.get("lower")?)?;
+    let lower = device_under("lower", value)?;
     Some(StepAct::Detach { lower })
 }
 
@@ -86,7 +85,7 @@ fn delete_at(value: &Value) -> Option<StepAct>
     if !has_keys(value, &["device", "do", "seat"]) {
         return None;
     }
-    let device = device_at(value.get("device")?)?;
+    let device = device_under("device", value)?;
     Some(StepAct::Delete { device })
 }
 
@@ -116,7 +115,7 @@ fn allocate_at(place: usize, value: &Value) -> Option<StepAct>
     if !has_keys(value, &["as", "do", "seat", "size"]) {
         return None;
     }
-    let size = u8_at(value.get("size")?)?;
+    let size = u8_under("size", value)?;
     let label = value.get("as")?.as_str()?;
     if is_label(label) {
         Some(StepAct::Allocate { size, label: place })
@@ -133,8 +132,8 @@ fn reuse_at(place: usize, value: &Value) -> Option<StepAct>
     if !has_keys(value, &["do", "irp", "seat", "status"]) {
         return None;
     }
-    let irp = named_at(place, value.get("irp")?)?;
-    let status = status_at(value.get("status")?)?;
+    let irp = packet_in(place, value)?;
+    let status = status_in(value)?;
     Some(StepAct::Reuse { irp, status })
 }
 
@@ -146,7 +145,23 @@ fn packet_at(place: usize, value: &Value) -> Option<Named>
     if !has_keys(value, &["do", "irp", "seat"]) {
         return None;
     }
-    named_at(place, value.get("irp")?)
+    packet_in(place, value)
+}
+
+/// What is done with a packet that the step names alone, by its name.
+#[tactic(auto, unfolding(crate::specs::Acts::packet_alone_act))]
+fn packet_alone_act(name: &str, irp: Named) -> Option<StepAct>
+    ensures { result ≡ packet_alone_act name.now irp }
+{
+    if name == "free" {
+        Some(StepAct::Free { irp })
+    } else if name == "cancel" {
+        Some(StepAct::Cancel { irp })
+    } else if name == "look" {
+        Some(StepAct::Look { irp })
+    } else {
+        None
+    }
 }
 
 /// What is done with a packet by no party, by its name.
@@ -156,19 +171,10 @@ fn packet_act_named(place: usize, name: &str, value: &Value) -> Option<StepAct>
 {
     if name == "allocate" {
         allocate_at(place, value)
-    } else if name == "free" {
-        let irp = packet_at(place, value)?;
-        Some(StepAct::Free { irp })
     } else if name == "reuse" {
         reuse_at(place, value)
-    } else if name == "cancel" {
-        let irp = packet_at(place, value)?;
-        Some(StepAct::Cancel { irp })
-    } else if name == "look" {
-        let irp = packet_at(place, value)?;
-        Some(StepAct::Look { irp })
     } else {
-        None
+        packet_alone_act(name, packet_at(place, value)?)
     }
 }
 
@@ -178,7 +184,7 @@ fn sender_at(place: usize, value: &Value) -> Option<(Party, Named)>
     ensures { result ≡ sender_at place (view value.now) }
 {
     let party = party_at(value.get("by")?)?;
-    let irp = named_at(place, value.get("irp")?)?;
+    let irp = packet_in(place, value)?;
     Some((party, irp))
 }
 
@@ -202,8 +208,8 @@ fn set_next_at(place: usize, value: &Value) -> Option<StepAct>
         return None;
     }
     let (party, irp) = sender_at(place, value)?;
-    let major = u8_at(value.get("major")?)?;
-    let word = u64_at(value.get("word")?)?;
+    let major = u8_under("major", value)?;
+    let word = u64_under("word", value)?;
     Some(StepAct::SetNext {
         party,
         irp,
@@ -238,24 +244,8 @@ fn call_driver_at(place: usize, value: &Value) -> Option<StepAct>
         return None;
     }
     let (party, irp) = sender_at(place, value)?;
-    let target = device_at(value.get("target")?)?;
+    let target = device_under("target", value)?;
     Some(StepAct::CallDriver { party, irp, target })
-}
-
-/// A packet completed, whatever the keys.
-#[tactic(auto, unfolding(crate::specs::Acts::completed_at))]
-fn completed_at(place: usize, value: &Value) -> Option<StepAct>
-    ensures { result ≡ completed_at place (view value.now) }
-{
-    let (party, irp) = sender_at(place, value)?;
-    let status = status_at(value.get("status")?)?;
-    let information = u64_at(value.get("information")?)?;
-    Some(StepAct::Complete {
-        party,
-        irp,
-        status,
-        information,
-    })
 }
 
 /// A packet completed.
@@ -266,7 +256,15 @@ fn complete_at(place: usize, value: &Value) -> Option<StepAct>
     if !has_keys(value, &["by", "do", "information", "irp", "seat", "status"]) {
         return None;
     }
-    completed_at(place, value)
+    let (party, irp) = sender_at(place, value)?;
+    let status = status_in(value)?;
+    let information = u64_under("information", value)?;
+    Some(StepAct::Complete {
+        party,
+        irp,
+        status,
+        information,
+    })
 }
 
 /// A cancel routine set, or none.
@@ -282,34 +280,32 @@ fn set_cancel_routine_at(place: usize, value: &Value) -> Option<StepAct>
     Some(StepAct::SetCancelRoutine { party, irp, cancel })
 }
 
-/// What gets a packet ready for the next lower device, by its name.
-#[tactic(auto, unfolding(crate::specs::Acts::preparing_act_named))]
-fn preparing_act_named(place: usize, name: &str, value: &Value) -> Option<StepAct>
-    ensures { result ≡ preparing_act_named place name.now (view value.now) }
+/// What its owner does with a packet, where the step names nothing else, by its name.
+#[tactic(auto, unfolding(crate::specs::Acts::sender_alone_act))]
+fn sender_alone_act(name: &str, sender: (Party, Named)) -> Option<StepAct>
+    ensures { result ≡ sender_alone_act name.now sender }
 {
-    if name == "set_next" {
-        set_next_at(place, value)
-    } else if name == "copy_to_next" {
-        let (party, irp) = sender_alone_at(place, value)?;
+    let (party, irp) = sender;
+    if name == "copy_to_next" {
         Some(StepAct::CopyToNext { party, irp })
     } else if name == "skip" {
-        let (party, irp) = sender_alone_at(place, value)?;
         Some(StepAct::Skip { party, irp })
-    } else if name == "set_routine" {
-        set_routine_at(place, value)
+    } else if name == "mark_pending" {
+        Some(StepAct::MarkPending { party, irp })
     } else {
         None
     }
 }
 
-/// What else a packet's owner does, by its name.
+/// What its owner does with a packet, by its name.
 #[tactic(auto, unfolding(crate::specs::Acts::owner_act_named))]
 fn owner_act_named(place: usize, name: &str, value: &Value) -> Option<StepAct>
     ensures { result ≡ owner_act_named place name.now (view value.now) }
 {
-    if name == "mark_pending" {
-        let (party, irp) = sender_alone_at(place, value)?;
-        Some(StepAct::MarkPending { party, irp })
+    if name == "set_next" {
+        set_next_at(place, value)
+    } else if name == "set_routine" {
+        set_routine_at(place, value)
     } else if name == "call_driver" {
         call_driver_at(place, value)
     } else if name == "complete" {
@@ -317,7 +313,7 @@ fn owner_act_named(place: usize, name: &str, value: &Value) -> Option<StepAct>
     } else if name == "set_cancel_routine" {
         set_cancel_routine_at(place, value)
     } else {
-        None
+        sender_alone_act(name, sender_alone_at(place, value)?)
     }
 }
 
@@ -329,8 +325,8 @@ fn tagged_at(value: &Value) -> Option<(LockNo, u32)>
     if !has_keys(value, &["do", "lock", "seat", "tag"]) {
         return None;
     }
-    let lock = lock_at(value.get("lock")?)?;
-    let tag = u32_at(value.get("tag")?)?;
+    let lock = lock_in(value)?;
+    let tag = u32_under("tag", value)?;
     Some((lock, tag))
 }
 
@@ -342,8 +338,25 @@ fn drained_at(value: &Value) -> Option<StepAct>
     if !has_keys(value, &["do", "lock", "seat"]) {
         return None;
     }
-    let lock = lock_at(value.get("lock")?)?;
+    let lock = lock_in(value)?;
     Some(StepAct::Drained { lock })
+}
+
+/// What is done with a remove lock under a tag, by its name.
+#[tactic(auto, unfolding(crate::specs::Acts::tagged_act))]
+fn tagged_act(name: &str, tagged: (LockNo, u32)) -> Option<StepAct>
+    ensures { result ≡ tagged_act name.now tagged }
+{
+    let (lock, tag) = tagged;
+    if name == "acquire" {
+        Some(StepAct::Acquire { lock, tag })
+    } else if name == "release" {
+        Some(StepAct::Release { lock, tag })
+    } else if name == "begin_remove" {
+        Some(StepAct::BeginRemove { lock, tag })
+    } else {
+        None
+    }
 }
 
 /// What is done with a remove lock, by its name.
@@ -351,19 +364,10 @@ fn drained_at(value: &Value) -> Option<StepAct>
 fn lock_act_named(name: &str, value: &Value) -> Option<StepAct>
     ensures { result ≡ lock_act_named name.now (view value.now) }
 {
-    if name == "acquire" {
-        let (lock, tag) = tagged_at(value)?;
-        Some(StepAct::Acquire { lock, tag })
-    } else if name == "release" {
-        let (lock, tag) = tagged_at(value)?;
-        Some(StepAct::Release { lock, tag })
-    } else if name == "begin_remove" {
-        let (lock, tag) = tagged_at(value)?;
-        Some(StepAct::BeginRemove { lock, tag })
-    } else if name == "drained" {
+    if name == "drained" {
         drained_at(value)
     } else {
-        None
+        tagged_act(name, tagged_at(value)?)
     }
 }
 
@@ -376,9 +380,6 @@ fn act_named(place: usize, name: &str, value: &Value) -> Option<StepAct>
         return Some(act);
     }
     if let Some(act) = packet_act_named(place, name, value) {
-        return Some(act);
-    }
-    if let Some(act) = preparing_act_named(place, name, value) {
         return Some(act);
     }
     if let Some(act) = owner_act_named(place, name, value) {
@@ -404,6 +405,6 @@ pub fn step_at(place: usize, value: &Value) -> Option<Step>
     ensures { result ≡ step_at place (view value.now) }
 {
     let act = act_at(place, value)?;
-    let seat = u32_at(value.get("seat")?)?;
+    let seat = u32_under("seat", value)?;
     Some(Step { seat, act })
 }

@@ -3,6 +3,7 @@
 
 mod act;
 mod acts;
+mod fields;
 mod forms;
 mod labels;
 mod lists;

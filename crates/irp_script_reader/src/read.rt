@@ -1,8 +1,6 @@
 //! Scripts from their texts.
 
 ghost use Rattle.std.specs.Prelude.{◌≡◌, IfOk};
-ghost use Rattle.std.specs.Option.{option_and_then};
-ghost use Rattle.serde_json.specs.Find.{get};
 ghost use Rattle.serde_json.specs.View.{view};
 ghost use Rattle.irp_script_reader.specs.Scripts.{
   ReadsScript,
@@ -21,17 +19,17 @@ ghost use Rattle.irp_script_reader.specs.Scripts.{
   steps_at,
   with_slots,
 };
-ghost use Rattle.irp_forms.specs.Parts.{u32_at};
 ghost use Rattle.irp_script_reader.specs.Sound.{IsSound};
 ghost use Rattle.irp_script_reader.specs.Taking.{Tells};
 
 use crate::act::Step;
+use crate::fields::u32_under;
 use crate::labels::Labels;
 use crate::lists::{Cancels, Completions, Dispatches, Drivers, Steps};
 use crate::refusal::{Fault, ScriptFault, ScriptRefusal, Section};
 use crate::script::{Script, ScriptForm};
 use crate::taking::{Taking, list_of, refused};
-use irp_forms::{has_keys, u32_at};
+use irp_forms::has_keys;
 use irp_types::{Known, Row};
 use serde_json::Value;
 use std::alloc::Global;
@@ -39,15 +37,8 @@ use std::alloc::Global;
 /// The most bytes of a script's text.
 const MOST_BYTES: usize = 1_048_576;
 
-/// The number under a key.
-fn number_under(key: &str, value: &Value) -> Option<u32>
-    ensures { result ≡ option_and_then u32_at (get key.now (view value.now)) }
-{
-    u32_at(value.get(key)?)
-}
-
 /// What a script has under `form`, before the rest of it is read.
-#[derive(Clone, Copy, PartialEq, Eq, Debug)]
+#[derive(Clone, Copy)]
 enum FormKey {
     /// The number 1.
     One,
@@ -60,7 +51,7 @@ enum FormKey {
 fn form_at(value: &Value) -> Result<FormKey, ScriptFault>
     ensures { Tells result (form_at (view value.now)) }
 {
-    match number_under("form", value) {
+    match u32_under("form", value) {
         Some(1) => Ok(FormKey::One),
         Some(2) => Ok(FormKey::Two),
         _ => Err(ScriptFault::Refused(ScriptRefusal::BadForm)),
@@ -137,7 +128,7 @@ fn keys_at(given: FormKey, value: &Value) -> Result<(), ScriptFault>
 fn count_at(section: Section, least: u32, key: &str, value: &Value) -> Result<u32, ScriptFault>
     ensures { Tells result (count_at section least key.now (view value.now)) }
 {
-    match number_under(key, value) {
+    match u32_under(key, value) {
         Some(count) => {
             if count >= least && count <= 64 {
                 Ok(count)

@@ -2,11 +2,18 @@
 
 ghost use Rattle.std.specs.Prelude.{◌≡◌};
 ghost use Rattle.serde_json.specs.View.{view};
-ghost use Rattle.irp_script_reader.specs.SlotActs.{finish_taken_at, finished_at, hand_at, publish_at, slot_act_named, slot_alone_at};
+ghost use Rattle.irp_script_reader.specs.SlotActs.{
+  finish_taken_at,
+  hand_at,
+  publish_at,
+  slot_act_named,
+  slot_alone_act,
+  slot_alone_at,
+};
 
 use crate::act::StepAct;
-use crate::labels::named_at;
-use irp_forms::{has_keys, lock_at, status_at, u32_at, u64_at};
+use crate::fields::{lock_in, packet_in, status_in, u32_under, u64_under};
+use irp_forms::has_keys;
 use serde_json::Value;
 
 /// A reference handed over.
@@ -17,9 +24,9 @@ fn hand_at(value: &Value) -> Option<StepAct>
     if !has_keys(value, &["do", "lock", "seat", "tag", "to"]) {
         return None;
     }
-    let lock = lock_at(value.get("lock")?)?;
-    let tag = u32_at(value.get("tag")?)?;
-    let to = u32_at(value.get("to")?)?;
+    let lock = lock_in(value)?;
+    let tag = u32_under("tag", value)?;
+    let to = u32_under("to", value)?;
     Some(StepAct::Hand { lock, tag, to })
 }
 
@@ -31,8 +38,8 @@ fn publish_at(place: usize, value: &Value) -> Option<StepAct>
     if !has_keys(value, &["do", "irp", "seat", "slot"]) {
         return None;
     }
-    let slot = u32_at(value.get("slot")?)?;
-    let irp = named_at(place, value.get("irp")?)?;
+    let slot = u32_under("slot", value)?;
+    let irp = packet_in(place, value)?;
     Some(StepAct::Publish { slot, irp })
 }
 
@@ -44,24 +51,7 @@ fn slot_alone_at(value: &Value) -> Option<u32>
     if !has_keys(value, &["do", "seat", "slot"]) {
         return None;
     }
-    u32_at(value.get("slot")?)
-}
-
-/// A taken packet finished, whatever the keys.
-#[tactic(auto, unfolding(crate::specs::SlotActs::finished_at))]
-fn finished_at(place: usize, value: &Value) -> Option<StepAct>
-    ensures { result ≡ finished_at place (view value.now) }
-{
-    let irp = named_at(place, value.get("irp")?)?;
-    let slot = u32_at(value.get("slot")?)?;
-    let status = status_at(value.get("status")?)?;
-    let information = u64_at(value.get("information")?)?;
-    Some(StepAct::FinishTaken {
-        irp,
-        slot,
-        status,
-        information,
-    })
+    u32_under("slot", value)
 }
 
 /// A taken packet finished.
@@ -75,7 +65,30 @@ fn finish_taken_at(place: usize, value: &Value) -> Option<StepAct>
     ) {
         return None;
     }
-    finished_at(place, value)
+    let irp = packet_in(place, value)?;
+    let slot = u32_under("slot", value)?;
+    let status = status_in(value)?;
+    let information = u64_under("information", value)?;
+    Some(StepAct::FinishTaken {
+        irp,
+        slot,
+        status,
+        information,
+    })
+}
+
+/// What is done with a slot that the step names alone, by its name.
+#[tactic(auto, unfolding(crate::specs::SlotActs::slot_alone_act))]
+fn slot_alone_act(name: &str, slot: u32) -> Option<StepAct>
+    ensures { result ≡ slot_alone_act name.now slot }
+{
+    if name == "withdraw" {
+        Some(StepAct::Withdraw { slot })
+    } else if name == "request" {
+        Some(StepAct::Request { slot })
+    } else {
+        None
+    }
 }
 
 /// What only form 2 has, by its name.
@@ -87,15 +100,9 @@ pub fn slot_act_named(place: usize, name: &str, value: &Value) -> Option<StepAct
         hand_at(value)
     } else if name == "publish" {
         publish_at(place, value)
-    } else if name == "withdraw" {
-        let slot = slot_alone_at(value)?;
-        Some(StepAct::Withdraw { slot })
-    } else if name == "request" {
-        let slot = slot_alone_at(value)?;
-        Some(StepAct::Request { slot })
     } else if name == "finish_taken" {
         finish_taken_at(place, value)
     } else {
-        None
+        slot_alone_act(name, slot_alone_at(value)?)
     }
 }

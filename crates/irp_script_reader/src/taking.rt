@@ -14,7 +14,7 @@ use serde_json::Value;
 use std::alloc::Global;
 
 /// Why a member of a list wasn't taken.
-#[derive(Clone, Copy, PartialEq, Eq, Debug)]
+#[derive(Clone, Copy)]
 pub enum Stop {
     /// It has this fault.
     Fault(Fault),

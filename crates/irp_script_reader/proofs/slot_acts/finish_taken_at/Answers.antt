@@ -1,5 +1,5 @@
 -- The keys that were looked for are those of the form.
-use Rattle.std.proofs.Common.{refl, sym}
+use Rattle.std.proofs.Common.{refl, rules, sym}
 use Rattle.irp_script_reader.specs.SlotActs.{finish_taken_at}
 use Rattle.irp_script_reader.proofs.slot_acts.finish_taken_at.Goals as goal
 
@@ -9,4 +9,4 @@ returns-then-not-has_keys c = rw (sym c.has_keys.ensures, c.if-not-has_keys.true
 
 pub returns : goal.returns
 unfolding finish_taken_at
-returns c = rw (sym c.has_keys.ensures, c.if-not-has_keys.false) c.finished_at.ensures
+returns c = rw (sym c.has_keys.ensures, c.if-not-has_keys.false) (search rules)
