@@ -198,77 +198,89 @@ header_back header is =
     form_back header.form header (omega (arith, is.few_slots)) (omega (arith, is.few_locks)) (omega (arith, is.few_seats)) (lists_back header is)
     ∙ ap (λ (count : ℕ). Some (record header { completions = record header.completions { cancel = count } })) (sym is.tables.cancels)
 
+-- the parts of a header that is accepted stand, in either form
+record PartsStand (levels : ℕ) (header : Header) : Type 0 where
+  cancels : Stands (list (map cancel_rule_json header.cancels)) levels
+  completions : Stands (completions_json header.completions) levels
+  dispatches : Stands (list (map known_json header.dispatches)) levels
+  drivers : Stands (list (map driver_json header.drivers)) levels
+  locks : header.locks < 2 ^ 64
+  seats : header.seats < 2 ^ 64
+
+parts_stand : (levels : ℕ) (header : Header) → IsHeader header → PartsStand (suc (suc (suc levels))) header
+parts_stand levels header is =
+    let few = is.tables.few_routines in
+    let rules = any_rule header.cancels in
+    let drivers = driver_stands levels (fixed_of header).tables is.tables.few_dispatches in
+    record {
+      cancels =
+          items_stand cancel_rule_json (λ kind. ⊤) (suc (suc levels))
+          (λ kind h. rule_stands (suc (suc levels)) kind) header.cancels rules;
+      completions =
+          completions_stand (suc (suc levels)) header.completions
+          (small header.completions header.completions few (itself header.completions));
+      dispatches =
+          items_stand known_json (λ known. IsWithin known header.completions) (suc (suc levels))
+          (λ known within. known_stands (suc levels) known (small header.completions known few within))
+          header.dispatches is.tables.known;
+      drivers =
+          items_stand driver_json (IsDriver (fixed_of header).tables) (suc (suc levels)) drivers
+          header.drivers is.tables.drivers;
+      locks = omega (arith, is.few_locks);
+      seats = omega (arith, is.few_seats);
+    }
+
 form_stands : (levels : ℕ) (kind : Form) (header : Header) → slots_of kind < 2 ^ 32 → IsHeader header
     → Stands (line_of_form kind header) (suc (suc (suc (suc levels))))
 form_stands levels form.One header slots_small is =
-    let few = is.tables.few_routines in
-    let rules = items_stand cancel_rule_json (λ kind. ⊤) (suc (suc levels)) (λ kind h. rule_stands (suc (suc levels)) kind) header.cancels (any_rule header.cancels) in
-    let counts = completions_stand (suc (suc levels)) header.completions (small header.completions header.completions few (itself header.completions)) in
-    let dispatches =
-    items_stand known_json (λ known. IsWithin known header.completions) (suc (suc levels))
-    (λ known within. known_stands (suc levels) known (small header.completions known few within)) header.dispatches is.tables.known in
-    let drivers =
-    items_stand driver_json (IsDriver (fixed_of header).tables) (suc (suc levels))
-    (driver_stands levels (fixed_of header).tables is.tables.few_dispatches) header.drivers is.tables.drivers in
-    let locks_small : header.locks < 2 ^ 64 = omega (arith, is.few_locks) in
-    let seats_small : header.seats < 2 ^ 64 = omega (arith, is.few_seats) in (
-      rules,
+    let parts = parts_stand levels header is in (
+      parts.cancels,
       refl,
       refl,
       (
-        counts,
+        parts.completions,
         refl,
         refl,
         (
-          dispatches,
+          parts.dispatches,
           refl,
           refl,
           (
-            drivers,
+            parts.drivers,
             refl,
             refl,
             (
               omega arith,
               refl,
               refl,
-              (locks_small, refl, refl, (seats_small, refl, refl, tt)),
+              (parts.locks, refl, refl, (parts.seats, refl, refl, tt)),
             ),
           ),
         ),
       ),
     )
 form_stands levels (form.Two slots) header slots_small is =
-    let few = is.tables.few_routines in
-    let rules = items_stand cancel_rule_json (λ kind. ⊤) (suc (suc levels)) (λ kind h. rule_stands (suc (suc levels)) kind) header.cancels (any_rule header.cancels) in
-    let counts = completions_stand (suc (suc levels)) header.completions (small header.completions header.completions few (itself header.completions)) in
-    let dispatches =
-    items_stand known_json (λ known. IsWithin known header.completions) (suc (suc levels))
-    (λ known within. known_stands (suc levels) known (small header.completions known few within)) header.dispatches is.tables.known in
-    let drivers =
-    items_stand driver_json (IsDriver (fixed_of header).tables) (suc (suc levels))
-    (driver_stands levels (fixed_of header).tables is.tables.few_dispatches) header.drivers is.tables.drivers in
-    let locks_small : header.locks < 2 ^ 64 = omega (arith, is.few_locks) in
-    let seats_small : header.seats < 2 ^ 64 = omega (arith, is.few_seats) in (
-      rules,
+    let parts = parts_stand levels header is in (
+      parts.cancels,
       refl,
       refl,
       (
-        counts,
+        parts.completions,
         refl,
         refl,
         (
-          dispatches,
+          parts.dispatches,
           refl,
           refl,
           (
-            drivers,
+            parts.drivers,
             refl,
             refl,
             (
               omega arith,
               refl,
               refl,
-              (locks_small, refl, refl, (seats_small, refl, refl, (wide slots slots_small, refl, refl, tt))),
+              (parts.locks, refl, refl, (parts.seats, refl, refl, (wide slots slots_small, refl, refl, tt))),
             ),
           ),
         ),
