@@ -36,8 +36,11 @@ impl Locks {
         requires { IsSeatOf self.now seat.old }
         ensures seat { IsSameSeat seat.old seat.new }
         ensures no_lock { (result ≡ Err acquire_NoLock) ↔ (lock_count self.now ≤ lock.0) }
-        ensures seat_full { (result ≡ Err acquire_SeatFull) ↔ ((lock.0 < lock_count self.now) × (64 ≤ length seat.old.held)) }
-        ensures reply { MatchResult result (λ _. Acquired (lock_count self.now) lock.0 tag seat.old seat.new) (AcquireRefused (lock_count self.now) lock.0 seat.old seat.new) }
+        ensures seat_full { (result ≡ Err acquire_SeatFull)
+            ↔ ((lock.0 < lock_count self.now) × (64 ≤ length seat.old.held)) }
+        ensures reply { MatchResult result
+            (λ _. Acquired (lock_count self.now) lock.0 tag seat.old seat.new)
+            (AcquireRefused (lock_count self.now) lock.0 seat.old seat.new) }
     {
         let index = lock.0 as usize;
         if index >= self.table.word_count() {
@@ -77,8 +80,11 @@ impl Locks {
         requires { IsSeatOf self.now seat.old }
         ensures seat { IsSameSeat seat.old seat.new }
         ensures no_lock { (result ≡ Err release_NoLock) ↔ (lock_count self.now ≤ lock.0) }
-        ensures not_held { (result ≡ Err release_NotHeld) ↔ ((lock.0 < lock_count self.now) × ¬ Contains seat.old.held (lock.0, tag)) }
-        ensures reply { MatchResult result (λ _. Released (lock_count self.now) lock.0 tag seat.old seat.new) (ReleaseRefused (lock_count self.now) lock.0 tag seat.old seat.new) }
+        ensures not_held { (result ≡ Err release_NotHeld)
+            ↔ ((lock.0 < lock_count self.now) × ¬ Contains seat.old.held (lock.0, tag)) }
+        ensures reply { MatchResult result
+            (λ _. Released (lock_count self.now) lock.0 tag seat.old seat.new)
+            (ReleaseRefused (lock_count self.now) lock.0 tag seat.old seat.new) }
     {
         if lock.0 as usize >= self.table.word_count() {
             return Err(ReleaseRefusal::NoLock);
@@ -107,8 +113,11 @@ impl Locks {
         requires { IsSeatOf self.now seat.old }
         ensures seat { IsSameSeat seat.old seat.new }
         ensures no_lock { (result ≡ Err begin_NoLock) ↔ (lock_count self.now ≤ lock.0) }
-        ensures not_held { (result ≡ Err begin_NotHeld) ↔ ((lock.0 < lock_count self.now) × ¬ Contains seat.old.held (lock.0, tag)) }
-        ensures reply { MatchResult result (λ _. Begun (lock_count self.now) lock.0 tag seat.old seat.new) (BeginRefused (lock_count self.now) lock.0 tag seat.old seat.new) }
+        ensures not_held { (result ≡ Err begin_NotHeld)
+            ↔ ((lock.0 < lock_count self.now) × ¬ Contains seat.old.held (lock.0, tag)) }
+        ensures reply { MatchResult result
+            (λ _. Begun (lock_count self.now) lock.0 tag seat.old seat.new)
+            (BeginRefused (lock_count self.now) lock.0 tag seat.old seat.new) }
     {
         let index = lock.0 as usize;
         if index >= self.table.word_count() {
@@ -140,7 +149,9 @@ impl Locks {
         requires { IsSeatOf self.now seat.old }
         ensures seat { IsSameSeat seat.old seat.new }
         ensures no_lock { (result ≡ Err drain_NoLock) ↔ (lock_count self.now ≤ lock.0) }
-        ensures reply { MatchResult result (λ _. Looked (lock_count self.now) lock.0 1 seat.old seat.new) (DrainRefused (lock_count self.now) lock.0 seat.old seat.new) }
+        ensures reply { MatchResult result
+            (λ _. Looked (lock_count self.now) lock.0 1 seat.old seat.new)
+            (DrainRefused (lock_count self.now) lock.0 seat.old seat.new) }
     {
         let index = lock.0 as usize;
         if index >= self.table.word_count() {
@@ -173,9 +184,14 @@ impl Locks {
         ensures giver { IsSameSeat giver.old giver.new }
         ensures taker { IsSameSeat taker.old taker.new }
         ensures no_lock { (result ≡ Err hand_NoLock) ↔ (lock_count self.now ≤ lock.0) }
-        ensures not_held { (result ≡ Err hand_NotHeld) ↔ ((lock.0 < lock_count self.now) × ¬ Contains giver.old.held (lock.0, tag)) }
-        ensures seat_full { (result ≡ Err hand_SeatFull) ↔ ((lock.0 < lock_count self.now) × Contains giver.old.held (lock.0, tag) × (64 ≤ length taker.old.held)) }
-        ensures reply { MatchResult result (λ _. Handed (lock_count self.now) lock.0 tag giver.old giver.new taker.old taker.new) (HandRefused (lock_count self.now) lock.0 tag giver.old giver.new taker.old taker.new) }
+        ensures not_held { (result ≡ Err hand_NotHeld)
+            ↔ ((lock.0 < lock_count self.now) × ¬ Contains giver.old.held (lock.0, tag)) }
+        ensures seat_full { (result ≡ Err hand_SeatFull)
+            ↔ ((lock.0 < lock_count self.now) × Contains giver.old.held (lock.0, tag)
+            × (64 ≤ length taker.old.held)) }
+        ensures reply { MatchResult result
+            (λ _. Handed (lock_count self.now) lock.0 tag giver.old giver.new taker.old taker.new)
+            (HandRefused (lock_count self.now) lock.0 tag giver.old giver.new taker.old taker.new) }
     {
         if lock.0 as usize >= self.table.word_count() {
             return Err(HandRefusal::NoLock);
@@ -202,8 +218,13 @@ impl Locks {
         requires idle { IsIdle self.now.table.shared.table_id idle }
         requires lock { lock < (lock_count self.now) }
         requires tag { tag ≡ Label.tag }
-        ensures stake { MatchResult result (λ taken. IsHeld self.now.table.shared.table_id taken × (taken.lock ≡ lock) × (taken.tag ≡ tag)) (λ refused. IsIdle self.now.table.shared.table_id refused) }
-        ensures steps { MatchResult result (λ taken. StakeTook lock tag (view_of idle) (view_of taken)) (λ refused. StakeMissed lock (view_of idle) (view_of refused)) }
+        ensures stake { MatchResult result
+            (λ taken. IsHeld self.now.table.shared.table_id taken
+            × (taken.lock ≡ lock) × (taken.tag ≡ tag))
+            (λ refused. IsIdle self.now.table.shared.table_id refused) }
+        ensures steps { MatchResult result
+            (λ taken. StakeTook lock tag (view_of idle) (view_of taken))
+            (λ refused. StakeMissed lock (view_of idle) (view_of refused)) }
     {
         let Reference {
             stake,
@@ -239,7 +260,8 @@ impl Locks {
 
 // The first place of a reference to the lock under the tag.
 fn place_of(held: &ArrayVec<Reference, 64>, lock: u32, tag: u32) -> Option<usize>
-    ensures some { IfSome result (λ place. slice_get (map pair_of held.now.items) place ≡ Some (lock, tag)) }
+    ensures some { IfSome result (λ place.
+        slice_get (map pair_of held.now.items) place ≡ Some (lock, tag)) }
     ensures none { IfNone result (¬ Contains (map pair_of held.now.items) (lock, tag)) }
 {
     for (place, reference) in held.as_slice().iter().enumerate() {

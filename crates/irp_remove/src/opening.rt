@@ -31,7 +31,8 @@ pub fn open(alloc: Global, locks: u32, seats: u32) -> Result<(Locks, Vec<RemoveS
     ensures bad_count { (result ≡ Err BadCount) ↔ IsBadCount locks seats }
     ensures locks { IfOk result (λ opened. lock_count opened.0 ≡ locks) }
     ensures parties { IfOk result (λ opened. opened.0.table.shared.key ≡ parties_of locks seats) }
-    ensures seats { IfOk result (λ opened. (vec_len opened.1 ≡ seats) × AreFresh opened.0.table.shared.table_id seats opened.1.items) }
+    ensures seats { IfOk result (λ opened. (vec_len opened.1 ≡ seats)
+        × AreFresh opened.0.table.shared.table_id seats opened.1.items) }
     ensures idle { IfOk result (λ opened. IsAllIdle opened.0.table.shared.key opened.1.items) }
 {
     if locks == 0 || locks > MOST_LOCKS || seats == 0 || seats > MOST_SEATS {
@@ -66,7 +67,8 @@ impl Locks {
         requires table { first.table_id ≡ self.now.table.shared.table_id }
         requires first { first.me.0 ≡ First count (count * 64) }
         ensures count { IfOk result (λ made. vec_len made ≡ count) }
-        ensures fresh { IfOk result (λ made. AreFresh self.now.table.shared.table_id count made.items) }
+        ensures fresh { IfOk result (λ made.
+            AreFresh self.now.table.shared.table_id count made.items) }
     {
         let mut made = Vec::new(alloc);
         for number in 0..count {
@@ -82,7 +84,8 @@ impl Locks {
         requires first { first.old.me.0 ≡ First (observers first.old.me.0) (stakes first.old.me.0) }
         requires left { (0 < observers first.old.me.0) × (64 ≤ stakes first.old.me.0) }
         ensures table { first.new.table_id ≡ first.old.table_id }
-        ensures first { first.new.me.0 ≡ First (observers first.old.me.0 - 1) (stakes first.old.me.0 - 64) }
+        ensures first { first.new.me.0
+            ≡ First (observers first.old.me.0 - 1) (stakes first.old.me.0 - 64) }
         ensures number { result.number ≡ number }
         ensures fresh { IsFresh self.now.table.shared.table_id result }
     {
@@ -105,7 +108,8 @@ impl Locks {
         requires first { first.old.me.0 ≡ First (observers first.old.me.0) (stakes first.old.me.0) }
         requires left { 64 ≤ stakes first.old.me.0 }
         ensures table { first.new.table_id ≡ first.old.table_id }
-        ensures first { first.new.me.0 ≡ First (observers first.old.me.0) (stakes first.old.me.0 - 64) }
+        ensures first { first.new.me.0
+            ≡ First (observers first.old.me.0) (stakes first.old.me.0 - 64) }
         ensures new { All (IsNew self.now.table.shared.table_id) result.items }
         ensures all { length result.items ≡ 64 }
     {

@@ -35,9 +35,17 @@ impl Model for RemoveSeat {
 
     ghost Value = { Holder };
 
-    ghost view = { λ seat. record { table = seat.observer.table_id; number = seat.number; watch = watch_of seat.observer.me.0; held = map pair_of seat.held.items; held_views = map view_of seat.held.items; idle_views = map view_of seat.idle.items } };
+    ghost view = { λ seat. record {
+      table = seat.observer.table_id;
+      number = seat.number;
+      watch = watch_of seat.observer.me.0;
+      held = map pair_of seat.held.items;
+      held_views = map view_of seat.held.items;
+      idle_views = map view_of seat.idle.items;
+    } };
 
-    ghost invariant = { λ seat. IsSeated seat.observer seat.idle.items seat.held.items seat.began seat.saw seat.drained };
+    ghost invariant = { λ seat.
+        IsSeated seat.observer seat.idle.items seat.held.items seat.began seat.saw seat.drained };
 }
 
 impl RemoveSeat {
