@@ -8,5 +8,7 @@ pub mod Made
 pub mod Numbers
 pub mod Outcomes
 pub mod Pairs
+pub mod Seats
 pub mod Words
+pub mod Workers
 pub mod Working

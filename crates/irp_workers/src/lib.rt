@@ -8,9 +8,11 @@ mod labels;
 mod meeting;
 mod run;
 mod script_seat;
+mod seat_steps;
 mod step_call;
 mod words;
 mod worker;
+mod worker_steps;
 mod workplace;
 
 pub use behaviours::{cancel_rule, table_answer, table_cancel, table_plan};

@@ -1,6 +1,6 @@
 //! The word `run`: a script is read and run by workers, and the transcript is written.
 
-ghost use Rattle.std.specs.Prelude.{IfErr, IfOk, ◌≡◌, ◌≤◌, ◌<◌, false, map, true};
+ghost use Rattle.std.specs.Prelude.{IfErr, IfOk, ◌≡◌, ◌≤◌, ◌<◌, false, true};
 ghost use Rattle.irp_types.specs.Rules.{is_allowed, is_plan_allowed};
 ghost use Rattle.irp_routines.specs.Guarded.{guarded_answer, guarded_plan};
 ghost use Rattle.irp_types.specs.Limits.{most_slots};
@@ -8,6 +8,7 @@ ghost use Rattle.irp_shared.specs.Headers.{slots_of};
 ghost use Rattle.irp_shared.specs.Transcripts.{IsTranscript};
 ghost use Rattle.irp_workers.specs.Behaviours.{answer_of, plan_of};
 ghost use Rattle.irp_workers.specs.Numbers.{EachAsOften};
+ghost use Rattle.irp_workers.specs.Seats.{seats_of};
 ghost use Rattle.irpx.specs.Input.{TakesAtMost};
 ghost use Rattle.irpx.specs.Running.{
   AfterRun,
@@ -206,7 +207,7 @@ fn seats_of<L: Session>(
     alloc: Global,
     mut pairs: Vec<ScriptSeat<'_, L>>,
 ) -> Result<Vec<Seat<L>>, AllocError>
-    ensures { IfOk result (λ seats. EachAsOften (map (λ own. own.seat) pairs.entry.items) seats.items) }
+    ensures { IfOk result (λ seats. EachAsOften (seats_of pairs.entry.items) seats.items) }
 {
     let mut seats = Vec::new(alloc);
     while let Some(pair) = pairs.pop() {
