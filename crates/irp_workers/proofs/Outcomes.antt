@@ -13,16 +13,13 @@ use Rattle.irp_workers.specs.declared.deed.Deed.{Deed}
 use Rattle.irp_workers.specs.declared.deed.Deed.TheVariants.{Calls, OnLock, Hands, OnSlot, Finishes}
 use Rattle.irp_workers.specs.Accounts.{calls_at, pair_at}
 use Rattle.irp_workers.specs.Deeds.{deed_of}
-use Rattle.irp_workers.specs.Made.{NoneTwice, SeatCalls, nameless, once_made}
+use Rattle.irp_workers.specs.Made.{NoneTwice, SeatCalls, calls_in, nameless, once_made}
 use Rattle.irp_workers.specs.Outcomes.{Outcome, nameless_call, told_act}
 use Rattle.irp_workers.specs.Words.{told_by, word_step, word_step_of}
 use Rattle.irp_workers.specs.Working.{AtWork, Does, Makes, MakesAlone, MakesBy, MakesHand, Working}
 use Rattle.irp_workers.proofs.Making.{called_at}
 use Rattle.irp_workers.proofs.Numbers.{map_set_same}
 use Rattle.irp_workers.proofs.StepCalls.{nameless_of}
-
-abbrev calls_in : List Entry → List Call
-calls_in entries = map (λ (entry : Entry). nameless entry.call) entries
 
 -- what one seat and the lines tell of a step
 record CameOut (place : ℕ) (step : Step) (deed : Deed) (old new : AtWork) (lines longer : List WordLine) : Type 0 where

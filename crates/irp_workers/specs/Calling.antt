@@ -15,7 +15,8 @@ use Rattle.irp_workers.specs.Deeds.{IsNamed, call_of}
 abbrev pub found_drained : Holder → LockNo → Bool
 found_drained remove lock = flag remove.watch.drained lock.0
 
--- a call is the one that an act makes, of some packet, which is the one that the act names where it names it by a reference
+-- a call is the one that an act makes, of some packet, which is the one that the act names where it names it by a
+-- reference
 pub record Makes (act : StepAct) (call : Call) : Type 0 where
   pub irp : IrpRef
   pub referred : IsNamed act irp

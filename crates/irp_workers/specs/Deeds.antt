@@ -8,7 +8,34 @@ use Rattle.irp_shared.specs.declared.word_line.Act.TheVariants as act
 use Rattle.irp_script_reader.specs.declared.act.Named.{Named}
 use Rattle.irp_script_reader.specs.declared.act.Named.TheVariants.{Irp}
 use Rattle.irp_script_reader.specs.declared.act.StepAct.{StepAct}
-use Rattle.irp_script_reader.specs.declared.act.StepAct.TheVariants.{CreateDevice, Attach, Detach, Delete, Allocate, Free, Reuse, SetNext, CopyToNext, Skip, SetRoutine, MarkPending, CallDriver, Complete, SetCancelRoutine, Cancel, Look, Acquire, Release, BeginRemove, Drained, Hand, Publish, Withdraw, Request, FinishTaken}
+use Rattle.irp_script_reader.specs.declared.act.StepAct.TheVariants.{
+  CreateDevice,
+  Attach,
+  Detach,
+  Delete,
+  Allocate,
+  Free,
+  Reuse,
+  SetNext,
+  CopyToNext,
+  Skip,
+  SetRoutine,
+  MarkPending,
+  CallDriver,
+  Complete,
+  SetCancelRoutine,
+  Cancel,
+  Look,
+  Acquire,
+  Release,
+  BeginRemove,
+  Drained,
+  Hand,
+  Publish,
+  Withdraw,
+  Request,
+  FinishTaken,
+}
 use Rattle.irp_workers.specs.declared.deed.LockAct.{LockAct}
 use Rattle.irp_workers.specs.declared.deed.LockAct.TheVariants as on_lock
 use Rattle.irp_workers.specs.declared.deed.SlotAct.{SlotAct}
@@ -86,8 +113,10 @@ preparing_call_of other irp = None
 abbrev pub owners_call_of : StepAct → IrpRef → Option Call
 owners_call_of (MarkPending party named) irp = Some (call.MarkPending party irp)
 owners_call_of (CallDriver party named target) irp = Some (call.CallDriver party irp target)
-owners_call_of (Complete party named status information) irp = Some (call.Complete party irp status information)
-owners_call_of (SetCancelRoutine party named cancel) irp = Some (call.SetCancelRoutine party irp cancel)
+owners_call_of (Complete party named status information) irp =
+    Some (call.Complete party irp status information)
+owners_call_of (SetCancelRoutine party named cancel) irp =
+    Some (call.SetCancelRoutine party irp cancel)
 owners_call_of other irp = None
 
 abbrev pub or_else : Option Call → Option Call → Option Call
@@ -95,4 +124,5 @@ or_else (Some one) other = Some one
 or_else None other = other
 
 abbrev pub call_of : StepAct → IrpRef → Option Call
-call_of act irp = or_else (plain_call_of act irp) (or_else (preparing_call_of act irp) (owners_call_of act irp))
+call_of act irp =
+    or_else (plain_call_of act irp) (or_else (preparing_call_of act irp) (owners_call_of act irp))

@@ -1,5 +1,5 @@
--- How steps come out: each is a call of the manager or has a word line. Which of both a finish of a taken packet is shows
--- when it runs.
+-- How steps come out: each is a call of the manager or has a word line. Which of both a finish of a taken packet is
+-- shows when it runs.
 use Rattle.std.specs.Prelude.{ℕ, ◌==◌, ◌%◌, Bool, if◌then◌else◌, Option, Some, None, List, map}
 use Rattle.std.specs.List.{enumerate_from, filter}
 use Rattle.irp_types.specs.declared.names.IrpRef.{IrpRef}
@@ -24,7 +24,8 @@ abbrev pub Test : Type 0
 Test = ℕ → ℕ → Bool
 
 abbrev pub outcome : Test → ℕ × Step → Outcome
-outcome tokenless each = record { place = each.0; step = each.1; tokenless = tokenless each.1.seat each.0 }
+outcome tokenless each =
+    record { place = each.0; step = each.1; tokenless = tokenless each.1.seat each.0 }
 
 -- of all steps, where those finishes found no token of which the test says so
 abbrev pub outcomes : Test → List Step → List Outcome
@@ -36,7 +37,8 @@ told_act Calls tokenless = None
 told_act (OnLock on) tokenless = Some (lock_act on)
 told_act (Hands lock tag to) tokenless = Some (act.Hand lock tag to)
 told_act (OnSlot on) tokenless = Some (slot_act on)
-told_act (Finishes slot status information) tokenless = if tokenless then Some (act.FinishTaken slot) else None
+told_act (Finishes slot status information) tokenless =
+    if tokenless then Some (act.FinishTaken slot) else None
 
 -- the packet that stands for each, where a label's packet isn't known before the script runs
 abbrev pub any_packet : IrpRef

@@ -1,7 +1,16 @@
 //! What a step comes to, and what it asks for, once the packet that it names is known.
 
 ghost use Rattle.std.specs.Prelude.{◌≡◌};
-ghost use Rattle.irp_workers.specs.Deeds.{call_of, deed_of, lock_act, named_by, owners_call_of, plain_call_of, preparing_call_of, slot_act};
+ghost use Rattle.irp_workers.specs.Deeds.{
+  call_of,
+  deed_of,
+  lock_act,
+  named_by,
+  owners_call_of,
+  plain_call_of,
+  preparing_call_of,
+  slot_act,
+};
 
 use crate::deed::{Deed, LockAct, SlotAct};
 use irp_script_reader::{Named, StepAct};

@@ -1,6 +1,28 @@
 //! The steps of a worker.
 
-ghost use Rattle.std.specs.Prelude.{◌≡◌, ◌≢◌, ◌<◌, ◌+◌, ◌%◌, ◌==◌, ◌++◌, ◌∷◌, [], true, false, All, length, slice_get, vec_len, Contains, IfNone, IfOk, IfSome, MatchOption, Some};
+ghost use Rattle.std.specs.Prelude.{
+  ◌≡◌,
+  ◌≢◌,
+  ◌<◌,
+  ◌+◌,
+  ◌%◌,
+  ◌==◌,
+  ◌++◌,
+  ◌∷◌,
+  [],
+  true,
+  false,
+  All,
+  length,
+  slice_get,
+  vec_len,
+  Contains,
+  IfNone,
+  IfOk,
+  IfSome,
+  MatchOption,
+  Some,
+};
 ghost use Rattle.irp_workers.specs.Seats.{IsAtLocks, numbers_of, seats_at_work};
 ghost use Rattle.irp_workers.specs.Workers.{IsSameWorker, RunsOwn, work_of};
 ghost use Rattle.irp_workers.specs.Working.{HandsBetween, Makes, MakesEach, MakesHand, if_own};
@@ -96,7 +118,8 @@ impl<'a, L: Session> Worker<'a, L> {
     fn hand(&mut self, index: u32, step: Step, lock: LockNo, tag: u32, to: u32) -> Option<()>
         ensures same { IsSameWorker self.old self.new }
         ensures made { MatchOption result (work_of self.new ≡ work_of self.old)
-            (λ _. MakesHand L.fixed.locks index step lock tag to (work_of self.old) (work_of self.new)) }
+            (λ _. MakesHand L.fixed.locks index step lock tag to
+            (work_of self.old) (work_of self.new)) }
     {
         let from_at = self.place_of(step.seat)?;
         let to_at = self.place_of(to)?;

@@ -314,7 +314,8 @@ fn with_store<O: Out, T: Threads + Wait + Sync>(
     workers: Workers,
     store: Store,
 ) -> Result<(), Unfinished>
-    ensures { AfterScript script.now store.tables (O.gone output.old) (O.gone output.new) (O.failures output.old) (O.failures output.new) result }
+    ensures { AfterScript script.now store.tables (O.gone output.old) (O.gone output.new)
+        (O.failures output.old) (O.failures output.new) result }
 {
     let blank = Blank::new(u64::from(script.seats));
     let run = session::<Brand, T>(rt, alloc, blank, store, script, workers.number)?;
@@ -334,7 +335,9 @@ fn with_dispatches<O: Out, T: Threads + Wait + Sync>(
     workers: Workers,
     mut store: Store,
 ) -> Result<(), Unfinished>
-    ensures { AfterScript script.now (and_drivers script.now.drivers store.tables) (O.gone output.old) (O.gone output.new) (O.failures output.old) (O.failures output.new) result }
+    ensures { AfterScript script.now (and_drivers script.now.drivers store.tables)
+        (O.gone output.old) (O.gone output.new)
+        (O.failures output.old) (O.failures output.new) result }
 {
     let drivers = script.drivers.as_slice();
     for driver in drivers {
@@ -375,7 +378,9 @@ fn run_script<O: Out, T: Threads + Wait + Sync>(
     script: &Script,
     workers: Workers,
 ) -> Result<(), Unfinished>
-    ensures { AfterScript script.now (tables_of script.now) (O.gone output.old) (O.gone output.new) (O.failures output.old) (O.failures output.new) result }
+    ensures { AfterScript script.now (tables_of script.now)
+        (O.gone output.old) (O.gone output.new)
+        (O.failures output.old) (O.failures output.new) result }
 {
     let mut store = Store::new(alloc);
     let routines = script.completions.as_slice();
@@ -430,7 +435,9 @@ pub fn run<R: Read, O: Out, T: Threads + Wait + Sync>(
     workers: u32,
 ) -> Result<(), RunFault>
     requires { 0 < workers }
-    ensures after { AfterRun workers (R.remaining input.old) (R.remaining input.new) (O.gone output.old) (O.gone output.new) (O.failures output.old) (O.failures output.new) result }
+    ensures after { AfterRun workers (R.remaining input.old) (R.remaining input.new)
+        (O.gone output.old) (O.gone output.new)
+        (O.failures output.old) (O.failures output.new) result }
     ensures took { TakesAtMost most_taken (R.remaining input.old) (R.remaining input.new) }
 {
     let script = script_of(alloc, input)?;
