@@ -9,7 +9,7 @@ use Rattle.irp_remove.specs.Core.{flag}
 use Rattle.irp_remove.specs.Seats.{Holder}
 use Rattle.irp_script_reader.specs.declared.act.StepAct.{StepAct}
 use Rattle.irp_shared.specs.Sharing.{Called}
-use Rattle.irp_workers.specs.Deeds.{IsNamed, call_of}
+use Rattle.irp_workers.specs.StepKinds.{IsNamed, call_of}
 
 -- which locks a remove seat found drained
 abbrev pub found_drained : Holder → LockNo → Bool

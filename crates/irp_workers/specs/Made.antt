@@ -20,7 +20,7 @@ use Rattle.irp_types.specs.declared.call.Call.TheVariants.{
 use Rattle.irp_types.specs.declared.entry.Entry.{Entry}
 use Rattle.irp_manager.specs.Seats.{Seated}
 use Rattle.irp_remove.specs.Seats.{Holder}
-use Rattle.irp_workers.specs.Deeds.{deed_of}
+use Rattle.irp_workers.specs.StepKinds.{kind_of}
 use Rattle.irp_workers.specs.Outcomes.{Outcome, any_packet, nameless_call}
 use Rattle.irp_workers.specs.Pairs.{Pair, pair_of}
 
@@ -45,7 +45,7 @@ nameless other = other
 abbrev pub call_by : ℕ → Outcome → Option Call
 call_by seat out =
     if seat == out.step.seat
-    then nameless_call (deed_of out.step.act) out.step.act out.tokenless
+    then nameless_call (kind_of out.step.act) out.step.act out.tokenless
     else None
 
 -- the calls of a seat's steps, in order

@@ -9,9 +9,15 @@ use Rattle.irp_shared.specs.declared.word_line.Act.{Act}
 use Rattle.irp_shared.specs.declared.word_line.Act.TheVariants as act
 use Rattle.irp_script_reader.specs.declared.act.Step.{Step}
 use Rattle.irp_script_reader.specs.declared.act.StepAct.{StepAct}
-use Rattle.irp_workers.specs.declared.deed.Deed.{Deed}
-use Rattle.irp_workers.specs.declared.deed.Deed.TheVariants.{Calls, OnLock, Hands, OnSlot, Finishes}
-use Rattle.irp_workers.specs.Deeds.{call_of, lock_act, slot_act}
+use Rattle.irp_workers.specs.declared.step_kind.StepKind.{StepKind}
+use Rattle.irp_workers.specs.declared.step_kind.StepKind.TheVariants.{
+  Calls,
+  OnLock,
+  Hands,
+  OnSlot,
+  Finishes,
+}
+use Rattle.irp_workers.specs.StepKinds.{call_of, lock_act, slot_act}
 
 -- a step, its place among the steps, and whether it was a finish that found no token
 pub record Outcome : Type 0 where
@@ -32,7 +38,7 @@ abbrev pub outcomes : Test → List Step → List Outcome
 outcomes tokenless steps = map (outcome tokenless) (enumerate_from 0 steps)
 
 -- the act that a word line tells of
-abbrev pub told_act : Deed → Bool → Option Act
+abbrev pub told_act : StepKind → Bool → Option Act
 told_act Calls tokenless = None
 told_act (OnLock on) tokenless = Some (lock_act on)
 told_act (Hands lock tag to) tokenless = Some (act.Hand lock tag to)
@@ -45,7 +51,7 @@ abbrev pub any_packet : IrpRef
 any_packet = record { slot = 0; use_no = 0 }
 
 -- the call, with that packet in the place of its own, and 0 in the place of a token
-abbrev pub nameless_call : Deed → StepAct → Bool → Option Call
+abbrev pub nameless_call : StepKind → StepAct → Bool → Option Call
 nameless_call Calls act tokenless = call_of act any_packet
 nameless_call (OnLock on) act tokenless = None
 nameless_call (Hands lock tag to) act tokenless = None

@@ -38,14 +38,20 @@ use Rattle.irp_shared.specs.declared.word_line.WordLine.{WordLine}
 use Rattle.irp_shared.specs.declared.word_line.WordReply.{WordReply}
 use Rattle.irp_shared.specs.declared.word_line.WordReply.TheVariants.{NoToken}
 use Rattle.irp_script_reader.specs.declared.act.Step.{Step}
-use Rattle.irp_workers.specs.declared.deed.LockAct.{LockAct}
-use Rattle.irp_workers.specs.declared.deed.SlotAct.{SlotAct}
-use Rattle.irp_workers.specs.declared.deed.Deed.{Deed}
-use Rattle.irp_workers.specs.declared.deed.Deed.TheVariants.{Calls, OnLock, Hands, OnSlot, Finishes}
+use Rattle.irp_workers.specs.declared.step_kind.LockAct.{LockAct}
+use Rattle.irp_workers.specs.declared.step_kind.SlotAct.{SlotAct}
+use Rattle.irp_workers.specs.declared.step_kind.StepKind.{StepKind}
+use Rattle.irp_workers.specs.declared.step_kind.StepKind.TheVariants.{
+  Calls,
+  OnLock,
+  Hands,
+  OnSlot,
+  Finishes,
+}
 use Rattle.irp_workers.specs.Acts.{Acts, HandActs, SlotActs}
 use Rattle.irp_slot_parties.specs.AtSlots.{AtSlots, IsSpent, fresh}
 use Rattle.irp_workers.specs.Calling.{CallsFor}
-use Rattle.irp_workers.specs.Deeds.{IsNamed, deed_of, lock_act, slot_act}
+use Rattle.irp_workers.specs.StepKinds.{IsNamed, kind_of, lock_act, slot_act}
 use Rattle.irp_workers.specs.Outcomes.{is_own_step, own_placed}
 use Rattle.irp_workers.specs.Numbers.{EachAsOften}
 
@@ -134,7 +140,7 @@ pub record FindsNoToken (place : ℕ) (step : Step) (slot : ℕ) (before after :
   pub told : Tells place step (act.FinishTaken slot) NoToken lines longer
 
 -- what a step of this place does to its own seat and to the lines. A hand does more
-abbrev pub Does : ℕ → ℕ → Step → Deed → AtWork → AtWork → List WordLine → List WordLine → Type 0
+abbrev pub Does : ℕ → ℕ → Step → StepKind → AtWork → AtWork → List WordLine → List WordLine → Type 0
 Does count place step Calls before after lines longer = MakesCall step before after lines longer
 Does count place step (OnLock on) before after lines longer =
     ActsOnLock count place step on before after lines longer
@@ -146,14 +152,14 @@ Does count place step (Finishes slot status information) before after lines long
 Does count place step (Hands lock tag to) before after lines longer = ⊥
 
 -- the seat that the step names made it, and the others stay
-pub record MakesAlone (count place : ℕ) (step : Step) (deed : Deed) (before after : Working)
+pub record MakesAlone (count place : ℕ) (step : Step) (kind : StepKind) (before after : Working)
     : Type 0 where
   pub at : ℕ
   pub old : AtWork
   pub new : AtWork
   pub there : slice_get before.seats at ≡ Some old
   pub named : old.seat.number ≡ step.seat
-  pub did : Does count place step deed old new before.lines after.lines
+  pub did : Does count place step kind old new before.lines after.lines
   pub others : after.seats ≡ slice_set before.seats at new
 
 -- one of so many locks' acquisitions went from the one seat to the other, or was refused
@@ -191,7 +197,7 @@ pub record MakesHand (count place : ℕ) (step : Step) (lock : LockNo) (tag to :
   pub told : Tells place step (act.Hand lock tag to) reply before.lines after.lines
 
 -- a step of this place was made
-abbrev pub MakesBy : ℕ → ℕ → Step → Deed → Working → Working → Type 0
+abbrev pub MakesBy : ℕ → ℕ → Step → StepKind → Working → Working → Type 0
 MakesBy count place step (Hands lock tag to) before after =
     MakesHand count place step lock tag to before after
 MakesBy count place step Calls before after = MakesAlone count place step Calls before after
@@ -203,7 +209,7 @@ MakesBy count place step (Finishes slot status information) before after =
     MakesAlone count place step (Finishes slot status information) before after
 
 abbrev pub Makes : ℕ → ℕ → Step → Working → Working → Type 0
-Makes count place step before after = MakesBy count place step (deed_of step.act) before after
+Makes count place step before after = MakesBy count place step (kind_of step.act) before after
 
 -- the same of steps with their places, one after the other
 abbrev pub MakesEach : ℕ → List (ℕ × Step) → Working → Working → Type 0

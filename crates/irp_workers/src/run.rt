@@ -30,10 +30,10 @@ ghost use Rattle.irp_workers.specs.Working.{RunsScript};
 use crate::gate::{AlwaysOpen, Gate};
 use crate::labels::Labels;
 use crate::meeting::Meeting;
+use crate::run_context::RunContext;
 use crate::script_seat::ScriptSeat;
 use crate::words::put_in_order;
 use crate::worker::Worker;
-use crate::workplace::Workplace;
 use irp_remove::{Locks, RemoveSeat};
 use irp_routines::Ask;
 use irp_script_reader::{Script, Step};
@@ -182,7 +182,7 @@ fn deal<'a, L: Session>(
 /// Each worker runs in a thread of its own, and comes back with its seats.
 fn run_all<'a, A: Ask + Send, L: Session + Send + Sync, G: Gate + Sync, R: Threads + Wait + Sync>(
     rt: &R,
-    place: &Workplace<A, L>,
+    context: &RunContext<A, L>,
     meeting: &Meeting,
     gate: &G,
     steps: &[Step],
@@ -196,7 +196,7 @@ fn run_all<'a, A: Ask + Send, L: Session + Send + Sync, G: Gate + Sync, R: Threa
     thread::map_vec(
         rt,
         workers,
-        &|worker| worker.run(rt, place, meeting, gate, steps),
+        &|worker| worker.run(rt, context, meeting, gate, steps),
     )
 }
 
@@ -300,10 +300,10 @@ pub fn run_workers<
 {
     let _ = slots;
     let labels = Labels::new(alloc, script.labels)?;
-    let place = Workplace { shared, labels };
+    let context = RunContext { shared, labels };
     let all = Worker::new(alloc, 0, 1, locks, seats);
     let alone = Meeting::new(1);
-    let ready = all.run(rt, &place, &alone, &AlwaysOpen, script.setup.as_slice());
+    let ready = all.run(rt, &context, &alone, &AlwaysOpen, script.setup.as_slice());
     if ready.stopped {
         let seats = ready.seats;
         let words = Vec::new(alloc);
@@ -317,6 +317,6 @@ pub fn run_workers<
     let steps = script.steps.as_slice();
     let groups = deal(alloc, locks, workers, ready.seats)?;
     let meeting = Meeting::new(workers);
-    let done = run_all(rt, &place, &meeting, gate, steps, groups)?;
+    let done = run_all(rt, &context, &meeting, gate, steps, groups)?;
     gather(alloc, done)
 }

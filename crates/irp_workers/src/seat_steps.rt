@@ -6,14 +6,14 @@ ghost use Rattle.irp_remove.specs.Pairing.{lock_count};
 ghost use Rattle.irp_shared.specs.Sharing.{IsAsBefore};
 ghost use Rattle.irp_workers.specs.Acts.{Acts, SlotActs};
 ghost use Rattle.irp_workers.specs.Calling.{CallsFor};
-ghost use Rattle.irp_workers.specs.Deeds.{deed_of};
+ghost use Rattle.irp_workers.specs.StepKinds.{kind_of};
 ghost use Rattle.irp_workers.specs.Seats.{seat_at_work};
 ghost use Rattle.irp_workers.specs.Working.{ActsOnLock, ActsOnSlot, Does, HandsOver, Stays, Tells};
 
-use crate::deed::{Deed, LockAct, SlotAct};
+use crate::run_context::RunContext;
 use crate::script_seat::ScriptSeat;
-use crate::step_call::{call_of, deed_of, lock_act, slot_act};
-use crate::workplace::Workplace;
+use crate::step_call::{call_of, kind_of, lock_act, slot_act};
+use crate::step_kind::{LockAct, SlotAct, StepKind};
 use irp_remove::{AcquireRefusal, BeginRefusal, DrainRefusal, HandRefusal, ReleaseRefusal};
 use irp_routines::Ask;
 use irp_script_reader::Step;
@@ -37,18 +37,18 @@ pub fn tell(words: &mut Vec<WordLine>, index: u32, step: Step, act: Act, reply: 
 impl<'a, L: Session> ScriptSeat<'a, L> {
     /// Makes the call of a step once, with what the remove seat knows of the locks, and binds the label that the step
     /// binds. None where the step has no call, or it wasn't recorded, and then the seat says what it said.
-    fn call<A: Ask>(&mut self, rt: &impl Wait, place: &Workplace<A, L>, step: Step) -> Option<()>
+    fn call<A: Ask>(&mut self, rt: &impl Wait, context: &RunContext<A, L>, step: Step) -> Option<()>
         ensures remove { self.new.remove ≡ self.old.remove }
         ensures parties { self.new.parties ≡ self.old.parties }
         ensures called { MatchOption result (IsAsBefore self.old.seat self.new.seat)
             (λ _. CallsFor step.act self.old.remove self.old.seat self.new.seat) }
     {
-        let irp = place.labels.packet_of(rt, step.act);
+        let irp = context.labels.packet_of(rt, step.act);
         let call = call_of(step.act, irp)?;
         let seat = &mut self.seat;
-        match place.shared.call(rt, seat, call, &self.remove) {
+        match context.shared.call(rt, seat, call, &self.remove) {
             Ok(receipt) => {
-                place.labels.learn(rt, step.act, receipt.reply());
+                context.labels.learn(rt, step.act, receipt.reply());
                 Some(())
             }
             Err(_) => None,
@@ -151,7 +151,7 @@ impl<'a, L: Session> ScriptSeat<'a, L> {
     fn act_at_slot<A: Ask>(
         &mut self,
         rt: &impl Wait,
-        place: &Workplace<A, L>,
+        context: &RunContext<A, L>,
         step: Step,
         on: SlotAct,
     ) -> Option<WordReply>
@@ -162,7 +162,7 @@ impl<'a, L: Session> ScriptSeat<'a, L> {
     {
         match on {
             SlotAct::Publish { slot } => {
-                let irp = place.labels.packet_of(rt, step.act);
+                let irp = context.labels.packet_of(rt, step.act);
                 self.parties.publish(slot, irp)
             }
             SlotAct::Withdraw { slot } => self.parties.withdraw(slot),
@@ -195,7 +195,7 @@ impl<'a, L: Session> ScriptSeat<'a, L> {
     fn step_on_slot<A: Ask>(
         &mut self,
         rt: &impl Wait,
-        place: &Workplace<A, L>,
+        context: &RunContext<A, L>,
         index: u32,
         step: Step,
         on: SlotAct,
@@ -208,7 +208,7 @@ impl<'a, L: Session> ScriptSeat<'a, L> {
             words.old.items words.new.items) }
     {
         words.reserve(1).ok()?;
-        let reply = self.act_at_slot(rt, place, step, on)?;
+        let reply = self.act_at_slot(rt, context, step, on)?;
         tell(words, index, step, slot_act(on), reply);
         Some(())
     }
@@ -242,7 +242,7 @@ impl<'a, L: Session> ScriptSeat<'a, L> {
     fn finish<A: Ask>(
         &mut self,
         rt: &impl Wait,
-        place: &Workplace<A, L>,
+        context: &RunContext<A, L>,
         index: u32,
         step: Step,
         slot: u32,
@@ -252,16 +252,16 @@ impl<'a, L: Session> ScriptSeat<'a, L> {
     ) -> Option<()>
         ensures { MatchOption result
             (Stays (seat_at_work self.old) (seat_at_work self.new) words.old.items words.new.items)
-            (λ _. Does L.fixed.locks index step (Deed.Finishes slot status information)
+            (λ _. Does L.fixed.locks index step (StepKind.Finishes slot status information)
             (seat_at_work self.old) (seat_at_work self.new)
             words.old.items words.new.items) }
     {
         let Some((at, token)) = self.parties.take(slot) else {
             return self.finish_none(index, step, slot, words);
         };
-        let irp = place.labels.packet_of(rt, step.act);
+        let irp = context.labels.packet_of(rt, step.act);
         let seat = &mut self.seat;
-        match place
+        match context
             .shared
             .finish_taken(rt, seat, irp, token, status, information)
         {
@@ -284,28 +284,28 @@ impl<'a, L: Session> ScriptSeat<'a, L> {
     pub fn step<A: Ask>(
         &mut self,
         rt: &impl Wait,
-        place: &Workplace<A, L>,
+        context: &RunContext<A, L>,
         index: u32,
         step: Step,
         words: &mut Vec<WordLine>,
     ) -> Option<()>
         ensures does { MatchOption result
             (Stays (seat_at_work self.old) (seat_at_work self.new) words.old.items words.new.items)
-            (λ _. Does L.fixed.locks index step (deed_of step.act)
+            (λ _. Does L.fixed.locks index step (kind_of step.act)
             (seat_at_work self.old) (seat_at_work self.new)
             words.old.items words.new.items) }
         ensures same { IsSameSeat self.old.remove self.new.remove }
     {
-        match deed_of(step.act) {
-            Deed::Calls => self.call(rt, place, step),
-            Deed::OnLock(on) => self.step_on_lock(index, step, on, words),
-            Deed::OnSlot(on) => self.step_on_slot(rt, place, index, step, on, words),
-            Deed::Finishes {
+        match kind_of(step.act) {
+            StepKind::Calls => self.call(rt, context, step),
+            StepKind::OnLock(on) => self.step_on_lock(index, step, on, words),
+            StepKind::OnSlot(on) => self.step_on_slot(rt, context, index, step, on, words),
+            StepKind::Finishes {
                 slot,
                 status,
                 information,
-            } => self.finish(rt, place, index, step, slot, status, information, words),
-            Deed::Hands { .. } => None,
+            } => self.finish(rt, context, index, step, slot, status, information, words),
+            StepKind::Hands { .. } => None,
         }
     }
 }

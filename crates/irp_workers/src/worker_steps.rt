@@ -27,14 +27,14 @@ ghost use Rattle.irp_workers.specs.Seats.{IsAtLocks, numbers_of, seats_at_work};
 ghost use Rattle.irp_workers.specs.Workers.{IsSameWorker, RunsOwn, work_of};
 ghost use Rattle.irp_workers.specs.Working.{HandsBetween, Makes, MakesEach, MakesHand, if_own};
 
-use crate::deed::Deed;
 use crate::gate::Gate;
 use crate::meeting::Meeting;
+use crate::run_context::RunContext;
 use crate::script_seat::ScriptSeat;
 use crate::seat_steps::tell;
-use crate::step_call::deed_of;
+use crate::step_call::kind_of;
+use crate::step_kind::StepKind;
 use crate::worker::Worker;
-use crate::workplace::Workplace;
 use irp_remove::Locks;
 use irp_routines::Ask;
 use irp_script_reader::Step;
@@ -144,7 +144,7 @@ impl<'a, L: Session> Worker<'a, L> {
     fn step<A: Ask>(
         &mut self,
         rt: &impl Wait,
-        place: &Workplace<A, L>,
+        context: &RunContext<A, L>,
         index: u32,
         step: Step,
     ) -> Option<()>
@@ -152,19 +152,19 @@ impl<'a, L: Session> Worker<'a, L> {
         ensures made { MatchOption result (work_of self.new ≡ work_of self.old)
             (λ _. Makes L.fixed.locks index step (work_of self.old) (work_of self.new)) }
     {
-        if let Deed::Hands { lock, tag, to } = deed_of(step.act) {
+        if let StepKind::Hands { lock, tag, to } = kind_of(step.act) {
             return self.hand(index, step, lock, tag, to);
         }
         let at = self.place_of(step.seat)?;
         let own = &mut self.seats[at];
-        own.step(rt, place, index, step, &mut self.words)
+        own.step(rt, context, index, step, &mut self.words)
     }
 
     /// Makes a step between the calls of the gate. None where it wasn't made.
     fn pass<A: Ask, G: Gate>(
         &mut self,
         rt: &impl Wait,
-        place: &Workplace<A, L>,
+        context: &RunContext<A, L>,
         gate: &G,
         index: usize,
         step: Step,
@@ -177,7 +177,7 @@ impl<'a, L: Session> Worker<'a, L> {
             return None;
         };
         gate.enter(step.seat, index);
-        let made = self.step(rt, place, index, step);
+        let made = self.step(rt, context, index, step);
         gate.answered(step.seat, index);
         made
     }
@@ -193,7 +193,7 @@ impl<'a, L: Session> Worker<'a, L> {
     fn turn<A: Ask, G: Gate>(
         &mut self,
         rt: &impl Wait,
-        place: &Workplace<A, L>,
+        context: &RunContext<A, L>,
         meeting: &Meeting,
         gate: &G,
         index: usize,
@@ -209,7 +209,7 @@ impl<'a, L: Session> Worker<'a, L> {
             return true;
         }
         meeting.meet();
-        self.pass(rt, place, gate, index, step).is_some()
+        self.pass(rt, context, gate, index, step).is_some()
     }
 
     /// Runs the steps of its own seats, in the order of the script, up to the first that isn't made, and leaves the
@@ -219,7 +219,7 @@ impl<'a, L: Session> Worker<'a, L> {
     pub fn run<A: Ask, G: Gate>(
         mut self,
         rt: &impl Wait,
-        place: &Workplace<A, L>,
+        context: &RunContext<A, L>,
         meeting: &Meeting,
         gate: &G,
         steps: &[Step],
@@ -228,7 +228,7 @@ impl<'a, L: Session> Worker<'a, L> {
         ensures made { RunsOwn L.fixed.locks steps.now self.entry result }
     {
         for (index, step) in steps.iter().enumerate() {
-            if !self.turn(rt, place, meeting, gate, index, *step) {
+            if !self.turn(rt, context, meeting, gate, index, *step) {
                 self.stopped = true;
                 meeting.leave();
                 return self;
