@@ -5,7 +5,7 @@ use Rattle.std.proofs.lemmas.List.{append-nil, append_assoc}
 use Rattle.std.proofs.lemmas.List.Elements.{filter_map-append}
 use Rattle.std.proofs.lemmas.List.Sums.{sum_by-cons}
 use Rattle.irp_types.specs.declared.call.Call.{Call}
-use Rattle.irp_workers.specs.Deeds.{deed_of}
+use Rattle.irp_workers.specs.StepKinds.{kind_of}
 use Rattle.irp_workers.specs.Made.{SeatCalls, NoneTwice, call_by, calls_of, once_made}
 use Rattle.irp_workers.specs.Outcomes.{Outcome, nameless_call}
 use Rattle.irp_workers.specs.Pairs.{Pair}
@@ -16,7 +16,7 @@ with_calls before calls = record { pair = before.pair; calls = calls }
 -- a step of another seat
 other_call : (out : Outcome) (told : SeatCalls) → (told.pair.seat == out.step.seat) ≡ false → once_made (out ∷ []) told ≡ told
 other_call out told other =
-    ap (λ b. with_calls told (told.calls ++ cons_option (cond b (nameless_call (deed_of out.step.act) out.step.act out.tokenless) None) [])) other
+    ap (λ b. with_calls told (told.calls ++ cons_option (cond b (nameless_call (kind_of out.step.act) out.step.act out.tokenless) None) [])) other
     ∙ ap (with_calls told) (append-nil told.calls)
 
 none_counted : (b : Bool) → ◌≡◌ {A = ℕ} (cond b 1 0) 0 → b ≡ false

@@ -9,11 +9,11 @@ use Rattle.irp_types.specs.declared.call.Call.{Call}
 use Rattle.irp_types.specs.declared.entry.Entry.{Entry}
 use Rattle.irp_shared.specs.declared.word_line.WordLine.{WordLine}
 use Rattle.irp_script_reader.specs.declared.act.Step.{Step}
-use Rattle.irp_workers.specs.declared.deed.Deed.{Deed}
-use Rattle.irp_workers.specs.declared.deed.Deed.TheVariants.{Calls, OnLock, Hands, OnSlot, Finishes}
+use Rattle.irp_workers.specs.declared.step_kind.StepKind.{StepKind}
+use Rattle.irp_workers.specs.declared.step_kind.StepKind.TheVariants.{Calls, OnLock, Hands, OnSlot, Finishes}
 use Rattle.irp_workers.specs.Accounts.{calls_at, pair_at}
-use Rattle.irp_workers.specs.Deeds.{deed_of}
-use Rattle.irp_workers.specs.Made.{NoneTwice, SeatCalls, nameless, once_made}
+use Rattle.irp_workers.specs.StepKinds.{kind_of}
+use Rattle.irp_workers.specs.Made.{NoneTwice, SeatCalls, calls_in, nameless, once_made}
 use Rattle.irp_workers.specs.Outcomes.{Outcome, nameless_call, told_act}
 use Rattle.irp_workers.specs.Words.{told_by, word_step, word_step_of}
 use Rattle.irp_workers.specs.Working.{AtWork, Does, Makes, MakesAlone, MakesBy, MakesHand, Working}
@@ -21,15 +21,12 @@ use Rattle.irp_workers.proofs.Making.{called_at}
 use Rattle.irp_workers.proofs.Numbers.{map_set_same}
 use Rattle.irp_workers.proofs.StepCalls.{nameless_of}
 
-abbrev calls_in : List Entry → List Call
-calls_in entries = map (λ (entry : Entry). nameless entry.call) entries
-
 -- what one seat and the lines tell of a step
-record CameOut (place : ℕ) (step : Step) (deed : Deed) (old new : AtWork) (lines longer : List WordLine) : Type 0 where
+record CameOut (place : ℕ) (step : Step) (kind : StepKind) (old new : AtWork) (lines longer : List WordLine) : Type 0 where
   tokenless : Bool
-  told : map told_by longer ≡ map told_by lines ++ option_to_list (word_step step.seat place (told_act deed tokenless))
+  told : map told_by longer ≡ map told_by lines ++ option_to_list (word_step step.seat place (told_act kind tokenless))
   pair : pair_at new ≡ pair_at old
-  calls : calls_in new.seat.entries ≡ calls_in old.seat.entries ++ option_to_list (nameless_call deed step.act tokenless)
+  calls : calls_in new.seat.entries ≡ calls_in old.seat.entries ++ option_to_list (nameless_call kind step.act tokenless)
 
 -- one entry more
 one_call : (old new : List Entry) (entry : Entry) (made : Call) → new ≡ old ++ entry ∷ [] → entry.call ≡ made → calls_in new ≡ calls_in old ++ nameless made ∷ []
@@ -45,8 +42,8 @@ one_told lines longer line is = ap (map told_by) is ∙ map_push told_by lines l
 no_call_more : (old new : AtWork) → new.seat ≡ old.seat → calls_in new.seat.entries ≡ calls_in old.seat.entries ++ []
 no_call_more old new same = ap (λ seat. calls_in seat.entries) same ∙ sym (append-nil (calls_in old.seat.entries))
 
-came_out : (count place : ℕ) (step : Step) (deed : Deed) (old new : AtWork) (lines longer : List WordLine)
-    → Does count place step deed old new lines longer → CameOut place step deed old new lines longer
+came_out : (count place : ℕ) (step : Step) (kind : StepKind) (old new : AtWork) (lines longer : List WordLine)
+    → Does count place step kind old new lines longer → CameOut place step kind old new lines longer
 came_out count place step Calls old new lines longer did = record {
   tokenless = false;
   told = none_told lines longer did.silent;
@@ -95,18 +92,18 @@ cons_none (Some x) = refl
 
 -- the seat that made a step has made its call
 once_own : (place : ℕ) (step : Step) (tokenless : Bool) (old new : AtWork) → pair_at new ≡ pair_at old → old.seat.number ≡ step.seat
-    → calls_in new.seat.entries ≡ calls_in old.seat.entries ++ option_to_list (nameless_call (deed_of step.act) step.act tokenless)
+    → calls_in new.seat.entries ≡ calls_in old.seat.entries ++ option_to_list (nameless_call (kind_of step.act) step.act tokenless)
     → calls_at new ≡ once_made (out_of place step tokenless ∷ []) (calls_at old)
 once_own place step tokenless old new pair named calls =
-    let made = nameless_call (deed_of step.act) step.act tokenless in
+    let made = nameless_call (kind_of step.act) step.act tokenless in
     let all : calls_in new.seat.entries ≡ calls_in old.seat.entries ++ cons_option (cond (old.seat.number == step.seat) made None) [] =
     calls ∙ ap (λ more. calls_in old.seat.entries ++ more) (sym (ap (λ b. cons_option (cond b made None) []) (eq-eqb old.seat.number step.seat named) ∙ cons_none made)) in
     λ i. record { pair = pair i; calls = all i }
 
-alone : (count place : ℕ) (step : Step) (before after : Working) → MakesAlone count place step (deed_of step.act) before after
+alone : (count place : ℕ) (step : Step) (before after : Working) → MakesAlone count place step (kind_of step.act) before after
     → (tokenless : Bool) × Comes (out_of place step tokenless) before after
 alone count place step before after made =
-    let out = came_out count place step (deed_of step.act) made.old made.new before.lines after.lines made.did in
+    let out = came_out count place step (kind_of step.act) made.old made.new before.lines after.lines made.did in
     let lt = slice_get_within before.seats made.at made.old made.there in
     let here = get_or_from_slice_get before.seats made.at made.old made.old made.there in (
       out.tokenless,
@@ -133,15 +130,15 @@ no_call : (b : Bool) → ◌≡◌ {A = Option Call} (cond b None None) None
 no_call true = refl
 no_call false = refl
 
-uncalled : (place : ℕ) (step : Step) (tokenless : Bool) → nameless_call (deed_of step.act) step.act tokenless ≡ None → (all : List SeatCalls) → map (once_made (out_of place step tokenless ∷ [])) all ≡ all
+uncalled : (place : ℕ) (step : Step) (tokenless : Bool) → nameless_call (kind_of step.act) step.act tokenless ≡ None → (all : List SeatCalls) → map (once_made (out_of place step tokenless ∷ [])) all ≡ all
 uncalled place step tokenless none [] = refl
 uncalled place step tokenless none (told ∷ all) =
-    let here : told.calls ++ cons_option (cond (told.pair.seat == step.seat) (nameless_call (deed_of step.act) step.act tokenless) None) [] ≡ told.calls =
+    let here : told.calls ++ cons_option (cond (told.pair.seat == step.seat) (nameless_call (kind_of step.act) step.act tokenless) None) [] ≡ told.calls =
     ap (λ made. told.calls ++ cons_option (cond (told.pair.seat == step.seat) made None) []) none
     ∙ ap (λ made. told.calls ++ cons_option made []) (no_call (told.pair.seat == step.seat)) ∙ append-nil told.calls in
     λ i. record { pair = told.pair; calls = here i } ∷ uncalled place step tokenless none all i
 
-handed : (count place : ℕ) (step : Step) (before after : Working) (lock : LockNo) (tag to : ℕ) → deed_of step.act ≡ Hands lock tag to → MakesHand count place step lock tag to before after
+handed : (count place : ℕ) (step : Step) (before after : Working) (lock : LockNo) (tag to : ℕ) → kind_of step.act ≡ Hands lock tag to → MakesHand count place step lock tag to before after
     → Comes (out_of place step false) before after
 handed count place step before after lock tag to is made =
     let two = made.between in
@@ -158,21 +155,21 @@ handed count place step before after lock tag to is made =
     let taker_calls : calls_at two.taker_after ≡ calls_at two.taker =
     λ i. record { pair = taker_pair i; calls = calls_in (two.handed.taker_rest i).seat.entries } in
     record {
-      told = one_told before.lines after.lines _ made.told ∙ ap (λ deed. map told_by before.lines ++ option_to_list (word_step step.seat place (told_act deed false))) (sym is);
+      told = one_told before.lines after.lines _ made.told ∙ ap (λ kind. map told_by before.lines ++ option_to_list (word_step step.seat place (told_act kind false))) (sym is);
       pairs = ap (map pair_at) two.others
           ∙ two_set_same pair_at before.seats made.from_at made.to_at two.giver two.taker two.giver_after two.taker_after made.apart from_lt to_lt from_here to_here giver_pair taker_pair;
       called = λ once.
           ap (map calls_at) two.others
           ∙ two_set_same calls_at before.seats made.from_at made.to_at two.giver two.taker two.giver_after two.taker_after made.apart from_lt to_lt from_here to_here giver_calls taker_calls
-          ∙ sym (uncalled place step false (ap (λ deed. nameless_call deed step.act false) is) (map calls_at before.seats));
+          ∙ sym (uncalled place step false (ap (λ kind. nameless_call kind step.act false) is) (map calls_at before.seats));
     }
 
--- the same of a deed that is known to be the step's
-alone_by : (count place : ℕ) (step : Step) (before after : Working) (deed : Deed) → deed_of step.act ≡ deed → MakesAlone count place step deed before after
-    → MakesAlone count place step (deed_of step.act) before after
-alone_by count place step before after deed is made = subst (λ some. MakesAlone count place step some before after) (sym is) made
+-- the same of a kind that is known to be the step's
+alone_by : (count place : ℕ) (step : Step) (before after : Working) (kind : StepKind) → kind_of step.act ≡ kind → MakesAlone count place step kind before after
+    → MakesAlone count place step (kind_of step.act) before after
+alone_by count place step before after kind is made = subst (λ some. MakesAlone count place step some before after) (sym is) made
 
-by_deed : (count place : ℕ) (step : Step) (before after : Working) (deed : Deed) → deed_of step.act ≡ deed → MakesBy count place step deed before after
+by_deed : (count place : ℕ) (step : Step) (before after : Working) (kind : StepKind) → kind_of step.act ≡ kind → MakesBy count place step kind before after
     → (tokenless : Bool) × Comes (out_of place step tokenless) before after
 by_deed count place step before after (Hands lock tag to) is made = (false, handed count place step before after lock tag to is made)
 by_deed count place step before after Calls is made = alone count place step before after (alone_by count place step before after Calls is made)
@@ -184,4 +181,4 @@ by_deed count place step before after (Finishes slot status information) is made
 -- a step comes out in one way
 pub comes : (count place : ℕ) (step : Step) (before after : Working) → Makes count place step before after
     → (tokenless : Bool) × Comes (out_of place step tokenless) before after
-comes count place step before after made = by_deed count place step before after (deed_of step.act) refl made
+comes count place step before after made = by_deed count place step before after (kind_of step.act) refl made

@@ -9,7 +9,7 @@ use Rattle.std.proofs.lemmas.List.Concat.{flat_map-cons}
 use Rattle.std.proofs.lemmas.List.Elements.{filter-append}
 use Rattle.std.proofs.lemmas.List.Sums.{sum_by-append, sum_by-cons}
 use Rattle.irp_script_reader.specs.declared.act.Step.{Step}
-use Rattle.irp_workers.specs.Deeds.{deed_of}
+use Rattle.irp_workers.specs.StepKinds.{kind_of}
 use Rattle.irp_workers.specs.Made.{call_by, calls_of}
 use Rattle.irp_workers.specs.Outcomes.{Test, is_own_placed, nameless_call, outcome}
 use Rattle.irp_workers.specs.Words.{WordStep, word_step_of, word_steps}
@@ -41,7 +41,7 @@ calls_own tokenless seat number workers [] own = refl
 calls_own tokenless seat number workers (x ∷ xs) own =
     let rest = filter (is_own_placed number workers) xs in
     let more = calls_own tokenless seat number workers xs own in
-    let made = nameless_call (deed_of x.1.act) x.1.act (tokenless x.1.seat x.0) in
+    let made = nameless_call (kind_of x.1.act) x.1.act (tokenless x.1.seat x.0) in
     elim (eqb_tells (x.1.seat % workers) number) as (λ _. calls_of seat (map (outcome tokenless) (cond (x.1.seat % workers == number) (x ∷ rest) rest)) ≡ calls_of seat (map (outcome tokenless) (x ∷ xs))) [
       | inl is ↦
           subst (λ b. calls_of seat (map (outcome tokenless) (cond b (x ∷ rest) rest)) ≡ calls_of seat (map (outcome tokenless) (x ∷ xs))) (sym is.0)

@@ -7,7 +7,7 @@ use Rattle.irp_types.specs.declared.call.Call.{Call}
 use Rattle.irp_shared.specs.Sharing.{needs_token}
 use Rattle.irp_script_reader.specs.declared.act.StepAct.{StepAct}
 use Rattle.irp_script_reader.specs.declared.act.StepAct.TheVariants.{CreateDevice, Attach, Detach, Delete, Allocate, Free, Reuse, SetNext, CopyToNext, Skip, SetRoutine, MarkPending, CallDriver, Complete, SetCancelRoutine, Cancel, Look, Acquire, Release, BeginRemove, Drained, Hand, Publish, Withdraw, Request, FinishTaken}
-use Rattle.irp_workers.specs.Deeds.{call_of}
+use Rattle.irp_workers.specs.StepKinds.{call_of}
 use Rattle.irp_workers.specs.Made.{nameless}
 use Rattle.irp_workers.specs.Outcomes.{any_packet}
 

@@ -20,12 +20,12 @@ use Rattle.irp_slots.specs.declared.answers.Token.{Token}
 use Rattle.irp_shared.specs.Sharing.{Called, IsAsBefore, given_back}
 use Rattle.irp_shared.specs.declared.word_line.WordLine.{WordLine}
 use Rattle.irp_script_reader.specs.declared.act.Step.{Step}
-use Rattle.irp_workers.specs.declared.deed.Deed.{Deed}
-use Rattle.irp_workers.specs.declared.deed.Deed.TheVariants.{Calls, OnLock, Hands, OnSlot, Finishes}
+use Rattle.irp_workers.specs.declared.step_kind.StepKind.{StepKind}
+use Rattle.irp_workers.specs.declared.step_kind.StepKind.TheVariants.{Calls, OnLock, Hands, OnSlot, Finishes}
 use Rattle.irp_slot_parties.specs.declared.taken.Taken.{Taken}
 use Rattle.irp_slot_parties.specs.AtSlots.{AtSlots, fresh}
 use Rattle.irp_workers.specs.Calling.{CallsFor, found_drained}
-use Rattle.irp_workers.specs.Deeds.{IsNamed, deed_of}
+use Rattle.irp_workers.specs.StepKinds.{IsNamed, kind_of}
 use Rattle.irp_workers.specs.Outcomes.{is_own_placed, own_placed}
 use Rattle.irp_workers.specs.Working.{AtWork, Does, FinishesTaken, IsOwn, Left, Makes, MakesAlone, MakesBy, MakesCall, MakesEach, MakesHand, MakesOwn, Stays, WorkApart, Working, at_work, if_own, roomless, working}
 use Rattle.irp_workers.proofs.Chains.{enumerate-append}
@@ -125,7 +125,7 @@ finish_stays slot before after remove remove_after parties between parties_after
     call_stays before after remove remove_after parties parties_after same same_remove left
 
 -- what one seat makes of a step that isn't a hand is what a worker makes that has it
-by_alone : (count place : ℕ) (step : Step) (deed : Deed) (before after : Working) → MakesAlone count place step deed before after → MakesBy count place step deed before after
+by_alone : (count place : ℕ) (step : Step) (kind : StepKind) (before after : Working) → MakesAlone count place step kind before after → MakesBy count place step kind before after
 by_alone count place step (Hands lock tag to) before after made = absurd made.did
 by_alone count place step Calls before after made = made
 by_alone count place step (OnLock on) before after made = made
@@ -134,12 +134,12 @@ by_alone count place step (Finishes slot status information) before after made =
 
 pub made_at : {S T : Type 0} (result : Option T) (f : S → AtWork) (seats : List S) (at : ℕ) (new old : S) (lines longer : List WordLine) (count place : ℕ) (step : Step)
     → at < length seats → old ≡ get_or seats at old → (f old).seat.number ≡ step.seat
-    → MatchOption result (Stays (f old) (f new) lines longer) (λ _. Does count place step (deed_of step.act) (f old) (f new) lines longer)
+    → MatchOption result (Stays (f old) (f new) lines longer) (λ _. Does count place step (kind_of step.act) (f old) (f new) lines longer)
     → MatchOption result (working (map f (set seats at new)) longer ≡ working (map f seats) lines) (λ _. Makes count place step (working (map f seats) lines) (working (map f (set seats at new)) longer))
 made_at None f seats at new old lines longer count place step lt there named stays =
     let all : map f (set seats at new) ≡ map f seats = map_set_same f seats at new old (stays.0 ∙ ap f there) lt in
     λ i. working (all i) (stays.1 i)
-made_at (Some x) f seats at new old lines longer count place step lt there named did = by_alone count place step (deed_of step.act) _ _ record {
+made_at (Some x) f seats at new old lines longer count place step lt there named did = by_alone count place step (kind_of step.act) _ _ record {
   at = at;
   old = f old;
   new = f new;
@@ -152,10 +152,10 @@ made_at (Some x) f seats at new old lines longer count place step lt there named
 }
 
 -- a hand of the worker is its step
-pub hand_is_made : {T : Type 0} (result : Option T) (count place : ℕ) (step : Step) (lock : LockNo) (tag to : ℕ) (before after : Working) → deed_of step.act ≡ Hands lock tag to
+pub hand_is_made : {T : Type 0} (result : Option T) (count place : ℕ) (step : Step) (lock : LockNo) (tag to : ℕ) (before after : Working) → kind_of step.act ≡ Hands lock tag to
     → MatchOption result (after ≡ before) (λ _. MakesHand count place step lock tag to before after) → MatchOption result (after ≡ before) (λ _. Makes count place step before after)
 hand_is_made None count place step lock tag to before after is made = made
-hand_is_made (Some one) count place step lock tag to before after is made = subst (λ deed. MakesBy count place step deed before after) (sym is) made
+hand_is_made (Some one) count place step lock tag to before after is made = subst (λ kind. MakesBy count place step kind before after) (sym is) made
 
 -- a turn of the worker: it makes the step if it is its own
 pub turn_skips : (count number workers place : ℕ) (step : Step) (work : Working) → (step.seat % workers == number) ≡ false → MakesEach count (if_own number workers place step) work work

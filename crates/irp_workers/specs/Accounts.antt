@@ -4,7 +4,7 @@ use Rattle.irp_shared.specs.declared.word_line.WordLine.{WordLine}
 use Rattle.irp_script_reader.specs.declared.act.Step.{Step}
 use Rattle.irp_workers.specs.Made.{NoneTwice, SeatCalls, once_made, seat_calls}
 use Rattle.irp_workers.specs.Numbers.{EachAsOften, NoneMoreOften}
-use Rattle.irp_workers.specs.Outcomes.{Test, outcomes}
+use Rattle.irp_workers.specs.Outcomes.{Outcome, Test, outcomes}
 use Rattle.irp_workers.specs.Pairs.{Pair, pair_of}
 use Rattle.irp_workers.specs.Words.{told_by, word_steps}
 use Rattle.irp_workers.specs.Working.{AtWork}
@@ -15,14 +15,22 @@ pair_at own = pair_of own.seat own.remove
 abbrev pub calls_at : AtWork → SeatCalls
 calls_at own = seat_calls own.seat own.remove
 
--- some finishes of taken packets found no token, in the setup and among the steps. Each word line tells of one of these, or
--- of another act on a lock or a slot, and no step has two. Where nothing stopped, each has its line. Then, too, where no two
--- seats have the same number, each seat has made, after the calls that it had made, those of its own steps, in order, and no
--- other: calls of the manager, and the finishes of taken packets that have no line
-pub record Accounts (setup steps : List Step) (before after : List AtWork) (lines : List WordLine) (stopped : Bool) : Type 0 where
+-- once these steps are made
+abbrev pub called_once : List Outcome → AtWork → SeatCalls
+called_once outs own = once_made outs (calls_at own)
+
+-- some finishes of taken packets found no token, in the setup and among the steps. Each word line tells of one of
+-- these, or of another act on a lock or a slot, and no step has two. Where nothing stopped, each has its line. Then,
+-- too, where no two seats have the same number, each seat has made, after the calls that it had made, those of its own
+-- steps, in order, and no other: calls of the manager, and the finishes of taken packets that have no line
+pub record Accounts (setup steps : List Step) (before after : List AtWork) (lines : List WordLine)
+    (stopped : Bool) : Type 0 where
   pub tokenless_first : Test
   pub tokenless : Test
   pub told : NoneMoreOften (word_steps (outcomes tokenless steps)) (map told_by lines)
-  pub all_told : stopped ≡ false → EachAsOften (word_steps (outcomes tokenless steps)) (map told_by lines)
+  pub all_told : stopped ≡ false
+      → EachAsOften (word_steps (outcomes tokenless steps)) (map told_by lines)
   pub all_called : stopped ≡ false → NoneTwice (map pair_at before)
-      → EachAsOften (map (λ own. once_made (outcomes tokenless_first setup ++ outcomes tokenless steps) (calls_at own)) before) (map calls_at after)
+      → EachAsOften
+      (map (called_once (outcomes tokenless_first setup ++ outcomes tokenless steps)) before)
+      (map calls_at after)

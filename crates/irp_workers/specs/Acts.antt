@@ -1,6 +1,17 @@
 -- What acts on remove locks and cancel slots do to seats, by what they were answered.
 use Rattle.std.specs.Prelude.{ℕ}
-use Rattle.irp_remove.specs.Calls.{Acquired, AcquireRefused, Released, ReleaseRefused, Begun, BeginRefused, Looked, DrainRefused, Handed, HandRefused}
+use Rattle.irp_remove.specs.Calls.{
+  Acquired,
+  AcquireRefused,
+  Released,
+  ReleaseRefused,
+  Begun,
+  BeginRefused,
+  Looked,
+  DrainRefused,
+  Handed,
+  HandRefused,
+}
 use Rattle.irp_remove.specs.Seats.{Holder}
 use Rattle.irp_remove.specs.declared.refusal.AcquireRefusal.TheVariants as acquire
 use Rattle.irp_remove.specs.declared.refusal.ReleaseRefusal.TheVariants as release
@@ -12,40 +23,55 @@ use Rattle.irp_shared.specs.declared.word_line.WordReply.{WordReply}
 use Rattle.irp_shared.specs.declared.word_line.WordReply.TheVariants as answered
 use Rattle.irp_script_reader.specs.declared.act.StepAct.{StepAct}
 use Rattle.irp_slot_parties.specs.AtSlots.{AtSlots, Publishing, Requesting, Withdrawing}
-use Rattle.irp_workers.specs.declared.deed.LockAct.{LockAct}
-use Rattle.irp_workers.specs.declared.deed.LockAct.TheVariants.{Acquire, Release, BeginRemove, Drained}
-use Rattle.irp_workers.specs.declared.deed.SlotAct.{SlotAct}
-use Rattle.irp_workers.specs.declared.deed.SlotAct.TheVariants.{Publish, Withdraw, Request}
-use Rattle.irp_workers.specs.Deeds.{IsNamed}
+use Rattle.irp_workers.specs.declared.step_kind.LockAct.{LockAct}
+use Rattle.irp_workers.specs.declared.step_kind.LockAct.TheVariants.{
+  Acquire,
+  Release,
+  BeginRemove,
+  Drained,
+}
+use Rattle.irp_workers.specs.declared.step_kind.SlotAct.{SlotAct}
+use Rattle.irp_workers.specs.declared.step_kind.SlotAct.TheVariants.{Publish, Withdraw, Request}
+use Rattle.irp_workers.specs.StepKinds.{IsNamed}
 
 -- an acquisition, of so many locks
 abbrev pub AcquireActs : ℕ → ℕ → ℕ → Holder → Holder → WordReply → Type 0
 AcquireActs count lock tag before after answered.Acquired = Acquired count lock tag before after
-AcquireActs count lock tag before after answered.DeletePending = AcquireRefused count lock before after acquire.DeletePending
-AcquireActs count lock tag before after answered.SeatFull = AcquireRefused count lock before after acquire.SeatFull
-AcquireActs count lock tag before after answered.NoLock = AcquireRefused count lock before after acquire.NoLock
+AcquireActs count lock tag before after answered.DeletePending =
+    AcquireRefused count lock before after acquire.DeletePending
+AcquireActs count lock tag before after answered.SeatFull =
+    AcquireRefused count lock before after acquire.SeatFull
+AcquireActs count lock tag before after answered.NoLock =
+    AcquireRefused count lock before after acquire.NoLock
 AcquireActs count lock tag before after other = ⊥
 
 -- a release
 abbrev pub ReleaseActs : ℕ → ℕ → ℕ → Holder → Holder → WordReply → Type 0
 ReleaseActs count lock tag before after answered.Done = Released count lock tag before after
-ReleaseActs count lock tag before after answered.NotHeld = ReleaseRefused count lock tag before after release.NotHeld
-ReleaseActs count lock tag before after answered.NoLock = ReleaseRefused count lock tag before after release.NoLock
+ReleaseActs count lock tag before after answered.NotHeld =
+    ReleaseRefused count lock tag before after release.NotHeld
+ReleaseActs count lock tag before after answered.NoLock =
+    ReleaseRefused count lock tag before after release.NoLock
 ReleaseActs count lock tag before after other = ⊥
 
 -- the beginning of a removal
 abbrev pub BeginActs : ℕ → ℕ → ℕ → Holder → Holder → WordReply → Type 0
 BeginActs count lock tag before after answered.Done = Begun count lock tag before after
-BeginActs count lock tag before after answered.NotHeld = BeginRefused count lock tag before after begin.NotHeld
-BeginActs count lock tag before after answered.AlreadyRemoving = BeginRefused count lock tag before after begin.AlreadyRemoving
-BeginActs count lock tag before after answered.NoLock = BeginRefused count lock tag before after begin.NoLock
+BeginActs count lock tag before after answered.NotHeld =
+    BeginRefused count lock tag before after begin.NotHeld
+BeginActs count lock tag before after answered.AlreadyRemoving =
+    BeginRefused count lock tag before after begin.AlreadyRemoving
+BeginActs count lock tag before after answered.NoLock =
+    BeginRefused count lock tag before after begin.NoLock
 BeginActs count lock tag before after other = ⊥
 
 -- the question whether a lock is drained
 abbrev pub DrainActs : ℕ → ℕ → Holder → Holder → WordReply → Type 0
 DrainActs count lock before after answered.Yes = Looked count lock 1 before after
-DrainActs count lock before after (answered.Busy found) = DrainRefused count lock before after (drain.Busy found)
-DrainActs count lock before after answered.NoLock = DrainRefused count lock before after drain.NoLock
+DrainActs count lock before after (answered.Busy found) =
+    DrainRefused count lock before after (drain.Busy found)
+DrainActs count lock before after answered.NoLock =
+    DrainRefused count lock before after drain.NoLock
 DrainActs count lock before after other = ⊥
 
 -- an act did to the seat what remove locks, so many of them, do where it is answered so

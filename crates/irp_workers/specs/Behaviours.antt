@@ -10,7 +10,14 @@ use Rattle.irp_types.specs.declared.answer.Answer.{Answer}
 use Rattle.irp_types.specs.declared.answer.CancelAnswer.{CancelAnswer}
 use Rattle.irp_types.specs.declared.answer.CancelAnswer.TheVariants.{Finish as CancelFinish, Leave}
 use Rattle.irp_types.specs.declared.answer.Plan.{Plan}
-use Rattle.irp_types.specs.declared.answer.Plan.TheVariants.{Finish, Hold, HoldSlot, Skip, Forward, ForwardPend}
+use Rattle.irp_types.specs.declared.answer.Plan.TheVariants.{
+  Finish,
+  Hold,
+  HoldSlot,
+  Skip,
+  Forward,
+  ForwardPend,
+}
 use Rattle.irp_types.specs.declared.answer.Replacement.{Replacement}
 use Rattle.irp_script_reader.specs.Routines.{keeps}
 use Rattle.irp_script_reader.specs.declared.script.Behaviour.{Behaviour}
@@ -25,11 +32,16 @@ replacement_of (Replace replacement) = Some replacement
 
 abbrev pub behaves_so : Behaviour → Shown → Answer
 behaves_so behaviour shown =
-    record { keep = keeps behaviour; mark = right_mark shown (keeps behaviour); replacement = replacement_of behaviour }
+    record {
+      keep = keeps behaviour;
+      mark = right_mark shown (keeps behaviour);
+      replacement = replacement_of behaviour;
+    }
 
 -- a completion routine, by the behaviour that is for the status that it is shown
 abbrev pub answer_of : CompletionRoutine → Shown → Answer
-answer_of routine shown = behaves_so (if is_success shown.status then routine.on_ok else routine.on_err) shown
+answer_of routine shown =
+    behaves_so (if is_success shown.status then routine.on_ok else routine.on_err) shown
 
 -- a plan that passes down, where a device stands below, and else a finish
 abbrev pub passed_down : Plan → Shown → Plan

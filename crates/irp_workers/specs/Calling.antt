@@ -9,13 +9,14 @@ use Rattle.irp_remove.specs.Core.{flag}
 use Rattle.irp_remove.specs.Seats.{Holder}
 use Rattle.irp_script_reader.specs.declared.act.StepAct.{StepAct}
 use Rattle.irp_shared.specs.Sharing.{Called}
-use Rattle.irp_workers.specs.Deeds.{IsNamed, call_of}
+use Rattle.irp_workers.specs.StepKinds.{IsNamed, call_of}
 
 -- which locks a remove seat found drained
 abbrev pub found_drained : Holder → LockNo → Bool
 found_drained remove lock = flag remove.watch.drained lock.0
 
--- a call is the one that an act makes, of some packet, which is the one that the act names where it names it by a reference
+-- a call is the one that an act makes, of some packet, which is the one that the act names where it names it by a
+-- reference
 pub record Makes (act : StepAct) (call : Call) : Type 0 where
   pub irp : IrpRef
   pub referred : IsNamed act irp

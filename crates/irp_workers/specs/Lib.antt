@@ -2,11 +2,13 @@ pub mod Accounts
 pub mod Acts
 pub mod Behaviours
 pub mod Calling
-pub mod Deeds
 pub mod Labels
 pub mod Made
 pub mod Numbers
 pub mod Outcomes
 pub mod Pairs
+pub mod Seats
+pub mod StepKinds
 pub mod Words
+pub mod Workers
 pub mod Working

@@ -2,11 +2,25 @@
 use Rattle.std.specs.Prelude.{ℕ, ◌≤◌, ◌==◌, if◌then◌else◌, Option, None, List, ◌++◌, map}
 use Rattle.std.specs.List.{count_by, filter_map}
 use Rattle.irp_types.specs.declared.call.Call.{Call}
-use Rattle.irp_types.specs.declared.call.Call.TheVariants.{Free, Reuse, SetNext, CopyToNext, Skip, SetRoutine, MarkPending, CallDriver, Complete, FinishTaken, SetCancelRoutine, Cancel, Look}
+use Rattle.irp_types.specs.declared.call.Call.TheVariants.{
+  Free,
+  Reuse,
+  SetNext,
+  CopyToNext,
+  Skip,
+  SetRoutine,
+  MarkPending,
+  CallDriver,
+  Complete,
+  FinishTaken,
+  SetCancelRoutine,
+  Cancel,
+  Look,
+}
 use Rattle.irp_types.specs.declared.entry.Entry.{Entry}
 use Rattle.irp_manager.specs.Seats.{Seated}
 use Rattle.irp_remove.specs.Seats.{Holder}
-use Rattle.irp_workers.specs.Deeds.{deed_of}
+use Rattle.irp_workers.specs.StepKinds.{kind_of}
 use Rattle.irp_workers.specs.Outcomes.{Outcome, any_packet, nameless_call}
 use Rattle.irp_workers.specs.Pairs.{Pair, pair_of}
 
@@ -30,11 +44,17 @@ nameless other = other
 -- the call of a step, if it is one of this seat's and is a call
 abbrev pub call_by : ℕ → Outcome → Option Call
 call_by seat out =
-    if seat == out.step.seat then nameless_call (deed_of out.step.act) out.step.act out.tokenless else None
+    if seat == out.step.seat
+    then nameless_call (kind_of out.step.act) out.step.act out.tokenless
+    else None
 
 -- the calls of a seat's steps, in order
 abbrev pub calls_of : ℕ → List Outcome → List Call
 calls_of seat outs = filter_map (call_by seat) outs
+
+-- the calls of entries
+abbrev pub calls_in : List Entry → List Call
+calls_in entries = map (λ (entry : Entry). nameless entry.call) entries
 
 -- which two seats they are, and the calls that the one has made
 pub record SeatCalls : Type 0 where
@@ -42,11 +62,12 @@ pub record SeatCalls : Type 0 where
   pub calls : List Call
 
 abbrev pub seat_calls : Seated → Holder → SeatCalls
-seat_calls seat remove = record { pair = pair_of seat remove; calls = map (λ (entry : Entry). nameless entry.call) seat.entries }
+seat_calls seat remove = record { pair = pair_of seat remove; calls = calls_in seat.entries }
 
 -- the same once these steps are made: the calls of its own among them follow
 abbrev pub once_made : List Outcome → SeatCalls → SeatCalls
-once_made outs before = record { pair = before.pair; calls = before.calls ++ calls_of before.pair.seat outs }
+once_made outs before =
+    record before { calls = before.calls ++ calls_of before.pair.seat outs }
 
 -- no two have the same number
 abbrev pub NoneTwice : List Pair → Type 0

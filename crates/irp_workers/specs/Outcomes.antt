@@ -1,5 +1,5 @@
--- How steps come out: each is a call of the manager or has a word line. Which of both a finish of a taken packet is shows
--- when it runs.
+-- How steps come out: each is a call of the manager or has a word line. Which of both a finish of a taken packet is
+-- shows when it runs.
 use Rattle.std.specs.Prelude.{ℕ, ◌==◌, ◌%◌, Bool, if◌then◌else◌, Option, Some, None, List, map}
 use Rattle.std.specs.List.{enumerate_from, filter}
 use Rattle.irp_types.specs.declared.names.IrpRef.{IrpRef}
@@ -9,9 +9,15 @@ use Rattle.irp_shared.specs.declared.word_line.Act.{Act}
 use Rattle.irp_shared.specs.declared.word_line.Act.TheVariants as act
 use Rattle.irp_script_reader.specs.declared.act.Step.{Step}
 use Rattle.irp_script_reader.specs.declared.act.StepAct.{StepAct}
-use Rattle.irp_workers.specs.declared.deed.Deed.{Deed}
-use Rattle.irp_workers.specs.declared.deed.Deed.TheVariants.{Calls, OnLock, Hands, OnSlot, Finishes}
-use Rattle.irp_workers.specs.Deeds.{call_of, lock_act, slot_act}
+use Rattle.irp_workers.specs.declared.step_kind.StepKind.{StepKind}
+use Rattle.irp_workers.specs.declared.step_kind.StepKind.TheVariants.{
+  Calls,
+  OnLock,
+  Hands,
+  OnSlot,
+  Finishes,
+}
+use Rattle.irp_workers.specs.StepKinds.{call_of, lock_act, slot_act}
 
 -- a step, its place among the steps, and whether it was a finish that found no token
 pub record Outcome : Type 0 where
@@ -24,26 +30,28 @@ abbrev pub Test : Type 0
 Test = ℕ → ℕ → Bool
 
 abbrev pub outcome : Test → ℕ × Step → Outcome
-outcome tokenless each = record { place = each.0; step = each.1; tokenless = tokenless each.1.seat each.0 }
+outcome tokenless each =
+    record { place = each.0; step = each.1; tokenless = tokenless each.1.seat each.0 }
 
 -- of all steps, where those finishes found no token of which the test says so
 abbrev pub outcomes : Test → List Step → List Outcome
 outcomes tokenless steps = map (outcome tokenless) (enumerate_from 0 steps)
 
 -- the act that a word line tells of
-abbrev pub told_act : Deed → Bool → Option Act
+abbrev pub told_act : StepKind → Bool → Option Act
 told_act Calls tokenless = None
 told_act (OnLock on) tokenless = Some (lock_act on)
 told_act (Hands lock tag to) tokenless = Some (act.Hand lock tag to)
 told_act (OnSlot on) tokenless = Some (slot_act on)
-told_act (Finishes slot status information) tokenless = if tokenless then Some (act.FinishTaken slot) else None
+told_act (Finishes slot status information) tokenless =
+    if tokenless then Some (act.FinishTaken slot) else None
 
 -- the packet that stands for each, where a label's packet isn't known before the script runs
 abbrev pub any_packet : IrpRef
 any_packet = record { slot = 0; use_no = 0 }
 
 -- the call, with that packet in the place of its own, and 0 in the place of a token
-abbrev pub nameless_call : Deed → StepAct → Bool → Option Call
+abbrev pub nameless_call : StepKind → StepAct → Bool → Option Call
 nameless_call Calls act tokenless = call_of act any_packet
 nameless_call (OnLock on) act tokenless = None
 nameless_call (Hands lock tag to) act tokenless = None

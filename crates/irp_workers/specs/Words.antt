@@ -4,7 +4,7 @@ use Rattle.std.specs.List.{filter_map}
 use Rattle.std.specs.List.Sorted.{IsNonDecreasingBy}
 use Rattle.irp_shared.specs.declared.word_line.Act.{Act}
 use Rattle.irp_shared.specs.declared.word_line.WordLine.{WordLine}
-use Rattle.irp_workers.specs.Deeds.{deed_of}
+use Rattle.irp_workers.specs.StepKinds.{kind_of}
 use Rattle.irp_workers.specs.Outcomes.{Outcome, told_act}
 
 -- a line's place in the order: by its seat, and of one seat by its step, which is below 2 ^ 32
@@ -31,7 +31,7 @@ word_step seat place None = None
 word_step seat place (Some act) = Some (record { seat = seat; place = place; act = act })
 
 abbrev pub word_step_of : Outcome → Option WordStep
-word_step_of out = word_step out.step.seat out.place (told_act (deed_of out.step.act) out.tokenless)
+word_step_of out = word_step out.step.seat out.place (told_act (kind_of out.step.act) out.tokenless)
 
 -- the steps that have word lines, in order
 abbrev pub word_steps : List Outcome → List WordStep

@@ -1,5 +1,26 @@
 -- What workers do: one step after the other, each a call, or an act on remove locks or on a cancel slot.
-use Rattle.std.specs.Prelude.{ℕ, ◌≡◌, ◌≢◌, ◌⊎◌, ◌≤◌, ◌%◌, All, Bool, true, false, if◌then◌else◌, Some, List, [], ◌∷◌, ◌++◌, length, take, slice_get, slice_set}
+use Rattle.std.specs.Prelude.{
+  ℕ,
+  ◌≡◌,
+  ◌≢◌,
+  ◌⊎◌,
+  ◌≤◌,
+  ◌%◌,
+  All,
+  Bool,
+  true,
+  false,
+  if◌then◌else◌,
+  Some,
+  List,
+  [],
+  ◌∷◌,
+  ◌++◌,
+  length,
+  take,
+  slice_get,
+  slice_set,
+}
 use Rattle.std.specs.List.{flat_map, list_any}
 use Rattle.irp_types.specs.declared.names.IrpRef.{IrpRef}
 use Rattle.irp_types.specs.declared.names.LockNo.{LockNo}
@@ -17,14 +38,20 @@ use Rattle.irp_shared.specs.declared.word_line.WordLine.{WordLine}
 use Rattle.irp_shared.specs.declared.word_line.WordReply.{WordReply}
 use Rattle.irp_shared.specs.declared.word_line.WordReply.TheVariants.{NoToken}
 use Rattle.irp_script_reader.specs.declared.act.Step.{Step}
-use Rattle.irp_workers.specs.declared.deed.LockAct.{LockAct}
-use Rattle.irp_workers.specs.declared.deed.SlotAct.{SlotAct}
-use Rattle.irp_workers.specs.declared.deed.Deed.{Deed}
-use Rattle.irp_workers.specs.declared.deed.Deed.TheVariants.{Calls, OnLock, Hands, OnSlot, Finishes}
+use Rattle.irp_workers.specs.declared.step_kind.LockAct.{LockAct}
+use Rattle.irp_workers.specs.declared.step_kind.SlotAct.{SlotAct}
+use Rattle.irp_workers.specs.declared.step_kind.StepKind.{StepKind}
+use Rattle.irp_workers.specs.declared.step_kind.StepKind.TheVariants.{
+  Calls,
+  OnLock,
+  Hands,
+  OnSlot,
+  Finishes,
+}
 use Rattle.irp_workers.specs.Acts.{Acts, HandActs, SlotActs}
 use Rattle.irp_slot_parties.specs.AtSlots.{AtSlots, IsSpent, fresh}
 use Rattle.irp_workers.specs.Calling.{CallsFor}
-use Rattle.irp_workers.specs.Deeds.{IsNamed, deed_of, lock_act, slot_act}
+use Rattle.irp_workers.specs.StepKinds.{IsNamed, kind_of, lock_act, slot_act}
 use Rattle.irp_workers.specs.Outcomes.{is_own_step, own_placed}
 use Rattle.irp_workers.specs.Numbers.{EachAsOften}
 
@@ -61,13 +88,15 @@ abbrev pub Stays : AtWork → AtWork → List WordLine → List WordLine → Typ
 Stays before after lines longer = (after ≡ before) × (longer ≡ lines)
 
 -- a call, with what the seat's own remove seat knew of the locks
-pub record MakesCall (step : Step) (before after : AtWork) (lines longer : List WordLine) : Type 0 where
+pub record MakesCall (step : Step) (before after : AtWork) (lines longer : List WordLine)
+    : Type 0 where
   pub called : CallsFor step.act before.remove before.seat after.seat
   pub rest : after ≡ record before { seat = after.seat }
   pub silent : longer ≡ lines
 
 -- an act on one of so many locks, and its line
-pub record ActsOnLock (count place : ℕ) (step : Step) (on : LockAct) (before after : AtWork) (lines longer : List WordLine) : Type 0 where
+pub record ActsOnLock (count place : ℕ) (step : Step) (on : LockAct) (before after : AtWork)
+    (lines longer : List WordLine) : Type 0 where
   pub reply : WordReply
   pub did : Acts count on before.remove after.remove reply
   pub same : IsSameSeat before.remove after.remove
@@ -75,65 +104,77 @@ pub record ActsOnLock (count place : ℕ) (step : Step) (on : LockAct) (before a
   pub told : Tells place step (lock_act on) reply lines longer
 
 -- an act on a cancel slot, and its line
-pub record ActsOnSlot (place : ℕ) (step : Step) (on : SlotAct) (before after : AtWork) (lines longer : List WordLine) : Type 0 where
+pub record ActsOnSlot (place : ℕ) (step : Step) (on : SlotAct) (before after : AtWork)
+    (lines longer : List WordLine) : Type 0 where
   pub reply : WordReply
   pub did : SlotActs step.act on before.parties after.parties reply
   pub rest : after ≡ record before { parties = after.parties }
   pub told : Tells place step (slot_act on) reply lines longer
 
--- a finish with a token that the seat took from the slot, and has not spent: one call, of this token's number. The token
--- is left in its place where it comes back
-pub record FinishesTaken (step : Step) (slot : ℕ) (status : Status) (information : ℕ) (before after : AtWork) (lines longer : List WordLine) : Type 0 where
+-- a finish with a token that the seat took from the slot, and has not spent: one call, of this token's number. The
+-- token is left in its place where it comes back
+pub record FinishesTaken (step : Step) (slot : ℕ) (status : Status) (information : ℕ)
+    (before after : AtWork) (lines longer : List WordLine) : Type 0 where
   pub place : ℕ
   pub token : Token
   pub irp : IrpRef
   pub receipt : Receipted
   pub there : slice_get before.parties.taken place ≡ Some (fresh slot token)
   pub referred : IsNamed step.act irp
-  pub recorded : Called before.seat (FinishTaken irp token.use_no status information) (λ lock. false) receipt after.seat
+  pub recorded : Called before.seat (FinishTaken irp token.use_no status information)
+      (λ lock. false) receipt after.seat
   pub rest : after ≡ record before {
     seat = after.seat;
     parties = record before.parties {
-      taken = slice_set before.parties.taken place (record { slot = slot; token = given_back receipt.reply token });
+      taken = slice_set before.parties.taken place
+          (record { slot = slot; token = given_back receipt.reply token });
     };
   }
   pub silent : longer ≡ lines
 
 -- a finish without one: no call, and a line
-pub record FindsNoToken (place : ℕ) (step : Step) (slot : ℕ) (before after : AtWork) (lines longer : List WordLine) : Type 0 where
+pub record FindsNoToken (place : ℕ) (step : Step) (slot : ℕ) (before after : AtWork)
+    (lines longer : List WordLine) : Type 0 where
   pub none : All (IsSpent slot) before.parties.taken
   pub rest : after ≡ before
   pub told : Tells place step (act.FinishTaken slot) NoToken lines longer
 
 -- what a step of this place does to its own seat and to the lines. A hand does more
-abbrev pub Does : ℕ → ℕ → Step → Deed → AtWork → AtWork → List WordLine → List WordLine → Type 0
+abbrev pub Does : ℕ → ℕ → Step → StepKind → AtWork → AtWork → List WordLine → List WordLine → Type 0
 Does count place step Calls before after lines longer = MakesCall step before after lines longer
-Does count place step (OnLock on) before after lines longer = ActsOnLock count place step on before after lines longer
-Does count place step (OnSlot on) before after lines longer = ActsOnSlot place step on before after lines longer
+Does count place step (OnLock on) before after lines longer =
+    ActsOnLock count place step on before after lines longer
+Does count place step (OnSlot on) before after lines longer =
+    ActsOnSlot place step on before after lines longer
 Does count place step (Finishes slot status information) before after lines longer =
-    FinishesTaken step slot status information before after lines longer ⊎ FindsNoToken place step slot before after lines longer
+    FinishesTaken step slot status information before after lines longer
+    ⊎ FindsNoToken place step slot before after lines longer
 Does count place step (Hands lock tag to) before after lines longer = ⊥
 
 -- the seat that the step names made it, and the others stay
-pub record MakesAlone (count place : ℕ) (step : Step) (deed : Deed) (before after : Working) : Type 0 where
+pub record MakesAlone (count place : ℕ) (step : Step) (kind : StepKind) (before after : Working)
+    : Type 0 where
   pub at : ℕ
   pub old : AtWork
   pub new : AtWork
   pub there : slice_get before.seats at ≡ Some old
   pub named : old.seat.number ≡ step.seat
-  pub did : Does count place step deed old new before.lines after.lines
+  pub did : Does count place step kind old new before.lines after.lines
   pub others : after.seats ≡ slice_set before.seats at new
 
 -- one of so many locks' acquisitions went from the one seat to the other, or was refused
-pub record HandsOver (count : ℕ) (lock : LockNo) (tag : ℕ) (giver giver_after taker taker_after : AtWork) (reply : WordReply) : Type 0 where
-  pub did : HandActs count lock.0 tag giver.remove giver_after.remove taker.remove taker_after.remove reply
+pub record HandsOver (count : ℕ) (lock : LockNo) (tag : ℕ)
+    (giver giver_after taker taker_after : AtWork) (reply : WordReply) : Type 0 where
+  pub did : HandActs count lock.0 tag giver.remove giver_after.remove
+      taker.remove taker_after.remove reply
   pub giver_same : IsSameSeat giver.remove giver_after.remove
   pub taker_same : IsSameSeat taker.remove taker_after.remove
   pub giver_rest : giver_after ≡ record giver { remove = giver_after.remove }
   pub taker_rest : taker_after ≡ record taker { remove = taker_after.remove }
 
 -- the seat at the one place handed to the one at the other, and the others stay
-pub record HandsBetween (count : ℕ) (lock : LockNo) (tag from_at to_at : ℕ) (before after : List AtWork) (reply : WordReply) : Type 0 where
+pub record HandsBetween (count : ℕ) (lock : LockNo) (tag from_at to_at : ℕ)
+    (before after : List AtWork) (reply : WordReply) : Type 0 where
   pub giver : AtWork
   pub giver_after : AtWork
   pub taker : AtWork
@@ -144,7 +185,8 @@ pub record HandsBetween (count : ℕ) (lock : LockNo) (tag from_at to_at : ℕ) 
   pub others : after ≡ slice_set (slice_set before from_at giver_after) to_at taker_after
 
 -- the seat that the step names handed to another one, which has that number, and there is one line more
-pub record MakesHand (count place : ℕ) (step : Step) (lock : LockNo) (tag to : ℕ) (before after : Working) : Type 0 where
+pub record MakesHand (count place : ℕ) (step : Step) (lock : LockNo) (tag to : ℕ)
+    (before after : Working) : Type 0 where
   pub from_at : ℕ
   pub to_at : ℕ
   pub apart : from_at ≢ to_at
@@ -155,29 +197,35 @@ pub record MakesHand (count place : ℕ) (step : Step) (lock : LockNo) (tag to :
   pub told : Tells place step (act.Hand lock tag to) reply before.lines after.lines
 
 -- a step of this place was made
-abbrev pub MakesBy : ℕ → ℕ → Step → Deed → Working → Working → Type 0
-MakesBy count place step (Hands lock tag to) before after = MakesHand count place step lock tag to before after
+abbrev pub MakesBy : ℕ → ℕ → Step → StepKind → Working → Working → Type 0
+MakesBy count place step (Hands lock tag to) before after =
+    MakesHand count place step lock tag to before after
 MakesBy count place step Calls before after = MakesAlone count place step Calls before after
-MakesBy count place step (OnLock on) before after = MakesAlone count place step (OnLock on) before after
-MakesBy count place step (OnSlot on) before after = MakesAlone count place step (OnSlot on) before after
+MakesBy count place step (OnLock on) before after =
+    MakesAlone count place step (OnLock on) before after
+MakesBy count place step (OnSlot on) before after =
+    MakesAlone count place step (OnSlot on) before after
 MakesBy count place step (Finishes slot status information) before after =
     MakesAlone count place step (Finishes slot status information) before after
 
 abbrev pub Makes : ℕ → ℕ → Step → Working → Working → Type 0
-Makes count place step before after = MakesBy count place step (deed_of step.act) before after
+Makes count place step before after = MakesBy count place step (kind_of step.act) before after
 
 -- the same of steps with their places, one after the other
 abbrev pub MakesEach : ℕ → List (ℕ × Step) → Working → Working → Type 0
 MakesEach count [] before after = after ≡ before
 MakesEach count (each ∷ rest) before after =
-    (between : Working) × Makes count each.0 each.1 before between × MakesEach count rest between after
+    (between : Working) × Makes count each.0 each.1 before between
+    × MakesEach count rest between after
 
 -- a step with its place, if it is one of the worker's own
 abbrev pub if_own : ℕ → ℕ → ℕ → Step → List (ℕ × Step)
-if_own number workers place step = if is_own_step number workers step then (place, step) ∷ [] else []
+if_own number workers place step =
+    if is_own_step number workers step then (place, step) ∷ [] else []
 
 -- one of so many workers made its own among the first steps, and among all where it wasn't stopped
-pub record MakesOwn (count number workers : ℕ) (steps : List Step) (before after : Working) (stopped : Bool) : Type 0 where
+pub record MakesOwn (count number workers : ℕ) (steps : List Step) (before after : Working)
+    (stopped : Bool) : Type 0 where
   pub reached : ℕ
   pub within : reached ≤ length steps
   pub each : MakesEach count (own_placed number workers (take reached steps)) before after
@@ -192,26 +240,33 @@ pub record Left : Type 0 where
   pub work : Working
   pub stopped : Bool
 
--- each seat was dealt to the one of so many workers whose own it is, each worker made its own steps, and what they left was
--- gathered
-pub record WorkApart (count workers : ℕ) (steps : List Step) (ready after : List AtWork) (lines : List WordLine) (stopped : Bool) : Type 0 where
+-- each seat was dealt to the one of so many workers whose own it is, each worker made its own steps, and what they left
+-- was gathered
+pub record WorkApart (count workers : ℕ) (steps : List Step) (ready after : List AtWork)
+    (lines : List WordLine) (stopped : Bool) : Type 0 where
   pub dealt : List (List AtWork)
   pub left : List Left
   pub many : (length dealt ≡ workers) × (length left ≡ workers)
   pub seats : EachAsOften ready (flat_map (λ seats. seats) dealt)
-  pub own : (number : ℕ) (seats : List AtWork) → slice_get dealt number ≡ Some seats → All (IsOwn number workers) seats
-  pub made : (number : ℕ) (seats : List AtWork) (one : Left) → slice_get dealt number ≡ Some seats → slice_get left number ≡ Some one
+  pub own : (number : ℕ) (seats : List AtWork)
+      → slice_get dealt number ≡ Some seats → All (IsOwn number workers) seats
+  pub made : (number : ℕ) (seats : List AtWork) (one : Left)
+      → slice_get dealt number ≡ Some seats → slice_get left number ≡ Some one
       → MakesOwn count number workers steps (working seats []) one.work one.stopped
   pub back : EachAsOften (flat_map (λ (one : Left). one.work.seats) left) after
   pub told : EachAsOften (flat_map (λ (one : Left). one.work.lines) left) lines
   pub halted : stopped ≡ list_any (λ (one : Left). one.stopped) left
 
 -- one worker made the setup with all seats, and then, unless it was stopped, so many made the steps
-abbrev pub WorkAfter : Bool → ℕ → ℕ → List Step → List AtWork → List AtWork → List WordLine → Bool → Type 0
-WorkAfter true count workers steps ready after lines stopped = (after ≡ ready) × (lines ≡ []) × (stopped ≡ true)
-WorkAfter false count workers steps ready after lines stopped = WorkApart count workers steps ready after lines stopped
+abbrev pub WorkAfter : Bool → ℕ → ℕ → List Step → List AtWork → List AtWork
+    → List WordLine → Bool → Type 0
+WorkAfter true count workers steps ready after lines stopped =
+    (after ≡ ready) × (lines ≡ []) × (stopped ≡ true)
+WorkAfter false count workers steps ready after lines stopped =
+    WorkApart count workers steps ready after lines stopped
 
-pub record RunsScript (count workers : ℕ) (setup steps : List Step) (before after : List AtWork) (lines : List WordLine) (stopped : Bool) : Type 0 where
+pub record RunsScript (count workers : ℕ) (setup steps : List Step)
+    (before after : List AtWork) (lines : List WordLine) (stopped : Bool) : Type 0 where
   pub ready : Working
   pub halted : Bool
   pub first : MakesOwn count 0 1 setup (working before []) ready halted

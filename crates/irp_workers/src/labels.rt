@@ -3,7 +3,7 @@
 ghost use Rattle.std.specs.Prelude.{◌≡◌};
 ghost use Rattle.irp_types.specs.declared.names.IrpRef.{IrpRef};
 ghost use Rattle.irp_script_reader.specs.declared.act.Named.TheVariants.{Irp as by_reference};
-ghost use Rattle.irp_workers.specs.Deeds.{IsNamed};
+ghost use Rattle.irp_workers.specs.StepKinds.{IsNamed};
 ghost use Rattle.irp_workers.specs.Labels.{label_of};
 
 use crate::step_call::named_by;

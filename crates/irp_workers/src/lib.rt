@@ -2,16 +2,18 @@
 #![tactic(auto)]
 
 mod behaviours;
-mod deed;
 mod gate;
 mod labels;
 mod meeting;
 mod run;
+mod run_context;
 mod script_seat;
+mod seat_steps;
 mod step_call;
+mod step_kind;
 mod words;
 mod worker;
-mod workplace;
+mod worker_steps;
 
 pub use behaviours::{cancel_rule, table_answer, table_cancel, table_plan};
 pub use gate::{AlwaysOpen, Gate};

@@ -1,24 +1,39 @@
 //! Running a script.
 
-ghost use Rattle.std.specs.Prelude.{◌≡◌, ◌<◌, ◌%◌, ℕ, Bool, false, [], All, IfOk, map, slice_index_or, sum_by, vec_len};
-ghost use Rattle.std.specs.List.{count_by, flat_map, list_any};
+ghost use Rattle.std.specs.Prelude.{◌≡◌, ◌<◌, ℕ, Bool, All, IfOk, slice_index_or, vec_len};
+ghost use Rattle.std.specs.List.{count_by, list_any};
 ghost use Rattle.irp_shared.specs.declared.word_line.WordLine.{WordLine};
 ghost use Rattle.irp_remove.specs.Pairing.{IsSeatOf, lock_count};
-ghost use Rattle.irp_slots.specs.Pairing.{IsCancellerOf, IsOwnerOf, slot_count};
+ghost use Rattle.irp_slots.specs.Pairing.{IsCancellerOf, IsOwnerOf};
 ghost use Rattle.irp_workers.specs.Accounts.{Accounts};
-ghost use Rattle.irp_slot_parties.specs.AtSlots.{IsFresh, OwnTheirSlots};
+ghost use Rattle.irp_slot_parties.specs.AtSlots.{OwnTheirSlots};
 ghost use Rattle.irp_workers.specs.Numbers.{AreSame, EachAsOften};
-ghost use Rattle.irp_workers.specs.Pairs.{pair_of};
+ghost use Rattle.irp_workers.specs.Seats.{
+  HasAllSlots,
+  HasTakenNothing,
+  IsAtLocks,
+  IsAtSlots,
+  IsFreshAt,
+  cancellers_of,
+  numbers_of,
+  owners_of,
+  pairs_of,
+  parties_of,
+  removes_of,
+  seats_at_work,
+  seats_of,
+};
 ghost use Rattle.irp_workers.specs.Words.{AreInOrder};
-ghost use Rattle.irp_workers.specs.Working.{MakesOwn, RunsScript, at_work, working};
+ghost use Rattle.irp_workers.specs.Workers.{IsIdle, IsReady, RunsOwn, count_lines, count_seats};
+ghost use Rattle.irp_workers.specs.Working.{RunsScript};
 
 use crate::gate::{AlwaysOpen, Gate};
 use crate::labels::Labels;
 use crate::meeting::Meeting;
+use crate::run_context::RunContext;
 use crate::script_seat::ScriptSeat;
 use crate::words::put_in_order;
 use crate::worker::Worker;
-use crate::workplace::Workplace;
 use irp_remove::{Locks, RemoveSeat};
 use irp_routines::Ask;
 use irp_script_reader::{Script, Step};
@@ -54,12 +69,10 @@ fn pair_up<'a, L: Session>(
     requires count { lock_count locks.now ≡ L.fixed.locks }
     requires slots { All (IsCancellerOf slots.now) cancellers.items }
     requires each { (vec_len removes ≡ vec_len seats) × (vec_len cancellers ≡ vec_len seats) }
-    ensures seats { IfOk result (λ pairs. map (λ own. own.seat) pairs.items ≡ seats.items) }
-    ensures removes { IfOk result (λ pairs. map (λ own. own.remove) pairs.items ≡ removes.items) }
-    ensures cancellers { IfOk result (λ pairs. map (λ own. own.parties.canceller) pairs.items
-        ≡ cancellers.items) }
-    ensures fresh { IfOk result (λ pairs. All
-        (λ own. IsFresh (slot_count slots.now) own.parties) pairs.items) }
+    ensures seats { IfOk result (λ pairs. seats_of pairs.items ≡ seats.items) }
+    ensures removes { IfOk result (λ pairs. removes_of pairs.items ≡ removes.items) }
+    ensures cancellers { IfOk result (λ pairs. cancellers_of pairs.items ≡ cancellers.items) }
+    ensures fresh { IfOk result (λ pairs. All (IsFreshAt slots.now) pairs.items) }
 {
     let mut pairs = Vec::new(alloc);
     while let Some(seat) = seats.pop() {
@@ -100,20 +113,16 @@ pub fn script_seats<'a, L: Session>(
     requires slots { All (IsCancellerOf slots.now) cancellers.items }
     requires owners { All (IsOwnerOf slots.now) owners.items }
     requires each { (vec_len removes ≡ vec_len seats) × (vec_len cancellers ≡ vec_len seats) }
-    ensures seats { IfOk result (λ pairs. map (λ own. own.seat) pairs.items ≡ seats.items) }
-    ensures removes { IfOk result (λ pairs. map (λ own. own.remove) pairs.items ≡ removes.items) }
-    ensures cancellers { IfOk result (λ pairs. map (λ own. own.parties.canceller) pairs.items
-        ≡ cancellers.items) }
-    ensures owners { IfOk result (λ pairs. OwnTheirSlots (vec_len seats) (map
-        (λ own. own.parties) pairs.items)) }
+    ensures seats { IfOk result (λ pairs. seats_of pairs.items ≡ seats.items) }
+    ensures removes { IfOk result (λ pairs. removes_of pairs.items ≡ removes.items) }
+    ensures cancellers { IfOk result (λ pairs. cancellers_of pairs.items ≡ cancellers.items) }
+    ensures owners { IfOk result (λ pairs. OwnTheirSlots (vec_len seats) (parties_of pairs.items)) }
     ensures all_owners { IfOk result (λ pairs. 0 < vec_len seats
-        → EachAsOften owners.items (flat_map (λ own. own.parties.owners) pairs.items)) }
-    ensures taken { IfOk result (λ pairs. All (λ own. own.parties.taken ≡ []) pairs.items) }
-    ensures counted { IfOk result (λ pairs. All (λ own. own.parties.slots
-        ≡ slot_count slots.now) pairs.items) }
-    ensures fits { IfOk result (λ pairs. All (λ own. IsSeatOf locks.now own.remove) pairs.items) }
-    ensures at_slots { IfOk result (λ pairs. All
-        (λ own. IsCancellerOf slots.now own.parties.canceller) pairs.items) }
+        → EachAsOften owners.items (owners_of pairs.items)) }
+    ensures taken { IfOk result (λ pairs. All HasTakenNothing pairs.items) }
+    ensures counted { IfOk result (λ pairs. All (HasAllSlots slots.now) pairs.items) }
+    ensures fits { IfOk result (λ pairs. All (IsAtLocks locks.now) pairs.items) }
+    ensures at_slots { IfOk result (λ pairs. All (IsAtSlots slots.now) pairs.items) }
 {
     let mut pairs = pair_up(alloc, locks, slots, seats, removes, cancellers)?;
     let count = pairs.len();
@@ -136,14 +145,9 @@ fn idle<'a, L: Session>(
     requires { 0 < workers }
     ensures len { IfOk result (λ all. vec_len all ≡ workers) }
     ensures ready { IfOk result (λ all. (k : ℕ) (one : _) → k < workers
-        → ((slice_index_or all.items k one).number ≡ k)
-        × ((slice_index_or all.items k one).workers ≡ workers)
-        × ((slice_index_or all.items k one).words.items ≡ [])
-        × ((slice_index_or all.items k one).stopped ≡ false)
-        × ((slice_index_or all.items k one).seats.items ≡ [])
-        × ((slice_index_or all.items k one).locks.now ≡ locks.now)) }
-    ensures seats { IfOk result (λ all. (test : _ → Bool) → sum_by
-        (λ worker. count_by test worker.seats.items) all.items ≡ 0) }
+        → IsIdle workers locks.now k (slice_index_or all.items k one)) }
+    ensures seats { IfOk result (λ all. (test : _ → Bool)
+        → count_seats test all.items ≡ 0) }
 {
     let mut all = Vec::with_capacity(alloc, workers as usize)?;
     for number in 0..workers {
@@ -160,16 +164,12 @@ fn deal<'a, L: Session>(
     mut seats: Vec<ScriptSeat<'a, L>>,
 ) -> Result<Vec<Worker<'a, L>>, AllocError>
     requires some { 0 < workers }
-    requires fits { All (λ own. IsSeatOf locks.now own.remove) seats.items }
+    requires fits { All (IsAtLocks locks.now) seats.items }
     ensures len { IfOk result (λ all. vec_len all ≡ workers) }
     ensures ready { IfOk result (λ all. (k : ℕ) (one : _) → k < workers
-        → ((slice_index_or all.items k one).number ≡ k)
-        × ((slice_index_or all.items k one).workers ≡ workers)
-        × ((slice_index_or all.items k one).words.items ≡ [])
-        × ((slice_index_or all.items k one).stopped ≡ false) × All
-        (λ own. own.seat.number % workers ≡ k) (slice_index_or all.items k one).seats.items) }
-    ensures seats { IfOk result (λ all. (test : _ → Bool) → sum_by
-        (λ worker. count_by test worker.seats.items) all.items ≡ count_by test seats.entry.items) }
+        → IsReady workers k (slice_index_or all.items k one)) }
+    ensures seats { IfOk result (λ all. (test : _ → Bool)
+        → count_seats test all.items ≡ count_by test seats.entry.items) }
 {
     let mut all = idle(alloc, locks, workers)?;
     while let Some(seat) = seats.pop() {
@@ -182,7 +182,7 @@ fn deal<'a, L: Session>(
 /// Each worker runs in a thread of its own, and comes back with its seats.
 fn run_all<'a, A: Ask + Send, L: Session + Send + Sync, G: Gate + Sync, R: Threads + Wait + Sync>(
     rt: &R,
-    place: &Workplace<A, L>,
+    context: &RunContext<A, L>,
     meeting: &Meeting,
     gate: &G,
     steps: &[Step],
@@ -190,19 +190,13 @@ fn run_all<'a, A: Ask + Send, L: Session + Send + Sync, G: Gate + Sync, R: Threa
 ) -> Result<Vec<Worker<'a, L>>, AllocError>
     ensures len { IfOk result (λ done. vec_len done ≡ vec_len workers.entry) }
     ensures made { IfOk result (λ done. (k : ℕ) (one : _) (other : _) → k < vec_len workers.entry
-        → MakesOwn L.fixed.locks (slice_index_or workers.entry.items k other).number
-        (slice_index_or workers.entry.items k other).workers steps.now (working (map
-        (λ own. at_work own.seat own.remove own.parties)
-        (slice_index_or workers.entry.items k other).seats.items)
-        (slice_index_or workers.entry.items k other).words.items) (working (map
-        (λ own. at_work own.seat own.remove own.parties)
-        (slice_index_or done.items k one).seats.items)
-        (slice_index_or done.items k one).words.items) (slice_index_or done.items k one).stopped) }
+        → RunsOwn L.fixed.locks steps.now (slice_index_or workers.entry.items k other)
+        (slice_index_or done.items k one)) }
 {
     thread::map_vec(
         rt,
         workers,
-        &|worker| worker.run(rt, place, meeting, gate, steps),
+        &|worker| worker.run(rt, context, meeting, gate, steps),
     )
 }
 
@@ -213,12 +207,11 @@ fn gather<'a, L: Session>(
 ) -> Result<Worked<'a, L>, AllocError>
     ensures words { IfOk result (λ worked. AreInOrder worked.words.items) }
     ensures lines { IfOk result (λ worked. (test : WordLine → Bool)
-        → count_by test worked.words.items ≡ sum_by
-        (λ worker. count_by test worker.words.items) workers.entry.items) }
+        → count_by test worked.words.items ≡ count_lines test workers.entry.items) }
     ensures stopped { IfOk result (λ worked. worked.stopped ≡ list_any
         (λ worker. worker.stopped) workers.entry.items) }
-    ensures seats { IfOk result (λ worked. (test : _ → Bool) → count_by test worked.seats.items
-        ≡ sum_by (λ worker. count_by test worker.seats.items) workers.entry.items) }
+    ensures seats { IfOk result (λ worked. (test : _ → Bool)
+        → count_by test worked.seats.items ≡ count_seats test workers.entry.items) }
 {
     let mut seats = Vec::new(alloc);
     let mut words = Vec::new(alloc);
@@ -290,31 +283,27 @@ pub fn run_workers<
     workers: u32,
 ) -> Result<Worked<'a, L>, AllocError>
     requires workers { 0 < workers }
-    requires locks { All (λ own. IsSeatOf locks.now own.remove) seats.items }
-    requires slots { All (λ own. IsCancellerOf slots.now own.parties.canceller) seats.items }
+    requires locks { All (IsAtLocks locks.now) seats.items }
+    requires slots { All (IsAtSlots slots.now) seats.items }
     ensures words { IfOk result (λ worked. AreInOrder worked.words.items) }
-    ensures seats { IfOk result (λ worked. AreSame (map
-        (λ own. own.seat.number) seats.entry.items) (map
-        (λ own. own.seat.number) worked.seats.items)) }
-    ensures pairs { IfOk result (λ worked. EachAsOften (map
-        (λ own. pair_of own.seat own.remove) seats.entry.items) (map
-        (λ own. pair_of own.seat own.remove) worked.seats.items)) }
+    ensures seats { IfOk result (λ worked.
+        AreSame (numbers_of seats.entry.items) (numbers_of worked.seats.items)) }
+    ensures pairs { IfOk result (λ worked.
+        EachAsOften (pairs_of seats.entry.items) (pairs_of worked.seats.items)) }
     ensures accounts { IfOk result (λ worked. Accounts script.now.setup script.now.steps
-        (map (λ own. at_work own.seat own.remove own.parties) seats.entry.items)
-        (map (λ own. at_work own.seat own.remove own.parties) worked.seats.items)
+        (seats_at_work seats.entry.items) (seats_at_work worked.seats.items)
         worked.words.items worked.stopped) }
     ensures ran { IfOk result
         (λ worked. RunsScript L.fixed.locks workers script.now.setup script.now.steps
-        (map (λ own. at_work own.seat own.remove own.parties) seats.entry.items)
-        (map (λ own. at_work own.seat own.remove own.parties) worked.seats.items)
+        (seats_at_work seats.entry.items) (seats_at_work worked.seats.items)
         worked.words.items worked.stopped) }
 {
     let _ = slots;
     let labels = Labels::new(alloc, script.labels)?;
-    let place = Workplace { shared, labels };
+    let context = RunContext { shared, labels };
     let all = Worker::new(alloc, 0, 1, locks, seats);
     let alone = Meeting::new(1);
-    let ready = all.run(rt, &place, &alone, &AlwaysOpen, script.setup.as_slice());
+    let ready = all.run(rt, &context, &alone, &AlwaysOpen, script.setup.as_slice());
     if ready.stopped {
         let seats = ready.seats;
         let words = Vec::new(alloc);
@@ -328,6 +317,6 @@ pub fn run_workers<
     let steps = script.steps.as_slice();
     let groups = deal(alloc, locks, workers, ready.seats)?;
     let meeting = Meeting::new(workers);
-    let done = run_all(rt, &place, &meeting, gate, steps, groups)?;
+    let done = run_all(rt, &context, &meeting, gate, steps, groups)?;
     gather(alloc, done)
 }

@@ -1,9 +1,18 @@
-//! What a step comes to, and what it asks for, once the packet that it names is known.
+//! What is read of a step's act: the packet that it names, its kind, the act of its word line, and its call.
 
 ghost use Rattle.std.specs.Prelude.{◌≡◌};
-ghost use Rattle.irp_workers.specs.Deeds.{call_of, deed_of, lock_act, named_by, owners_call_of, plain_call_of, preparing_call_of, slot_act};
+ghost use Rattle.irp_workers.specs.StepKinds.{
+  call_of,
+  kind_of,
+  lock_act,
+  named_by,
+  owners_call_of,
+  plain_call_of,
+  preparing_call_of,
+  slot_act,
+};
 
-use crate::deed::{Deed, LockAct, SlotAct};
+use crate::step_kind::{LockAct, SlotAct, StepKind};
 use irp_script_reader::{Named, StepAct};
 use irp_shared::Act;
 use irp_types::{Call, IrpRef};
@@ -31,30 +40,30 @@ pub fn named_by(act: StepAct) -> Option<Named>
     }
 }
 
-/// What a step comes to.
-pub fn deed_of(act: StepAct) -> Deed
-    ensures { result ≡ deed_of act }
+/// What kind a step is of.
+pub fn kind_of(act: StepAct) -> StepKind
+    ensures { result ≡ kind_of act }
 {
     match act {
-        StepAct::Acquire { lock, tag } => Deed::OnLock(LockAct::Acquire { lock, tag }),
-        StepAct::Release { lock, tag } => Deed::OnLock(LockAct::Release { lock, tag }),
-        StepAct::BeginRemove { lock, tag } => Deed::OnLock(LockAct::BeginRemove { lock, tag }),
-        StepAct::Drained { lock } => Deed::OnLock(LockAct::Drained { lock }),
-        StepAct::Hand { lock, tag, to } => Deed::Hands { lock, tag, to },
-        StepAct::Publish { slot, .. } => Deed::OnSlot(SlotAct::Publish { slot }),
-        StepAct::Withdraw { slot } => Deed::OnSlot(SlotAct::Withdraw { slot }),
-        StepAct::Request { slot } => Deed::OnSlot(SlotAct::Request { slot }),
+        StepAct::Acquire { lock, tag } => StepKind::OnLock(LockAct::Acquire { lock, tag }),
+        StepAct::Release { lock, tag } => StepKind::OnLock(LockAct::Release { lock, tag }),
+        StepAct::BeginRemove { lock, tag } => StepKind::OnLock(LockAct::BeginRemove { lock, tag }),
+        StepAct::Drained { lock } => StepKind::OnLock(LockAct::Drained { lock }),
+        StepAct::Hand { lock, tag, to } => StepKind::Hands { lock, tag, to },
+        StepAct::Publish { slot, .. } => StepKind::OnSlot(SlotAct::Publish { slot }),
+        StepAct::Withdraw { slot } => StepKind::OnSlot(SlotAct::Withdraw { slot }),
+        StepAct::Request { slot } => StepKind::OnSlot(SlotAct::Request { slot }),
         StepAct::FinishTaken {
             slot,
             status,
             information,
             ..
-        } => Deed::Finishes {
+        } => StepKind::Finishes {
             slot,
             status,
             information,
         },
-        _ => Deed::Calls,
+        _ => StepKind::Calls,
     }
 }
 

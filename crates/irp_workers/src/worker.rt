@@ -1,74 +1,26 @@
 //! Workers.
 
-ghost use Rattle.std.specs.Prelude.{◌≡◌, ◌≢◌, ◌<◌, ◌+◌, ◌%◌, ◌==◌, ◌++◌, ◌∷◌, [], true, false, All, map, length, slice_get, vec_len, Contains, IfNone, IfOk, IfSome, MatchOption, Some};
-ghost use Rattle.irp_remove.specs.Pairing.{IsSeatOf};
-ghost use Rattle.irp_workers.specs.Working.{HandsBetween, Makes, MakesEach, MakesHand, MakesOwn, at_work, if_own, working};
+ghost use Rattle.std.specs.Prelude.{◌≡◌, ◌<◌, [], All, false};
+ghost use Rattle.irp_workers.specs.Seats.{IsAtLocks};
 
-use crate::deed::Deed;
-use crate::gate::Gate;
-use crate::meeting::Meeting;
-use crate::script_seat::{ScriptSeat, tell};
-use crate::step_call::deed_of;
-use crate::workplace::Workplace;
+use crate::script_seat::ScriptSeat;
 use irp_remove::Locks;
-use irp_routines::Ask;
-use irp_script_reader::Step;
-use irp_shared::{Act, Session, WordLine, WordReply};
-use irp_types::LockNo;
-use std::alloc::{AllocError, Global};
-use std::sync::Wait;
-
-/// The place that a seat has once another one, of this place, is taken out.
-fn once_removed(at: usize, removed: usize) -> usize
-    requires { at ≢ removed }
-    ensures before { at < removed → result ≡ at }
-    ensures behind { removed < at → result + 1 ≡ at }
-{
-    if at < removed {
-        return at;
-    }
-    at - 1
-}
-
-/// The seat at the one place hands one acquisition to the one at the other. All are at these locks.
-fn hand_between<'a, L: Session>(
-    locks: &'a Locks,
-    seats: &mut Vec<ScriptSeat<'a, L>>,
-    from_at: usize,
-    to_at: usize,
-    lock: LockNo,
-    tag: u32,
-) -> WordReply
-    requires there { (from_at < length seats.old.items) × (to_at < length seats.old.items) }
-    requires apart { to_at ≢ from_at }
-    requires fits { All (λ own. IsSeatOf locks.now own.remove) seats.old.items }
-    ensures fits { All (λ own. IsSeatOf locks.now own.remove) seats.new.items }
-    ensures hands { HandsBetween L.fixed.locks lock tag from_at to_at
-        (map (λ own. at_work own.seat own.remove own.parties) seats.old.items)
-        (map (λ own. at_work own.seat own.remove own.parties) seats.new.items) result }
-{
-    let _ = locks;
-    let mut giver = seats.remove(from_at);
-    let taker = &mut seats[once_removed(to_at, from_at)];
-    let reply = giver.hand(taker, lock, tag);
-    // There is room, since it was taken out: this never fails.
-    let _ = seats.insert(from_at, giver);
-    reply
-}
+use irp_shared::{Session, WordLine};
+use std::alloc::Global;
 
 /// One of so many workers: it has the seats whose numbers leave its own number when divided by how many workers there
 /// are, and runs their steps. Their remove seats were opened with its locks. It stops where a step isn't recorded,
 /// finds no memory, or has a seat or an owner of a slot that isn't there.
 #[derive(Drop)]
 pub struct Worker<'a, L: Session> {
-    number: u32,
-    workers: u32,
-    locks: &'a Locks,
+    pub(crate) number: u32,
+    pub(crate) workers: u32,
+    pub(crate) locks: &'a Locks,
     pub seats: Vec<ScriptSeat<'a, L>>,
     pub words: Vec<WordLine>,
     pub stopped: bool,
     ghost some: { 0 < workers },
-    ghost fits: { All (λ own. IsSeatOf locks.now own.remove) seats.items },
+    ghost fits: { All (IsAtLocks locks.now) seats.items },
 }
 
 impl<'a, L: Session> Worker<'a, L> {
@@ -82,7 +34,7 @@ impl<'a, L: Session> Worker<'a, L> {
         seats: Vec<ScriptSeat<'a, L>>,
     ) -> Worker<'a, L>
         requires some { 0 < workers }
-        requires fits { All (λ own. IsSeatOf locks.now own.remove) seats.items }
+        requires fits { All (IsAtLocks locks.now) seats.items }
         ensures seats { result.seats ≡ seats.entry }
         ensures number { result.number ≡ number }
         ensures workers { result.workers ≡ workers }
@@ -98,216 +50,5 @@ impl<'a, L: Session> Worker<'a, L> {
             words: Vec::new(alloc),
             stopped: false,
         }
-    }
-
-    /// Gives it a seat, whose remove seat was opened with its locks.
-    ///
-    /// # Errors
-    ///
-    /// `AllocError` where a growth was refused. The seat is gone then.
-    pub fn give(&mut self, seat: ScriptSeat<'a, L>) -> Result<(), AllocError>
-        requires { IsSeatOf self.old.locks.now seat.remove }
-        ensures same { (self.new.number ≡ self.old.number) × (self.new.workers ≡ self.old.workers)
-            × (self.new.stopped ≡ self.old.stopped) × (self.new.locks.now ≡ self.old.locks.now) }
-        ensures words { self.new.words.items ≡ self.old.words.items }
-        ensures seats { IfOk result (λ _. self.new.seats.items
-            ≡ self.old.seats.items ++ seat.entry ∷ []) }
-    {
-        self.seats.reserve(1)?;
-        self.seats.push_reserved(seat);
-        Ok(())
-    }
-
-    /// The place among its seats of the first one with this number. None where there is none.
-    fn place_of(&self, number: u32) -> Option<usize>
-        ensures place { IfSome result (λ place. place < vec_len self.now.seats) }
-        ensures some { IfSome result (λ place. slice_get (map
-            (λ own. own.seat.number) self.now.seats.items) place ≡ Some number) }
-        ensures none { IfNone result (¬ Contains (map
-            (λ own. own.seat.number) self.now.seats.items) number) }
-    {
-        for (place, seat) in self.seats.iter().enumerate() {
-            if seat.number() == number {
-                return Some(place);
-            }
-        }
-        None
-    }
-
-    /// Makes a hand, which has this place. None where one of the seats isn't there, both are one, or there is no
-    /// memory for the line, and then nothing was done.
-    fn hand(&mut self, index: u32, step: Step, lock: LockNo, tag: u32, to: u32) -> Option<()>
-        ensures same { (self.new.number ≡ self.old.number) × (self.new.workers ≡ self.old.workers)
-            × (self.new.stopped ≡ self.old.stopped) × (self.new.locks.now ≡ self.old.locks.now) }
-        ensures made { MatchOption result (working (map
-            (λ own. at_work own.seat own.remove own.parties) self.new.seats.items)
-            self.new.words.items
-            ≡ working (map
-            (λ own. at_work own.seat own.remove own.parties) self.old.seats.items)
-            self.old.words.items)
-            (λ _. MakesHand L.fixed.locks index step lock tag to
-            (working (map
-            (λ own. at_work own.seat own.remove own.parties) self.old.seats.items)
-            self.old.words.items)
-            (working (map
-            (λ own. at_work own.seat own.remove own.parties) self.new.seats.items)
-            self.new.words.items)) }
-    {
-        let from_at = self.place_of(step.seat)?;
-        let to_at = self.place_of(to)?;
-        if from_at == to_at {
-            return None;
-        }
-        self.words.reserve(1).ok()?;
-        let locks = self.locks;
-        let reply = hand_between(locks, &mut self.seats, from_at, to_at, lock, tag);
-        tell(
-            &mut self.words,
-            index,
-            step,
-            Act::Hand { lock, tag, to },
-            reply,
-        );
-        Some(())
-    }
-
-    /// Makes a step, which has this place. None where it wasn't recorded, found no memory, or has a seat or an owner
-    /// of a slot that isn't there.
-    fn step<A: Ask>(
-        &mut self,
-        rt: &impl Wait,
-        place: &Workplace<A, L>,
-        index: u32,
-        step: Step,
-    ) -> Option<()>
-        ensures same { (self.new.number ≡ self.old.number) × (self.new.workers ≡ self.old.workers)
-            × (self.new.stopped ≡ self.old.stopped) × (self.new.locks.now ≡ self.old.locks.now) }
-        ensures made { MatchOption result (working (map
-            (λ own. at_work own.seat own.remove own.parties) self.new.seats.items)
-            self.new.words.items
-            ≡ working (map
-            (λ own. at_work own.seat own.remove own.parties) self.old.seats.items)
-            self.old.words.items)
-            (λ _. Makes L.fixed.locks index step
-            (working (map
-            (λ own. at_work own.seat own.remove own.parties) self.old.seats.items)
-            self.old.words.items)
-            (working (map
-            (λ own. at_work own.seat own.remove own.parties) self.new.seats.items)
-            self.new.words.items)) }
-    {
-        if let Deed::Hands { lock, tag, to } = deed_of(step.act) {
-            return self.hand(index, step, lock, tag, to);
-        }
-        let at = self.place_of(step.seat)?;
-        let own = &mut self.seats[at];
-        own.step(rt, place, index, step, &mut self.words)
-    }
-
-    /// Makes a step between the calls of the gate. None where it wasn't made.
-    fn pass<A: Ask, G: Gate>(
-        &mut self,
-        rt: &impl Wait,
-        place: &Workplace<A, L>,
-        gate: &G,
-        index: usize,
-        step: Step,
-    ) -> Option<()>
-        ensures same { (self.new.number ≡ self.old.number) × (self.new.workers ≡ self.old.workers)
-            × (self.new.stopped ≡ self.old.stopped) × (self.new.locks.now ≡ self.old.locks.now) }
-        ensures made { MatchOption result (working (map
-            (λ own. at_work own.seat own.remove own.parties) self.new.seats.items)
-            self.new.words.items
-            ≡ working (map
-            (λ own. at_work own.seat own.remove own.parties) self.old.seats.items)
-            self.old.words.items)
-            (λ _. Makes L.fixed.locks index step
-            (working (map
-            (λ own. at_work own.seat own.remove own.parties) self.old.seats.items)
-            self.old.words.items)
-            (working (map
-            (λ own. at_work own.seat own.remove own.parties) self.new.seats.items)
-            self.new.words.items)) }
-    {
-        let Ok(index) = u32::try_from(index) else {
-            return None;
-        };
-        gate.enter(step.seat, index);
-        let made = self.step(rt, place, index, step);
-        gate.answered(step.seat, index);
-        made
-    }
-
-    /// Whether a step is one of its own seats'.
-    fn has(&self, step: Step) -> bool
-        ensures { result ≡ (step.seat % self.now.workers == self.now.number) }
-    {
-        step.seat % self.workers == self.number
-    }
-
-    /// Makes a step, if it is one of its own, once it has met the other workers. Whether it goes on.
-    fn turn<A: Ask, G: Gate>(
-        &mut self,
-        rt: &impl Wait,
-        place: &Workplace<A, L>,
-        meeting: &Meeting,
-        gate: &G,
-        index: usize,
-        step: Step,
-    ) -> bool
-        ensures same { (self.new.number ≡ self.old.number) × (self.new.workers ≡ self.old.workers)
-            × (self.new.stopped ≡ self.old.stopped) × (self.new.locks.now ≡ self.old.locks.now) }
-        ensures turned { result ≡ true
-            → MakesEach L.fixed.locks (if_own self.old.number self.old.workers index step)
-            (working (map
-            (λ own. at_work own.seat own.remove own.parties) self.old.seats.items)
-            self.old.words.items)
-            (working (map
-            (λ own. at_work own.seat own.remove own.parties) self.new.seats.items)
-            self.new.words.items) }
-        ensures stayed { result ≡ false → working (map
-            (λ own. at_work own.seat own.remove own.parties) self.new.seats.items)
-            self.new.words.items
-            ≡ working (map
-            (λ own. at_work own.seat own.remove own.parties) self.old.seats.items)
-            self.old.words.items }
-    {
-        if !self.has(step) {
-            return true;
-        }
-        meeting.meet();
-        self.pass(rt, place, gate, index, step).is_some()
-    }
-
-    /// Runs the steps of its own seats, in the order of the script, up to the first that isn't made, and leaves the
-    /// meeting. Its seats come back. Each step was a call, with what the seat's own remove seat knew of the locks, or
-    /// an act on remove locks or on a cancel slot, of which a line behind its word lines tells what was answered, or
-    /// a finish of a taken packet, which was either.
-    pub fn run<A: Ask, G: Gate>(
-        mut self,
-        rt: &impl Wait,
-        place: &Workplace<A, L>,
-        meeting: &Meeting,
-        gate: &G,
-        steps: &[Step],
-    ) -> Worker<'a, L>
-        ensures locks { result.locks.now ≡ self.entry.locks.now }
-        ensures made { MakesOwn L.fixed.locks self.entry.number self.entry.workers steps.now
-            (working (map
-            (λ own. at_work own.seat own.remove own.parties) self.entry.seats.items)
-            self.entry.words.items)
-            (working (map
-            (λ own. at_work own.seat own.remove own.parties) result.seats.items)
-            result.words.items) result.stopped }
-    {
-        for (index, step) in steps.iter().enumerate() {
-            if !self.turn(rt, place, meeting, gate, index, *step) {
-                self.stopped = true;
-                meeting.leave();
-                return self;
-            }
-        }
-        meeting.leave();
-        self
     }
 }

@@ -19,16 +19,12 @@ use Rattle.irp_manager.specs.Seats.{Seated}
 use Rattle.irp_remove.specs.Seats.{Holder}
 use Rattle.irp_shared.specs.Closing.{AllHere, IsKept}
 use Rattle.irp_shared.specs.Opening.{AreNew}
-use Rattle.irp_workers.specs.Made.{SeatCalls, NoneTwice, calls_of, nameless, once_made, seat_calls}
+use Rattle.irp_workers.specs.Made.{SeatCalls, NoneTwice, calls_in, calls_of, once_made, seat_calls}
 use Rattle.irp_workers.specs.Numbers.{EachAsOften}
 use Rattle.irp_workers.specs.Outcomes.{Outcome}
 use Rattle.irp_workers.specs.Pairs.{Pair, pair_of}
 use Rattle.irp_workers.proofs.Carried.{carried}
 use Rattle.irp_workers.proofs.Numbers.{count_map}
-
--- the calls of a list of entries, but for the packets that they name
-abbrev calls_in : List Entry → List Call
-calls_in entries = map (λ (entry : Entry). nameless entry.call) entries
 
 abbrev same_calls : List Call → List Call → Bool
 same_calls one other = pointwise call_eq.eq-value.it one other

@@ -1,5 +1,19 @@
 -- What checking a transcript tells.
-use Rattle.std.specs.Prelude.{ℕ, ◌≡◌, ◌≤◌, List, ◌∷◌, [], ◌++◌, length, codes, Option, IfSome, Result, Ok, Err}
+use Rattle.std.specs.Prelude.{
+  ℕ,
+  ◌≡◌,
+  ◌≤◌,
+  List,
+  ◌∷◌,
+  [],
+  ◌++◌,
+  length,
+  codes,
+  IfSome,
+  Result,
+  Ok,
+  Err,
+}
 use Rattle.std.specs.Fmt.{decimal}
 use Rattle.std.specs.Io.KnownBytes.{Consumes}
 use Rattle.irp_shared.specs.Transcripts.{TranscriptValue, no_lines}
@@ -9,6 +23,7 @@ use Rattle.irp_transcript_reader.specs.declared.read_fault.ReadFault.TheVariants
 use Rattle.irp_script.specs.Checked.{IsVerdictOn}
 use Rattle.irp_script.specs.declared.checker.Verdict.{Verdict}
 use Rattle.irp_script.specs.declared.checker.Verdict.TheVariants as verdict
+use Rattle.irpx.specs.Bytes.{Bytes}
 use Rattle.irpx.specs.Writing.{Begins, IsQuiet, Written}
 use Rattle.irpx.specs.declared.checking.CheckFault.{CheckFault}
 use Rattle.irpx.specs.declared.checking.CheckFault.TheVariants as unchecked
@@ -31,7 +46,7 @@ verdict_line (verdict.Legal entries) = codes "legal " ++ (decimal entries ++ 10 
 verdict_line (verdict.Illegal at) = codes "illegal " ++ (decimal at ++ 10 ∷ [])
 
 -- this text, which isn't too long, is what was left of the input, where that is known, and it was taken
-pub record IsInput (old new : Option (List ℕ)) (text : List ℕ) : Type 0 where
+pub record IsInput (old new : Bytes) (text : List ℕ) : Type 0 where
   pub few : length text ≤ most_bytes
   pub whole : IfSome old (λ left. text ≡ left)
   pub took : Consumes old new text
@@ -43,7 +58,7 @@ pub record Judges (text : List ℕ) (verdict : Verdict) : Type 0 where
   pub judged : IsVerdictOn transcript verdict
 
 -- the input holds a transcript, and this is the verdict on it
-abbrev pub HasVerdict : Option (List ℕ) → Option (List ℕ) → Verdict → Type 0
+abbrev pub HasVerdict : Bytes → Bytes → Verdict → Type 0
 HasVerdict old new verdict = (text : List ℕ) × IsInput old new text × Judges text verdict
 
 -- this line is the first of the text that is refused
@@ -56,29 +71,33 @@ Unjudgeable text (RefusedLine line) = IsRefused text line
 Unjudgeable text (Input fault) = Unit {0}
 Unjudgeable text NoMemory = Unit {0}
 
--- why the input has no verdict: the first line that is refused of the text that it holds; or it wasn't read, or want of memory
-abbrev pub NotRead : Option (List ℕ) → Option (List ℕ) → Unjudged → Type 0
+-- why the input has no verdict: the first line that is refused of the text that it holds; or it wasn't read, or want of
+-- memory
+abbrev pub NotRead : Bytes → Bytes → Unjudged → Type 0
 NotRead old new (RefusedLine line) = (text : List ℕ) × IsInput old new text × IsRefused text line
 NotRead old new (Input fault) = Unit {0}
 NotRead old new NoMemory = Unit {0}
 
 -- what goes out and the count of failures where a verdict is told: its line
-abbrev pub Told : Verdict → Option (List ℕ) → Option (List ℕ) → ℕ → ℕ → Type 0
+abbrev pub Told : Verdict → Bytes → Bytes → ℕ → ℕ → Type 0
 Told verdict old new before after = Written (verdict_line verdict) old new before after
 
 -- the same where it isn't: a beginning of its line where the output failed, else nothing
-abbrev pub Untold : Verdict → Option (List ℕ) → Option (List ℕ) → ℕ → ℕ → Unwritten → Type 0
-Untold verdict old new before after unwritten.Failed = Begins (verdict_line verdict) old new × (after ≡ risen before)
+abbrev pub Untold : Verdict → Bytes → Bytes → ℕ → ℕ → Unwritten → Type 0
+Untold verdict old new before after unwritten.Failed =
+    Begins (verdict_line verdict) old new × (after ≡ risen before)
 Untold verdict old new before after unwritten.NoMemory = IsQuiet old new before after
 
--- what `check` did where it tells no verdict. Where there is none nothing went out. Else the input holds a transcript, whose
--- verdict wasn't told.
-abbrev pub Unchecked : Option (List ℕ) → Option (List ℕ) → Option (List ℕ) → Option (List ℕ) → ℕ → ℕ → CheckFault → Type 0
-Unchecked input left old new before after (unchecked.Unjudged fault) = NotRead input left fault × IsQuiet old new before after
+-- what `check` did where it tells no verdict. Where there is none nothing went out. Else the input holds a transcript,
+-- whose verdict wasn't told.
+abbrev pub Unchecked : Bytes → Bytes → Bytes → Bytes → ℕ → ℕ → CheckFault → Type 0
+Unchecked input left old new before after (unchecked.Unjudged fault) =
+    NotRead input left fault × IsQuiet old new before after
 Unchecked input left old new before after (unchecked.Untold fault) =
     (verdict : Verdict) × HasVerdict input left verdict × Untold verdict old new before after fault
 
 -- what `check` did: the input holds a transcript, whose verdict was told; or it told none
-abbrev pub Checks : Option (List ℕ) → Option (List ℕ) → Option (List ℕ) → Option (List ℕ) → ℕ → ℕ → Result Verdict CheckFault → Type 0
-Checks input left old new before after (Ok verdict) = HasVerdict input left verdict × Told verdict old new before after
+abbrev pub Checks : Bytes → Bytes → Bytes → Bytes → ℕ → ℕ → Result Verdict CheckFault → Type 0
+Checks input left old new before after (Ok verdict) =
+    HasVerdict input left verdict × Told verdict old new before after
 Checks input left old new before after (Err fault) = Unchecked input left old new before after fault

@@ -1,23 +1,49 @@
 -- The command line that the program takes, as clap has it.
-use Rattle.std.specs.Prelude.{◌≡◌, ◌≤◌, ◌+◌, ◌-◌, ◌*◌, ◌&&◌, ℕ, List, [], ◌∷◌, Bool, true, codes, nat_le, Option, Some, None, Result, Ok, Err, if◌then◌else◌}
+use Rattle.std.specs.Prelude.{
+  ◌≡◌,
+  ◌≤◌,
+  ◌+◌,
+  ◌-◌,
+  ◌*◌,
+  ◌&&◌,
+  ℕ,
+  List,
+  [],
+  ◌∷◌,
+  Bool,
+  true,
+  codes,
+  nat_le,
+  Option,
+  Some,
+  None,
+  Result,
+  Ok,
+  Err,
+  MatchResult,
+  if◌then◌else◌,
+}
 use Rattle.clap.specs.Words.{Rule, new_rule}
 use Rattle.clap.specs.Simple.{App, new_app, on_top, with_rule, with_subcommand}
 use Rattle.clap.specs.declared.builder.ArgAction.TheVariants.{Set}
 use Rattle.irpx.specs.declared.orders.Order.{Order}
 use Rattle.irpx.specs.declared.orders.Order.TheVariants.{Demo, Run, Check}
 use Rattle.irpx.specs.declared.orders.Unread.{Unread}
-use Rattle.irpx.specs.declared.orders.Unread.TheVariants.{Usage}
+use Rattle.irpx.specs.declared.orders.Unread.TheVariants.{Usage, Memory}
 
 -- the option `--workers`, which takes a text
 abbrev pub workers_option : Rule
-workers_option = record (new_rule (codes "workers")) { long = Some (codes "workers"); action = Some Set }
+workers_option =
+    record (new_rule (codes "workers")) { long = Some (codes "workers"); action = Some Set }
 
 -- the program, which needs a subcommand and has `demo`, `run` with its option, and `check`
 abbrev pub command_line : App
 command_line =
     with_subcommand
     (with_subcommand
-    (with_subcommand (on_top (λ shape. record shape { subcommand_required = true }) (new_app (codes "irpx"))) (new_app (codes "demo")).top)
+    (with_subcommand
+    (on_top (λ shape. record shape { subcommand_required = true }) (new_app (codes "irpx")))
+    (new_app (codes "demo")).top)
     (with_rule (new_app (codes "run")) workers_option).top)
     (new_app (codes "check")).top
 
@@ -35,7 +61,8 @@ workers count = if nat_le 1 count && nat_le count 64 then Some count else None
 -- one or two decimal digits
 abbrev pub workers_in : List ℕ → Option ℕ
 workers_in (one ∷ []) = if is_digit one then workers (one - 48) else None
-workers_in (ten ∷ one ∷ []) = if is_digit ten && is_digit one then workers ((ten - 48) * 10 + (one - 48)) else None
+workers_in (ten ∷ one ∷ []) =
+    if is_digit ten && is_digit one then workers ((ten - 48) * 10 + (one - 48)) else None
 workers_in text = None
 
 -- the order to run a script with so many workers, where there may be so many
@@ -47,6 +74,10 @@ run_with (Some workers) = Ok (Run workers)
 abbrev pub run_in : Option (List ℕ) → Result Order Unread
 run_in None = Ok (Run 1)
 run_in (Some text) = run_with (workers_in text)
+
+-- this order comes of the words, if memory doesn't run out
+abbrev pub IsOrderOrMemory : Order → Result Order Unread → Type 0
+IsOrderOrMemory order given = MatchResult given (λ it. it ≡ order) (λ unread. unread ≡ Memory)
 
 -- a run has 1 to 64 workers
 abbrev pub IsOrder : Order → Type 0

@@ -1,10 +1,15 @@
 -- What the demonstration writes.
-use Rattle.std.specs.Prelude.{ℕ, ◌≡◌, ◌<◌, List, [], ◌∷◌, ◌++◌, map, length, Option, Some}
+use Rattle.std.specs.Prelude.{ℕ, ◌≡◌, ◌<◌, List, [], ◌∷◌, ◌++◌, map, length, Some}
 use Rattle.std.specs.Io.KnownBytes.{Appends}
 use Rattle.irp_types.specs.Histories.{IsLegal}
 use Rattle.irp_types.specs.declared.entry.Entry.{Entry}
 use Rattle.irp_types.specs.declared.call.Call.{Call}
-use Rattle.irp_types.specs.declared.call.Call.TheVariants.{CreateDevice, Allocate, SetNext, CallDriver}
+use Rattle.irp_types.specs.declared.call.Call.TheVariants.{
+  CreateDevice,
+  Allocate,
+  SetNext,
+  CallDriver,
+}
 use Rattle.irp_types.specs.declared.call.Party.TheVariants.{Originator}
 use Rattle.irp_types.specs.declared.names.IrpRef.{IrpRef}
 use Rattle.irp_types.specs.declared.names.DeviceId.{DeviceId}
@@ -12,17 +17,19 @@ use Rattle.irp_shared.specs.Headers.{fixed_of, IsHeader}
 use Rattle.irp_shared.specs.Transcripts.{TranscriptValue}
 use Rattle.irp_shared.specs.declared.header.Header.{Header}
 use Rattle.irp_transcript_writer.specs.Lines.{lines, text_of}
+use Rattle.irpx.specs.Bytes.{Bytes}
 
 -- the calls of a history, in order, each with the seat that made it
 abbrev pub calls_of : List Entry → List (ℕ × Call)
 calls_of history = map (λ (entry : Entry). (entry.seat, entry.call)) history
 
--- the calls of the demonstration, all of seat 0: a device of driver 0 under lock 0, a packet of one location, a read with
--- word 7
+-- the calls of the demonstration, all of seat 0: a device of driver 0 under lock 0, a packet of one location, a read
+-- with word 7
 abbrev pub AreDemoCalls : List (ℕ × Call) → Type 0
 AreDemoCalls calls =
     (target : DeviceId) × (irp : IrpRef)
-    × (calls ≡ (0, CreateDevice (record { 0 = 0 }) (record { 0 = 0 })) ∷ (0, Allocate 1) ∷ (0, SetNext Originator irp 0x03 7) ∷ (0, CallDriver Originator irp target) ∷ [])
+    × (calls ≡ (0, CreateDevice (record { 0 = 0 }) (record { 0 = 0 })) ∷ (0, Allocate 1)
+    ∷ (0, SetNext Originator irp 0x03 7) ∷ (0, CallDriver Originator irp target) ∷ [])
 
 -- the transcript of a legal history with the calls of the demonstration, under a header that the formats accept
 pub record IsDemoTranscript (transcript : TranscriptValue) : Type 0 where
@@ -35,10 +42,11 @@ pub record IsDemoTranscript (transcript : TranscriptValue) : Type 0 where
 
 -- the text of a header and a history, with no word lines
 abbrev pub text_with : Header → List Entry → List ℕ
-text_with header history = text_of (lines (record { header = Some header; entries = history; words = [] }))
+text_with header history =
+    text_of (lines (record { header = Some header; entries = history; words = [] }))
 
 -- the text of a header and of a legal history with the calls of the demonstration went out
-pub record WritesLegal (old new : Option (List ℕ)) : Type 0 where
+pub record WritesLegal (old new : Bytes) : Type 0 where
   pub header : Header
   pub history : List Entry
   pub fits : IsHeader header
@@ -47,7 +55,7 @@ pub record WritesLegal (old new : Option (List ℕ)) : Type 0 where
   pub written : Appends old new (text_with header history)
 
 -- a beginning of the text of a header and a legal history went out, which isn't the whole text
-pub record BeginsLegal (old new : Option (List ℕ)) : Type 0 where
+pub record BeginsLegal (old new : Bytes) : Type 0 where
   pub header : Header
   pub history : List Entry
   pub fits : IsHeader header

@@ -11,7 +11,16 @@ use Rattle.irpx.specs.declared.checking.CheckFault.TheVariants as unchecked
 use Rattle.irpx.specs.declared.checking.Unjudged.{Unjudged}
 use Rattle.irpx.specs.declared.checking.Unjudged.TheVariants as unjudged
 use Rattle.irpx.specs.declared.ending.Ending.{Ending}
-use Rattle.irpx.specs.declared.ending.Ending.TheVariants.{Done, RefusedScript, RefusedLine, Illegal, ReceiptsDiffer, NoMemory, OtherWords, Failed}
+use Rattle.irpx.specs.declared.ending.Ending.TheVariants.{
+  Done,
+  RefusedScript,
+  RefusedLine,
+  Illegal,
+  ReceiptsDiffer,
+  NoMemory,
+  OtherWords,
+  Failed,
+}
 use Rattle.irpx.specs.declared.input.InputFault.{InputFault}
 use Rattle.irpx.specs.declared.input.InputFault.TheVariants as input
 use Rattle.irpx.specs.declared.orders.Unread.{Unread}
@@ -102,7 +111,8 @@ has_line Done = false
 has_line Illegal = false
 has_line ending = true
 
--- the line for standard error, without its newline, where it is known: that of a refused script ends with the refusal's text
+-- the line for standard error, without its newline, where it is known: that of a refused script ends with the refusal's
+-- text
 abbrev pub complaint_of : Ending → Option (List ℕ)
 complaint_of Done = Some (codes "")
 complaint_of (RefusedScript refusal) = None

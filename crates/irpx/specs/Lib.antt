@@ -1,3 +1,4 @@
+pub mod Bytes
 pub mod Checking
 pub mod CommandLine
 pub mod Demo

@@ -1,6 +1,7 @@
 -- What the program does for its words.
-use Rattle.std.specs.Prelude.{ℕ, ◌≡◌, ◌⊎◌, List, Option, Result, Ok, Err}
+use Rattle.std.specs.Prelude.{ℕ, ◌≡◌, ◌⊎◌, List, Result, Ok, Err}
 use Rattle.irp_script.specs.declared.checker.Verdict.{Verdict}
+use Rattle.irpx.specs.Bytes.{Bytes}
 use Rattle.irpx.specs.Checking.{HasVerdict, Told, Unchecked, most_taken as most_checked}
 use Rattle.irpx.specs.Demo.{BeginsLegal, WritesLegal}
 use Rattle.irpx.specs.Ending.{of_check, of_run, of_verdict, of_words, of_writing}
@@ -17,33 +18,40 @@ use Rattle.irpx.specs.declared.running.RunFault.{RunFault}
 use Rattle.irpx.specs.declared.writing.Unwritten.{Unwritten}
 
 -- the demonstration was done, or a fault of writing ended it after a beginning
-abbrev pub ObeysDemo : Option (List ℕ) → Option (List ℕ) → ℕ → ℕ → Ending → Type 0
+abbrev pub ObeysDemo : Bytes → Bytes → ℕ → ℕ → Ending → Type 0
 ObeysDemo old new before after ending =
     ((ending ≡ Done) × WritesLegal old new × (after ≡ before))
-    ⊎ ((fault : Unwritten) × (ending ≡ of_writing fault) × BeginsLegal old new × (after ≡ count_after fault before))
+    ⊎ ((fault : Unwritten) × (ending ≡ of_writing fault) × BeginsLegal old new
+    × (after ≡ count_after fault before))
 
 -- so many workers ran the script of the input to its end, or a fault ended it
-abbrev pub ObeysRun : ℕ → Option (List ℕ) → Option (List ℕ) → Option (List ℕ) → Option (List ℕ) → ℕ → ℕ → Ending → Type 0
+abbrev pub ObeysRun : ℕ → Bytes → Bytes → Bytes → Bytes → ℕ → ℕ → Ending → Type 0
 ObeysRun workers input left old new before after ending =
     ((ending ≡ Done) × Runs workers input left old new before after)
-    ⊎ ((fault : RunFault) × (ending ≡ of_run fault) × Unran workers input left old new before after fault)
+    ⊎ ((fault : RunFault) × (ending ≡ of_run fault)
+    × Unran workers input left old new before after fault)
 
 -- the verdict on the input's transcript was told, or a fault ended it
-abbrev pub ObeysCheck : Option (List ℕ) → Option (List ℕ) → Option (List ℕ) → Option (List ℕ) → ℕ → ℕ → Ending → Type 0
+abbrev pub ObeysCheck : Bytes → Bytes → Bytes → Bytes → ℕ → ℕ → Ending → Type 0
 ObeysCheck input left old new before after ending =
-    ((verdict : Verdict) × (ending ≡ of_verdict verdict) × HasVerdict input left verdict × Told verdict old new before after)
-    ⊎ ((fault : CheckFault) × (ending ≡ of_check fault) × Unchecked input left old new before after fault)
+    ((verdict : Verdict) × (ending ≡ of_verdict verdict)
+    × HasVerdict input left verdict × Told verdict old new before after)
+    ⊎ ((fault : CheckFault) × (ending ≡ of_check fault)
+    × Unchecked input left old new before after fault)
 
 -- how much was read: nothing, but where the words ask for a script to be run or for a transcript to be checked
-abbrev pub ReadsFor : Result Order Unread → Option (List ℕ) → Option (List ℕ) → Type 0
+abbrev pub ReadsFor : Result Order Unread → Bytes → Bytes → Type 0
 ReadsFor (Ok Demo) old new = new ≡ old
 ReadsFor (Ok (Run workers)) old new = TakesAtMost most_run old new
 ReadsFor (Ok Check) old new = TakesAtMost most_checked old new
 ReadsFor (Err unread) old new = new ≡ old
 
 -- what was done, by what the words ask for
-abbrev pub Obeys : Result Order Unread → Option (List ℕ) → Option (List ℕ) → Option (List ℕ) → Option (List ℕ) → ℕ → ℕ → Ending → Type 0
+abbrev pub Obeys : Result Order Unread → Bytes → Bytes → Bytes → Bytes → ℕ → ℕ → Ending → Type 0
 Obeys (Ok Demo) input left old new before after ending = ObeysDemo old new before after ending
-Obeys (Ok (Run workers)) input left old new before after ending = ObeysRun workers input left old new before after ending
-Obeys (Ok Check) input left old new before after ending = ObeysCheck input left old new before after ending
-Obeys (Err unread) input left old new before after ending = (ending ≡ of_words unread) × IsQuiet old new before after
+Obeys (Ok (Run workers)) input left old new before after ending =
+    ObeysRun workers input left old new before after ending
+Obeys (Ok Check) input left old new before after ending =
+    ObeysCheck input left old new before after ending
+Obeys (Err unread) input left old new before after ending =
+    (ending ≡ of_words unread) × IsQuiet old new before after

@@ -1,5 +1,23 @@
 -- What running a script leaves and writes.
-use Rattle.std.specs.Prelude.{ℕ, ◌≡◌, ◌<◌, ◌+◌, List, ◌++◌, length, map, position, take, Option, Some, None, IfSome, Result, Ok, Err}
+use Rattle.std.specs.Prelude.{
+  ℕ,
+  ◌≡◌,
+  ◌<◌,
+  ◌+◌,
+  List,
+  ◌++◌,
+  length,
+  map,
+  position,
+  take,
+  Option,
+  Some,
+  None,
+  IfSome,
+  Result,
+  Ok,
+  Err,
+}
 use Rattle.std.specs.Io.KnownBytes.{Consumes}
 use Rattle.std.specs.Option.{option_map}
 use Rattle.irp_types.specs.Histories.{IsLegal, CompletesOnce, own_entries}
@@ -24,11 +42,12 @@ use Rattle.irp_script_reader.specs.declared.script.ScriptForm.{ScriptForm}
 use Rattle.irp_script_reader.specs.declared.script.ScriptForm.TheVariants as script_form
 use Rattle.irp_script.specs.Between.{hands_between}
 use Rattle.irp_workers.specs.Behaviours.{cancel_rule_of}
-use Rattle.irp_workers.specs.Made.{calls_of, nameless}
+use Rattle.irp_workers.specs.Made.{calls_in, calls_of}
 use Rattle.irp_workers.specs.Numbers.{EachAsOften, NoneMoreOften}
 use Rattle.irp_workers.specs.Outcomes.{Outcome, Test, outcomes}
 use Rattle.irp_workers.specs.Words.{AreInOrder, told_by, word_steps}
 use Rattle.irp_transcript_writer.specs.Lines.{lines, text_of}
+use Rattle.irpx.specs.Bytes.{Bytes}
 use Rattle.irpx.specs.Writing.{BreaksOff, IsQuiet, Written}
 use Rattle.irpx.specs.declared.running.RunFault.{RunFault}
 use Rattle.irpx.specs.declared.running.RunFault.TheVariants as run_fault
@@ -43,18 +62,20 @@ use Rattle.irpx.specs.declared.running.Unscripted.TheVariants.{Input, Refused, N
 abbrev pub most_taken : ℕ
 most_taken = 1048577
 
--- this text is what is taken of the input, and what is read, where the input is known: all that was left, or its first bytes
-pub record IsRead (old new : Option (List ℕ)) (text : List ℕ) : Type 0 where
+-- this text is what is taken of the input, and what is read, where the input is known: all that was left, or its first
+-- bytes
+pub record IsRead (old new : Bytes) (text : List ℕ) : Type 0 where
   pub first : IfSome old (λ left. text ≡ take most_taken left)
   pub took : Consumes old new text
 
 -- what is read of the input is the text of this script
-abbrev pub HoldsScript : Option (List ℕ) → Option (List ℕ) → Script → Type 0
+abbrev pub HoldsScript : Bytes → Bytes → Script → Type 0
 HoldsScript old new script = (text : List ℕ) × IsRead old new text × ReadsScript (Ok script) text
 
 -- why there is no script: what is read of the input is refused, so; or the input wasn't read, or want of memory
-abbrev pub NoScript : Option (List ℕ) → Option (List ℕ) → Unscripted → Type 0
-NoScript old new (Refused refusal) = (text : List ℕ) × IsRead old new text × ReadsScript (Err (fault.Refused refusal)) text
+abbrev pub NoScript : Bytes → Bytes → Unscripted → Type 0
+NoScript old new (Refused refusal) =
+    (text : List ℕ) × IsRead old new text × ReadsScript (Err (fault.Refused refusal)) text
 NoScript old new (Input fault) = Unit {0}
 NoScript old new NoMemory = Unit {0}
 
@@ -73,7 +94,8 @@ and_cancels answers tables = record tables {
 
 -- the tables with these dispatches too, of which each may name all routines that there are
 abbrev pub and_dispatches : List Plan → Tables → Tables
-and_dispatches plans tables = record tables { dispatches = tables.dispatches ++ map (λ plan. tables.counts) plans }
+and_dispatches plans tables =
+    record tables { dispatches = tables.dispatches ++ map (λ plan. tables.counts) plans }
 
 -- the tables with these drivers too
 abbrev pub and_drivers : List (List Entrance) → Tables → Tables
@@ -82,7 +104,9 @@ and_drivers drivers tables = record tables { drivers = tables.drivers ++ map by_
 -- the tables of a store with all that a script tells of whom is asked, and no more
 abbrev pub tables_of : Script → Tables
 tables_of script =
-    and_drivers script.drivers (and_dispatches script.dispatches (and_cancels script.cancels (and_routines script.completions no_tables)))
+    and_drivers script.drivers
+    (and_dispatches script.dispatches
+    (and_cancels script.cancels (and_routines script.completions no_tables)))
 
 -- ---- the output
 
@@ -93,12 +117,13 @@ form_of (script_form.Two slots) = Two slots
 
 -- what is fixed while the script is run with these tables
 abbrev pub fixed_for : Script → Tables → Fixed
-fixed_for script tables = record { locks = script.locks; tables = tables; limit = limit_of (form_of script.form) }
+fixed_for script tables =
+    record { locks = script.locks; tables = tables; limit = limit_of (form_of script.form) }
 
 -- a transcript of a run of the script with these tables: its header tells the script's form, seats and locks, and the
 -- tables, and the formats accept it; its history is legal, completes each use of a packet at most once, and has entries
--- of the script's seats alone; its word lines are in order, and tell of no step more often than it has a line, where some
--- finishes of taken packets found no token
+-- of the script's seats alone; its word lines are in order, and tell of no step more often than it has a line, where
+-- some finishes of taken packets found no token
 pub record IsRun (script : Script) (tables : Tables) (transcript : TranscriptValue) : Type 0 where
   pub header : Header
   pub told : transcript.header ≡ Some header
@@ -111,27 +136,31 @@ pub record IsRun (script : Script) (tables : Tables) (transcript : TranscriptVal
   pub seated : AreSeated script.seats transcript.entries
   pub words : AreInOrder transcript.words
   pub tokenless : Test
-  pub told_steps : NoneMoreOften (word_steps (outcomes tokenless script.steps)) (map told_by transcript.words)
+  pub told_steps : NoneMoreOften
+      (word_steps (outcomes tokenless script.steps)) (map told_by transcript.words)
 
--- the calls of each seat's entries are those of its own among these, in order: each once and no other, but for the packets
--- and the tokens that they name
+-- the calls of each seat's entries are those of its own among these, in order: each once and no other, but for the
+-- packets and the tokens that they name
 abbrev pub MakesCalls : ℕ → List Outcome → List Entry → Type 0
 MakesCalls seats outs entries =
-    (seat : ℕ) → seat < seats → map (λ (entry : Entry). nameless entry.call) (own_entries entries seat) ≡ calls_of seat outs
+    (seat : ℕ) → seat < seats → calls_in (own_entries entries seat) ≡ calls_of seat outs
 
--- a transcript shows each step of the script, where some finishes of taken packets found no token. The word lines tell of
--- each step that has one, as often as it stands in the script: of acts on locks and slots, and of those finishes. The
--- entries are the calls of all other steps, the setup's and then the others
+-- a transcript shows each step of the script, where some finishes of taken packets found no token. The word lines tell
+-- of each step that has one, as often as it stands in the script: of acts on locks and slots, and of those finishes.
+-- The entries are the calls of all other steps, the setup's and then the others
 pub record ShowsEach (script : Script) (transcript : TranscriptValue) : Type 0 where
   pub tokenless_first : Test
   pub tokenless : Test
-  pub told : EachAsOften (word_steps (outcomes tokenless script.steps)) (map told_by transcript.words)
-  pub made : MakesCalls script.seats (outcomes tokenless_first script.setup ++ outcomes tokenless script.steps) transcript.entries
+  pub told : EachAsOften
+      (word_steps (outcomes tokenless script.steps)) (map told_by transcript.words)
+  pub made : MakesCalls script.seats
+      (outcomes tokenless_first script.setup ++ outcomes tokenless script.steps) transcript.entries
 
 -- a transcript of a session, with the form of the script that was run, and these word lines
 abbrev pub run_transcript : ScriptForm → List WordLine → TranscriptValue → TranscriptValue
 run_transcript form words transcript = record transcript {
-  header = option_map (λ (header : Header). record header { form = form_of form }) transcript.header;
+  header = option_map
+      (λ (header : Header). record header { form = form_of form }) transcript.header;
   words = words;
 }
 
@@ -139,49 +168,61 @@ run_transcript form words transcript = record transcript {
 abbrev pub text_with : TranscriptValue → List ℕ
 text_with transcript = text_of (lines transcript)
 
--- what came of a script with these tables that was run to its end: the transcript of a run was written, which shows each
--- step
-abbrev pub RunsScript : Script → Tables → Option (List ℕ) → Option (List ℕ) → ℕ → ℕ → Type 0
+-- what came of a script with these tables that was run to its end: the transcript of a run was written, which shows
+-- each step
+abbrev pub RunsScript : Script → Tables → Bytes → Bytes → ℕ → ℕ → Type 0
 RunsScript script tables old new before after =
     (transcript : TranscriptValue) × IsRun script tables transcript × ShowsEach script transcript
     × Written (text_with transcript) old new before after
 
--- the same where it wasn't: there is no transcript, and nothing went out; or the transcript of a run was written, but not of
--- all steps; or a beginning of one went out
-abbrev pub BreaksOffRun : Script → Tables → Option (List ℕ) → Option (List ℕ) → ℕ → ℕ → Unfinished → Type 0
+-- the same where it wasn't: there is no transcript, and nothing went out; or the transcript of a run was written, but
+-- not of all steps; or a beginning of one went out
+abbrev pub BreaksOffRun : Script → Tables → Bytes → Bytes → ℕ → ℕ → Unfinished → Type 0
 BreaksOffRun script tables old new before after (NoTranscript fault) = IsQuiet old new before after
 BreaksOffRun script tables old new before after Stopped =
-    (transcript : TranscriptValue) × IsRun script tables transcript × Written (text_with transcript) old new before after
+    (transcript : TranscriptValue) × IsRun script tables transcript
+    × Written (text_with transcript) old new before after
 BreaksOffRun script tables old new before after (Unwritten fault) =
-    (transcript : TranscriptValue) × IsRun script tables transcript × BreaksOff (text_with transcript) old new before after fault
+    (transcript : TranscriptValue) × IsRun script tables transcript
+    × BreaksOff (text_with transcript) old new before after fault
 
 -- what came of a script with these tables
-abbrev pub AfterScript : {T : Type 0} → Script → Tables → Option (List ℕ) → Option (List ℕ) → ℕ → ℕ → Result T Unfinished → Type 0
-AfterScript script tables old new before after (Ok done) = RunsScript script tables old new before after
-AfterScript script tables old new before after (Err fault) = BreaksOffRun script tables old new before after fault
+abbrev pub AfterScript : {T : Type 0} → Script → Tables → Bytes → Bytes → ℕ → ℕ
+    → Result T Unfinished → Type 0
+AfterScript script tables old new before after (Ok done) =
+    RunsScript script tables old new before after
+AfterScript script tables old new before after (Err fault) =
+    BreaksOffRun script tables old new before after fault
 
--- the first step that hands a reference between seats that fall to different of so many workers is this one, or there is
--- none; and the input holds the script
-abbrev pub HandsFirst : ℕ → Option ℕ → Option (List ℕ) → Option (List ℕ) → Script → Type 0
+-- the first step that hands a reference between seats that fall to different of so many workers is this one, or there
+-- is none; and the input holds the script
+abbrev pub HandsFirst : ℕ → Option ℕ → Bytes → Bytes → Script → Type 0
 HandsFirst workers place input left script =
     HoldsScript input left script × (position (hands_between workers) script.steps ≡ place)
 
 -- what `run` did with so many workers where all was done: the input holds a script that hands nothing between workers,
 -- which was run
-abbrev pub Runs : ℕ → Option (List ℕ) → Option (List ℕ) → Option (List ℕ) → Option (List ℕ) → ℕ → ℕ → Type 0
+abbrev pub Runs : ℕ → Bytes → Bytes → Bytes → Bytes → ℕ → ℕ → Type 0
 Runs workers input left old new before after =
-    (script : Script) × HandsFirst workers None input left script × RunsScript script (tables_of script) old new before after
+    (script : Script) × HandsFirst workers None input left script
+    × RunsScript script (tables_of script) old new before after
 
 -- the same where it wasn't: there is no script, or one that hands a reference between workers, and nothing went out; or
 -- the input holds another, which wasn't run to its end
-abbrev pub Unran : ℕ → Option (List ℕ) → Option (List ℕ) → Option (List ℕ) → Option (List ℕ) → ℕ → ℕ → RunFault → Type 0
-Unran workers input left old new before after (run_fault.Unread fault) = NoScript input left fault × IsQuiet old new before after
+abbrev pub Unran : ℕ → Bytes → Bytes → Bytes → Bytes → ℕ → ℕ → RunFault → Type 0
+Unran workers input left old new before after (run_fault.Unread fault) =
+    NoScript input left fault × IsQuiet old new before after
 Unran workers input left old new before after (run_fault.HandsBetween step) =
-    (script : Script) × HandsFirst workers (Some step) input left script × IsQuiet old new before after
+    (script : Script) × HandsFirst workers (Some step) input left script
+    × IsQuiet old new before after
 Unran workers input left old new before after (run_fault.Unfinished fault) =
-    (script : Script) × HandsFirst workers None input left script × BreaksOffRun script (tables_of script) old new before after fault
+    (script : Script) × HandsFirst workers None input left script
+    × BreaksOffRun script (tables_of script) old new before after fault
 
 -- what `run` did: the input holds a script, which was run to its end; or it wasn't
-abbrev pub AfterRun : {T : Type 0} → ℕ → Option (List ℕ) → Option (List ℕ) → Option (List ℕ) → Option (List ℕ) → ℕ → ℕ → Result T RunFault → Type 0
-AfterRun workers input left old new before after (Ok done) = Runs workers input left old new before after
-AfterRun workers input left old new before after (Err fault) = Unran workers input left old new before after fault
+abbrev pub AfterRun : {T : Type 0} → ℕ → Bytes → Bytes → Bytes → Bytes → ℕ → ℕ
+    → Result T RunFault → Type 0
+AfterRun workers input left old new before after (Ok done) =
+    Runs workers input left old new before after
+AfterRun workers input left old new before after (Err fault) =
+    Unran workers input left old new before after fault

@@ -1,7 +1,18 @@
 //! The word `check`: a transcript is read and judged, and the verdict is told.
 
 ghost use Rattle.std.specs.Prelude.{IfErr, IfOk, OnOk, ◌≡◌};
-ghost use Rattle.irpx.specs.Checking.{Checks, HasVerdict, IsInput, Judges, NotRead, Told, Unjudgeable, Untold, most_taken, verdict_line};
+ghost use Rattle.irpx.specs.Checking.{
+  Checks,
+  HasVerdict,
+  IsInput,
+  Judges,
+  NotRead,
+  Told,
+  Unjudgeable,
+  Untold,
+  most_taken,
+  verdict_line,
+};
 ghost use Rattle.irpx.specs.Input.{TakesAtMost};
 
 use crate::input::{InputFault, read_up_to};
@@ -74,7 +85,8 @@ impl From<Unwritten> for CheckFault {
 
 /// What is left of the input. It fails where it can't be read, or is too long.
 fn text_of<R: Read>(alloc: Global, input: &mut R) -> Result<Vec<u8>, InputFault>
-    ensures ok { IfOk result (λ text. IsInput (R.remaining input.old) (R.remaining input.new) text.items) }
+    ensures ok { IfOk result (λ text.
+        IsInput (R.remaining input.old) (R.remaining input.new) text.items) }
     ensures took { TakesAtMost most_taken (R.remaining input.old) (R.remaining input.new) }
 {
     let text = read_up_to(alloc, input, MOST_BYTES + 1)?;
@@ -121,8 +133,10 @@ fn line_of(alloc: Global, verdict: Verdict) -> Result<String, AllocError>
 
 /// Tells the output a verdict.
 fn tell<O: Out>(alloc: Global, output: &mut O, verdict: Verdict) -> Result<(), Unwritten>
-    ensures ok { OnOk result (Told verdict (O.gone output.old) (O.gone output.new) (O.failures output.old) (O.failures output.new)) }
-    ensures err { IfErr result (Untold verdict (O.gone output.old) (O.gone output.new) (O.failures output.old) (O.failures output.new)) }
+    ensures ok { OnOk result (Told verdict (O.gone output.old) (O.gone output.new)
+        (O.failures output.old) (O.failures output.new)) }
+    ensures err { IfErr result (Untold verdict (O.gone output.old) (O.gone output.new)
+        (O.failures output.old) (O.failures output.new)) }
 {
     let Ok(line) = line_of(alloc, verdict) else {
         return Err(Unwritten::NoMemory);
@@ -150,7 +164,8 @@ pub fn check<R: Read, O: Out>(
     input: &mut R,
     output: &mut O,
 ) -> Result<Verdict, CheckFault>
-    ensures checks { Checks (R.remaining input.old) (R.remaining input.new) (O.gone output.old) (O.gone output.new)
+    ensures checks { Checks (R.remaining input.old) (R.remaining input.new)
+        (O.gone output.old) (O.gone output.new)
         (O.failures output.old) (O.failures output.new) result }
     ensures took { TakesAtMost most_taken (R.remaining input.old) (R.remaining input.new) }
 {

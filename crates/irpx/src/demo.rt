@@ -3,7 +3,13 @@
 ghost use Rattle.std.specs.Prelude.{◌≡◌, [], ◌∷◌, ◌++◌, IfErr, IfSome, OnErr, OnOk, false};
 ghost use Rattle.irp_types.specs.declared.limit.Limit.TheVariants.{Sixteen};
 ghost use Rattle.irp_shared.specs.Sharing.{needs_token};
-ghost use Rattle.irpx.specs.Demo.{calls_of, AreDemoCalls, IsDemoTranscript, WritesLegal, BeginsLegal};
+ghost use Rattle.irpx.specs.Demo.{
+  calls_of,
+  AreDemoCalls,
+  IsDemoTranscript,
+  WritesLegal,
+  BeginsLegal,
+};
 ghost use Rattle.irpx.specs.Writing.{count_after};
 
 use crate::writing::{Unwritten, write};
@@ -36,7 +42,8 @@ fn call<A: Ask, L: Session>(
 ) -> Option<Reply>
     requires { needs_token call ≡ false }
     ensures seat { seat.new.number ≡ seat.old.number }
-    ensures calls { IfSome result (λ reply. calls_of seat.new.entries ≡ calls_of seat.old.entries ++ (seat.old.number, call) ∷ []) }
+    ensures calls { IfSome result (λ reply. calls_of seat.new.entries
+        ≡ calls_of seat.old.entries ++ (seat.old.number, call) ∷ []) }
 {
     let receipt = shared.call(rt, seat, call, &KnowsNothing).ok()?;
     Some(receipt.reply())
@@ -132,7 +139,8 @@ pub fn demo<O: Out>(rt: &impl Wait, alloc: Global, output: &mut O) -> Result<(),
     ensures done { OnOk result (WritesLegal (O.gone output.old) (O.gone output.new)) }
     ensures begins { OnErr result (BeginsLegal (O.gone output.old) (O.gone output.new)) }
     ensures calm { OnOk result (O.failures output.new ≡ O.failures output.old) }
-    ensures fault { IfErr result (λ fault. O.failures output.new ≡ count_after fault (O.failures output.old)) }
+    ensures fault { IfErr result (λ fault.
+        O.failures output.new ≡ count_after fault (O.failures output.old)) }
 {
     let finish = |_shown: Shown| Plan::Finish {
         status: Status::SUCCESS,

@@ -2,7 +2,20 @@
 
 ghost use Rattle.std.specs.Prelude.{◌≡◌};
 ghost use Rattle.std.specs.Process.{exit_status};
-ghost use Rattle.irpx.specs.Ending.{has_line, of_check, of_input, of_judging, of_run, of_script, of_session, of_unfinished, of_verdict, of_words, of_writing, status_of};
+ghost use Rattle.irpx.specs.Ending.{
+  has_line,
+  of_check,
+  of_input,
+  of_judging,
+  of_run,
+  of_script,
+  of_session,
+  of_unfinished,
+  of_verdict,
+  of_words,
+  of_writing,
+  status_of,
+};
 
 use crate::checking::{CheckFault, Unjudged};
 use crate::input::InputFault;

@@ -34,8 +34,10 @@ pub fn read_up_to<R: Read>(
     limit: usize,
 ) -> Result<Vec<u8>, InputFault>
     ensures bound { IfOk result (λ read. vec_len read ≤ limit) }
-    ensures bytes { IfOk result (λ read. IfSome (R.remaining reader.old) (λ input. read.items ≡ take limit input)) }
-    ensures took { IfOk result (λ read. Consumes (R.remaining reader.old) (R.remaining reader.new) read.items) }
+    ensures bytes { IfOk result (λ read.
+        IfSome (R.remaining reader.old) (λ input. read.items ≡ take limit input)) }
+    ensures took { IfOk result (λ read.
+        Consumes (R.remaining reader.old) (R.remaining reader.new) read.items) }
     ensures within { TakesAtMost limit (R.remaining reader.old) (R.remaining reader.new) }
 {
     let mut bytes = Vec::new(alloc);

@@ -52,7 +52,9 @@ fn run<R: Read, O: Out, T: Threads + Wait + Sync>(
 ) -> Ending
     requires { IfOk order IsOrder }
     ensures read { ReadsFor order (R.remaining input.old) (R.remaining input.new) }
-    ensures obeys { Obeys order (R.remaining input.old) (R.remaining input.new) (O.gone output.old) (O.gone output.new) (O.failures output.old) (O.failures output.new) result }
+    ensures obeys { Obeys order (R.remaining input.old) (R.remaining input.new)
+        (O.gone output.old) (O.gone output.new)
+        (O.failures output.old) (O.failures output.new) result }
 {
     match order {
         Ok(Order::Demo) => match demo::demo(rt, alloc, output) {

@@ -1,6 +1,6 @@
 //! The word `run`: a script is read and run by workers, and the transcript is written.
 
-ghost use Rattle.std.specs.Prelude.{IfErr, IfOk, ◌≡◌, ◌≤◌, ◌<◌, false, map, true};
+ghost use Rattle.std.specs.Prelude.{IfErr, IfOk, ◌≡◌, ◌≤◌, ◌<◌, false, true};
 ghost use Rattle.irp_types.specs.Rules.{is_allowed, is_plan_allowed};
 ghost use Rattle.irp_routines.specs.Guarded.{guarded_answer, guarded_plan};
 ghost use Rattle.irp_types.specs.Limits.{most_slots};
@@ -8,6 +8,7 @@ ghost use Rattle.irp_shared.specs.Headers.{slots_of};
 ghost use Rattle.irp_shared.specs.Transcripts.{IsTranscript};
 ghost use Rattle.irp_workers.specs.Behaviours.{answer_of, plan_of};
 ghost use Rattle.irp_workers.specs.Numbers.{EachAsOften};
+ghost use Rattle.irp_workers.specs.Seats.{seats_of};
 ghost use Rattle.irpx.specs.Input.{TakesAtMost};
 ghost use Rattle.irpx.specs.Running.{
   AfterRun,
@@ -206,7 +207,7 @@ fn seats_of<L: Session>(
     alloc: Global,
     mut pairs: Vec<ScriptSeat<'_, L>>,
 ) -> Result<Vec<Seat<L>>, AllocError>
-    ensures { IfOk result (λ seats. EachAsOften (map (λ own. own.seat) pairs.entry.items) seats.items) }
+    ensures { IfOk result (λ seats. EachAsOften (seats_of pairs.entry.items) seats.items) }
 {
     let mut seats = Vec::new(alloc);
     while let Some(pair) = pairs.pop() {
@@ -313,7 +314,8 @@ fn with_store<O: Out, T: Threads + Wait + Sync>(
     workers: Workers,
     store: Store,
 ) -> Result<(), Unfinished>
-    ensures { AfterScript script.now store.tables (O.gone output.old) (O.gone output.new) (O.failures output.old) (O.failures output.new) result }
+    ensures { AfterScript script.now store.tables (O.gone output.old) (O.gone output.new)
+        (O.failures output.old) (O.failures output.new) result }
 {
     let blank = Blank::new(u64::from(script.seats));
     let run = session::<Brand, T>(rt, alloc, blank, store, script, workers.number)?;
@@ -333,7 +335,9 @@ fn with_dispatches<O: Out, T: Threads + Wait + Sync>(
     workers: Workers,
     mut store: Store,
 ) -> Result<(), Unfinished>
-    ensures { AfterScript script.now (and_drivers script.now.drivers store.tables) (O.gone output.old) (O.gone output.new) (O.failures output.old) (O.failures output.new) result }
+    ensures { AfterScript script.now (and_drivers script.now.drivers store.tables)
+        (O.gone output.old) (O.gone output.new)
+        (O.failures output.old) (O.failures output.new) result }
 {
     let drivers = script.drivers.as_slice();
     for driver in drivers {
@@ -374,7 +378,9 @@ fn run_script<O: Out, T: Threads + Wait + Sync>(
     script: &Script,
     workers: Workers,
 ) -> Result<(), Unfinished>
-    ensures { AfterScript script.now (tables_of script.now) (O.gone output.old) (O.gone output.new) (O.failures output.old) (O.failures output.new) result }
+    ensures { AfterScript script.now (tables_of script.now)
+        (O.gone output.old) (O.gone output.new)
+        (O.failures output.old) (O.failures output.new) result }
 {
     let mut store = Store::new(alloc);
     let routines = script.completions.as_slice();
@@ -429,7 +435,9 @@ pub fn run<R: Read, O: Out, T: Threads + Wait + Sync>(
     workers: u32,
 ) -> Result<(), RunFault>
     requires { 0 < workers }
-    ensures after { AfterRun workers (R.remaining input.old) (R.remaining input.new) (O.gone output.old) (O.gone output.new) (O.failures output.old) (O.failures output.new) result }
+    ensures after { AfterRun workers (R.remaining input.old) (R.remaining input.new)
+        (O.gone output.old) (O.gone output.new)
+        (O.failures output.old) (O.failures output.new) result }
     ensures took { TakesAtMost most_taken (R.remaining input.old) (R.remaining input.new) }
 {
     let script = script_of(alloc, input)?;

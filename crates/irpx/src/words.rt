@@ -1,10 +1,39 @@
 //! What the command line asks for.
 
-ghost use Rattle.std.specs.Prelude.{◌≡◌, ◌≤◌, ◌↔◌, ℕ, List, [], Some, codes, map, option_map, IfOk, MatchResult, OnOk};
+ghost use Rattle.std.specs.Prelude.{
+  ◌≡◌,
+  ◌≤◌,
+  ◌↔◌,
+  ℕ,
+  List,
+  [],
+  Some,
+  codes,
+  map,
+  option_map,
+  IfOk,
+  MatchResult,
+  OnOk,
+};
 ghost use Rattle.clap.specs.Matches.{found_of, subcommand_name_of};
 ghost use Rattle.clap.specs.Values.{kind_of};
-ghost use Rattle.clap.specs.Words.{Row, app_of, fault_of, first_of, rows_of, subcommand_of, subcommand_rows_of};
-ghost use Rattle.irpx.specs.CommandLine.{IsOneWord, IsOrder, command_line, run_in, workers_in};
+ghost use Rattle.clap.specs.Words.{
+  Row,
+  app_of,
+  fault_of,
+  first_of,
+  rows_of,
+  subcommand_of,
+  subcommand_rows_of,
+};
+ghost use Rattle.irpx.specs.CommandLine.{
+  IsOneWord,
+  IsOrder,
+  IsOrderOrMemory,
+  command_line,
+  run_in,
+  workers_in,
+};
 
 use crate::orders::{Order, Unread};
 use clap::error::ErrorKind;
@@ -47,7 +76,9 @@ fn workers_in(text: &[u8]) -> Option<u32>
 /// The order to run a script with the workers that the subcommand's matches name, or with one.
 fn run_of(matches: &ArgMatches<'_>) -> Result<Order, Unread>
     ensures run { result ≡ run_in (first_of (codes "workers") (rows_of (found_of matches.now))) }
-    ensures range { MatchResult result (λ order. (workers : ℕ) × (order ≡ Order.Run workers) × (1 ≤ workers) × (workers ≤ 64)) (λ unread. unread ≡ Unread.Usage) }
+    ensures range { MatchResult result
+        (λ order. (workers : ℕ) × (order ≡ Order.Run workers) × (1 ≤ workers) × (workers ≤ 64))
+        (λ unread. unread ≡ Unread.Usage) }
 {
     let Some(text) = matches.get_str("workers") else {
         return Ok(Order::Run { workers: 1 });
@@ -60,9 +91,13 @@ fn run_of(matches: &ArgMatches<'_>) -> Result<Order, Unread>
 
 /// What clap's matches ask for.
 fn order_of(matches: &ArgMatches<'_>) -> Result<Order, Unread>
-    ensures demo { (result ≡ Ok Order.Demo) ↔ (subcommand_name_of matches.now ≡ Some (codes "demo")) }
-    ensures check { (result ≡ Ok Order.Check) ↔ (subcommand_name_of matches.now ≡ Some (codes "check")) }
-    ensures run { (rows : List Row) → subcommand_name_of matches.now ≡ Some (codes "run") → option_map (λ found. found.1) (subcommand_rows_of matches.now) ≡ Some rows → result ≡ run_in (first_of (codes "workers") rows) }
+    ensures demo { (result ≡ Ok Order.Demo)
+        ↔ (subcommand_name_of matches.now ≡ Some (codes "demo")) }
+    ensures check { (result ≡ Ok Order.Check)
+        ↔ (subcommand_name_of matches.now ≡ Some (codes "check")) }
+    ensures run { (rows : List Row) → subcommand_name_of matches.now ≡ Some (codes "run")
+        → option_map (λ found. found.1) (subcommand_rows_of matches.now) ≡ Some rows
+        → result ≡ run_in (first_of (codes "workers") rows) }
     ensures order { IfOk result IsOrder }
 {
     let Some((name, inner)) = matches.subcommand() else {
@@ -99,11 +134,16 @@ pub fn order<'a, S: AsStr>(alloc: Global, words: &'a [S]) -> Result<Order, Unrea
     // No order comes of words in which clap finds a fault.
     ensures ok { OnOk result (fault_of command_line (map S.text words.entry.now) ≡ []) }
     ensures order { IfOk result IsOrder }
-    ensures demo { IsOneWord (codes "demo") (map S.text words.entry.now) → MatchResult result (λ order. order ≡ Order.Demo) (λ unread. unread ≡ Unread.Memory) }
-    ensures check { IsOneWord (codes "check") (map S.text words.entry.now) → MatchResult result (λ order. order ≡ Order.Check) (λ unread. unread ≡ Unread.Memory) }
-    ensures run { IsOneWord (codes "run") (map S.text words.entry.now) → MatchResult result (λ order. order ≡ Order.Run 1) (λ unread. unread ≡ Unread.Memory) }
+    ensures demo { IsOneWord (codes "demo") (map S.text words.entry.now)
+        → IsOrderOrMemory Order.Demo result }
+    ensures check { IsOneWord (codes "check") (map S.text words.entry.now)
+        → IsOrderOrMemory Order.Check result }
+    ensures run { IsOneWord (codes "run") (map S.text words.entry.now)
+        → IsOrderOrMemory (Order.Run 1) result }
     // An order to run has the workers that clap finds in the words, or one.
-    ensures workers { (rows : List Row) → subcommand_of command_line (map S.text words.entry.now) ≡ Some (codes "run", rows) → IfOk result (λ order. run_in (first_of (codes "workers") rows) ≡ Ok order) }
+    ensures workers { (rows : List Row)
+        → subcommand_of command_line (map S.text words.entry.now) ≡ Some (codes "run", rows)
+        → IfOk result (λ order. run_in (first_of (codes "workers") rows) ≡ Ok order) }
 {
     let command = command(alloc)?;
     match command.try_get_matches_from(words) {

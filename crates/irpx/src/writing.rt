@@ -31,9 +31,11 @@ pub fn write<O: Out>(
     output: &mut O,
     transcript: &Transcript,
 ) -> Result<(), Unwritten>
-    ensures ok { OnOk result (Written (text_of (lines transcript.now)) (O.gone output.old) (O.gone output.new)
+    ensures ok { OnOk result (Written (text_of (lines transcript.now))
+        (O.gone output.old) (O.gone output.new)
         (O.failures output.old) (O.failures output.new)) }
-    ensures err { IfErr result (BreaksOff (text_of (lines transcript.now)) (O.gone output.old) (O.gone output.new)
+    ensures err { IfErr result (BreaksOff (text_of (lines transcript.now))
+        (O.gone output.old) (O.gone output.new)
         (O.failures output.old) (O.failures output.new)) }
 {
     match write_transcript(alloc, output, transcript) {

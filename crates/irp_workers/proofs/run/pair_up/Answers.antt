@@ -1,8 +1,8 @@
 use Rattle.std.proofs.Common.{◌≡◌, ◌++◌, ◌∷◌, All, map, sym, subst, ap, ◌∙◌, arith}
 use Rattle.std.proofs.lemmas.List.Elements.{All-cons, All-pop}
 use Rattle.irp_remove.specs.Pairing.{IsSeatOf}
-use Rattle.irp_slots.specs.Pairing.{IsCancellerOf, slot_count}
-use Rattle.irp_slot_parties.specs.AtSlots.{IsFresh}
+use Rattle.irp_slots.specs.Pairing.{IsCancellerOf}
+use Rattle.irp_workers.specs.Seats.{IsFreshAt, cancellers_of, removes_of, seats_of}
 use Rattle.irp_workers.proofs.Pairs.{moved}
 use Rattle.irp_workers.proofs.run.pair_up.Goals as goal
 
@@ -16,13 +16,13 @@ loop-seat-preserved g c =
       fit = removes.0;
       ask = cancellers.0;
       len = (omega (arith, c.in-Some.ensures.len, c.in-Some-pop.ensures.len, c.loop-seat.invariant.len.0), omega (arith, c.in-Some.ensures.len, c.in-Some-pop-2.ensures.len, c.loop-seat.invariant.len.1));
-      seats = ap (λ all. c.pop.new.self.items ++ map (λ own. own.seat) all) pushed
-          ∙ moved c.loop-seat.seats.items c.pop.new.self.items (map (λ own. own.seat) c.loop-seat.pairs.items) c.args.seats.items c.in-Some.seat c.new-own.result.seat c.in-Some.ensures.items c.new-own.ensures.seat c.loop-seat.invariant.seats;
-      removes = ap (λ all. c.pop-in-Some.new.self.items ++ map (λ own. own.remove) all) pushed
-          ∙ moved c.loop-seat.removes.items c.pop-in-Some.new.self.items (map (λ own. own.remove) c.loop-seat.pairs.items) c.args.removes.items c.in-Some-pop.remove c.new-own.result.remove c.in-Some-pop.ensures.items c.new-own.ensures.remove c.loop-seat.invariant.removes;
-      cancellers = ap (λ all. c.pop-in-Some-2.new.self.items ++ map (λ own. own.parties.canceller) all) pushed
-          ∙ moved c.loop-seat.cancellers.items c.pop-in-Some-2.new.self.items (map (λ own. own.parties.canceller) c.loop-seat.pairs.items) c.args.cancellers.items c.in-Some-pop-2.canceller c.new-own.result.parties.canceller c.in-Some-pop-2.ensures.items (ap (λ some. some.canceller) parties) c.loop-seat.invariant.cancellers;
-      fresh = subst (All (λ own. IsFresh (slot_count c.args.slots.now) own.parties)) (sym pushed)
-          (All-cons (λ own. IsFresh (slot_count c.args.slots.now) own.parties) c.new-own.result c.loop-seat.pairs.items
+      seats = ap (λ all. c.pop.new.self.items ++ seats_of all) pushed
+          ∙ moved c.loop-seat.seats.items c.pop.new.self.items (seats_of c.loop-seat.pairs.items) c.args.seats.items c.in-Some.seat c.new-own.result.seat c.in-Some.ensures.items c.new-own.ensures.seat c.loop-seat.invariant.seats;
+      removes = ap (λ all. c.pop-in-Some.new.self.items ++ removes_of all) pushed
+          ∙ moved c.loop-seat.removes.items c.pop-in-Some.new.self.items (removes_of c.loop-seat.pairs.items) c.args.removes.items c.in-Some-pop.remove c.new-own.result.remove c.in-Some-pop.ensures.items c.new-own.ensures.remove c.loop-seat.invariant.removes;
+      cancellers = ap (λ all. c.pop-in-Some-2.new.self.items ++ cancellers_of all) pushed
+          ∙ moved c.loop-seat.cancellers.items c.pop-in-Some-2.new.self.items (cancellers_of c.loop-seat.pairs.items) c.args.cancellers.items c.in-Some-pop-2.canceller c.new-own.result.parties.canceller c.in-Some-pop-2.ensures.items (ap (λ some. some.canceller) parties) c.loop-seat.invariant.cancellers;
+      fresh = subst (All (IsFreshAt c.args.slots.now)) (sym pushed)
+          (All-cons (IsFreshAt c.args.slots.now) c.new-own.result c.loop-seat.pairs.items
           (ap (λ some. some.slots) parties, ap (λ some. some.owners) parties, ap (λ some. some.taken) parties) c.loop-seat.invariant.fresh);
     }

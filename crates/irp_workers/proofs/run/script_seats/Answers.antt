@@ -6,7 +6,8 @@ use Rattle.std.proofs.lemmas.List.Elements.{All-nil, All-pop, All-set}
 use Rattle.std.proofs.lemmas.Option.{get_or_from_slice_get, slice_get_within}
 use Rattle.irp_remove.specs.Pairing.{IsSeatOf}
 use Rattle.irp_slots.specs.Models.{Publisher}
-use Rattle.irp_slots.specs.Pairing.{IsCancellerOf, IsOwnerOf, slot_count, table_of}
+use Rattle.irp_slots.specs.Pairing.{IsCancellerOf, IsOwnerOf, table_of}
+use Rattle.irp_workers.specs.Seats.{HasAllSlots, HasTakenNothing}
 use Rattle.irp_workers.proofs.Dealing.{all_of_map, none_owned}
 use Rattle.irp_workers.proofs.Numbers.{all_push, count_last, dealt, each_set, map_set_same}
 use Rattle.irp_workers.proofs.Shares.{count_flat}
@@ -66,9 +67,9 @@ loop-owner-preserved g c =
           let after = dealt (λ own. count_by test own.parties.owners) c.loop-owner.pairs.items (c.slot.result % c.len-count.result) c.own.new.self c.index_mut-own.result.now _ _ (count_by test c.args.owners.items) _ value within more taken (omega (arith, before, so_far)) in
           let flat = count_flat test (λ own. own.parties.owners) (set c.loop-owner.pairs.items (c.slot.result % c.len-count.result) c.own.new.self) in
           omega (arith, after, flat);
-      taken = All-set (λ own. own.parties.taken ≡ []) c.loop-owner.pairs.items (c.slot.result % c.len-count.result) c.own.new.self
+      taken = All-set HasTakenNothing c.loop-owner.pairs.items (c.slot.result % c.len-count.result) c.own.new.self
           (ap (λ some. some.taken) owns ∙ ap (λ own. own.parties.taken) value ∙ c.loop-owner.invariant.taken (c.slot.result % c.len-count.result) c.index_mut-own.result.now within) c.loop-owner.invariant.taken;
-      counted = All-set (λ own. own.parties.slots ≡ slot_count c.args.slots.now) c.loop-owner.pairs.items (c.slot.result % c.len-count.result) c.own.new.self
+      counted = All-set (HasAllSlots c.args.slots.now) c.loop-owner.pairs.items (c.slot.result % c.len-count.result) c.own.new.self
           (ap (λ some. some.slots) owns ∙ ap (λ own. own.parties.slots) value ∙ c.loop-owner.invariant.counted (c.slot.result % c.len-count.result) c.index_mut-own.result.now within) c.loop-owner.invariant.counted;
     }
 

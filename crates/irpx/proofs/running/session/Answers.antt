@@ -11,8 +11,7 @@ use Rattle.irp_workers.specs.Accounts.{calls_at, pair_at}
 use Rattle.irp_workers.specs.Made.{NoneTwice, once_made, seat_calls}
 use Rattle.irp_workers.specs.Numbers.{EachAsOften}
 use Rattle.irp_workers.specs.Outcomes.{Outcome, outcomes}
-use Rattle.irp_workers.specs.Pairs.{pair_of}
-use Rattle.irp_workers.specs.Working.{at_work}
+use Rattle.irp_workers.specs.Seats.{pairs_of, seat_at_work, seats_at_work}
 use Rattle.irpx.specs.Running.{IsRun, MakesCalls, ShowsEach}
 use Rattle.irpx.proofs.AtSlots.{of_slots}
 use Rattle.irpx.proofs.Calls.{each_made}
@@ -35,11 +34,11 @@ returns-clause-shows g c going =
     let outs : List Outcome = outcomes accounts.tokenless_first c.args.script.now.setup ++ outcomes accounts.tokenless c.args.script.now.steps in
     let pairs = c.in_ok-pairs.pairs.items in
     let worked = c.in_ok-worked.worked.seats.items in
-    let called : NoneTwice (map (λ own. pair_of own.seat own.remove) pairs) → EachAsOften (map (λ own. once_made outs (seat_calls own.seat own.remove)) pairs) (map (λ own. seat_calls own.seat own.remove) worked) =
+    let called : NoneTwice (pairs_of pairs) → EachAsOften (map (λ own. once_made outs (seat_calls own.seat own.remove)) pairs) (map (λ own. seat_calls own.seat own.remove) worked) =
     (λ once.
-    subst (λ before. EachAsOften before (map (λ own. calls_at (at_work own.seat own.remove own.parties)) worked)) (map-map (λ own. once_made outs (calls_at own)) (λ own. at_work own.seat own.remove own.parties) pairs)
-    (subst (λ after. EachAsOften (map (λ own. once_made outs (calls_at own)) (map (λ own. at_work own.seat own.remove own.parties) pairs)) after) (map-map calls_at (λ own. at_work own.seat own.remove own.parties) worked)
-    (accounts.all_called going (subst NoneTwice (sym (map-map pair_at (λ own. at_work own.seat own.remove own.parties) pairs)) once)))) in
+    subst (λ before. EachAsOften before (map (λ own. calls_at (seat_at_work own)) worked)) (map-map (λ own. once_made outs (calls_at own)) seat_at_work pairs)
+    (subst (λ after. EachAsOften (map (λ own. once_made outs (calls_at own)) (seats_at_work pairs)) after) (map-map calls_at seat_at_work worked)
+    (accounts.all_called going (subst NoneTwice (sym (map-map pair_at seat_at_work pairs)) once)))) in
     let made : MakesCalls c.args.script.now.seats outs c.in-Ok-close.transcript.entries =
     (λ number lt.
     each_made (λ own. own.seat) (λ own. own.remove) outs c.args.script.now.seats c.in-Ok.seats.items c.in_ok-seats.seats.items

@@ -1,6 +1,7 @@
 use Rattle.std.proofs.Common.{◌≡◌, map, take}
+use Rattle.irp_workers.specs.Workers.{work_of}
 use Rattle.irp_workers.specs.Outcomes.{own_placed}
-use Rattle.irp_workers.specs.Working.{MakesEach, at_work, working}
+use Rattle.irp_workers.specs.Working.{MakesEach}
 use Rattle.irp_workers.proofs.worker.Worker.run.Given as goal
 
 -- it has made its own among the steps so far
@@ -10,5 +11,5 @@ invariant-loop-index g l = record {
   workers : l.self.workers ≡ l.fn.self.workers;
   stopped : l.self.stopped ≡ l.fn.self.stopped;
   locks : l.self.locks.now ≡ l.fn.self.locks.now;
-  made : MakesEach g.L.Session.fixed.locks (own_placed l.fn.self.number l.fn.self.workers (take l.index l.steps)) (working (map (λ own. at_work own.seat own.remove own.parties) l.fn.self.seats.items) l.fn.self.words.items) (working (map (λ own. at_work own.seat own.remove own.parties) l.self.seats.items) l.self.words.items);
+  made : MakesEach g.L.Session.fixed.locks (own_placed l.fn.self.number l.fn.self.workers (take l.index l.steps)) (work_of l.fn.self) (work_of l.self);
 }

@@ -1,4 +1,4 @@
-//! What a step comes to. A file of its own, since definitions that clauses cite name these enums.
+//! The kinds of steps. A file of its own, since definitions that clauses cite name these enums.
 
 use irp_types::{LockNo, Status};
 
@@ -26,9 +26,9 @@ pub enum SlotAct {
     Request { slot: u32 },
 }
 
-/// What a step comes to.
+/// What kind a step is of.
 #[derive(Clone, Copy, PartialEq, Eq, Debug)]
-pub enum Deed {
+pub enum StepKind {
     /// A call of the manager that needs no token.
     Calls,
     /// An act on a remove lock, in the step's own seat alone.

@@ -1,4 +1,4 @@
--- What a step comes to, and what it asks for, once the packet that it names is known.
+-- What is read of a step's act: the packet that it names, its kind, the act of its word line, and its call.
 use Rattle.std.specs.Prelude.{◌≡◌, Option, Some, None}
 use Rattle.irp_types.specs.declared.names.IrpRef.{IrpRef}
 use Rattle.irp_types.specs.declared.call.Call.{Call}
@@ -8,13 +8,40 @@ use Rattle.irp_shared.specs.declared.word_line.Act.TheVariants as act
 use Rattle.irp_script_reader.specs.declared.act.Named.{Named}
 use Rattle.irp_script_reader.specs.declared.act.Named.TheVariants.{Irp}
 use Rattle.irp_script_reader.specs.declared.act.StepAct.{StepAct}
-use Rattle.irp_script_reader.specs.declared.act.StepAct.TheVariants.{CreateDevice, Attach, Detach, Delete, Allocate, Free, Reuse, SetNext, CopyToNext, Skip, SetRoutine, MarkPending, CallDriver, Complete, SetCancelRoutine, Cancel, Look, Acquire, Release, BeginRemove, Drained, Hand, Publish, Withdraw, Request, FinishTaken}
-use Rattle.irp_workers.specs.declared.deed.LockAct.{LockAct}
-use Rattle.irp_workers.specs.declared.deed.LockAct.TheVariants as on_lock
-use Rattle.irp_workers.specs.declared.deed.SlotAct.{SlotAct}
-use Rattle.irp_workers.specs.declared.deed.SlotAct.TheVariants as on_slot
-use Rattle.irp_workers.specs.declared.deed.Deed.{Deed}
-use Rattle.irp_workers.specs.declared.deed.Deed.TheVariants as deed
+use Rattle.irp_script_reader.specs.declared.act.StepAct.TheVariants.{
+  CreateDevice,
+  Attach,
+  Detach,
+  Delete,
+  Allocate,
+  Free,
+  Reuse,
+  SetNext,
+  CopyToNext,
+  Skip,
+  SetRoutine,
+  MarkPending,
+  CallDriver,
+  Complete,
+  SetCancelRoutine,
+  Cancel,
+  Look,
+  Acquire,
+  Release,
+  BeginRemove,
+  Drained,
+  Hand,
+  Publish,
+  Withdraw,
+  Request,
+  FinishTaken,
+}
+use Rattle.irp_workers.specs.declared.step_kind.LockAct.{LockAct}
+use Rattle.irp_workers.specs.declared.step_kind.LockAct.TheVariants as on_lock
+use Rattle.irp_workers.specs.declared.step_kind.SlotAct.{SlotAct}
+use Rattle.irp_workers.specs.declared.step_kind.SlotAct.TheVariants as on_slot
+use Rattle.irp_workers.specs.declared.step_kind.StepKind.{StepKind}
+use Rattle.irp_workers.specs.declared.step_kind.StepKind.TheVariants as kind
 
 -- the packet that an act names
 abbrev pub named_by : StepAct → Option Named
@@ -38,18 +65,18 @@ named_by other = None
 abbrev pub IsNamed : StepAct → IrpRef → Type 0
 IsNamed act irp = (given : IrpRef) → named_by act ≡ Some (Irp given) → irp ≡ given
 
--- what a step comes to
-abbrev pub deed_of : StepAct → Deed
-deed_of (Acquire lock tag) = deed.OnLock (on_lock.Acquire lock tag)
-deed_of (Release lock tag) = deed.OnLock (on_lock.Release lock tag)
-deed_of (BeginRemove lock tag) = deed.OnLock (on_lock.BeginRemove lock tag)
-deed_of (Drained lock) = deed.OnLock (on_lock.Drained lock)
-deed_of (Hand lock tag to) = deed.Hands lock tag to
-deed_of (Publish slot irp) = deed.OnSlot (on_slot.Publish slot)
-deed_of (Withdraw slot) = deed.OnSlot (on_slot.Withdraw slot)
-deed_of (Request slot) = deed.OnSlot (on_slot.Request slot)
-deed_of (FinishTaken irp slot status information) = deed.Finishes slot status information
-deed_of other = deed.Calls
+-- what kind a step is of
+abbrev pub kind_of : StepAct → StepKind
+kind_of (Acquire lock tag) = kind.OnLock (on_lock.Acquire lock tag)
+kind_of (Release lock tag) = kind.OnLock (on_lock.Release lock tag)
+kind_of (BeginRemove lock tag) = kind.OnLock (on_lock.BeginRemove lock tag)
+kind_of (Drained lock) = kind.OnLock (on_lock.Drained lock)
+kind_of (Hand lock tag to) = kind.Hands lock tag to
+kind_of (Publish slot irp) = kind.OnSlot (on_slot.Publish slot)
+kind_of (Withdraw slot) = kind.OnSlot (on_slot.Withdraw slot)
+kind_of (Request slot) = kind.OnSlot (on_slot.Request slot)
+kind_of (FinishTaken irp slot status information) = kind.Finishes slot status information
+kind_of other = kind.Calls
 
 -- the acts that word lines tell of
 abbrev pub lock_act : LockAct → Act
@@ -86,8 +113,10 @@ preparing_call_of other irp = None
 abbrev pub owners_call_of : StepAct → IrpRef → Option Call
 owners_call_of (MarkPending party named) irp = Some (call.MarkPending party irp)
 owners_call_of (CallDriver party named target) irp = Some (call.CallDriver party irp target)
-owners_call_of (Complete party named status information) irp = Some (call.Complete party irp status information)
-owners_call_of (SetCancelRoutine party named cancel) irp = Some (call.SetCancelRoutine party irp cancel)
+owners_call_of (Complete party named status information) irp =
+    Some (call.Complete party irp status information)
+owners_call_of (SetCancelRoutine party named cancel) irp =
+    Some (call.SetCancelRoutine party irp cancel)
 owners_call_of other irp = None
 
 abbrev pub or_else : Option Call → Option Call → Option Call
@@ -95,4 +124,5 @@ or_else (Some one) other = Some one
 or_else None other = other
 
 abbrev pub call_of : StepAct → IrpRef → Option Call
-call_of act irp = or_else (plain_call_of act irp) (or_else (preparing_call_of act irp) (owners_call_of act irp))
+call_of act irp =
+    or_else (plain_call_of act irp) (or_else (preparing_call_of act irp) (owners_call_of act irp))

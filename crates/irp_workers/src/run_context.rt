@@ -1,0 +1,11 @@
+//! What the workers of a run share.
+
+use crate::labels::Labels;
+use irp_shared::{Session, Shared};
+
+/// What the workers of a run share: the session, and what each label stands for.
+#[derive(Drop)]
+pub struct RunContext<'a, A, L: Session> {
+    pub shared: &'a Shared<A, L>,
+    pub labels: Labels,
+}
