@@ -3,18 +3,16 @@
 #![tactic(auto)]
 
 #[cfg(test)]
-mod handing;
-#[cfg(test)]
-mod manager;
+mod counting;
 #[cfg(test)]
 mod remove;
-#[cfg(test)]
-mod routines;
 #[cfg(test)]
 mod shared;
 #[cfg(test)]
 mod sharing;
 #[cfg(test)]
 mod slots;
+#[cfg(test)]
+mod stores;
 #[cfg(test)]
 mod workers;

@@ -1,12 +1,13 @@
-//! A seat that learns of a receipt of another session.
+//! A seat that learns of a receipt of another history.
 
 ghost use Rattle.std.specs.Prelude.{◌≡◌};
 ghost use Rattle.irp_types.specs.declared.limit.Limit.TheVariants.{ThirtyTwo};
 
+use super::stores::{Step, last_receipt};
 use irp_manager::{KnowsNothing, NotRecorded, Receipt};
-use irp_routines::AnswerTable;
+use irp_routines::{AnswerTable, Store};
 use irp_shared::{Seat, Session, Shared, learn, open};
-use irp_types::Call;
+use irp_types::{Call, IrpRef, Reply};
 use std::alloc::Global;
 use std::marker::Brand;
 use std::sync::Wait;
@@ -15,113 +16,69 @@ use std::test::Fail;
 
 const ALLOCATE: Call = Call::Allocate { size: 1 };
 
-/// The seat makes three calls, the first of the session. The receipt of the last; none where one wasn't recorded, or has
-/// another number.
-fn makes_three<L: Session>(
+/// The other history.
+const ELSEWHERE: [Step; 3] = [
+    (ALLOCATE, Reply::Irp(IrpRef { slot: 0, use_no: 1 })),
+    (ALLOCATE, Reply::Irp(IrpRef { slot: 1, use_no: 2 })),
+    (ALLOCATE, Reply::Irp(IrpRef { slot: 2, use_no: 3 })),
+];
+
+/// Which seat allocates a packet, and the number of the entry. The first has learned of three entries elsewhere, and is
+/// refused until the history is as long.
+const CALLS: [(usize, Result<u64, NotRecorded>); 5] = [
+    (0, Err(NotRecorded::Behind { length: 0 })),
+    (1, Ok(0)),
+    (1, Ok(1)),
+    (1, Ok(2)),
+    (0, Ok(3)),
+];
+
+/// Makes the calls. Whether each is answered as it has to be.
+fn are_answered<L: Session>(
     rt: &impl Wait,
     shared: &Shared<AnswerTable, L>,
-    seat: &mut Seat<L>,
-) -> Option<Receipt> {
-    let mut last = None;
-    for number in 0..3u64 {
-        let made = shared.call(rt, seat, ALLOCATE, &KnowsNothing).ok()?;
-        if made.number() != number {
-            return None;
+    seats: &mut [Seat<L>],
+) -> bool {
+    for (place, expected) in CALLS.iter() {
+        let Some(seat) = seats.get_mut(*place) else {
+            return false;
+        };
+        let made = shared.call(rt, seat, ALLOCATE, &KnowsNothing);
+        if made.map(|receipt| receipt.number()) != *expected {
+            return false;
         }
-        last = Some(made);
     }
-    last
+    true
 }
 
-/// A session of one seat that makes three calls. The receipt of the last.
-fn third_receipt<L: Session>(
-    rt: &impl Wait,
-    alloc: Global,
-    blank: Blank,
-    table: AnswerTable,
-) -> Option<Receipt>
-    requires blank { (blank.name ≡ L.name) × (blank.parts ≡ L.parts) }
-    requires seats { (L.parts ≡ 1) × (L.seats ≡ 1) }
-    requires fixed { L.fixed ≡ record { locks = 1; tables = table.tables; limit = ThirtyTwo } }
-{
-    let (shared, mut places) = open::<AnswerTable, L>(alloc, blank, table, 1, 1).ok()?;
-    let mut seat = places.pop()?;
-    makes_three(rt, &shared, &mut seat)
-}
-
-/// A seat that learned of three calls elsewhere is refused, since nothing is recorded here yet.
-fn is_behind<L: Session>(
-    rt: &impl Wait,
-    shared: &Shared<AnswerTable, L>,
-    seat: &mut Seat<L>,
-) -> bool {
-    let refused = shared.call(rt, seat, ALLOCATE, &KnowsNothing).err();
-    refused == Some(NotRecorded::Behind { length: 0 }) && (seat.count(), seat.seen()) == (0, 3)
-}
-
-/// The seat that was behind makes the fourth call.
-fn makes_the_fourth<L: Session>(
-    rt: &impl Wait,
-    shared: &Shared<AnswerTable, L>,
-    seat: &mut Seat<L>,
-) -> bool {
-    match shared.call(rt, seat, ALLOCATE, &KnowsNothing) {
-        Ok(made) => made.number() == 3 && made.seat() == 0 && made.call() == ALLOCATE,
-        Err(_) => false,
-    }
-}
-
-/// The first seat learns of the receipt, and is behind until the second has made three calls.
-fn catches_up<L: Session>(
-    rt: &impl Wait,
-    shared: &Shared<AnswerTable, L>,
-    first: &mut Seat<L>,
-    second: &mut Seat<L>,
-    receipt: &Receipt,
-) -> bool {
-    learn(first, receipt);
-    is_behind(rt, shared, first)
-        && makes_three(rt, shared, second).is_some()
-        && makes_the_fourth(rt, shared, first)
-}
-
-/// A session of two seats in which the first is behind by the receipt, and catches up. How many entries its transcript has.
+/// A session of two seats, the first of which learns of the receipt. How many entries its transcript has; none where a
+/// call is answered otherwise.
 fn behind<L: Session>(
     rt: &impl Wait,
     alloc: Global,
     blank: Blank,
     table: AnswerTable,
     receipt: &Receipt,
-) -> Result<usize, Fail>
+) -> Option<usize>
     requires blank { (blank.name ≡ L.name) × (blank.parts ≡ L.parts) }
     requires seats { (L.parts ≡ 2) × (L.seats ≡ 2) }
     requires fixed { L.fixed ≡ record { locks = 1; tables = table.tables; limit = ThirtyTwo } }
 {
-    let (shared, mut places) = open::<AnswerTable, L>(alloc, blank, table, 1, 2)?;
-    let (Some(mut second), Some(mut first)) = (places.pop(), places.pop()) else {
-        return Err(Fail::from("two seats were asked for"));
-    };
-    if !catches_up(rt, &shared, &mut first, &mut second, receipt) {
-        return Err(Fail::from("a call is answered otherwise"));
+    let (shared, mut seats) = open::<AnswerTable, L>(alloc, blank, table, 1, 2).ok()?;
+    learn(seats.first_mut()?, receipt);
+    if !are_answered(rt, &shared, seats.as_mut_slice()) {
+        return None;
     }
-    places.push(first)?;
-    places.push(second)?;
-    let Ok(transcript) = shared.close(places) else {
-        return Err(Fail::from("a mismatch"));
-    };
-    Ok(transcript.entries().len())
+    let transcript = shared.close(seats).ok()?;
+    Some(transcript.entries().len())
 }
 
 #[test]
 fn a_seat_is_behind_what_it_learned(rt: HostRuntime) -> Result<(), Fail> {
     let alloc = rt.alloc();
+    let receipt = last_receipt(alloc, Store::new(alloc), &ELSEWHERE).ok_or("a receipt")?;
     let table = AnswerTable::new(alloc);
-    let Some(receipt) = third_receipt::<Brand>(&rt, alloc, Blank::new(1), table) else {
-        return Err(Fail::from("no receipt"));
-    };
-    assert_eq!(rt; receipt.number(), 2);
-    let table = AnswerTable::new(alloc);
-    let entries = behind::<Brand>(&rt, alloc, Blank::new(2), table, &receipt)?;
-    assert_eq!(rt; entries, 4);
+    let entries = behind::<Brand>(&rt, alloc, Blank::new(2), table, &receipt);
+    assert!(rt; entries == Some(4));
     Ok(())
 }

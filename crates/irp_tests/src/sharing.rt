@@ -5,14 +5,16 @@ ghost use Rattle.std.specs.Prelude.{◌≡◌, true};
 ghost use Rattle.irp_types.specs.declared.limit.Limit.TheVariants.{ThirtyTwo};
 ghost use Rattle.irp_types.specs.Rules.{is_plan_allowed};
 ghost use Rattle.irp_types.specs.State.{no_routines};
+ghost use Rattle.irp_remove.specs.Pairing.{IsSeatOf};
 
 use super::remove::{Holder, LOCK};
+use super::stores::{READ, adds_dispatch, adds_driver};
 use irp_manager::KnowsNothing;
+use irp_remove::{Locks, RemoveSeat};
 use irp_routines::{Ask, Dispatch, Store};
 use irp_shared::{Seat, Session, Shared, needs_token, open};
 use irp_types::{
-    Call, DeviceId, DispatchId, DriverId, IrpRef, Known, Owner, Party, Plan, Reply, Seen, Shown,
-    Status,
+    Call, DeviceId, DriverId, IrpRef, Known, Owner, Party, Plan, Reply, Shown, Status,
 };
 use std::alloc::Global;
 use std::marker::Brand;
@@ -22,8 +24,6 @@ use std::sync::{Arc, Wait};
 use std::test::Fail;
 use std::thread;
 use std::thread::Threads;
-
-const READ: u8 = 0x03;
 
 const IRP: IrpRef = IrpRef { slot: 0, use_no: 1 };
 
@@ -47,18 +47,6 @@ const CALLS: [Call; 5] = [
     },
     Call::Look { irp: IRP },
 ];
-
-/// What the look is answered where the other thread was answered while the dispatch ran.
-const MET: Reply = Reply::Seen(Seen {
-    owner: Owner::Ended,
-    current: 2,
-    status: Status::SUCCESS,
-    information: 1,
-    cancel: false,
-    cancel_routine: None,
-    pending_returned: false,
-    marked: false,
-});
 
 /// How many turns of a loop one thread waits for the other.
 const TURNS: u32 = 100_000_000;
@@ -92,41 +80,97 @@ fn plan_after(meeting: &Meeting, shown: Shown) -> Plan
     }
 }
 
-/// Acquires and releases the lock once the dispatch runs, and tells so. Whether the dispatch ran, and both were answered Ok.
-fn takes(mut taker: Holder<'_>, meeting: &Meeting) -> bool {
-    let is_asked = waits(&meeting.asked);
-    let is_taken = taker.acquires(1) && taker.releases(1);
-    meeting.answered.store(true, Ordering::SeqCst);
-    is_asked && is_taken
+/// One remove lock and two seats of it.
+#[derive(Drop)]
+struct Takers {
+    locks: Locks,
+    giver: RemoveSeat,
+    taker: RemoveSeat,
+    ghost giver_fits: { IsSeatOf locks giver },
+    ghost taker_fits: { IsSeatOf locks taker },
 }
 
-/// The seat makes the calls. What the last is answered; none where one wasn't recorded.
-fn sends<A: Ask, L: Session>(
-    rt: &impl Wait,
-    shared: &Shared<A, L>,
-    mut seat: Seat<L>,
-) -> Option<Reply> {
-    let mut last = None;
+fn takers_of(alloc: Global) -> Result<Takers, Fail> {
+    let (locks, mut seats) = irp_remove::open(alloc, 1, 2)?;
+    let taker = seats.pop();
+    let giver = seats.pop();
+    let (Some(giver), Some(taker)) = (giver, taker) else {
+        return Err(Fail::from("two seats were asked for"));
+    };
+    Ok(Takers {
+        locks,
+        giver,
+        taker,
+    })
+}
+
+impl Takers {
+    /// The giver acquires the lock under tag 1. Whether it did.
+    fn begins(&mut self) -> bool {
+        self.locks.acquire(&mut self.giver, LOCK, 1).is_ok()
+    }
+
+    /// The giver's reference goes to the taker. Whether it did.
+    fn hands(&mut self) -> bool {
+        self.locks
+            .hand(&mut self.giver, &mut self.taker, LOCK, 1)
+            .is_ok()
+    }
+}
+
+/// Has the taker take over the giver's reference once the dispatch runs, acquire the lock itself, and release both, and tells
+/// that it did. Whether the dispatch ran, and all were answered Ok.
+fn takes(mut takers: Takers, meeting: &Meeting) -> bool {
+    let is_asked = waits(&meeting.asked);
+    let is_handed = takers.hands();
+    let Takers {
+        locks,
+        giver: _,
+        taker: seat,
+    } = takers;
+    let mut taker = Holder {
+        locks: &locks,
+        seat,
+    };
+    let is_taken = taker.acquires(2).is_ok() && taker.releases(2) && taker.releases(1);
+    meeting.answered.store(true, Ordering::SeqCst);
+    is_asked && is_handed && is_taken
+}
+
+/// The seat makes the calls. Whether the last of them sees the packet ended with information 1: the other thread was answered
+/// while the dispatch ran.
+fn sends<A: Ask, L: Session>(rt: &impl Wait, shared: &Shared<A, L>, mut seat: Seat<L>) -> bool {
+    let mut is_met = false;
     for call in CALLS.iter() {
         if needs_token(*call) {
-            return None;
+            return false;
         }
-        let receipt = shared.call(rt, &mut seat, *call, &KnowsNothing).ok()?;
-        last = Some(receipt.reply());
+        is_met = match shared.call(rt, &mut seat, *call, &KnowsNothing) {
+            Ok(receipt) => is_ended(receipt.reply()),
+            Err(_) => false,
+        };
     }
-    last
+    is_met
 }
 
-/// The seat sends a packet in one thread, and the other takes the lock in another.
+/// Whether a look sees a packet that has ended with information 1.
+fn is_ended(reply: Reply) -> bool {
+    match reply {
+        Reply::Seen(seen) => seen.owner == Owner::Ended && seen.information == 1,
+        _ => false,
+    }
+}
+
+/// The seat sends a packet in one thread, and the lock is taken in another.
 fn meets<A: Ask + Send, L: Session + Send + Sync, R: Threads + Wait + Sync>(
     rt: &R,
     shared: &Shared<A, L>,
     seat: Seat<L>,
-    taker: Holder<'_>,
+    takers: Takers,
     meeting: &Meeting,
-) -> (Option<Reply>, bool) {
+) -> (bool, bool) {
     let sending = move || sends(rt, shared, seat);
-    let taking = move || takes(taker, meeting);
+    let taking = move || takes(takers, meeting);
     thread::join(rt, sending, taking)
 }
 
@@ -136,26 +180,38 @@ fn session<L: Session + Send + Sync, R: Threads + Wait + Sync>(
     alloc: Global,
     blank: Blank,
     store: Store,
-    taker: Holder<'_>,
+    takers: Takers,
     meeting: &Meeting,
-) -> Option<(Option<Reply>, bool)>
+) -> Option<(bool, bool)>
     requires blank { (blank.name ≡ L.name) × (blank.parts ≡ L.parts) }
     requires seats { (L.parts ≡ 1) × (L.seats ≡ 1) }
     requires fixed { L.fixed ≡ record { locks = 1; tables = store.tables; limit = ThirtyTwo } }
 {
     let (shared, mut seats) = open::<Store, L>(alloc, blank, store, 1, 1).ok()?;
     let seat = seats.pop()?;
-    Some(meets(rt, &shared, seat, taker, meeting))
+    Some(meets(rt, &shared, seat, takers, meeting))
 }
 
 /// A store of one driver, with this dispatch for reads.
-fn store_of(alloc: Global, dispatch: Dispatch) -> Result<Store, Fail> {
+fn store_of(alloc: Global, dispatch: Dispatch) -> Option<Store> {
     let mut store = Store::new(alloc);
-    let dispatches = [(READ, DispatchId(0))].to_vec(alloc)?;
-    if store.add_dispatch(dispatch).is_ok() && store.add_driver(dispatches).is_ok() {
-        return Ok(store);
+    if adds_dispatch(&mut store, dispatch) && adds_driver(alloc, &mut store) {
+        return Some(store);
     }
-    Err(Fail::from("a store"))
+    None
+}
+
+/// Sends the packet while the lock is taken. Whether both went well.
+fn met<R: Threads + Wait + Sync>(
+    rt: &R,
+    alloc: Global,
+    store: Store,
+    meeting: &Meeting,
+) -> Result<bool, Fail> {
+    let mut takers = takers_of(alloc)?;
+    let has_begun = takers.begins();
+    let met = session::<Brand, R>(rt, alloc, Blank::new(1), store, takers, meeting);
+    Ok(has_begun && met == Some((true, true)))
 }
 
 #[test]
@@ -170,16 +226,7 @@ fn acquire_during_call(rt: HostRuntime) -> Result<(), Fail> {
     )?;
     let own = meeting.clone()?;
     let run = Box::new(alloc, move |shown: Shown| plan_after(&own, shown))?;
-    let store = store_of(alloc, Dispatch::new(Known::NONE, run))?;
-    let (locks, mut seats) = irp_remove::open(alloc, 1, 1)?;
-    let Some(seat) = seats.pop() else {
-        return Err(Fail::from("a seat was asked for"));
-    };
-    let taker = Holder {
-        locks: &locks,
-        seat,
-    };
-    let met = session::<Brand, HostRuntime>(&rt, alloc, Blank::new(1), store, taker, &meeting);
-    assert!(rt; met == Some((Some(MET), true)));
+    let store = store_of(alloc, Dispatch::new(Known::NONE, run)).ok_or("a store")?;
+    assert!(rt; met(&rt, alloc, store, &meeting)?);
     Ok(())
 }

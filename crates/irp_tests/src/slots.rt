@@ -23,19 +23,12 @@ impl<'a> Publisher<'a> {
     /// Publishes the use. Whether that took the use back.
     fn publishes(mut self) -> (Publisher<'a>, bool) {
         let published = self.slots.publish(&mut self.owner, USE);
-        let is_back = match published {
-            Publication::Taken(token) => token.use_no() == 1,
-            _ => false,
-        };
-        (self, is_back)
+        (self, matches!(published, Publication::Taken(_)))
     }
 
     /// Withdraws the use. Whether that took it.
     fn withdraws(mut self) -> bool {
-        match self.slots.withdraw(&mut self.owner) {
-            Withdrawal::Taken(token) => token.use_no() == 1,
-            _ => false,
-        }
+        matches!(self.slots.withdraw(&mut self.owner), Withdrawal::Taken(_))
     }
 }
 
@@ -50,10 +43,10 @@ struct Requester<'a> {
 impl Requester<'_> {
     /// Asks for the use. Whether that took it.
     fn requests(mut self) -> bool {
-        match self.slots.request(&mut self.canceller, 0) {
-            Request::Taken(token) => token.use_no() == 1,
-            _ => false,
-        }
+        matches!(
+            self.slots.request(&mut self.canceller, 0),
+            Request::Taken(_)
+        )
     }
 }
 
@@ -63,8 +56,7 @@ fn takers<R: Threads + Sync>(rt: &R, publisher: Publisher<'_>, requester: Reques
     let publishing = move || publisher.publishes();
     let requesting = move || requester.requests();
     let ((publisher, published), requested) = thread::join(rt, publishing, requesting);
-    let withdrawn = publisher.withdraws();
-    u32::from(published) + u32::from(requested) + u32::from(withdrawn)
+    u32::from(published) + u32::from(requested) + u32::from(publisher.withdraws())
 }
 
 #[test]
@@ -74,15 +66,13 @@ fn slot_race(rt: HostRuntime) -> Result<(), Fail> {
         let (Some(owner), Some(canceller)) = (owners.pop(), cancellers.pop()) else {
             return Err(Fail::from("one of each was asked for"));
         };
-        let publisher = Publisher {
-            slots: &slots,
-            owner,
-        };
-        let requester = Requester {
-            slots: &slots,
-            canceller,
-        };
-        assert_eq!(rt; takers(&rt, publisher, requester), 1);
+        let slots = &slots;
+        let taken = takers(
+            &rt,
+            Publisher { slots, owner },
+            Requester { slots, canceller },
+        );
+        assert!(rt; taken == 1);
     }
     Ok(())
 }

@@ -8,8 +8,8 @@ ghost use Rattle.irp_types.specs.declared.limit.Limit.TheVariants.{ThirtyTwo};
 use irp_routines::AnswerTable;
 use irp_script::{Gate, ScriptSeat, Worked, run_workers, script_seats};
 use irp_script_reader::{Named, Script, ScriptForm, Step, StepAct};
-use irp_shared::{Act, Seat, Session, WordLine, WordReply, open};
-use irp_types::{DriverId, LockNo, Reply, Row};
+use irp_shared::{Session, WordLine, open};
+use irp_types::{DriverId, LockNo, Row};
 use std::alloc::{AllocError, Global};
 use std::marker::Brand;
 use std::sync::Wait;
@@ -19,8 +19,6 @@ use std::thread::Threads;
 
 const LOCK: LockNo = LockNo(0);
 
-const LABEL: Named = Named::Label(0);
-
 const CREATE: StepAct = StepAct::CreateDevice {
     driver: DriverId(0),
     lock: LOCK,
@@ -28,35 +26,21 @@ const CREATE: StepAct = StepAct::CreateDevice {
 
 const ALLOCATE: StepAct = StepAct::Allocate { size: 1, label: 0 };
 
-const LOOK: StepAct = StepAct::Look { irp: LABEL };
+const LOOK: StepAct = StepAct::Look {
+    irp: Named::Label(0),
+};
 
-/// An acquisition of the lock with this tag.
-fn acquire(tag: u32) -> StepAct {
-    StepAct::Acquire { lock: LOCK, tag }
-}
-
-/// The steps of these seats, in order.
-fn by(alloc: Global, steps: &[(u32, StepAct)]) -> Result<Row<Step>, AllocError> {
-    let mut all = Vec::new(alloc);
-    for (seat, act) in steps {
-        all.reserve(1)?;
-        all.push_reserved(Step {
-            seat: *seat,
-            act: *act,
-        });
-    }
-    Ok(Row::from_vec(all))
+/// A step of this seat.
+const fn by(seat: u32, act: StepAct) -> Step {
+    Step { seat, act }
 }
 
 /// A script of these steps with one lock and one label. Who is asked is handed in beside it.
-fn script(
-    alloc: Global,
-    seats: u32,
-    setup: &[(u32, StepAct)],
-    steps: &[(u32, StepAct)],
-) -> Result<Script, AllocError>
+fn script(alloc: Global, seats: u32, setup: &[Step], steps: &[Step]) -> Result<Script, AllocError>
     ensures { IfOk result (λ script. (script.seats ≡ seats) × (script.locks ≡ 1)) }
 {
+    let setup = Row::from_vec(setup.to_vec(alloc)?);
+    let steps = Row::from_vec(steps.to_vec(alloc)?);
     Ok(Script {
         form: ScriptForm::One,
         seats,
@@ -65,8 +49,8 @@ fn script(
         cancels: Row::from_vec(Vec::new(alloc)),
         dispatches: Row::from_vec(Vec::new(alloc)),
         drivers: Row::from_vec(Vec::new(alloc)),
-        setup: by(alloc, setup)?,
-        steps: by(alloc, steps)?,
+        setup,
+        steps,
         labels: 1,
     })
 }
@@ -74,31 +58,19 @@ fn script(
 /// What workers made of a script.
 #[derive(Drop)]
 struct Made {
-    /// The replies of the entries that the seats kept.
-    replies: Vec<Reply>,
+    /// How many entries the seats kept.
+    entries: usize,
     words: Vec<WordLine>,
     stopped: bool,
 }
 
-/// Puts the replies of the entries that a seat kept.
-fn put_replies<L: Session>(replies: &mut Vec<Reply>, seat: &Seat<L>) -> Result<(), AllocError> {
-    for entry in seat.entries() {
-        replies.push(entry.reply)?;
-    }
-    Ok(())
-}
-
-/// The replies of the entries that these seats kept, seat by seat.
-fn replies_of<L: Session>(
-    alloc: Global,
-    seats: Vec<ScriptSeat<'_, L>>,
-) -> Result<Vec<Reply>, AllocError> {
-    let mut replies = Vec::new(alloc);
+/// How many entries these seats kept.
+fn count_of<L: Session>(seats: Vec<ScriptSeat<'_, L>>) -> usize {
+    let mut count: usize = 0;
     for own in seats {
-        let (seat, _remove) = own.into_pair();
-        put_replies(&mut replies, &seat)?;
+        count = count.saturating_add(own.into_pair().0.count());
     }
-    Ok(replies)
+    count
 }
 
 /// Has so many workers run the script in a session of its seats.
@@ -128,17 +100,19 @@ fn session<L: Session + Send + Sync, G: Gate + Sync, R: Threads + Wait + Sync>(
         rt, alloc, &shared, &locks, &slots, pairs, script, gate, workers,
     )?;
     Ok(Made {
-        replies: replies_of(alloc, seats)?,
+        entries: count_of(seats),
         words,
         stopped,
     })
 }
 
-/// What so many workers make of a script, with one driver that dispatches nothing.
+/// What so many workers make of a script of these steps, with one driver that dispatches nothing.
 fn worked<G: Gate + Sync, R: Threads + Wait + Sync>(
     rt: &R,
     alloc: Global,
-    script: &Script,
+    seats: u32,
+    setup: &[Step],
+    steps: &[Step],
     gate: &G,
     workers: u32,
 ) -> Result<Made, Fail>
@@ -148,16 +122,7 @@ fn worked<G: Gate + Sync, R: Threads + Wait + Sync>(
     if ask.add_driver(Vec::new(alloc)).is_err() {
         return Err(Fail::from("a driver"));
     }
+    let script = script(alloc, seats, setup, steps)?;
     let blank = Blank::new(u64::from(script.seats));
-    session::<Brand, G, R>(rt, alloc, blank, ask, script, gate, workers)
-}
-
-/// A word line of this step.
-fn word(seat: u32, step: u32, act: Act, reply: WordReply) -> WordLine {
-    WordLine {
-        seat,
-        step,
-        act,
-        reply,
-    }
+    session::<Brand, G, R>(rt, alloc, blank, ask, &script, gate, workers)
 }

@@ -1,7 +1,7 @@
 //! Two calls at once: a gate that holds each seat's step until the other seat's step of the same place among its own has
 //! entered. It ends by itself: who waits does so for a number of turns.
 
-use super::{ALLOCATE, CREATE, script, worked};
+use super::{ALLOCATE, CREATE, by, worked};
 use irp_script::Gate;
 use std::sync::atomic::{AtomicBool, AtomicU64, Ordering};
 use std::test::Fail;
@@ -48,21 +48,20 @@ impl Gate for Meeting {
 
 #[test]
 fn two_calls_at_once(rt: HostRuntime) -> Result<(), Fail> {
-    let mut steps = [(0, ALLOCATE); 20];
+    let mut steps = [by(0, ALLOCATE); 20];
     for place in 10..20 {
-        steps[place] = (1, ALLOCATE);
+        steps[place] = by(1, ALLOCATE);
     }
-    let script = script(rt.alloc(), 2, &[(0, CREATE)], &steps)?;
     let gate = Meeting {
         first: AtomicU64::new(0),
         second: AtomicU64::new(0),
         late: AtomicBool::new(false),
     };
-    let made = worked(&rt, rt.alloc(), &script, &gate, 2)?;
+    let made = worked(&rt, rt.alloc(), 2, &[by(0, CREATE)], &steps, &gate, 2)?;
     assert!(rt;
         !gate.late.load(Ordering::SeqCst),
         "each waited for the other in time"
     );
-    assert!(rt; made.replies.len() == 21 && !made.stopped);
+    assert!(rt; made.entries == 21 && !made.stopped);
     Ok(())
 }

@@ -1,43 +1,46 @@
 //! Which steps workers run, when one stops, and what the gate is told.
 
-use super::{ALLOCATE, CREATE, LOCK, LOOK, acquire, script, word, worked};
+use super::{ALLOCATE, CREATE, LOCK, LOOK, by, worked};
 use irp_script::{AlwaysOpen, Gate};
-use irp_shared::{Act, WordReply};
-use irp_types::{DeviceId, Reply};
+use irp_script_reader::StepAct;
+use irp_shared::{WordLine, WordReply};
 use std::sync::atomic::{AtomicBool, AtomicU64, Ordering};
 use std::test::Fail;
 
+/// An acquisition of the lock with this tag.
+const fn acquire(tag: u32) -> StepAct {
+    StepAct::Acquire { lock: LOCK, tag }
+}
+
 #[test]
 fn a_seat_that_is_not_there_stops_its_worker_alone(rt: HostRuntime) -> Result<(), Fail> {
-    let steps = [(0, acquire(1)), (2, LOOK), (0, acquire(2)), (1, acquire(3))];
-    let script = script(rt.alloc(), 2, &[], &steps)?;
-    let made = worked(&rt, rt.alloc(), &script, &AlwaysOpen, 2)?;
-    let words = [
-        word(
-            0,
-            0,
-            Act::Acquire { lock: LOCK, tag: 1 },
-            WordReply::Acquired,
-        ),
-        word(
-            1,
-            3,
-            Act::Acquire { lock: LOCK, tag: 3 },
-            WordReply::Acquired,
-        ),
+    let steps = [
+        by(0, acquire(1)),
+        by(2, LOOK),
+        by(0, acquire(2)),
+        by(1, acquire(3)),
     ];
-    assert!(rt; made.words.as_slice() == words.as_slice());
-    assert!(rt; made.replies.is_empty() && made.stopped);
+    let made = worked(&rt, rt.alloc(), 2, &[], &steps, &AlwaysOpen, 2)?;
+    assert!(rt; are_lines(made.words.as_slice(), &[(0, 0), (1, 3)]));
+    assert!(rt; made.entries == 0 && made.stopped);
     Ok(())
+}
+
+/// The lines are of these seats and steps, each an acquisition that was granted.
+fn are_lines(words: &[WordLine], expected: &[(u32, u32)]) -> bool {
+    for (line, (seat, step)) in words.iter().zip(expected) {
+        if line.seat != *seat || line.step != *step || line.reply != WordReply::Acquired {
+            return false;
+        }
+    }
+    words.len() == expected.len()
 }
 
 #[test]
 fn a_stop_in_the_setup_stops_all(rt: HostRuntime) -> Result<(), Fail> {
-    let setup = [(0, CREATE), (1, LOOK), (0, CREATE)];
-    let script = script(rt.alloc(), 1, &setup, &[(0, CREATE)])?;
-    let made = worked(&rt, rt.alloc(), &script, &AlwaysOpen, 1)?;
-    assert!(rt; made.replies.as_slice() == &[Reply::Device(DeviceId(0))][..]);
-    assert!(rt; made.words.is_empty() && made.stopped);
+    let setup = [by(0, CREATE), by(1, LOOK), by(0, CREATE)];
+    let made = worked(&rt, rt.alloc(), 1, &setup, &[by(0, CREATE)], &AlwaysOpen, 1)?;
+    assert!(rt; made.entries == 1 && made.words.is_empty() && made.stopped);
     Ok(())
 }
 
@@ -58,41 +61,38 @@ fn seat_of(step: u32) -> u32 {
     }
 }
 
-impl Gate for Turns {
-    fn enter(&self, seat: u32, step: u32) {
-        let begun = self.begun.fetch_add(1, Ordering::SeqCst);
-        let answered = self.answered.load(Ordering::SeqCst);
-        if seat != seat_of(step) || u64::from(step) != begun || begun != answered {
-            self.astray.store(true, Ordering::SeqCst);
-        }
-    }
-
-    fn answered(&self, seat: u32, step: u32) {
-        let answered = self.answered.fetch_add(1, Ordering::SeqCst);
-        let begun = self.begun.load(Ordering::SeqCst);
-        let others = u64::from(step) != answered || begun != answered.wrapping_add(1);
-        if seat != seat_of(step) || others {
+impl Turns {
+    /// A step of this seat is told, before which so many were told to begin, and so many to be answered.
+    fn told(&self, seat: u32, step: u32, begun: u64, answered: u64) {
+        if seat != seat_of(step) || u64::from(step) != answered || begun != answered {
             self.astray.store(true, Ordering::SeqCst);
         }
     }
 }
 
+impl Gate for Turns {
+    fn enter(&self, seat: u32, step: u32) {
+        let begun = self.begun.fetch_add(1, Ordering::SeqCst);
+        self.told(seat, step, begun, self.answered.load(Ordering::SeqCst));
+    }
+
+    fn answered(&self, seat: u32, step: u32) {
+        let answered = self.answered.fetch_add(1, Ordering::SeqCst);
+        let begun = self.begun.load(Ordering::SeqCst);
+        self.told(seat, step, begun.wrapping_sub(1), answered);
+    }
+}
+
 #[test]
 fn the_gate_is_told_before_and_after_each_step(rt: HostRuntime) -> Result<(), Fail> {
-    let steps = [(2, ALLOCATE), (0, acquire(1)), (1, LOOK)];
-    let script = script(rt.alloc(), 3, &[(0, CREATE)], &steps)?;
+    let steps = [by(2, ALLOCATE), by(0, acquire(1)), by(1, LOOK)];
     let gate = Turns {
         begun: AtomicU64::new(0),
         answered: AtomicU64::new(0),
         astray: AtomicBool::new(false),
     };
-    let made = worked(&rt, rt.alloc(), &script, &gate, 1)?;
-    let begun = gate.begun.load(Ordering::SeqCst);
-    let answered = gate.answered.load(Ordering::SeqCst);
-    let astray = gate.astray.load(Ordering::SeqCst);
-    assert_eq!(rt;
-        (begun, answered, astray, made.stopped),
-        (3, 3, false, false)
-    );
+    let made = worked(&rt, rt.alloc(), 3, &[by(0, CREATE)], &steps, &gate, 1)?;
+    let told = gate.answered.load(Ordering::SeqCst);
+    assert!(rt; told == 3 && !gate.astray.load(Ordering::SeqCst) && !made.stopped);
     Ok(())
 }

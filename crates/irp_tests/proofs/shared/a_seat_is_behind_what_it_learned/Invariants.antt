@@ -1,12 +1,6 @@
 use Rattle.irp_types.specs.declared.limit.Limit.TheVariants.{ThirtyTwo}
 use Rattle.irp_tests.proofs.shared.a_seat_is_behind_what_it_learned.Given as goal
 
-abbrev pub ghosts-third_receipt-L-Ledger : goal.ghosts-third_receipt-L-Ledger
-ghosts-third_receipt-L-Ledger g a = record { name = a.blank.name; parts = a.blank.parts }
-
-abbrev pub ghosts-third_receipt-L-Session : goal.ghosts-third_receipt-L-Session
-ghosts-third_receipt-L-Session g a = record { seats = 1; fixed = record { locks = 1; tables = a.table.tables; limit = ThirtyTwo } }
-
 abbrev pub ghosts-behind-L-Ledger : goal.ghosts-behind-L-Ledger
 ghosts-behind-L-Ledger g a = record { name = a.blank.name; parts = a.blank.parts }
 

@@ -1,5 +1,5 @@
 use Rattle.irp_types.specs.declared.limit.Limit.TheVariants.{ThirtyTwo}
-use Rattle.irp_tests.proofs.sharing.acquire_during_call.Given as goal
+use Rattle.irp_tests.proofs.sharing.met.Given as goal
 
 abbrev pub ghosts-session-L-Ledger : goal.ghosts-session-L-Ledger
 ghosts-session-L-Ledger g a = record { name = a.blank.name; parts = a.blank.parts }

@@ -1,0 +1,219 @@
+//! Closures of a store that count how often they are asked, through a book.
+
+ghost use Rattle.std.specs.Prelude.{◌≡◌, true};
+ghost use Rattle.irp_types.specs.Rules.{is_allowed, is_plan_allowed, is_cancel_allowed};
+ghost use Rattle.irp_types.specs.State.{no_routines};
+ghost use Rattle.irp_types.specs.declared.routine.Rule.TheVariants.{Watch};
+ghost use Rattle.irp_types.specs.declared.routine.CancelRule.TheVariants.{MustFinish};
+
+use super::stores::{READ, Step, adds, adds_cancel, adds_dispatch, adds_driver, last_receipt};
+use irp_routines::{CancelRoutine, Dispatch, Routine, Store};
+use irp_types::{
+    Answer, Call, CancelAnswer, CancelId, CancelRule, DeviceId, DriverId, IrpRef, Known, LockNo,
+    Party, Plan, Refusal, Reply, RoutineId, Rule, Setting, Shown, Status,
+};
+use std::alloc::Global;
+use std::sync::Arc;
+use std::sync::atomic::{AtomicU32, Ordering};
+use std::test::Fail;
+
+const FIRST: IrpRef = IrpRef { slot: 0, use_no: 1 };
+
+const SECOND: IrpRef = IrpRef { slot: 1, use_no: 2 };
+
+/// What the dispatch may name: the cancel routine.
+const ONE_CANCEL: Known = Known {
+    cancel: 1,
+    ..Known::NONE
+};
+
+/// The Watch, which a cancelled packet asks.
+const ON_CANCEL: Setting = Setting {
+    routine: RoutineId {
+        rule: Rule::Watch,
+        no: 0,
+    },
+    context: 9,
+    on_success: false,
+    on_error: false,
+    on_cancel: true,
+};
+
+/// The Watch, which a cancelled packet doesn't ask.
+const ON_SUCCESS: Setting = Setting {
+    on_success: true,
+    on_cancel: false,
+    ..ON_CANCEL
+};
+
+const CREATE: Call = Call::CreateDevice {
+    driver: DriverId(0),
+    lock: LockNo(0),
+};
+
+const ALLOCATE: Call = Call::Allocate { size: 1 };
+
+/// The first packet is filled with a read.
+const FILL: Call = Call::SetNext {
+    party: Party::Originator,
+    irp: FIRST,
+    major: READ,
+    word: 7,
+};
+
+const SET: Call = Call::SetRoutine {
+    party: Party::Originator,
+    irp: FIRST,
+    setting: ON_CANCEL,
+};
+
+const SEND: Call = Call::CallDriver {
+    party: Party::Originator,
+    irp: FIRST,
+    target: DeviceId(0),
+};
+
+const CANCEL: Call = Call::Cancel { irp: FIRST };
+
+/// The same of the second packet.
+const FILL_SECOND: Call = Call::SetNext {
+    party: Party::Originator,
+    irp: SECOND,
+    major: READ,
+    word: 7,
+};
+
+const SET_SECOND: Call = Call::SetRoutine {
+    party: Party::Originator,
+    irp: SECOND,
+    setting: ON_SUCCESS,
+};
+
+const SEND_SECOND: Call = Call::CallDriver {
+    party: Party::Originator,
+    irp: SECOND,
+    target: DeviceId(0),
+};
+
+const CANCEL_SECOND: Call = Call::Cancel { irp: SECOND };
+
+/// A packet is sent, and cancelled; both are tried again and refused. A second packet, whose Watch is for a success alone,
+/// is sent and cancelled.
+const STEPS: [Step; 13] = [
+    (CREATE, Reply::Device(DeviceId(0))),
+    (ALLOCATE, Reply::Irp(FIRST)),
+    (FILL, Reply::Done),
+    (SET, Reply::Done),
+    (SEND, Reply::Status(Status::PENDING)),
+    (SEND, Reply::Refused(Refusal::NotOwner)),
+    (CANCEL, Reply::Cancelled(true)),
+    (CANCEL, Reply::Refused(Refusal::Ended)),
+    (ALLOCATE, Reply::Irp(SECOND)),
+    (FILL_SECOND, Reply::Done),
+    (SET_SECOND, Reply::Done),
+    (SEND_SECOND, Reply::Status(Status::PENDING)),
+    (CANCEL_SECOND, Reply::Cancelled(true)),
+];
+
+/// Holds with the cancel routine, where the packet isn't cancelled yet.
+fn hold(shown: Shown) -> Plan
+    ensures { is_plan_allowed (record no_routines { cancel = 1 }) shown result ≡ true }
+{
+    Plan::Hold {
+        cancel: if shown.cancel {
+            None
+        } else {
+            Some(CancelId(0))
+        },
+    }
+}
+
+/// Looks on.
+fn look_on(shown: Shown) -> Answer
+    ensures { is_allowed Watch shown result ≡ true }
+{
+    Answer {
+        keep: false,
+        mark: Rule::right_mark(shown, false),
+        replacement: None,
+    }
+}
+
+/// Finishes with 0.
+fn finish(shown: Shown) -> CancelAnswer
+    ensures { is_cancel_allowed MustFinish result ≡ true }
+{
+    let _ = shown;
+    CancelAnswer::Finish { information: 0 }
+}
+
+/// A store of these closures, with one driver.
+fn store_of(
+    alloc: Global,
+    watch: Routine,
+    cancel: CancelRoutine,
+    dispatch: Dispatch,
+) -> Option<Store> {
+    let mut store = Store::new(alloc);
+    if adds(&mut store, watch)
+        && adds_cancel(&mut store, cancel)
+        && adds_dispatch(&mut store, dispatch)
+        && adds_driver(alloc, &mut store)
+    {
+        return Some(store);
+    }
+    None
+}
+
+/// How often each of the closures was asked.
+#[derive(Drop)]
+struct Counts {
+    watch: AtomicU32,
+    cancel: AtomicU32,
+    dispatch: AtomicU32,
+}
+
+impl Counts {
+    fn new() -> Counts {
+        Counts {
+            watch: AtomicU32::new(0),
+            cancel: AtomicU32::new(0),
+            dispatch: AtomicU32::new(0),
+        }
+    }
+
+    /// Those of the Watch, of the cancel routine, and of the dispatch.
+    fn told(&self) -> (u32, u32, u32) {
+        (
+            self.watch.load(Ordering::SeqCst),
+            self.cancel.load(Ordering::SeqCst),
+            self.dispatch.load(Ordering::SeqCst),
+        )
+    }
+}
+
+#[test]
+fn each_closure_is_asked_once_for_each_question(rt: HostRuntime) -> Result<(), Fail> {
+    let alloc = rt.alloc();
+    let counts = Arc::new(alloc, Counts::new())?;
+    let (of_watch, of_cancel, of_dispatch) = (counts.clone()?, counts.clone()?, counts.clone()?);
+    let watch = move |shown: Shown| {
+        of_watch.watch.fetch_add(1, Ordering::SeqCst);
+        look_on(shown)
+    };
+    let cancel = move |shown: Shown| {
+        of_cancel.cancel.fetch_add(1, Ordering::SeqCst);
+        finish(shown)
+    };
+    let dispatch = move |shown: Shown| {
+        of_dispatch.dispatch.fetch_add(1, Ordering::SeqCst);
+        hold(shown)
+    };
+    let watch = Routine::new(Rule::Watch, Box::new(alloc, watch)?);
+    let cancel = CancelRoutine::new(CancelRule::MustFinish, Box::new(alloc, cancel)?);
+    let dispatch = Dispatch::new(ONE_CANCEL, Box::new(alloc, dispatch)?);
+    let store = store_of(alloc, watch, cancel, dispatch).ok_or("a store")?;
+    assert!(rt; last_receipt(alloc, store, &STEPS).is_some());
+    assert!(rt; counts.told() == (1, 2, 2));
+    Ok(())
+}
