@@ -3,7 +3,7 @@
 use irp_types::{LockNo, Status};
 
 /// What a step does on a remove lock in its own seat alone.
-#[derive(Clone, Copy, PartialEq, Eq, Debug)]
+#[derive(Clone, Copy)]
 pub enum LockAct {
     /// Acquires the lock with this tag.
     Acquire { lock: LockNo, tag: u32 },
@@ -16,7 +16,7 @@ pub enum LockAct {
 }
 
 /// What a step does on a cancel slot.
-#[derive(Clone, Copy, PartialEq, Eq, Debug)]
+#[derive(Clone, Copy)]
 pub enum SlotAct {
     /// Puts the use of the packet that the step names into the slot.
     Publish { slot: u32 },
@@ -27,7 +27,7 @@ pub enum SlotAct {
 }
 
 /// What kind a step is of.
-#[derive(Clone, Copy, PartialEq, Eq, Debug)]
+#[derive(Clone, Copy)]
 pub enum StepKind {
     /// A call of the manager that needs no token.
     Calls,

@@ -1,4 +1,4 @@
-use Rattle.std.proofs.Common.{◌≡◌, ◌++◌, All, map, vec_len}
+use Rattle.std.proofs.Common.{◌≡◌, ◌++◌, All, vec_len}
 use Rattle.irp_remove.specs.Pairing.{IsSeatOf}
 use Rattle.irp_slots.specs.Pairing.{IsCancellerOf}
 use Rattle.irp_workers.specs.Seats.{IsFreshAt, cancellers_of, removes_of, seats_of}

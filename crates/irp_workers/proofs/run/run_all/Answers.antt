@@ -1,5 +1,5 @@
 -- What the worker's own run says of its steps.
-use Rattle.std.proofs.Common.{get_or, map, rules}
+use Rattle.std.proofs.Common.{get_or, rules}
 use Rattle.irp_workers.specs.Workers.{work_of}
 use Rattle.irp_workers.proofs.Numbers.{if_ok_on}
 use Rattle.irp_workers.specs.Working.{MakesOwn}

@@ -1,4 +1,4 @@
-use Rattle.std.proofs.Common.{◌≡◌, false, true, All, length, map, ap, refl, subst, ◌∙◌, rules}
+use Rattle.std.proofs.Common.{◌≡◌, false, true, All, length, ap, refl, subst, ◌∙◌, rules}
 use Rattle.irp_workers.specs.Workers.{work_of}
 use Rattle.irp_workers.specs.Seats.{IsAtLocks, pair_in, seat_at_work}
 use Rattle.irp_workers.proofs.Accounted.{accounted, numbers_of, pairs_of_items, same_pairs}

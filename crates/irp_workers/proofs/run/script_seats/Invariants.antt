@@ -1,4 +1,4 @@
-use Rattle.std.proofs.Common.{◌≡◌, ◌<◌, ◌+◌, ◌%◌, ℕ, All, Bool, [], get_or, map, vec_len}
+use Rattle.std.proofs.Common.{◌≡◌, ◌<◌, ◌+◌, ◌%◌, ℕ, All, Bool, get_or, vec_len}
 use Rattle.std.specs.List.{count_by}
 use Rattle.irp_slots.specs.Pairing.{IsOwnerOf}
 use Rattle.irp_workers.specs.Seats.{HasAllSlots, HasTakenNothing, cancellers_of, owners_of, removes_of, seats_of}

@@ -1,4 +1,4 @@
-use Rattle.std.proofs.Common.{◌≡◌, map, take}
+use Rattle.std.proofs.Common.{◌≡◌, take}
 use Rattle.irp_workers.specs.Workers.{work_of}
 use Rattle.irp_workers.specs.Outcomes.{own_placed}
 use Rattle.irp_workers.specs.Working.{MakesEach}
