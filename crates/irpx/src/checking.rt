@@ -23,22 +23,18 @@ use irp_transcript_reader::ReadFault;
 use irp_transcript_writer::{Out, put_all};
 use std::alloc::{AllocError, Global};
 use std::io::Read;
-use thiserror::Error;
 
 /// As many bytes as the text of a transcript may have that is checked.
 const MOST_BYTES: usize = 1_073_741_824;
 
 /// Why there is no verdict on a transcript.
-#[derive(Clone, Copy, Debug, PartialEq, Eq, Error)]
+#[derive(Clone, Copy)]
 pub enum Unjudged {
     /// The input wasn't read. One that is too long counts as failed.
-    #[error("{0}")]
     Input(InputFault),
     /// The text isn't a transcript's: this line, from 1, is the first that is refused.
-    #[error("line {line} is refused")]
     RefusedLine { line: u64 },
     /// Memory ran out for the transcript or its verdict.
-    #[error("memory ran out")]
     NoMemory,
 }
 
@@ -53,13 +49,11 @@ impl From<InputFault> for Unjudged {
 }
 
 /// Why a transcript wasn't checked.
-#[derive(Clone, Copy, Debug, PartialEq, Eq, Error)]
+#[derive(Clone, Copy)]
 pub enum CheckFault {
     /// There is no verdict.
-    #[error("{0}")]
     Unjudged(Unjudged),
     /// The verdict wasn't told.
-    #[error("{0}")]
     Untold(Unwritten),
 }
 

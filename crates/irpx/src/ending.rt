@@ -28,7 +28,7 @@ use std::fmt;
 use std::process::ExitCode;
 
 /// How the program ends: its exit status, and the line for standard error (this project's own command line, README.md).
-#[derive(Clone, Copy, Debug, PartialEq, Eq)]
+#[derive(Clone, Copy)]
 pub enum Ending {
     /// All was done, and a transcript that was checked is legal: status 0, and no line.
     Done,

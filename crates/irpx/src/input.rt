@@ -6,19 +6,16 @@ ghost use Rattle.irpx.specs.Input.{TakesAtMost};
 
 use std::alloc::Global;
 use std::io::Read;
-use thiserror::Error;
 
 /// How many bytes are asked for in one turn, at most.
 const PIECE: usize = 65_536;
 
 /// Why an input was not read.
-#[derive(Clone, Copy, Debug, PartialEq, Eq, Error)]
+#[derive(Clone, Copy)]
 pub enum InputFault {
     /// A read failed, or was interrupted.
-    #[error("the input failed")]
     Failed,
     /// Memory ran out.
-    #[error("memory ran out")]
     Memory,
 }
 

@@ -1,10 +1,9 @@
 //! What words ask for, and why they may not be taken.
 
 use std::alloc::AllocError;
-use thiserror::Error;
 
 /// What the program is asked to do (this project's own command line, README.md).
-#[derive(Clone, Copy, Debug, PartialEq, Eq)]
+#[derive(Clone, Copy)]
 pub enum Order {
     /// Run the built-in scenario and write its transcript.
     Demo,
@@ -15,13 +14,11 @@ pub enum Order {
 }
 
 /// Why words ask for nothing (this project's own command line, README.md).
-#[derive(Clone, Copy, Debug, PartialEq, Eq, Error)]
+#[derive(Clone, Copy)]
 pub enum Unread {
     /// The words are none that the program takes; a request for help is one of these.
-    #[error("the words are none that the program takes")]
     Usage,
     /// Memory ran out.
-    #[error("memory ran out")]
     Memory,
 }
 

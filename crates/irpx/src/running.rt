@@ -45,22 +45,18 @@ use std::marker::Brand;
 use std::sync::Wait;
 use std::sync::ledger::Blank;
 use std::thread::Threads;
-use thiserror::Error;
 
 /// One byte more than the text of a script may have.
 const TOO_MANY_BYTES: usize = 1_048_577;
 
 /// Why no script was read.
-#[derive(Clone, Copy, Debug, PartialEq, Eq, Error)]
+#[derive(Clone, Copy)]
 pub enum Unscripted {
     /// The input wasn't read.
-    #[error("{0}")]
     Input(InputFault),
     /// The text is refused.
-    #[error("{refusal}")]
     Refused { refusal: ScriptRefusal },
     /// Memory ran out for the script.
-    #[error("memory ran out")]
     NoMemory,
 }
 
@@ -75,13 +71,11 @@ impl From<InputFault> for Unscripted {
 }
 
 /// Why a script that was read left no transcript.
-#[derive(Clone, Copy, Debug, PartialEq, Eq, Error)]
+#[derive(Clone, Copy)]
 pub enum Unrun {
     /// The seats kept other entries than the history has.
-    #[error("receipts differ")]
     ReceiptsDiffer,
     /// Memory ran out.
-    #[error("memory ran out")]
     NoMemory,
 }
 
@@ -96,16 +90,13 @@ impl From<AllocError> for Unrun {
 }
 
 /// Why a script that was read wasn't run to its end, or its transcript not written whole.
-#[derive(Clone, Copy, Debug, PartialEq, Eq, Error)]
+#[derive(Clone, Copy)]
 pub enum Unfinished {
     /// There is no transcript.
-    #[error("{0}")]
     NoTranscript(Unrun),
     /// A step found no memory or wasn't recorded. The transcript of what was recorded is written.
-    #[error("a step wasn't recorded")]
     Stopped,
     /// The transcript wasn't written whole.
-    #[error("{0}")]
     Unwritten(Unwritten),
 }
 
@@ -141,16 +132,13 @@ impl From<Unwritten> for Unfinished {
 }
 
 /// Why a script wasn't run, or not to its end.
-#[derive(Clone, Copy, Debug, PartialEq, Eq, Error)]
+#[derive(Clone, Copy)]
 pub enum RunFault {
     /// There is no script.
-    #[error("{0}")]
     Unread(Unscripted),
     /// There is one, and this is the first of its steps that hands a reference between seats of different workers.
-    #[error("step {step} hands a reference to another worker")]
     HandsBetween { step: usize },
     /// There is one, and it wasn't run to its end, or its transcript not written whole.
-    #[error("{0}")]
     Unfinished(Unfinished),
 }
 

@@ -7,16 +7,13 @@ ghost use Rattle.irpx.specs.Writing.{BreaksOff, Written};
 use irp_shared::Transcript;
 use irp_transcript_writer::{Cause, Out, write_transcript};
 use std::alloc::Global;
-use thiserror::Error;
 
 /// Why a text wasn't written whole.
-#[derive(Clone, Copy, Debug, PartialEq, Eq, Error)]
+#[derive(Clone, Copy)]
 pub enum Unwritten {
     /// The output failed.
-    #[error("the output failed")]
     Failed,
     /// Memory ran out.
-    #[error("memory ran out")]
     NoMemory,
 }
 
