@@ -1,3 +1,2 @@
-pub mod Batches
 pub mod Makes
 pub mod Slots

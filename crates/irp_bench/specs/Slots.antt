@@ -1,14 +1,10 @@
 -- What becomes of the owners of slots, and of a canceller.
-use Rattle.std.specs.Prelude.{◌≡◌, ℕ, ◌+◌, true, [], ◌∷◌, length}
+use Rattle.std.specs.Prelude.{◌≡◌, ℕ, ◌+◌, [], ◌∷◌, length}
 use Rattle.irp_slots.specs.Models.{Publisher, Asker}
 
--- its publication was answered that it stands
-abbrev pub Stood : Publisher → Type 0
-Stood publisher = publisher.owning.stood ≡ true
-
--- the same, and it has taken out of its slot what it had published, and nothing else
+-- it has taken out of its slot what it had published, and nothing else
 abbrev pub TookBack : Publisher → Type 0
-TookBack publisher = (publisher.owning.stood ≡ true) × (publisher.owning.taken ≡ publisher.owning.published ∷ [])
+TookBack publisher = publisher.owning.taken ≡ publisher.owning.published ∷ []
 
 -- a canceller has taken so many uses more
 abbrev pub TookMore : ℕ → Asker → Asker → Type 0

@@ -1,17 +1,22 @@
 //! Who makes the calls that are timed.
 
 ghost use Rattle.std.specs.Prelude.{Bool, List, IfOk};
+ghost use Rattle.std.proofs.Props.{props};
 ghost use Rattle.irp_types.specs.Standing.{StandingFacts};
 ghost use Rattle.irp_types.specs.declared.asked.Asked.{Asked};
 ghost use Rattle.irp_types.specs.declared.call.Call.{Call};
 ghost use Rattle.irp_types.specs.declared.reply.Reply.{Reply};
 ghost use Rattle.irp_manager.specs.Keeps.{slabbed};
 ghost use Rattle.irp_manager.specs.ManagerStates.{state_of, Stepped};
+ghost use Rattle.irp_bench.specs.Makes.{Keeps};
 
 use crate::fault::Fault;
 use irp_manager::{KnowsNothing, Manager};
-use irp_routines::Ask;
+use irp_routines::{Ask, Store};
+use irp_shared::{Seat, Session, Shared, needs_token};
 use irp_types::{Call, Reply};
+use std::alloc::Global;
+use std::sync::Wait;
 
 /// How a call was answered.
 #[derive(Clone, Copy)]
@@ -24,32 +29,75 @@ pub struct Answered {
 
 /// Who makes calls of a manager, one after another.
 pub trait Caller {
-    /// What has to hold for a call to be made.
-    ghost is_ready: { Self → Type 0 };
-
     /// What a call with its reply makes of the caller.
     ghost makes: { Self → Call → Reply → Self → Type 0 };
 
     /// Makes a call, and tells how it was answered.
     fn make(&mut self, call: Call) -> Result<Answered, Fault>
-        requires { is_ready self.old }
-        ensures ready { is_ready self.new }
-        ensures made { IfOk result (λ answered. makes self.old call answered.reply self.new) };
+        ensures { IfOk result (λ answered. makes self.old call answered.reply self.new) };
 }
 
 /// The manager alone: each call is one of its steps.
-impl<A: Ask> Caller for Manager<A> {
-    ghost is_ready = { λ manager. StandingFacts (A.tables manager.ask).counts
-        (state_of slabbed manager.state) };
+#[derive(Drop)]
+pub struct Alone {
+    manager: Manager<Store>,
+    ghost stands: { StandingFacts manager.ask.tables.counts
+        (state_of slabbed manager.state) } by { Prim.hlevel props },
+}
 
+impl Alone {
+    /// A manager with one remove lock, that asks this store.
+    pub fn new(alloc: Global, store: Store) -> Alone {
+        Alone {
+            manager: Manager::new(alloc, store, 1),
+        }
+    }
+}
+
+impl Caller for Alone {
     ghost makes = { λ old call reply new. (drained : Bool) × (asked : List Asked)
-        × Stepped slabbed (A.tables old.ask) drained old.state call asked reply new.state };
+        × Stepped slabbed old.manager.ask.tables drained old.manager.state call asked reply
+        new.manager.state };
 
     fn make(&mut self, call: Call) -> Result<Answered, Fault> {
-        let applied = self.apply(call, &KnowsNothing)?;
+        let applied = self.manager.apply(call, &KnowsNothing)?;
         Ok(Answered {
             reply: applied.reply,
             questions: applied.asked.len(),
+        })
+    }
+}
+
+/// A seat, whose calls of a shared book are recorded.
+#[derive(Drop)]
+pub struct Recorder<'a, R, A, L: Session> {
+    pub rt: &'a R,
+    pub shared: &'a Shared<A, L>,
+    pub seat: Seat<L>,
+}
+
+/// How many questions were asked in the seat's last call.
+fn questions<L: Session>(seat: &Seat<L>) -> usize {
+    match seat.entries().last() {
+        Some(entry) => entry.asked.as_slice().len(),
+        None => 0,
+    }
+}
+
+/// Each call is recorded, and the seat keeps its entry.
+impl<R: Wait, A: Ask, L: Session> Caller for Recorder<'_, R, A, L> {
+    ghost makes = { λ old call reply new. Keeps old.seat call reply new.seat };
+
+    fn make(&mut self, call: Call) -> Result<Answered, Fault> {
+        if needs_token(call) {
+            return Err(Fault::Failed);
+        }
+        let receipt = self
+            .shared
+            .call(self.rt, &mut self.seat, call, &KnowsNothing)?;
+        Ok(Answered {
+            reply: receipt.reply(),
+            questions: questions(&self.seat),
         })
     }
 }

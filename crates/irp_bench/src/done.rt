@@ -1,7 +1,5 @@
 //! What was done in which time, and how it is written.
 
-ghost use Rattle.std.specs.Prelude.{◌≡◌};
-
 use std::fmt;
 use std::num::nearest_u64_to_f64;
 use std::time::Duration;
@@ -26,9 +24,7 @@ impl Done {
     };
 
     /// So often, with texts of so many bytes, in this time.
-    pub fn new(count: u32, bytes: u64, taken: Duration) -> Done
-        ensures { (result.count ≡ count) × (result.bytes ≡ bytes) }
-    {
+    pub fn new(count: u32, bytes: u64, taken: Duration) -> Done {
         Done {
             count,
             bytes,

@@ -1,7 +1,10 @@
 //! Why the program ends before all is timed.
 
+use irp_manager::NotRecorded;
+use irp_shared::OpenRefused;
 use irp_transcript_reader::ReadFault;
-use std::alloc::AllocError;
+use irp_transcript_writer::WriteFault;
+use std::alloc::{AllocError, AllocFailed};
 use std::io;
 
 /// Why the program ends before all is timed (this project's own command line, README.md).
@@ -35,6 +38,12 @@ impl From<AllocError> for Fault {
     }
 }
 
+impl<T: Drop> From<AllocFailed<T>> for Fault {
+    fn from(_failed: AllocFailed<T>) -> Fault {
+        Fault::Memory
+    }
+}
+
 impl From<io::Error> for Fault {
     fn from(_error: io::Error) -> Fault {
         Fault::Failed
@@ -57,5 +66,28 @@ impl From<serde_json::Error> for Fault {
         } else {
             Fault::Failed
         }
+    }
+}
+
+impl From<NotRecorded> for Fault {
+    fn from(reason: NotRecorded) -> Fault {
+        match reason {
+            NotRecorded::Memory => Fault::Memory,
+            _ => Fault::Failed,
+        }
+    }
+}
+
+/// It is refused only where memory runs out: no load asks for more than 64 seats.
+impl From<OpenRefused> for Fault {
+    fn from(_reason: OpenRefused) -> Fault {
+        Fault::Memory
+    }
+}
+
+/// A text in memory breaks off only where memory runs out.
+impl From<WriteFault> for Fault {
+    fn from(_fault: WriteFault) -> Fault {
+        Fault::Memory
     }
 }

@@ -92,13 +92,16 @@ pub fn time_calls<R: Threads + Wait + Sync + Clock + AllocGlobal>(
     number: u32,
     is_recorded: bool,
 ) -> Result<Done, Fault> {
-    let work = match (calls, is_recorded) {
-        (Calls::Rounds, false) => rounds(None),
-        (Calls::Rounds, true) => rounds(Some(number)),
-        (Calls::Unused, false) => unused(number, None),
-        (Calls::Unused, true) => unused(number, Some(1)),
-        (Calls::Sends, false) => sends(number, PACKETS, SENDS, None),
-        (Calls::Sends, true) => sends(number, RECORDED_PACKETS, SENDS, Some(1)),
+    let one = if is_recorded { Some(1) } else { None };
+    let packets = if is_recorded {
+        RECORDED_PACKETS
+    } else {
+        PACKETS
+    };
+    let work = match calls {
+        Calls::Rounds => rounds(one.map(|_| number)),
+        Calls::Unused => unused(number, one),
+        Calls::Sends => sends(number, packets, SENDS, one),
     };
     Ok(Done::new(work.count(), 0, do_work(rt, work)?.taken))
 }

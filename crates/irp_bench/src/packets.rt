@@ -1,6 +1,6 @@
 //! The calls that are timed, and those that come before them.
 
-ghost use Rattle.std.specs.Prelude.{◌≡◌, IfOk, length};
+ghost use Rattle.std.specs.Prelude.{IfOk, length};
 ghost use Rattle.irp_types.specs.declared.call.Call.TheVariants.{Allocate, CallDriver};
 ghost use Rattle.irp_types.specs.declared.call.Party.TheVariants.{Originator};
 ghost use Rattle.irp_types.specs.declared.reply.Reply.TheVariants.{Done, Irp, Refused, Status as StatusIs};
@@ -68,9 +68,7 @@ pub struct Scene {
 
 /// Allocates a packet.
 fn allocate<C: Caller>(caller: &mut C, size: u8) -> Result<IrpRef, Fault>
-    requires { C.is_ready caller.old }
-    ensures ready { C.is_ready caller.new }
-    ensures made { IfOk result (λ irp. C.makes caller.old (Allocate size) (Irp irp) caller.new) }
+    ensures { IfOk result (λ irp. C.makes caller.old (Allocate size) (Irp irp) caller.new) }
 {
     match caller.make(Call::Allocate { size })?.reply {
         Reply::Irp(irp) => Ok(irp),
@@ -80,9 +78,7 @@ fn allocate<C: Caller>(caller: &mut C, size: u8) -> Result<IrpRef, Fault>
 
 /// Makes a call that must be answered Done.
 fn done<C: Caller>(caller: &mut C, call: Call) -> Result<(), Fault>
-    requires { C.is_ready caller.old }
-    ensures ready { C.is_ready caller.new }
-    ensures made { IfOk result (λ _. C.makes caller.old call Done caller.new) }
+    ensures { IfOk result (λ _. C.makes caller.old call Done caller.new) }
 {
     match caller.make(call)?.reply {
         Reply::Done => Ok(()),
@@ -92,9 +88,7 @@ fn done<C: Caller>(caller: &mut C, call: Call) -> Result<(), Fault>
 
 /// Makes a call that must be refused, and answers why it was.
 fn refused<C: Caller>(caller: &mut C, call: Call) -> Result<Refusal, Fault>
-    requires { C.is_ready caller.old }
-    ensures ready { C.is_ready caller.new }
-    ensures made { IfOk result (λ refusal. C.makes caller.old call (Refused refusal) caller.new) }
+    ensures { IfOk result (λ refusal. C.makes caller.old call (Refused refusal) caller.new) }
 {
     match caller.make(call)?.reply {
         Reply::Refused(refusal) => Ok(refusal),
@@ -104,9 +98,7 @@ fn refused<C: Caller>(caller: &mut C, call: Call) -> Result<Refusal, Fault>
 
 /// Makes the calls of `Packet::Round`.
 fn round<C: Caller>(caller: &mut C) -> Result<(), Fault>
-    requires { C.is_ready caller.old }
-    ensures ready { C.is_ready caller.new }
-    ensures made { IfOk result (λ _. MakesPacket C.makes Packet.Round caller.old caller.new) }
+    ensures { IfOk result (λ _. MakesPacket C.makes Packet.Round caller.old caller.new) }
 {
     let irp = allocate(caller, 1)?;
     let complete = Call::Complete {
@@ -123,9 +115,7 @@ fn round<C: Caller>(caller: &mut C) -> Result<(), Fault>
 
 /// Makes the calls of `Packet::Unused`.
 fn unused<C: Caller>(caller: &mut C) -> Result<(), Fault>
-    requires { C.is_ready caller.old }
-    ensures ready { C.is_ready caller.new }
-    ensures made { IfOk result (λ _. MakesPacket C.makes Packet.Unused caller.old caller.new) }
+    ensures { IfOk result (λ _. MakesPacket C.makes Packet.Unused caller.old caller.new) }
 {
     let irp = allocate(caller, 16)?;
     done(caller, Call::Free { irp })
@@ -133,9 +123,7 @@ fn unused<C: Caller>(caller: &mut C) -> Result<(), Fault>
 
 /// Makes the calls of one packet. It stops at the first that is answered otherwise.
 fn make<C: Caller>(caller: &mut C, packet: Packet) -> Result<(), Fault>
-    requires { C.is_ready caller.old }
-    ensures ready { C.is_ready caller.new }
-    ensures made { IfOk result (λ _. MakesPacket C.makes packet caller.old caller.new) }
+    ensures { IfOk result (λ _. MakesPacket C.makes packet caller.old caller.new) }
 {
     match packet {
         Packet::Round => round(caller),
@@ -145,9 +133,7 @@ fn make<C: Caller>(caller: &mut C, packet: Packet) -> Result<(), Fault>
 
 /// Makes the calls of so many packets, one after the other. It stops at the first that is answered otherwise.
 fn repeat<C: Caller>(caller: &mut C, packet: Packet, count: u32) -> Result<(), Fault>
-    requires { C.is_ready caller.old }
-    ensures ready { C.is_ready caller.new }
-    ensures made { IfOk result (λ _. Repeats (MakesPacket C.makes packet) count caller.old caller.new) }
+    ensures { IfOk result (λ _. Repeats (MakesPacket C.makes packet) count caller.old caller.new) }
 {
     for made in 0..count {
         make(caller, packet)?;
@@ -157,9 +143,7 @@ fn repeat<C: Caller>(caller: &mut C, packet: Packet, count: u32) -> Result<(), F
 
 /// Sends a packet to a device. It must come back with success, after two questions at each level.
 fn send<C: Caller>(caller: &mut C, irp: IrpRef, target: DeviceId) -> Result<(), Fault>
-    requires { C.is_ready caller.old }
-    ensures ready { C.is_ready caller.new }
-    ensures made { IfOk result (λ _. C.makes caller.old (CallDriver Originator irp target) (StatusIs success) caller.new) }
+    ensures { IfOk result (λ _. C.makes caller.old (CallDriver Originator irp target) (StatusIs success) caller.new) }
 {
     let party = Party::Originator;
     let Answered { reply, questions } = caller.make(Call::CallDriver { party, irp, target })?;
@@ -175,9 +159,7 @@ fn send<C: Caller>(caller: &mut C, irp: IrpRef, target: DeviceId) -> Result<(), 
 
 /// Sends each of these packets, one after the other. It stops at the first that comes back otherwise.
 fn send_all<C: Caller>(caller: &mut C, packets: &[IrpRef], target: DeviceId) -> Result<(), Fault>
-    requires { C.is_ready caller.old }
-    ensures ready { C.is_ready caller.new }
-    ensures made { IfOk result (λ _. Repeats (MakesSend C.makes target) (length packets.now) caller.old caller.new) }
+    ensures { IfOk result (λ _. Repeats (MakesSend C.makes target) (length packets.now) caller.old caller.new) }
 {
     for packet in packets {
         send(caller, *packet, target)?;
@@ -187,9 +169,7 @@ fn send_all<C: Caller>(caller: &mut C, packets: &[IrpRef], target: DeviceId) -> 
 
 /// Makes the calls of a batch. It stops at the first that is answered otherwise.
 pub fn make_batch<C: Caller>(caller: &mut C, batch: Batch, packets: &[IrpRef]) -> Result<(), Fault>
-    requires { C.is_ready caller.old }
-    ensures ready { C.is_ready caller.new }
-    ensures made { IfOk result (λ _. MakesBatch C.makes batch (length packets.now) caller.old caller.new) }
+    ensures { IfOk result (λ _. MakesBatch C.makes batch (length packets.now) caller.old caller.new) }
 {
     match batch {
         Batch::Repeated { packet, count } => repeat(caller, packet, count),
@@ -199,10 +179,7 @@ pub fn make_batch<C: Caller>(caller: &mut C, batch: Batch, packets: &[IrpRef]) -
 
 /// Makes a packet ready to be sent: another use of it begins, its highest location is filled with a read, and the
 /// routine of rule Watch is set there. Answers the packet in that use.
-fn ready<C: Caller>(caller: &mut C, used: IrpRef) -> Result<IrpRef, Fault>
-    requires { C.is_ready caller.old }
-    ensures { C.is_ready caller.new }
-{
+fn ready<C: Caller>(caller: &mut C, used: IrpRef) -> Result<IrpRef, Fault> {
     let (party, setting) = (Party::Originator, WATCH);
     let (major, word) = (READ, 7);
     let status = Status::SUCCESS;
@@ -226,10 +203,7 @@ fn ready<C: Caller>(caller: &mut C, used: IrpRef) -> Result<IrpRef, Fault>
 }
 
 /// Makes each of these packets ready to be sent.
-pub fn make_ready<C: Caller>(caller: &mut C, packets: &mut [IrpRef]) -> Result<(), Fault>
-    requires { C.is_ready caller.old }
-    ensures { C.is_ready caller.new }
-{
+pub fn make_ready<C: Caller>(caller: &mut C, packets: &mut [IrpRef]) -> Result<(), Fault> {
     for packet in packets.iter_mut() {
         *packet = ready(caller, *packet)?;
     }
@@ -237,10 +211,7 @@ pub fn make_ready<C: Caller>(caller: &mut C, packets: &mut [IrpRef]) -> Result<(
 }
 
 /// Builds a stack of so many devices, numbered from 0 upwards, of driver 0 and under lock 0.
-fn stack<C: Caller>(caller: &mut C, devices: u32) -> Result<(), Fault>
-    requires { C.is_ready caller.old }
-    ensures { C.is_ready caller.new }
-{
+fn stack<C: Caller>(caller: &mut C, devices: u32) -> Result<(), Fault> {
     let (driver, lock) = (DriverId(0), LockNo(0));
     for level in 0..devices {
         let device = DeviceId(level);
@@ -257,18 +228,15 @@ fn stack<C: Caller>(caller: &mut C, devices: u32) -> Result<(), Fault>
 }
 
 /// Builds a scene, and answers its packets.
-pub fn set_up<C: Caller>(caller: &mut C, alloc: Global, scene: Scene) -> Result<Vec<IrpRef>, Fault>
-    requires { C.is_ready caller.old }
-    ensures ready { C.is_ready caller.new }
-    ensures packets { IfOk result (λ packets. length packets.items ≡ scene.packets) }
-{
+pub fn set_up<C: Caller>(
+    caller: &mut C,
+    alloc: Global,
+    scene: Scene,
+) -> Result<Vec<IrpRef>, Fault> {
     stack(caller, scene.devices)?;
     let mut packets = Vec::new(alloc);
-    for number in 0..scene.packets {
-        let irp = allocate(caller, scene.locations)?;
-        if packets.push(irp).is_err() {
-            return Err(Fault::Memory);
-        }
+    for _ in 0..scene.packets {
+        packets.push(allocate(caller, scene.locations)?)?;
     }
     Ok(packets)
 }

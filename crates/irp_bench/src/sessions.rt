@@ -1,20 +1,17 @@
 //! Batches by the manager alone, and in a session, where each call is recorded.
 
-ghost use Rattle.std.specs.Prelude.{◌≡◌, ⊤, true, IfOk};
+ghost use Rattle.std.specs.Prelude.{◌≡◌, true};
 ghost use Rattle.irp_types.specs.declared.limit.Limit.TheVariants.{ThirtyTwo};
 ghost use Rattle.irp_types.specs.Rules.{is_allowed, is_plan_allowed};
 ghost use Rattle.irp_types.specs.State.{no_routines};
 ghost use Rattle.irp_types.specs.declared.routine.Rule.TheVariants.{Watch};
-ghost use Rattle.irp_bench.specs.Batches.{MakesBatches};
-ghost use Rattle.irp_bench.specs.Makes.{Keeps};
 
-use crate::caller::{Answered, Caller};
+use crate::caller::{Alone, Caller, Recorder};
 use crate::fault::Fault;
 use crate::packets::{Batch, READ, Scene, WATCH, make_batch, make_ready, set_up};
-use irp_manager::{KnowsNothing, Manager, NotRecorded};
 use irp_routines::{Ask, Dispatch, Routine, Store};
-use irp_shared::{Seat, Session, Shared, Transcript, needs_token, open};
-use irp_types::{Answer, Call, Known, Plan, Reply, Rule, Shown, Status};
+use irp_shared::{Seat, Session, Shared, Transcript, open};
+use irp_types::{Answer, DispatchId, Known, Plan, Rule, Shown, Status};
 use std::alloc::Global;
 use std::marker::Brand;
 use std::rt::Clock;
@@ -64,54 +61,6 @@ pub struct Outcome {
     pub transcript: Option<Transcript>,
 }
 
-/// A seat, whose calls of a shared book are recorded.
-#[derive(Drop)]
-struct Recorder<'a, R, A, L: Session> {
-    rt: &'a R,
-    shared: &'a Shared<A, L>,
-    seat: Seat<L>,
-}
-
-impl<R: Wait, A: Ask, L: Session> Recorder<'_, R, A, L> {
-    /// Makes a call, and answers the reply.
-    fn reply_to(&mut self, call: Call) -> Result<Reply, Fault>
-        ensures { IfOk result (λ reply. Keeps self.old.seat call reply self.new.seat) }
-    {
-        if needs_token(call) {
-            return Err(Fault::Failed);
-        }
-        let made = self
-            .shared
-            .call(self.rt, &mut self.seat, call, &KnowsNothing);
-        match made {
-            Ok(receipt) => Ok(receipt.reply()),
-            Err(NotRecorded::Memory) => Err(Fault::Memory),
-            Err(_) => Err(Fault::Failed),
-        }
-    }
-
-    /// How many questions were asked in the seat's last call.
-    fn questions(&self) -> usize {
-        match self.seat.entries().last() {
-            Some(entry) => entry.asked.as_slice().len(),
-            None => 0,
-        }
-    }
-}
-
-/// Each call is recorded, and the seat keeps its entry.
-impl<R: Wait, A: Ask, L: Session> Caller for Recorder<'_, R, A, L> {
-    ghost is_ready = { λ _. ⊤ };
-
-    ghost makes = { λ old call reply new. Keeps old.seat call reply new.seat };
-
-    fn make(&mut self, call: Call) -> Result<Answered, Fault> {
-        let reply = self.reply_to(call)?;
-        let questions = self.questions();
-        Ok(Answered { reply, questions })
-    }
-}
-
 /// What the dispatch plans: it passes the packet down with the completion routine where a device stands below, and else
 /// finishes it with success.
 fn forwards(shown: Shown) -> Plan
@@ -145,13 +94,10 @@ fn timed<C: Caller, R: Clock>(
     alloc: Global,
     caller: &mut C,
     work: Work,
-) -> Result<Duration, Fault>
-    requires { C.is_ready caller.old }
-    ensures { IfOk result (λ _. MakesBatches C.makes work work.batches caller.new) }
-{
+) -> Result<Duration, Fault> {
     let mut packets = set_up(caller, alloc, work.scene)?;
     let mut taken = Duration::ZERO;
-    for batch in 0..work.batches {
+    for _ in 0..work.batches {
         make_ready(caller, packets.as_mut_slice())?;
         let start = Instant::now(rt)?;
         make_batch(caller, work.batch, packets.as_slice())?;
@@ -160,14 +106,8 @@ fn timed<C: Caller, R: Clock>(
     Ok(taken)
 }
 
-/// Does the work by the manager alone.
-fn alone<R: Clock>(rt: &R, alloc: Global, store: Store, work: Work) -> Result<Outcome, Fault> {
-    let mut manager = Manager::new(alloc, store, 1);
-    Ok(Outcome {
-        taken: timed(rt, alloc, &mut manager, work)?,
-        transcript: None,
-    })
-}
+/// A seat that is done, and how long its batches took.
+type Sat<L> = (Seat<L>, Duration);
 
 /// Does the work in a seat, and gives it back.
 fn in_seat<A: Ask, L: Session, R: Wait + Clock>(
@@ -176,15 +116,25 @@ fn in_seat<A: Ask, L: Session, R: Wait + Clock>(
     shared: &Shared<A, L>,
     seat: Seat<L>,
     work: Work,
-) -> Result<(Seat<L>, Duration), Fault> {
+) -> Result<Sat<L>, Fault> {
     let mut caller = Recorder { rt, shared, seat };
     let taken = timed(rt, alloc, &mut caller, work)?;
-    let Recorder {
-        rt: _,
-        shared: _,
-        seat,
-    } = caller;
-    Ok((seat, taken))
+    Ok((caller.seat, taken))
+}
+
+/// All seats, and how long the batches of the last one took.
+fn gathered<L: Session>(
+    alloc: Global,
+    made: Vec<Result<Sat<L>, Fault>>,
+) -> Result<(Vec<Seat<L>>, Duration), Fault> {
+    let mut seats = Vec::new(alloc);
+    let mut taken = Duration::ZERO;
+    for one in made {
+        let (seat, own) = one?;
+        taken = own;
+        seats.push(seat)?;
+    }
+    Ok((seats, taken))
 }
 
 /// Does the work in a session of so many seats, each in a thread of its own.
@@ -193,39 +143,26 @@ fn recorded<A: Ask + Send + Drop, L: Session + Send + Sync, R: Threads + Wait + 
     alloc: Global,
     blank: Blank,
     ask: A,
-    locks: u32,
     seats: u32,
     work: Work,
 ) -> Result<Outcome, Fault>
     requires blank { (blank.name ≡ L.name) × (blank.parts ≡ L.parts) }
     requires seats { (L.parts ≡ seats) × (L.seats ≡ seats) }
-    requires fixed { L.fixed ≡ record { locks = locks; tables = A.tables ask; limit = ThirtyTwo } }
+    requires fixed { L.fixed ≡ record { locks = 1; tables = A.tables ask; limit = ThirtyTwo } }
 {
-    let Ok((shared, places)) = open::<A, L>(alloc, blank, ask, locks, seats) else {
-        return Err(Fault::Memory);
-    };
+    let (shared, places) = open::<A, L>(alloc, blank, ask, 1, seats)?;
     let lent = &shared;
     let start = Instant::now(rt)?;
-    let each = &|seat| in_seat(rt, alloc, lent, seat, work);
-    let made = thread::map_vec(rt, places, each)?;
-    let mut taken = start.elapsed(rt)?;
-    let mut done = Vec::new(alloc);
-    for one in made {
-        let (seat, own) = one?;
-        if seats == 1 {
-            taken = own;
-        }
-        if done.push(seat).is_err() {
-            return Err(Fault::Memory);
-        }
-    }
-    match shared.close(done) {
-        Ok(transcript) => Ok(Outcome {
-            taken,
-            transcript: Some(transcript),
-        }),
-        Err(_) => Err(Fault::Failed),
-    }
+    let made = thread::map_vec(rt, places, &|seat| in_seat(rt, alloc, lent, seat, work))?;
+    let all = start.elapsed(rt)?;
+    let (places, own) = gathered(alloc, made)?;
+    let Ok(transcript) = shared.close(places) else {
+        return Err(Fault::Failed);
+    };
+    Ok(Outcome {
+        taken: if seats == 1 { own } else { all },
+        transcript: Some(transcript),
+    })
 }
 
 /// Does the work with this store.
@@ -236,12 +173,45 @@ fn with_store<R: Threads + Wait + Sync + Clock>(
     work: Work,
 ) -> Result<Outcome, Fault> {
     match work.seats {
-        None => alone(rt, alloc, store, work),
+        None => Ok(Outcome {
+            taken: timed(rt, alloc, &mut Alone::new(alloc, store), work)?,
+            transcript: None,
+        }),
         Some(seats) => {
             let blank = Blank::new(u64::from(seats));
-            recorded::<Store, Brand, R>(rt, alloc, blank, store, 1, seats, work)
+            recorded::<Store, Brand, R>(rt, alloc, blank, store, seats, work)
         }
     }
+}
+
+/// Adds the completion routine. Whether there was memory for it.
+fn adds(store: &mut Store, watch: Routine) -> bool {
+    store.add(watch).is_ok()
+}
+
+/// Adds the dispatch. Whether there was memory for it.
+fn adds_dispatch(store: &mut Store, forward: Dispatch) -> bool {
+    store.add_dispatch(forward).is_ok()
+}
+
+/// Adds the driver, with the dispatch for reads. Whether there was memory for it.
+fn adds_driver(alloc: Global, store: &mut Store) -> bool {
+    match [(READ, DispatchId(0))].to_vec(alloc) {
+        Ok(reads) => store.add_driver(reads).is_ok(),
+        Err(_) => false,
+    }
+}
+
+/// A store of one driver, with this dispatch for reads, which names this completion routine.
+fn store_of(alloc: Global, watch: Routine, forward: Dispatch) -> Result<Store, Fault> {
+    let mut store = Store::new(alloc);
+    if adds(&mut store, watch)
+        && adds_dispatch(&mut store, forward)
+        && adds_driver(alloc, &mut store)
+    {
+        return Ok(store);
+    }
+    Err(Fault::Memory)
 }
 
 /// Does the work, with one driver, whose reads each device passes down with a completion routine of rule Watch, and the
@@ -251,21 +221,7 @@ pub fn do_work<R: Threads + Wait + Sync + Clock + AllocGlobal>(
     work: Work,
 ) -> Result<Outcome, Fault> {
     let alloc = rt.alloc();
-    let Ok(watch) = Box::new(alloc, watches) else {
-        return Err(Fault::Memory);
-    };
-    let Ok(forward) = Box::new(alloc, forwards) else {
-        return Err(Fault::Memory);
-    };
-    let mut store = Store::new(alloc);
-    if store.add(Routine::new(Rule::Watch, watch)).is_err() {
-        return Err(Fault::Memory);
-    }
-    let Ok(reads) = store.add_dispatch(Dispatch::new(KNOWN, forward)) else {
-        return Err(Fault::Memory);
-    };
-    if store.add_driver([(READ, reads)].to_vec(alloc)?).is_err() {
-        return Err(Fault::Memory);
-    }
-    with_store(rt, alloc, store, work)
+    let watch = Routine::new(Rule::Watch, Box::new(alloc, watches)?);
+    let forward = Dispatch::new(KNOWN, Box::new(alloc, forwards)?);
+    with_store(rt, alloc, store_of(alloc, watch, forward)?, work)
 }

@@ -2,11 +2,11 @@
 
 ghost use Rattle.std.specs.Prelude.{◌≡◌, All, IfOk, length};
 ghost use Rattle.irp_slots.specs.Pairing.{IsOwnerOf, IsCancellerOf};
-ghost use Rattle.irp_bench.specs.Slots.{Stood, TookBack, TookMore};
+ghost use Rattle.irp_bench.specs.Slots.{TookBack, TookMore};
 
 use crate::done::Done;
 use crate::fault::Fault;
-use irp_slots::{Canceller, Publication, Request, SlotOwner, Slots, Withdrawal, open};
+use irp_slots::{Canceller, Request, SlotOwner, Slots, Withdrawal, open};
 use irp_types::IrpRef;
 use std::rt::Clock;
 use std::sync::atomic::{AtomicU64, Ordering};
@@ -29,25 +29,13 @@ pub enum Pair {
     Bare,
 }
 
-/// Publishes the packet. It is an error unless it stands.
-fn publish(slots: &Slots, owner: &mut SlotOwner) -> Result<(), Fault>
-    requires { IsOwnerOf slots.now owner.old }
-    ensures table { owner.new.table ≡ owner.old.table }
-    ensures stood { IfOk result (λ _. Stood owner.new) }
-{
-    match slots.publish(owner, PACKET) {
-        Publication::Standing => Ok(()),
-        _ => Err(Fault::Failed),
-    }
-}
-
 /// Publishes the packet, and withdraws it. It is an error unless the owner took it.
 fn publish_and_withdraw(slots: &Slots, owner: &mut SlotOwner) -> Result<(), Fault>
     requires { IsOwnerOf slots.now owner.old }
     ensures table { owner.new.table ≡ owner.old.table }
     ensures took { IfOk result (λ _. TookBack owner.new) }
 {
-    publish(slots, owner)?;
+    slots.publish(owner, PACKET);
     match slots.withdraw(owner) {
         Withdrawal::Taken(_) => Ok(()),
         _ => Err(Fault::Failed),
@@ -64,10 +52,9 @@ fn publish_and_request(
     requires canceller { IsCancellerOf slots.now canceller.old }
     ensures owner { owner.new.table ≡ owner.old.table }
     ensures canceller { canceller.new.table ≡ canceller.old.table }
-    ensures stood { IfOk result (λ _. Stood owner.new) }
     ensures took { IfOk result (λ _. TookMore 1 canceller.old canceller.new) }
 {
-    publish(slots, owner)?;
+    slots.publish(owner, PACKET);
     match slots.request(canceller, owner.slot()) {
         Request::Taken(_) => Ok(()),
         _ => Err(Fault::Failed),

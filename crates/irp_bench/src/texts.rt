@@ -1,6 +1,6 @@
 //! Transcripts of sessions: their texts, written and read, also by `serde_json` alone, and their judging.
 
-ghost use Rattle.std.specs.Prelude.{◌≡◌, Some, length, IfOk};
+ghost use Rattle.std.specs.Prelude.{◌≡◌, Some, IfOk};
 ghost use Rattle.irp_script.specs.Checked.{IsVerdictOn};
 ghost use Rattle.irp_script.specs.declared.checker.Verdict.TheVariants.{Legal};
 ghost use Rattle.irp_transcript_writer.specs.Lines.{lines, text_of};
@@ -45,12 +45,23 @@ pub enum Task {
     Judge,
 }
 
-/// A transcript and its text.
+/// A transcript, its text, and the values of the text's first lines.
 #[derive(Drop)]
 pub struct Sample {
     entries: u32,
     transcript: Transcript,
     text: Vec<u8>,
+    values: Vec<Value>,
+    /// How many bytes the lines of these values have.
+    bytes: u64,
+}
+
+/// What came of a task.
+#[derive(Drop)]
+enum Made {
+    Text(Vec<u8>),
+    Transcript(Transcript),
+    Nothing,
 }
 
 /// A text in memory, and how often it could not grow.
@@ -83,11 +94,23 @@ fn text(alloc: Global, transcript: &Transcript, room: usize) -> Result<Vec<u8>, 
         bytes: Vec::with_capacity(alloc, room)?,
         failures: 0,
     };
-    if write_transcript(alloc, &mut text, transcript).is_err() {
-        return Err(Fault::Memory);
-    }
+    write_transcript(alloc, &mut text, transcript)?;
     let TextOut { bytes, failures: _ } = text;
     Ok(bytes)
+}
+
+/// The values of the text's first lines, and how many bytes these lines have.
+fn first_values(alloc: Global, text: &[u8]) -> Result<(Vec<Value>, u64), Fault> {
+    let mut values = Vec::new(alloc);
+    let mut bytes: u64 = 0;
+    for line in text.split_inclusive(|&byte| byte == b'\n') {
+        if values.len() == LINES {
+            return Ok((values, bytes));
+        }
+        serde_json::push(&mut values, Value::from_slice(alloc, line)?)?;
+        bytes = bytes.saturating_add(line.len() as u64);
+    }
+    Err(Fault::Failed)
 }
 
 /// A transcript of so many entries, and its text: in a session of one seat, a packet is sent through four devices again
@@ -96,14 +119,12 @@ fn text(alloc: Global, transcript: &Transcript, room: usize) -> Result<Vec<u8>, 
 /// # Errors
 ///
 /// `Memory` where memory ran out, and `Failed` where a call was answered otherwise than it should be, or the number of
-/// entries can't be had: it is a multiple of four, and at most 1,000,000.
+/// entries can't be had: it is a multiple of four, and 10,000 to 1,000,000.
 pub fn record_sample<R: Threads + Wait + Sync + Clock + AllocGlobal>(
     rt: &R,
     entries: u32,
 ) -> Result<Sample, Fault>
-    ensures told { IfOk result (λ sample. sample.entries ≡ entries) }
-    ensures entries { IfOk result (λ sample. length sample.transcript.entries ≡ entries) }
-    ensures text { IfOk result (λ sample. sample.text.items ≡ text_of (lines sample.transcript)) }
+    ensures { IfOk result (λ sample. sample.text.items ≡ text_of (lines sample.transcript)) }
 {
     let times = entries.saturating_sub(FIRST_CALLS) / 4;
     let work = sends(DEVICES, 1, times, Some(1));
@@ -114,25 +135,18 @@ pub fn record_sample<R: Threads + Wait + Sync + Clock + AllocGlobal>(
         return Err(Fault::Failed);
     }
     let text = text(rt.alloc(), &transcript, 0)?;
+    let (values, bytes) = first_values(rt.alloc(), text.as_slice())?;
     Ok(Sample {
         entries,
         transcript,
         text,
+        values,
+        bytes,
     })
 }
 
-/// Writes the transcript.
-fn write<R: Clock>(rt: &R, alloc: Global, sample: &Sample) -> Result<Done, Fault>
-    ensures { IfOk result (λ done. done.bytes ≡ length (text_of (lines sample.now.transcript))) }
-{
-    let start = Instant::now(rt)?;
-    let text = text(alloc, &sample.transcript, sample.text.len())?;
-    let taken = start.elapsed(rt)?;
-    Ok(Done::new(sample.entries, text.len() as u64, taken))
-}
-
 /// Writes each value's compact text, and counts the bytes with a newline behind each.
-fn write_lines(alloc: Global, values: &[Value]) -> Result<u64, AllocError> {
+fn write_values(alloc: Global, values: &[Value]) -> Result<u64, AllocError> {
     let mut bytes: u64 = 0;
     for value in values {
         let line = value.to_vec(alloc)?;
@@ -141,42 +155,19 @@ fn write_lines(alloc: Global, values: &[Value]) -> Result<u64, AllocError> {
     Ok(bytes)
 }
 
-/// Writes the values of the text's first lines by `serde_json` alone. To read them is not in the time.
-fn write_values<R: Clock>(rt: &R, alloc: Global, sample: &Sample) -> Result<Done, Fault> {
-    let mut values = Vec::new(alloc);
-    let mut expected: u64 = 0;
-    for line in sample.text.split_inclusive(|&byte| byte == b'\n') {
-        if values.len() == LINES {
-            break;
-        }
-        serde_json::push(&mut values, Value::from_slice(alloc, line)?)?;
-        expected = expected.saturating_add(line.len() as u64);
-    }
-    let start = Instant::now(rt)?;
-    let bytes = write_lines(alloc, values.as_slice())?;
-    let taken = start.elapsed(rt)?;
-    if bytes != expected || values.len() != LINES {
-        return Err(Fault::Failed);
-    }
-    Ok(Done::new(LINES as u32, bytes, taken))
-}
-
-/// Reads the text as a transcript. To drop the transcript is not in the time.
-fn read<R: Clock>(rt: &R, alloc: Global, sample: &Sample) -> Result<Done, Fault>
+/// Reads the text as a transcript, which has to have all of its entries.
+fn read(alloc: Global, sample: &Sample) -> Result<Transcript, Fault>
     ensures { IfOk result (λ _. IsReadAs sample.now.text.items sample.now.entries) }
 {
-    let text = sample.text.as_slice();
-    let start = Instant::now(rt)?;
-    let transcript = read_transcript(alloc, text)?;
-    let taken = start.elapsed(rt)?;
-    if transcript.entries().len() != sample.entries as usize {
-        return Err(Fault::Failed);
+    let transcript = read_transcript(alloc, sample.text.as_slice())?;
+    if transcript.entries().len() == sample.entries as usize {
+        return Ok(transcript);
     }
-    Ok(Done::new(sample.entries, text.len() as u64, taken))
+    Err(Fault::Failed)
 }
 
 /// Reads the value of each line, drops it, and counts the lines.
-fn read_lines(alloc: Global, text: &[u8]) -> Result<u64, Fault> {
+fn read_values(alloc: Global, text: &[u8]) -> Result<u64, Fault> {
     let mut lines: u64 = 0;
     for line in text.split_inclusive(|&byte| byte == b'\n') {
         let _value = Value::from_slice(alloc, line)?;
@@ -185,44 +176,54 @@ fn read_lines(alloc: Global, text: &[u8]) -> Result<u64, Fault> {
     Ok(lines)
 }
 
-/// Reads the values of the text's lines by `serde_json` alone: the header's, and those of the entries.
-fn read_values<R: Clock>(rt: &R, alloc: Global, sample: &Sample) -> Result<Done, Fault> {
-    let text = sample.text.as_slice();
-    let start = Instant::now(rt)?;
-    let lines = read_lines(alloc, text)?;
-    let taken = start.elapsed(rt)?;
-    if lines != u64::from(sample.entries) + 1 {
-        return Err(Fault::Failed);
-    }
-    Ok(Done::new(sample.entries, text.len() as u64, taken))
-}
-
-/// Judges the transcript. There is no time unless it is legal, with all of its entries.
-fn judge<R: Clock>(rt: &R, alloc: Global, sample: &Sample) -> Result<Done, Fault>
+/// Judges the transcript, which has to be legal, with all of its entries.
+fn judge(alloc: Global, sample: &Sample) -> Result<(), Fault>
     ensures { IfOk result (λ _. IsVerdictOn sample.now.transcript (Legal sample.now.entries)) }
 {
-    let start = Instant::now(rt)?;
-    let verdict = check(alloc, &sample.transcript)?;
-    let taken = start.elapsed(rt)?;
     let entries = u64::from(sample.entries);
-    if verdict != (Verdict::Legal { entries }) {
-        return Err(Fault::NotLegal);
+    if check(alloc, &sample.transcript)? == (Verdict::Legal { entries }) {
+        return Ok(());
     }
-    Ok(Done::new(sample.entries, sample.text.len() as u64, taken))
+    Err(Fault::NotLegal)
+}
+
+/// Nothing, where a count is as it has to be.
+fn counted(count: u64, expected: u64) -> Result<Made, Fault> {
+    if count == expected {
+        return Ok(Made::Nothing);
+    }
+    Err(Fault::Failed)
 }
 
 /// Does this with the sample.
+fn work(alloc: Global, task: Task, sample: &Sample) -> Result<Made, Fault> {
+    match task {
+        Task::Write => Ok(Made::Text(text(alloc, &sample.transcript, sample.text.len())?)),
+        Task::WriteValues => counted(write_values(alloc, sample.values.as_slice())?, sample.bytes),
+        Task::Read => Ok(Made::Transcript(read(alloc, sample)?)),
+        Task::ReadValues => counted(
+            read_values(alloc, sample.text.as_slice())?,
+            u64::from(sample.entries) + 1,
+        ),
+        Task::Judge => {
+            judge(alloc, sample)?;
+            Ok(Made::Nothing)
+        }
+    }
+}
+
+/// Times a task. To drop what came of it is not in the time.
 pub fn perform<R: Clock>(
     rt: &R,
     alloc: Global,
     task: Task,
     sample: &Sample,
 ) -> Result<Done, Fault> {
-    match task {
-        Task::Write => write(rt, alloc, sample),
-        Task::WriteValues => write_values(rt, alloc, sample),
-        Task::Read => read(rt, alloc, sample),
-        Task::ReadValues => read_values(rt, alloc, sample),
-        Task::Judge => judge(rt, alloc, sample),
-    }
+    let start = Instant::now(rt)?;
+    let _made = work(alloc, task, sample)?;
+    let taken = start.elapsed(rt)?;
+    Ok(match task {
+        Task::WriteValues => Done::new(LINES as u32, sample.bytes, taken),
+        _ => Done::new(sample.entries, sample.text.len() as u64, taken),
+    })
 }

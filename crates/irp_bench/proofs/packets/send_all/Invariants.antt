@@ -1,6 +1,6 @@
 use Rattle.irp_bench.specs.Makes.{MakesSend, Repeats}
 use Rattle.irp_bench.proofs.packets.send_all.Given as goal
 
--- the caller is ready, and the packets so far were sent
+-- the packets so far were sent
 abbrev pub invariant-loop-packet : goal.invariant-loop-packet
-invariant-loop-packet g l = g.C.Caller.is_ready l.caller × Repeats (MakesSend g.C.Caller.makes l.target) l.packet-index l.initial.caller l.caller
+invariant-loop-packet g l = Repeats (MakesSend g.C.Caller.makes l.target) l.packet-index l.initial.caller l.caller
