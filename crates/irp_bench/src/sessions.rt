@@ -11,7 +11,7 @@ use crate::fault::Fault;
 use crate::packets::{Batch, READ, Scene, WATCH, make_batch, make_ready, set_up};
 use irp_routines::{Ask, Dispatch, Routine, Store};
 use irp_shared::{Seat, Session, Shared, Transcript, open};
-use irp_types::{Answer, DispatchId, Known, Plan, Rule, Shown, Status};
+use irp_types::{Answer, Known, Plan, Rule, Shown, Status};
 use std::alloc::Global;
 use std::marker::Brand;
 use std::rt::Clock;
@@ -184,36 +184,6 @@ fn with_store<R: Threads + Wait + Sync + Clock>(
     }
 }
 
-/// Adds the completion routine. Whether there was memory for it.
-fn adds(store: &mut Store, watch: Routine) -> bool {
-    store.add(watch).is_ok()
-}
-
-/// Adds the dispatch. Whether there was memory for it.
-fn adds_dispatch(store: &mut Store, forward: Dispatch) -> bool {
-    store.add_dispatch(forward).is_ok()
-}
-
-/// Adds the driver, with the dispatch for reads. Whether there was memory for it.
-fn adds_driver(alloc: Global, store: &mut Store) -> bool {
-    match [(READ, DispatchId(0))].to_vec(alloc) {
-        Ok(reads) => store.add_driver(reads).is_ok(),
-        Err(_) => false,
-    }
-}
-
-/// A store of one driver, with this dispatch for reads, which names this completion routine.
-fn store_of(alloc: Global, watch: Routine, forward: Dispatch) -> Result<Store, Fault> {
-    let mut store = Store::new(alloc);
-    if adds(&mut store, watch)
-        && adds_dispatch(&mut store, forward)
-        && adds_driver(alloc, &mut store)
-    {
-        return Ok(store);
-    }
-    Err(Fault::Memory)
-}
-
 /// Does the work, with one driver, whose reads each device passes down with a completion routine of rule Watch, and the
 /// lowest finishes.
 pub fn do_work<R: Threads + Wait + Sync + Clock + AllocGlobal>(
@@ -223,5 +193,15 @@ pub fn do_work<R: Threads + Wait + Sync + Clock + AllocGlobal>(
     let alloc = rt.alloc();
     let watch = Routine::new(Rule::Watch, Box::new(alloc, watches)?);
     let forward = Dispatch::new(KNOWN, Box::new(alloc, forwards)?);
-    with_store(rt, alloc, store_of(alloc, watch, forward)?, work)
+    let mut store = Store::new(alloc);
+    if store.add(watch).is_err() {
+        return Err(Fault::Memory);
+    }
+    let Ok(reads) = store.add_dispatch(forward) else {
+        return Err(Fault::Memory);
+    };
+    if store.add_driver([(READ, reads)].to_vec(alloc)?).is_err() {
+        return Err(Fault::Memory);
+    }
+    with_store(rt, alloc, store, work)
 }
