@@ -15,7 +15,7 @@ use std::sync::ledger::Ledger;
 ///
 /// A caller writes a function that is generic in `L: Session` for all that it does with a session, and calls it once at
 /// [`Brand`]. The proof of that call says what `L` stands for, in the `Invariants.antt` of the function that makes it (as
-/// in `crates/irp_tests/proofs/slots/finishing`).
+/// in `crates/irp_example/proofs/bench/run`).
 pub trait Session: Ledger {
     /// How many seats there are.
     ghost seats: { ℕ };
