@@ -143,7 +143,8 @@ fn repeat<C: Caller>(caller: &mut C, packet: Packet, count: u32) -> Result<(), F
 
 /// Sends a packet to a device. It must come back with success, after two questions at each level.
 fn send<C: Caller>(caller: &mut C, irp: IrpRef, target: DeviceId) -> Result<(), Fault>
-    ensures { IfOk result (λ _. C.makes caller.old (CallDriver Originator irp target) (StatusIs success) caller.new) }
+    ensures { IfOk result (λ _.
+        C.makes caller.old (CallDriver Originator irp target) (StatusIs success) caller.new) }
 {
     let party = Party::Originator;
     let Answered { reply, questions } = caller.make(Call::CallDriver { party, irp, target })?;
@@ -159,7 +160,8 @@ fn send<C: Caller>(caller: &mut C, irp: IrpRef, target: DeviceId) -> Result<(), 
 
 /// Sends each of these packets, one after the other. It stops at the first that comes back otherwise.
 fn send_all<C: Caller>(caller: &mut C, packets: &[IrpRef], target: DeviceId) -> Result<(), Fault>
-    ensures { IfOk result (λ _. Repeats (MakesSend C.makes target) (length packets.now) caller.old caller.new) }
+    ensures { IfOk result (λ _.
+        Repeats (MakesSend C.makes target) (length packets.now) caller.old caller.new) }
 {
     for packet in packets {
         send(caller, *packet, target)?;
@@ -169,7 +171,8 @@ fn send_all<C: Caller>(caller: &mut C, packets: &[IrpRef], target: DeviceId) -> 
 
 /// Makes the calls of a batch. It stops at the first that is answered otherwise.
 pub fn make_batch<C: Caller>(caller: &mut C, batch: Batch, packets: &[IrpRef]) -> Result<(), Fault>
-    ensures { IfOk result (λ _. MakesBatch C.makes batch (length packets.now) caller.old caller.new) }
+    ensures { IfOk result (λ _.
+        MakesBatch C.makes batch (length packets.now) caller.old caller.new) }
 {
     match batch {
         Batch::Repeated { packet, count } => repeat(caller, packet, count),

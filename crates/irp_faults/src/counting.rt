@@ -78,11 +78,14 @@ impl<A: Ask> Ask for Counting<A> {
         self.ask.cancel_answer(id, shown)
     }
 
-    ghost answers_allowed = { λ counting id shown answer may. A.answers_allowed counting.ask id shown answer may };
+    ghost answers_allowed = { λ counting id shown answer may.
+        A.answers_allowed counting.ask id shown answer may };
 
-    ghost plans_allowed = { λ counting id shown plan may. A.plans_allowed counting.ask id shown plan may };
+    ghost plans_allowed = { λ counting id shown plan may.
+        A.plans_allowed counting.ask id shown plan may };
 
-    ghost cancels_allowed = { λ counting id shown answer may. A.cancels_allowed counting.ask id shown answer may };
+    ghost cancels_allowed = { λ counting id shown answer may.
+        A.cancels_allowed counting.ask id shown answer may };
 
     ghost tables_agree = { λ counting. A.tables_agree counting.ask };
 }

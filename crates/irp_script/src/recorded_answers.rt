@@ -128,11 +128,14 @@ impl<'a> RecordedAnswers<'a> {
 impl Ask for RecordedAnswers<'_> {
     ghost tables = { λ own. (fixed_of own.header.now).tables };
 
-    ghost may_answer = { λ own id shown answer. IsAnswerTold (fixed_of own.header.now).tables own.asked.now id shown answer };
+    ghost may_answer = { λ own id shown answer.
+        IsAnswerTold (fixed_of own.header.now).tables own.asked.now id shown answer };
 
-    ghost may_plan = { λ own id shown plan. IsPlanTold (fixed_of own.header.now).tables own.asked.now id shown plan };
+    ghost may_plan = { λ own id shown plan.
+        IsPlanTold (fixed_of own.header.now).tables own.asked.now id shown plan };
 
-    ghost may_cancel = { λ own id shown answer. IsCancelTold (fixed_of own.header.now).tables own.asked.now id shown answer };
+    ghost may_cancel = { λ own id shown answer.
+        IsCancelTold (fixed_of own.header.now).tables own.asked.now id shown answer };
 
     fn counts(&self) -> Known {
         self.header.completions

@@ -52,8 +52,11 @@ pub fn makes_again(
     requires tables { AreTables (fixed_of header.now).tables }
     requires stands { StandingFacts (fixed_of header.now).tables.counts (state_of mapped core.old) }
     requires agrees { Agrees (fixed_of header.now) core.old }
-    ensures made { IfOk result (λ made. MakesAgain (fixed_of header.now) place (state_of mapped core.old) entry.now made (state_of mapped core.new)) }
-    ensures stands { IfOk result (λ made. StandingFacts (fixed_of header.now).tables.counts (state_of mapped core.new)) }
+    ensures made { IfOk result (λ made.
+        MakesAgain (fixed_of header.now) place (state_of mapped core.old) entry.now made
+        (state_of mapped core.new)) }
+    ensures stands { IfOk result (λ made.
+        StandingFacts (fixed_of header.now).tables.counts (state_of mapped core.new)) }
     ensures agrees { IfOk result (λ made. Agrees (fixed_of header.now) core.new) }
 {
     let answers = RecordedAnswers::new(header, entry.asked.as_slice());

@@ -56,7 +56,8 @@ fn keep(taken: &mut Vec<Taken>, slot: u32, token: Option<Token>)
 /// The place of the owner of a slot. None where there is none.
 fn place_of(owners: &[SlotOwner], slot: u32) -> Option<usize>
     ensures place { IfSome result (λ place. place < length owners.now) }
-    ensures some { IfSome result (λ place. slice_get (map (λ owner. owner.owning.slot) owners.now) place ≡ Some slot) }
+    ensures some { IfSome result (λ place.
+        slice_get (map (λ owner. owner.owning.slot) owners.now) place ≡ Some slot) }
 {
     for (place, owner) in owners.iter().enumerate() {
         if owner.slot() == slot {
@@ -77,7 +78,8 @@ fn is_left(taken: &Taken, slot: u32) -> bool
 /// The place of a token that was taken from a slot and isn't spent. None where there is none.
 fn place_of_token(taken: &[Taken], slot: u32) -> Option<usize>
     ensures place { IfSome result (λ place. place < length taken.now) }
-    ensures some { IfSome result (λ place. (token : Token) × (slice_get taken.now place ≡ Some (fresh slot token))) }
+    ensures some { IfSome result (λ place.
+        (token : Token) × (slice_get taken.now place ≡ Some (fresh slot token))) }
     ensures none { IfNone result (All (IsSpent slot) taken.now) }
 {
     for (place, one) in taken.iter().enumerate() {
@@ -93,7 +95,12 @@ impl<'a> SlotParties<'a> {
     pub fn new(alloc: Global, slots: &'a Slots, canceller: Canceller) -> SlotParties<'a>
         requires { IsCancellerOf slots.now canceller }
         ensures { result ≡
-            record { slots = slot_count slots.now; canceller = canceller; owners = []; taken = [] } }
+            record {
+              slots = slot_count slots.now;
+              canceller = canceller;
+              owners = [];
+              taken = [];
+            } }
     {
         SlotParties {
             slots,
@@ -110,7 +117,8 @@ impl<'a> SlotParties<'a> {
     /// `AllocError` where a growth was refused. The owner is gone then.
     pub fn own(&mut self, owner: SlotOwner) -> Result<(), AllocError>
         requires { owner.table ≡ self.old.canceller.table }
-        ensures owns { IfOk result (λ _. self.new ≡ record self.old { owners = self.old.owners ++ owner ∷ [] }) }
+        ensures owns { IfOk result (λ _.
+            self.new ≡ record self.old { owners = self.old.owners ++ owner ∷ [] }) }
         ensures err { OnErr result (self.new ≡ self.old) }
     {
         self.owners.reserve(1)?;
@@ -165,7 +173,8 @@ impl<'a> SlotParties<'a> {
     /// Takes out a token that was taken from a slot and isn't spent, with its place. None where there is none.
     pub fn take(&mut self, slot: u32) -> Option<(usize, Token)>
         ensures place { IfSome result (λ found. found.0 < length self.new.taken) }
-        ensures found { IfSome result (λ found. slice_get self.old.taken found.0 ≡ Some (fresh slot found.1)) }
+        ensures found { IfSome result (λ found.
+            slice_get self.old.taken found.0 ≡ Some (fresh slot found.1)) }
         ensures rest { IfSome result (λ found. self.new ≡
             record self.old {
               taken = slice_set self.old.taken found.0 (record { slot = slot; token = None });

@@ -86,7 +86,8 @@ fn session<L: Session + Send + Sync, G: Gate + Sync, R: Threads + Wait + Sync>(
     requires workers { 0 < workers }
     requires blank { (blank.name ≡ L.name) × (blank.parts ≡ L.parts) }
     requires seats { (L.parts ≡ script.now.seats) × (L.seats ≡ script.now.seats) }
-    requires fixed { L.fixed ≡ record { locks = script.now.locks; tables = ask.tables; limit = ThirtyTwo } }
+    requires fixed { L.fixed
+        ≡ record { locks = script.now.locks; tables = ask.tables; limit = ThirtyTwo } }
 {
     let (shared, seats) = open::<AnswerTable, L>(alloc, blank, ask, script.locks, script.seats)?;
     let (locks, removes) = irp_remove::open(alloc, script.locks, script.seats)?;

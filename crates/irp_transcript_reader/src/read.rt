@@ -14,7 +14,8 @@ use std::alloc::Global;
 
 /// The first line and what follows its newline, or none where there is no newline.
 fn split_line(bytes: &[u8]) -> Option<(&[u8], &[u8])>
-    ensures { MatchOption result (cut bytes.now ≡ ([], bytes.now)) (λ parts. Splits bytes.now parts.0.now parts.1.now) }
+    ensures { MatchOption result (cut bytes.now ≡ ([], bytes.now))
+        (λ parts. Splits bytes.now parts.0.now parts.1.now) }
 {
     match memchr(b'\n', bytes) {
         Some(place) => Some((&bytes[..place], &bytes[place + 1..])),

@@ -95,7 +95,8 @@ impl Reading {
     /// Takes an entry where it may stand: one of these seats, which the form has.
     #[tactic(auto, unfolding(crate::specs::Reading::with_entry))]
     fn take_entry(&mut self, form: Form, seats: u32, entry: Entry) -> Result<(), Unread>
-        ensures { GivesLine result (with_entry form seats (so_far self.old) entry) (so_far self.new) }
+        ensures { GivesLine result
+            (with_entry form seats (so_far self.old) entry) (so_far self.new) }
     {
         if !self.words.is_empty() || self.entries.len() >= MOST_ENTRIES {
             return Err(Unread::Form);

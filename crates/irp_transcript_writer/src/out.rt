@@ -37,7 +37,8 @@ pub fn put_all<O: Out>(out: &mut O, text: &[u8]) -> Result<(), usize>
     ensures ok { OnOk result (Appends (O.gone out.old) (O.gone out.new) text.now) }
     ensures calm { OnOk result (O.failures out.new ≡ O.failures out.old) }
     ensures short { IfErr result (λ done. done < length text.now) }
-    ensures front { IfErr result (λ done. Appends (O.gone out.old) (O.gone out.new) (take done text.now)) }
+    ensures front { IfErr result (λ done.
+        Appends (O.gone out.old) (O.gone out.new) (take done text.now)) }
     ensures rose { OnErr result (O.failures out.new ≡ risen (O.failures out.old)) }
 {
     let mut done = 0;

@@ -104,7 +104,8 @@ pub fn write_transcript<O: Out>(
     out: &mut O,
     transcript: &Transcript,
 ) -> Result<(), WriteFault>
-    ensures ok { OnOk result (Appends (O.gone out.old) (O.gone out.new) (text_of (lines transcript.now))) }
+    ensures ok { OnOk result
+        (Appends (O.gone out.old) (O.gone out.new) (text_of (lines transcript.now))) }
     ensures fault { IfErr result (λ fault.
         Begins (text_of (lines transcript.now)) (O.gone out.old) (O.gone out.new) fault.written) }
     ensures cause { CountsFault (O.failures out.old) (O.failures out.new) result }
