@@ -27,7 +27,7 @@ returns-clause-closes g c =
     rw (c.new-2.ensures) (subst (λ (entries : List Entry). Closes fixed g.L.Session.seats c.args.seats.items (record { header = Some c.header_of-header.result; entries = entries; words = c.from_vec-words.result })) (sym c.from_vec.ensures) (record {
       header = c.header_of-header.result;
       told = refl;
-      tables = c.header_of-header.ensures.fixed ∙ c.end-locks.ensures.fixed ∙ locked.fixed;
+      tables = c.header_of-header.ensures.fixed ∙ sym c.end-locks.ensures.fixed ∙ locked.fixed;
       seats_told = c.header_of-header.ensures.seats ∙ c.args.self.all;
       no_words = c.from_vec-words.ensures ∙ c.new.ensures.items;
       legal = legal;
