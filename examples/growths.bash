@@ -1,7 +1,7 @@
 #!/bin/bash
 # Refuses each request for memory of the program irp_faults, one a run, in each of its scenarios: calls of the library's, with
 # what they have to answer. A run has to print what it prints when nothing is refused, but for its last line, which tells
-# where the refusal fell. Each call that takes memory has to have met one. Each failure is told on a line of its own.
+# where the refusal fell. Each call that takes memory has to have met one. Each failure has a line of its own.
 # IRP_FAULTS names the program; without it, it is the proved one. Ends with status 0 where all was as expected, else with 1.
 set -u
 cd "$(dirname "$(readlink -f "$0")")" || exit 1

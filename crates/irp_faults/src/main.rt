@@ -36,7 +36,7 @@ fn words_of<R: Env + AllocGlobal>(rt: &R) -> Result<Vec<String>, Halt> {
     Ok(env::args(rt)?.skip(1).collect(rt.alloc())?)
 }
 
-/// Writes what a scenario came to: its lines, and where the refused request fell.
+/// Writes the result of a scenario: its lines, and where the refused request fell.
 fn tell<W: Write>(writer: &mut W, lines: &[u8], fell: Fell) -> io::Result<()> {
     writer.write_all(lines)?;
     match fell {
@@ -68,7 +68,7 @@ fn lines_of<R: Wait>(
     Err(Halt::Wrong("memory was missing twice"))
 }
 
-/// Tells what writes came to whose output failed.
+/// Writes the results of writes whose output fails.
 fn tell_cut_writes<W: Write>(alloc: Global, writer: &mut W) -> Result<(), Halt> {
     let mut out = Vec::new(alloc);
     cut_writes(alloc, &mut out)?;
@@ -76,7 +76,7 @@ fn tell_cut_writes<W: Write>(alloc: Global, writer: &mut W) -> Result<(), Halt> 
     Ok(())
 }
 
-/// Plays the scenarios of this name, or each where the name is `every`, and tells what they came to. The writes whose output
+/// Plays the scenarios of this name, or each where the name is `every`, and writes their results. The writes whose output
 /// fails are no scenario of a refused request: they have a name of their own.
 fn play_named<R: Wait, W: Write>(
     rt: &R,

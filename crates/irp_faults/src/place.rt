@@ -78,7 +78,7 @@ impl Place for Alone {
     }
 }
 
-/// The state of a manager that keeps its packets in a map, and whom it asks.
+/// The state of a manager that keeps its packets in a map, and its asker.
 #[derive(Drop)]
 pub struct Bare {
     state: ManagerState<MapKeep>,

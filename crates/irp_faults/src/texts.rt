@@ -205,7 +205,7 @@ pub fn write_the_transcript(
     Ok(())
 }
 
-/// Writes to an output that fails after so many bytes, and answers whether exactly these went out, and were told.
+/// Writes to an output that fails after so many bytes, and answers whether exactly these went out, and were counted.
 fn is_cut(alloc: Global, transcript: &Transcript, room: usize) -> Result<bool, Halt> {
     let (bytes, fault) = written(alloc, transcript, TRANSCRIPT.len(), room)?;
     let Some(fault) = fault else {

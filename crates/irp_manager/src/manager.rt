@@ -26,7 +26,7 @@ pub struct Manager<A> {
 }
 
 impl<A> Manager<A> {
-    /// Whom it asks, and its state.
+    /// Its asker, and its state.
     pub(super) fn into_parts(self) -> (A, ManagerState<SlabKeep>)
         ensures { (result.0 ≡ self.ask) × (result.1 ≡ self.state) }
     {

@@ -44,7 +44,7 @@ impl Holder<'_> {
         self.locks.drained(&mut self.seat, LOCK)
     }
 
-    /// Whether the lock is told to be busy: its removal has begun, and one reference is held.
+    /// Whether the lock answers that it is busy: its removal has begun, and one reference is held.
     fn is_busy(&mut self) -> bool {
         self.drained() == Err(DrainRefusal::Busy(3))
     }

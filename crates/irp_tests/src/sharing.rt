@@ -58,7 +58,7 @@ struct Meeting {
     answered: AtomicBool,
 }
 
-/// Waits until this is told. Whether it was, within the turns.
+/// Waits until this is true. Whether it was, within the turns.
 fn waits(told: &AtomicBool) -> bool {
     for _ in 0..TURNS {
         if told.load(Ordering::SeqCst) {

@@ -1,7 +1,7 @@
-//! What is told when workers begin and end a step.
+//! What is called when workers begin and end a step.
 
-/// Who is told when a step begins and when it was answered. It may wait, and so order the steps of different workers; both
-/// calls come outside the session's lock (this project's own call).
+/// Called when a step begins and when it was answered. It may wait, to order the steps of different workers. Both calls
+/// come outside the session's lock (this project's own call).
 pub trait Gate {
     /// A step of this seat begins: its place among the script's steps, from 0.
     fn enter(&self, seat: u32, step: u32);

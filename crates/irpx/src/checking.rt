@@ -1,4 +1,4 @@
-//! The word `check`: a transcript is read and judged, and the verdict is told.
+//! The word `check`: a transcript is read and judged, and the verdict is written.
 
 ghost use Rattle.std.specs.Prelude.{IfErr, IfOk, OnOk, ◌≡◌};
 ghost use Rattle.irpx.specs.Checking.{
@@ -53,7 +53,7 @@ impl From<InputFault> for Unjudged {
 pub enum CheckFault {
     /// There is no verdict.
     Unjudged(Unjudged),
-    /// The verdict wasn't told.
+    /// The verdict wasn't written.
     Untold(Unwritten),
 }
 
@@ -143,7 +143,7 @@ fn tell<O: Out>(alloc: Global, output: &mut O, verdict: Verdict) -> Result<(), U
 
 /// Reads a transcript from the input, up to its end, and puts a line into the output: `legal K` where the sequential
 /// manager could have made its history, of K entries, and else `illegal I`, where entry I, from 0, is the first that isn't
-/// legal (this project's own command line, README.md). The verdict that was told.
+/// legal (this project's own command line, README.md). The verdict that was written.
 ///
 /// All that is left of the input is taken, and at most 1,073,741,825 bytes of it: one more than the text may have.
 ///

@@ -1,4 +1,4 @@
-//! Which steps workers run, when one stops, and what the gate is told.
+//! Which steps workers run, when one stops, and which calls the gate gets.
 
 use super::{ALLOCATE, CREATE, LOCK, LOOK, by, worked};
 use irp_script::{AlwaysOpen, Gate};
@@ -62,7 +62,7 @@ fn seat_of(step: u32) -> u32 {
 }
 
 impl Turns {
-    /// A step of this seat is told, before which so many were told to begin, and so many to be answered.
+    /// A step of this seat begins or was answered. Before it so many had begun, and so many had been answered.
     fn told(&self, seat: u32, step: u32, begun: u64, answered: u64) {
         if seat != seat_of(step) || u64::from(step) != answered || begun != answered {
             self.astray.store(true, Ordering::SeqCst);
