@@ -183,7 +183,7 @@ impl Counts {
     }
 
     /// Those of the Watch, of the cancel routine, and of the dispatch.
-    fn told(&self) -> (u32, u32, u32) {
+    fn counted(&self) -> (u32, u32, u32) {
         (
             self.watch.load(Ordering::SeqCst),
             self.cancel.load(Ordering::SeqCst),
@@ -214,6 +214,6 @@ fn each_closure_is_asked_once_for_each_question(rt: HostRuntime) -> Result<(), F
     let dispatch = Dispatch::new(ONE_CANCEL, Box::new(alloc, dispatch)?);
     let store = store_of(alloc, watch, cancel, dispatch).ok_or("a store")?;
     assert!(rt; last_receipt(alloc, store, &STEPS).is_some());
-    assert!(rt; counts.told() == (1, 2, 2));
+    assert!(rt; counts.counted() == (1, 2, 2));
     Ok(())
 }

@@ -58,10 +58,10 @@ struct Meeting {
     answered: AtomicBool,
 }
 
-/// Waits until this is true. Whether it was, within the turns.
-fn waits(told: &AtomicBool) -> bool {
+/// Waits until this flag is set. Whether it was, within the turns.
+fn waits(flag: &AtomicBool) -> bool {
     for _ in 0..TURNS {
-        if told.load(Ordering::SeqCst) {
+        if flag.load(Ordering::SeqCst) {
             return true;
         }
     }

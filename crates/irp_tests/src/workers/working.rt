@@ -63,7 +63,7 @@ fn seat_of(step: u32) -> u32 {
 
 impl Turns {
     /// A step of this seat begins or was answered. Before it so many had begun, and so many had been answered.
-    fn told(&self, seat: u32, step: u32, begun: u64, answered: u64) {
+    fn called(&self, seat: u32, step: u32, begun: u64, answered: u64) {
         if seat != seat_of(step) || u64::from(step) != answered || begun != answered {
             self.astray.store(true, Ordering::SeqCst);
         }
@@ -73,18 +73,18 @@ impl Turns {
 impl Gate for Turns {
     fn enter(&self, seat: u32, step: u32) {
         let begun = self.begun.fetch_add(1, Ordering::SeqCst);
-        self.told(seat, step, begun, self.answered.load(Ordering::SeqCst));
+        self.called(seat, step, begun, self.answered.load(Ordering::SeqCst));
     }
 
     fn answered(&self, seat: u32, step: u32) {
         let answered = self.answered.fetch_add(1, Ordering::SeqCst);
         let begun = self.begun.load(Ordering::SeqCst);
-        self.told(seat, step, begun.wrapping_sub(1), answered);
+        self.called(seat, step, begun.wrapping_sub(1), answered);
     }
 }
 
 #[test]
-fn the_gate_is_told_before_and_after_each_step(rt: HostRuntime) -> Result<(), Fail> {
+fn the_gate_is_called_before_and_after_each_step(rt: HostRuntime) -> Result<(), Fail> {
     let steps = [by(2, ALLOCATE), by(0, acquire(1)), by(1, LOOK)];
     let gate = Turns {
         begun: AtomicU64::new(0),
@@ -92,7 +92,7 @@ fn the_gate_is_told_before_and_after_each_step(rt: HostRuntime) -> Result<(), Fa
         astray: AtomicBool::new(false),
     };
     let made = worked(&rt, rt.alloc(), 3, &[by(0, CREATE)], &steps, &gate, 1)?;
-    let told = gate.answered.load(Ordering::SeqCst);
-    assert!(rt; told == 3 && !gate.astray.load(Ordering::SeqCst) && !made.stopped);
+    let answered = gate.answered.load(Ordering::SeqCst);
+    assert!(rt; answered == 3 && !gate.astray.load(Ordering::SeqCst) && !made.stopped);
     Ok(())
 }
