@@ -40,7 +40,7 @@ use Rattle.irp_routines.specs.Guarded.{fixed_plan, guarded_plan, guarded_answer,
 use Rattle.irp_unwind.specs.Laws.{IsReplyOf}
 use Rattle.irp_script.specs.Recorded.{is_same_device, plan_in, answer_in, cancel_in, first_in, continues, plan_told, answer_told, cancel_told}
 
--- ---- what is asked once is told by its own answer
+-- ---- what is asked once is known by its own answer
 
 -- the first question says nothing where the second one's answer is looked for
 abbrev IsPassed : Asked → Asked → Type 0
@@ -351,7 +351,7 @@ step_own : (fixed : Fixed) (old new : StateValue) (call : Call) (asked : List As
 step_own fixed old new call asked reply None stacks done = effect_own fixed old new call asked reply stacks done
 step_own fixed old new call asked reply (Some refusal) stacks done = none_own fixed.tables asked done.0
 
--- ---- an answer that is the first and allowed is the one that is told
+-- ---- an answer that is the first and allowed is the one that is recorded
 
 module _ (tables : Tables) (asked : List Asked) where
   abbrev IsTold : Asked → Type 0

@@ -27,7 +27,7 @@ use Rattle.irp_script.specs.Recorded.{plan_told, answer_told, cancel_told, IsPla
 use Rattle.irp_script.specs.Replayed.{MakesAgain, slot_named}
 use Rattle.irp_script.proofs.AskedOnce.{step_told}
 
--- what is answered as it is told is answered so
+-- what is answered as it is recorded is the answer
 answered_told : (tables : Tables) (told asked : List Asked) → AreAnswered (IsPlanTold tables told) (IsAnswerTold tables told) (IsCancelTold tables told) asked
     → AllByRecursion (IsReplyOf (plan_told tables told) (answer_told told) (cancel_told tables told)) asked
 answered_told tables told [] may = tt

@@ -260,7 +260,7 @@ same_pairs count workers setup steps before after lines stopped ran =
     let made = share_of count 0 1 setup before (record { work = ran.ready; stopped = ran.halted }) ran.first in
     after_pairs count workers setup steps before after lines stopped ran.ready ran.halted made.1.pairs ran.rest
 
--- what is told of seats at work is told of the seats
+-- what is said of seats at work is said of the seats
 pub pairs_of_items : {S : Type 0} (before after : List S) (f : S → AtWork) → EachAsOften (map pair_at (map f before)) (map pair_at (map f after))
     → EachAsOften (map (λ s. pair_at (f s)) before) (map (λ s. pair_at (f s)) after)
 pairs_of_items before after f same = λ test.

@@ -78,7 +78,7 @@ there_still xs a b c d apart before behind = elim (leb_tells a b) as (λ _. get_
       ap (λ k. get_or (remove xs a) k d) (before less) ∙ there_before xs a b d less
 ]
 
--- what stands at a place of what is told
+-- what stands at a place of what is said
 there_mapped : {S : Type 0} (f : S → AtWork) (seats : List S) (k : ℕ) (one d : S) → k < length seats → one ≡ get_or seats k d → slice_get (map f seats) k ≡ Some (f one)
 there_mapped f seats k one d lt is =
     slice_get-get_or (map f seats) k (f d) (omega (arith, lt, length-map seats f)) ∙ ap Some (get_or-map f seats k d (f d) lt ∙ ap f (sym is))

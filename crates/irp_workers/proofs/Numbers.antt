@@ -49,7 +49,7 @@ pub sum_none : {S : Type 0} (f : S → ℕ) (xs : List S) → length xs ≡ 0 �
 sum_none f [] is = refl
 sum_none f (x ∷ xs) is = absurd (omega arith)
 
--- what one of those left told is told by the one in whose place it was put
+-- what one of those left says is said by the one in whose place it was put
 pub dealt : {S : Type 0} (f : S → ℕ) (all : List S) (i : ℕ) (new old : S) (left fewer total one : ℕ) → old ≡ get_or all i old → i < length all
     → f new ≡ f old + one → left ≡ fewer + one → left + sum_by f all ≡ total → fewer + sum_by f (set all i new) ≡ total
 dealt f all i new old left fewer total one is within more taken so_far =

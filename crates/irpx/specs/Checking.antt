@@ -78,7 +78,7 @@ NotRead old new (RefusedLine line) = (text : List ℕ) × IsInput old new text �
 NotRead old new (Input fault) = Unit {0}
 NotRead old new NoMemory = Unit {0}
 
--- what goes out and the count of failures where a verdict is told: its line
+-- what goes out and the count of failures where a verdict is written: its line
 abbrev pub Told : Verdict → Bytes → Bytes → ℕ → ℕ → Type 0
 Told verdict old new before after = Written (verdict_line verdict) old new before after
 
@@ -88,15 +88,15 @@ Untold verdict old new before after unwritten.Failed =
     Begins (verdict_line verdict) old new × (after ≡ risen before)
 Untold verdict old new before after unwritten.NoMemory = IsQuiet old new before after
 
--- what `check` did where it tells no verdict. Where there is none nothing went out. Else the input holds a transcript,
--- whose verdict wasn't told.
+-- what `check` did where it writes no verdict. Where there is none nothing went out. Else the input holds a transcript,
+-- whose verdict wasn't written.
 abbrev pub Unchecked : Bytes → Bytes → Bytes → Bytes → ℕ → ℕ → CheckFault → Type 0
 Unchecked input left old new before after (unchecked.Unjudged fault) =
     NotRead input left fault × IsQuiet old new before after
 Unchecked input left old new before after (unchecked.Untold fault) =
     (verdict : Verdict) × HasVerdict input left verdict × Untold verdict old new before after fault
 
--- what `check` did: the input holds a transcript, whose verdict was told; or it told none
+-- what `check` did: the input holds a transcript, whose verdict was written; or it wrote none
 abbrev pub Checks : Bytes → Bytes → Bytes → Bytes → ℕ → ℕ → Result Verdict CheckFault → Type 0
 Checks input left old new before after (Ok verdict) =
     HasVerdict input left verdict × Told verdict old new before after

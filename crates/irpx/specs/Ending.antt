@@ -87,12 +87,12 @@ abbrev pub of_check : CheckFault → Ending
 of_check (unchecked.Unjudged fault) = of_judging fault
 of_check (unchecked.Untold fault) = of_writing fault
 
--- a verdict that was told
+-- a verdict that was written
 abbrev pub of_verdict : Verdict → Ending
 of_verdict (verdict.Legal entries) = Done
 of_verdict (verdict.Illegal at) = Illegal
 
--- ---- what an ending is told by
+-- ---- what an ending is seen by
 
 -- the exit status of an ending
 abbrev pub status_of : Ending → ℕ

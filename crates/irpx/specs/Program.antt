@@ -31,7 +31,7 @@ ObeysRun workers input left old new before after ending =
     ⊎ ((fault : RunFault) × (ending ≡ of_run fault)
     × Unran workers input left old new before after fault)
 
--- the verdict on the input's transcript was told, or a fault ended it
+-- the verdict on the input's transcript was written, or a fault ended it
 abbrev pub ObeysCheck : Bytes → Bytes → Bytes → Bytes → ℕ → ℕ → Ending → Type 0
 ObeysCheck input left old new before after ending =
     ((verdict : Verdict) × (ending ≡ of_verdict verdict)

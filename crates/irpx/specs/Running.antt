@@ -101,7 +101,7 @@ and_dispatches plans tables =
 abbrev pub and_drivers : List (List Entrance) → Tables → Tables
 and_drivers drivers tables = record tables { drivers = tables.drivers ++ map by_major drivers }
 
--- the tables of a store with all that a script tells of whom is asked, and no more
+-- the tables of a store with all the closures that a script tells of, and no more
 abbrev pub tables_of : Script → Tables
 tables_of script =
     and_drivers script.drivers
