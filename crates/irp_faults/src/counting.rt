@@ -12,23 +12,12 @@ use std::sync::atomic::{AtomicU32, Ordering};
 /// An asker, and how often it was asked.
 #[derive(Drop)]
 pub struct Counting<A> {
-    ask: A,
-    count: Arc<AtomicU32>,
+    pub ask: A,
+    pub count: Arc<AtomicU32>,
 }
 
 /// A table of answers that counts.
 pub type Asker = Counting<AnswerTable>;
-
-impl<A> Counting<A> {
-    /// The asker, with each question added to this count.
-    pub fn new(ask: A, count: Arc<AtomicU32>) -> Counting<A> {
-        Counting { ask, count }
-    }
-
-    fn counts_one(&self) {
-        self.count.fetch_add(1, Ordering::SeqCst);
-    }
-}
 
 impl<A: Ask> Ask for Counting<A> {
     ghost tables = { λ counting. A.tables counting.ask };
@@ -64,17 +53,17 @@ impl<A: Ask> Ask for Counting<A> {
     }
 
     fn plan(&self, id: DispatchId, shown: Shown) -> Plan {
-        self.counts_one();
+        self.count.fetch_add(1, Ordering::SeqCst);
         self.ask.plan(id, shown)
     }
 
     fn answer(&self, id: RoutineId, shown: Shown) -> Answer {
-        self.counts_one();
+        self.count.fetch_add(1, Ordering::SeqCst);
         self.ask.answer(id, shown)
     }
 
     fn cancel_answer(&self, id: CancelId, shown: Shown) -> CancelAnswer {
-        self.counts_one();
+        self.count.fetch_add(1, Ordering::SeqCst);
         self.ask.cancel_answer(id, shown)
     }
 

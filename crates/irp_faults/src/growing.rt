@@ -1,35 +1,32 @@
-//! Device stacks and tables of answers that grow.
+//! Device stacks, tables and tables of answers that grow.
 
 use crate::rows::EACH;
-use crate::tables::add_all;
+use crate::tables::{add_all, extent_of};
 use crate::tried::{Halt, Tried, wanted};
 use irp_routines::{AnswerTable, FixedTables};
 use irp_stack::{NotCreated, Stacks};
-use irp_types::{DeviceId, DriverId, LockNo};
+use irp_types::{DeviceId, DriverId, Known, LockNo};
 use std::alloc::Global;
 
-/// Creates a device, and once more where memory was missing. The number has to be this.
-fn create(stacks: &mut Stacks, number: u32, tried: &mut Tried) -> Result<(), Halt> {
-    let (driver, lock) = (DriverId(number), LockNo(0));
-    let made = match stacks.create(driver, lock) {
-        Err(NotCreated::Memory) => {
-            tried.refused("Stacks::create", stacks.facts(DeviceId(number)).is_none())?;
-            stacks.create(driver, lock)
-        }
-        other => other,
-    };
-    wanted(made == Ok(DeviceId(number)), "a device has another number")
-}
-
-/// Creates as many devices as there may be, and one more, which is refused.
+/// Creates as many devices as there may be, and one more, which is refused. Where memory was missing, a device is created
+/// once more. The numbers have to be in turn.
 pub fn create_devices(alloc: Global, tried: &mut Tried) -> Result<(), Halt> {
     let mut stacks = Stacks::new(alloc);
+    let lock = LockNo(0);
     for number in 0..64 {
-        tried.at(number as usize);
-        create(&mut stacks, number, tried)?;
+        tried.step = number as usize;
+        let (driver, device) = (DriverId(number), DeviceId(number));
+        let made = match stacks.create(driver, lock) {
+            Err(NotCreated::Memory) => {
+                tried.refused("Stacks::create", stacks.facts(device).is_none())?;
+                stacks.create(driver, lock)
+            }
+            other => other,
+        };
+        wanted(made == Ok(device), "a device has another number")?;
     }
     wanted(
-        stacks.create(DriverId(0), LockNo(0)) == Err(NotCreated::Full),
+        stacks.create(DriverId(0), lock) == Err(NotCreated::Full),
         "there are more devices than there may be",
     )
 }
@@ -69,8 +66,27 @@ fn copy(alloc: Global, table: &AnswerTable, tried: &mut Tried) -> Result<(), Hal
 pub fn grow_table(alloc: Global, tried: &mut Tried) -> Result<(), Halt> {
     let mut table = AnswerTable::new(alloc);
     for number in 0..9 {
-        tried.at(number);
+        tried.step = number;
         add_all(alloc, &mut table, &EACH, tried)?;
     }
     copy(alloc, &table, tried)
+}
+
+/// Tables grow.
+pub fn grow_tables(alloc: Global, tried: &mut Tried) -> Result<(), Halt> {
+    let mut tables = FixedTables::new(alloc);
+    for number in 0..9 {
+        tried.step = number;
+        add_all(alloc, &mut tables, &EACH, tried)?;
+    }
+    let counts = Known {
+        change: 9,
+        free: 9,
+        cancel: 9,
+        ..Known::NONE
+    };
+    wanted(
+        extent_of(&tables) == (counts, 9, 9),
+        "tables have not what was added",
+    )
 }

@@ -16,41 +16,32 @@ use std::alloc::Global;
 use std::sync::atomic::AtomicU32;
 use std::sync::ledger::{Blank, Ledger};
 
-/// A book, and the one seat whose calls it records.
+/// A book, the one seat whose calls it records, and whether each entry is copied as it is recorded.
 #[derive(Drop)]
 struct InBook<L: Ledger> {
     book: Book<Asker>,
     seat: Seat<L>,
+    copies: bool,
 }
 
 impl<L: Ledger> Place for InBook<L> {
     fn make(&mut self, seat: u32, call: Call) -> Result<Reply, Lack> {
         let _ = seat;
-        let length = self.book.length();
-        let made = self.book.record(&self.seat, call, &KnowsNothing);
-        let is_same = self.book.length() == length;
-        told(made, "Book::record", length as u64, is_same)
-    }
-}
-
-/// The same, and each entry is copied as it is recorded.
-#[derive(Drop)]
-struct Copying<L: Ledger> {
-    own: InBook<L>,
-}
-
-impl<L: Ledger> Place for Copying<L> {
-    fn make(&mut self, seat: u32, call: Call) -> Result<Reply, Lack> {
-        let _ = seat;
-        let own = &mut self.own;
-        let number = own.book.length() as u64;
-        let made = match own.book.record_copied(&own.seat, call, &KnowsNothing) {
-            Ok((receipt, copy)) if copy.number == number => Ok(receipt),
-            Ok(_) => return Err(Lack::Wrong("a copy has another number than its entry")),
-            Err(reason) => Err(reason),
+        let number = self.book.length() as u64;
+        let (name, made) = if self.copies {
+            let made = match self.book.record_copied(&self.seat, call, &KnowsNothing) {
+                Ok((receipt, copy)) if copy.number == number => Ok(receipt),
+                Ok(_) => return Err(Lack::Wrong("a copy has another number than its entry")),
+                Err(reason) => Err(reason),
+            };
+            ("Book::record_copied", made)
+        } else {
+            (
+                "Book::record",
+                self.book.record(&self.seat, call, &KnowsNothing),
+            )
         };
-        let is_same = own.book.length() as u64 == number;
-        told(made, "Book::record_copied", number, is_same)
+        told(made, name, number, self.book.length() as u64 == number)
     }
 }
 
@@ -85,10 +76,5 @@ pub fn in_book<L: Ledger>(
     let (_total, share) = blank.open::<L>();
     let seat = Seat::new(alloc, 0, share);
     let book = book_of(Manager::with_limit(alloc, ask, 1, Limit::Sixteen), tried)?;
-    let mut own = InBook { book, seat };
-    if copies {
-        play(&mut Copying { own }, asked, tried, example)
-    } else {
-        play(&mut own, asked, tried, example)
-    }
+    play(&mut InBook { book, seat, copies }, asked, tried, example)
 }

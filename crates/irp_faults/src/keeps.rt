@@ -4,11 +4,10 @@ ghost use Rattle.std.specs.Prelude.{◌≡◌, ◌<◌, IfOk};
 
 use crate::example::IRP;
 use crate::tried::{Halt, Tried, wanted};
-use irp_manager::{Keep, Live, MapKeep, Seat, SlabKeep};
+use irp_manager::{Keep, Live, Seat};
 use irp_packet::Packet;
 use irp_types::{Call, Entry, Reply, Row};
 use std::alloc::Global;
-use std::marker::Brand;
 use std::sync::ledger::{Blank, Ledger};
 
 /// Puts a packet into a keep, under this use number. None where memory was missing.
@@ -20,14 +19,14 @@ fn inserted<K: Keep>(alloc: Global, keep: &mut K, use_no: u64) -> Result<Option<
 }
 
 /// Puts packets into a keep. A refused call has to leave the others there.
-fn fill<K: Keep>(
+pub fn fill<K: Keep>(
     alloc: Global,
     keep: &mut K,
     name: &'static str,
     tried: &mut Tried,
 ) -> Result<(), Halt> {
     for number in 0..40usize {
-        tried.at(number);
+        tried.step = number;
         if inserted(alloc, keep, number as u64)?.is_none() {
             tried.refused(name, keep.len() == number)?;
             inserted(alloc, keep, number as u64)?;
@@ -37,29 +36,6 @@ fn fill<K: Keep>(
         }
     }
     Ok(())
-}
-
-/// Fills a map.
-pub fn fill_map(alloc: Global, tried: &mut Tried) -> Result<(), Halt> {
-    fill(alloc, &mut MapKeep::new(alloc), "MapKeep::insert", tried)
-}
-
-/// Fills a slab.
-pub fn fill_slab(alloc: Global, tried: &mut Tried) -> Result<(), Halt> {
-    fill(alloc, &mut SlabKeep::new(alloc), "SlabKeep::insert", tried)
-}
-
-/// An entry, of a look in seat 0.
-fn entry(alloc: Global, number: u64) -> Entry {
-    Entry {
-        number,
-        seat: 0,
-        call: Call::Look { irp: IRP },
-        lock: None,
-        drained: false,
-        asked: Row::from_vec(Vec::new(alloc)),
-        reply: Reply::Done,
-    }
 }
 
 /// Makes room in a seat, and once more where memory was missing. The seat has to keep what it has.
@@ -74,21 +50,25 @@ fn room<L: Ledger>(seat: &mut Seat<L>, tried: &mut Tried) -> Result<(), Halt>
     Ok(())
 }
 
-/// A seat takes entries, each once there is room for it.
-fn fill_its_seat<L: Ledger>(alloc: Global, blank: Blank, tried: &mut Tried) -> Result<(), Halt>
+/// A seat takes entries of looks, each once there is room for it.
+pub fn fill_seat<L: Ledger>(alloc: Global, blank: Blank, tried: &mut Tried) -> Result<(), Halt>
     requires { (blank.name ≡ L.name) × (blank.parts ≡ L.parts) × (blank.parts ≡ 1) }
 {
     let (mut total, share) = blank.open::<L>();
     let mut seat = Seat::new(alloc, 0, share);
     for number in 0..9usize {
-        tried.at(number);
+        tried.step = number;
         room(&mut seat, tried)?;
-        seat.took(entry(alloc, number as u64), &mut total);
+        let entry = Entry {
+            number: number as u64,
+            seat: 0,
+            call: Call::Look { irp: IRP },
+            lock: None,
+            drained: false,
+            asked: Row::from_vec(Vec::new(alloc)),
+            reply: Reply::Done,
+        };
+        seat.took(entry, &mut total);
     }
     wanted(seat.count() == 9, "a seat has another number of entries")
-}
-
-/// Fills a seat.
-pub fn fill_seat(alloc: Global, tried: &mut Tried) -> Result<(), Halt> {
-    fill_its_seat::<Brand>(alloc, Blank::new(1), tried)
 }

@@ -16,7 +16,6 @@ mod seating;
 mod session;
 mod stores;
 mod tables;
-mod tables_alone;
 mod taking;
 mod texts;
 mod tried;
@@ -53,27 +52,19 @@ fn lines_of<R: Wait>(
     work: Work,
     tried: &mut Tried,
 ) -> Result<Vec<u8>, Halt> {
-    for is_first in [true, false] {
+    for _ in 0..2 {
         let mut out = Vec::new(alloc);
         match perform(rt, alloc, work, tried, &mut out) {
             Ok(()) => return Ok(out),
             Err(Halt::Wrong(what)) => return Err(Halt::Wrong(what)),
             Err(Halt::Memory) => {
-                if !tried.may_begin_anew(is_first) {
-                    break;
+                if matches!(tried.fell, Fell::Nowhere) {
+                    tried.fell = Fell::SetUp;
                 }
             }
         }
     }
     Err(Halt::Wrong("memory was missing twice"))
-}
-
-/// Writes the results of writes whose output fails.
-fn tell_cut_writes<W: Write>(alloc: Global, writer: &mut W) -> Result<(), Halt> {
-    let mut out = Vec::new(alloc);
-    cut_writes(alloc, &mut out)?;
-    writer.write_all(out.as_slice())?;
-    Ok(())
 }
 
 /// Plays the scenarios of this name, or each where the name is `every`, and writes their results. The writes whose output
@@ -88,40 +79,33 @@ fn play_named<R: Wait, W: Write>(
     for scenario in SCENARIOS.iter() {
         let (known, work) = *scenario;
         if name == known || name == "every" {
-            let mut tried = Tried::new(fell);
+            let mut tried = Tried { step: 0, fell };
             let lines = lines_of(rt, alloc, work, &mut tried)?;
-            tell(writer, lines.as_slice(), tried.fell())?;
+            tell(writer, lines.as_slice(), tried.fell)?;
         }
     }
     if name == "cut_writes" || name == "every" {
-        tell_cut_writes(alloc, writer)?;
+        let mut out = Vec::new(alloc);
+        cut_writes(alloc, &mut out)?;
+        writer.write_all(out.as_slice())?;
     }
     Ok(())
 }
 
-/// Lists the scenarios.
-fn list<W: Write>(writer: &mut W) -> Result<(), Halt> {
+/// Does what the words ask for. Without one, lists the scenarios. Where memory is missing for the words, they are taken
+/// once more.
+fn run<R: Wait + Env + AllocGlobal, W: Write>(rt: &R, writer: &mut W) -> Result<(), Halt> {
+    let (words, fell) = match words_of(rt) {
+        Ok(words) => (words, Fell::Nowhere),
+        Err(_) => (words_of(rt)?, Fell::SetUp),
+    };
+    if let [name] = words.as_slice() {
+        return play_named(rt, rt.alloc(), writer, name.as_str(), fell);
+    }
     for (name, _work) in SCENARIOS.iter() {
         writeln!(writer, "{name}")?;
     }
     Ok(())
-}
-
-/// The words once more, where memory was missing for them the first time, and where the refused request fell so far.
-fn words_again<R: Env + AllocGlobal>(rt: &R) -> Result<(Vec<String>, Fell), Halt> {
-    match words_of(rt) {
-        Ok(words) => Ok((words, Fell::Nowhere)),
-        Err(_) => Ok((words_of(rt)?, Fell::SetUp)),
-    }
-}
-
-/// Does what the words ask for.
-fn run<R: Wait + Env + AllocGlobal, W: Write>(rt: &R, writer: &mut W) -> Result<(), Halt> {
-    let (words, fell) = words_again(rt)?;
-    match words.as_slice() {
-        [name] => play_named(rt, rt.alloc(), writer, name.as_str(), fell),
-        _ => list(writer),
-    }
 }
 
 fn main(rt: HostRuntime) -> ExitCode {

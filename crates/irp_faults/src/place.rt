@@ -6,8 +6,8 @@ ghost use Rattle.irp_manager.specs.Keeps.{slabbed, mapped};
 ghost use Rattle.irp_manager.specs.ManagerStates.{state_of};
 
 use crate::counting::Asker;
+use crate::example::Act;
 use irp_manager::{KnowsNothing, Manager, ManagerState, MapKeep, NotRecorded, Receipt};
-use irp_shared::{Act, WordReply};
 use irp_types::{Call, Limit, Reply};
 use std::alloc::Global;
 
@@ -40,15 +40,10 @@ pub trait Place {
     /// Makes a call in a seat, and answers the reply.
     fn make(&mut self, seat: u32, call: Call) -> Result<Reply, Lack>;
 
-    /// Looks at a packet, and changes nothing but the history. It is the same as a call in a seat of its own.
-    fn look(&mut self, call: Call) -> Result<Reply, Lack> {
-        self.make(0, call)
-    }
-
-    /// Acts on a remove lock in a seat, and tells what was answered. None where there are no remove locks.
-    fn acts(&mut self, seat: u32, act: Act) -> Option<WordReply> {
+    /// Acts on a remove lock in a seat, and answers whether it was answered as it has to be: never where there is none.
+    fn acts(&mut self, seat: u32, act: Act) -> bool {
         let _ = (seat, act);
-        None
+        false
     }
 }
 

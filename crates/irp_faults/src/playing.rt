@@ -9,34 +9,7 @@ use std::sync::atomic::{AtomicU32, Ordering};
 /// The look at the first packet.
 const LOOK: Call = Call::Look { irp: IRP };
 
-/// What can be seen before a call and after it: what the first packet looks like, and how many questions were asked.
-#[derive(Clone, Copy, PartialEq, Eq)]
-struct Sight {
-    look: Reply,
-    asked: u32,
-}
-
-/// Looks around. A look that finds no memory is tried again.
-fn look_around<P: Place>(
-    place: &mut P,
-    asked: &AtomicU32,
-    tried: &mut Tried,
-) -> Result<Sight, Halt> {
-    let look = match place.look(LOOK) {
-        Ok(reply) => reply,
-        Err(Lack::Wrong(what)) => return Err(Halt::Wrong(what)),
-        Err(Lack::Memory(name)) => {
-            tried.refused(name, true)?;
-            granted(place.look(LOOK))?
-        }
-    };
-    Ok(Sight {
-        look,
-        asked: asked.load(Ordering::SeqCst),
-    })
-}
-
-/// What a call is answered that is made again.
+/// What a call is answered that may find no more want of memory.
 fn granted(made: Result<Reply, Lack>) -> Result<Reply, Halt> {
     match made {
         Ok(reply) => Ok(reply),
@@ -45,75 +18,73 @@ fn granted(made: Result<Reply, Lack>) -> Result<Reply, Halt> {
     }
 }
 
-/// Makes a call. One that finds no memory has to leave everything as it was, and is made again.
-fn made<P: Place>(
+/// Looks around, in the seat that looks on: what the first packet looks like, and how many questions were asked. A look that
+/// finds no memory is tried again.
+fn look_around<P: Place>(
     place: &mut P,
     asked: &AtomicU32,
     tried: &mut Tried,
-    before: Sight,
-    seat: u32,
-    call: Call,
-) -> Result<Reply, Halt> {
-    match place.make(seat, call) {
-        Ok(reply) => Ok(reply),
-        Err(Lack::Wrong(what)) => Err(Halt::Wrong(what)),
+    looker: u32,
+) -> Result<(Reply, u32), Halt> {
+    let look = match place.make(looker, LOOK) {
         Err(Lack::Memory(name)) => {
             tried.refused(name, true)?;
-            if look_around(place, asked, tried)? != before {
-                return Err(Halt::Wrong("a refused call changed something, or asked"));
-            }
-            granted(place.make(seat, call))
+            granted(place.make(looker, LOOK))?
         }
-    }
+        made => granted(made)?,
+    };
+    Ok((look, asked.load(Ordering::SeqCst)))
 }
 
-/// Makes a call after a look. What it is answered, and how many questions it asks.
+/// Makes a call after a look. What it is answered, and how many questions it asks. A call that finds no memory has to leave
+/// everything as it was, and is made again.
 fn outcome<P: Place>(
     place: &mut P,
     asked: &AtomicU32,
     tried: &mut Tried,
+    looker: u32,
     seat: u32,
     call: Call,
 ) -> Result<(Reply, u32), Halt> {
-    let before = look_around(place, asked, tried)?;
-    let reply = made(place, asked, tried, before, seat, call)?;
-    let count = asked.load(Ordering::SeqCst).wrapping_sub(before.asked);
-    Ok((reply, count))
-}
-
-/// Makes a step, whose answer has to be the example's.
-fn step<P: Place>(
-    place: &mut P,
-    asked: &AtomicU32,
-    tried: &mut Tried,
-    seat: u32,
-    deed: Deed,
-) -> Result<(), Halt> {
-    let is_so = match deed {
-        Deed::Call(call, reply, count) => {
-            outcome(place, asked, tried, seat, call)? == (reply, count)
+    let before = look_around(place, asked, tried, looker)?;
+    let reply = match place.make(seat, call) {
+        Err(Lack::Memory(name)) => {
+            tried.refused(name, true)?;
+            wanted(
+                look_around(place, asked, tried, looker)? == before,
+                "a refused call changed something, or asked",
+            )?;
+            granted(place.make(seat, call))?
         }
-        Deed::Act(act, reply) => place.acts(seat, act) == Some(reply),
+        made => granted(made)?,
     };
-    wanted(is_so, "an answer isn't the example's")
+    Ok((reply, asked.load(Ordering::SeqCst).wrapping_sub(before.1)))
 }
 
-/// Makes the steps of an example, one after the other, each after a look, and has a last look. One look more comes first,
-/// so that a history, which grows at even numbers, grows in the steps.
+/// Makes the steps of an example, one after the other, each call after a look, and has a last look: each answer has to be
+/// the example's. The looks are in the seat behind the example's own. One look more comes first, so that a history, which
+/// grows at even numbers, grows in the steps.
 pub fn play<P: Place>(
     place: &mut P,
     asked: &AtomicU32,
     tried: &mut Tried,
     example: &Example,
 ) -> Result<(), Halt> {
-    look_around(place, asked, tried)?;
+    let looker = example.seats;
+    look_around(place, asked, tried, looker)?;
     for number in 0..example.steps.len() {
-        tried.at(number);
+        tried.step = number;
         let (seat, deed) = example.steps[number];
-        step(place, asked, tried, seat, deed)?;
+        let is_so = match deed {
+            Deed::Call(call, reply, count) => {
+                outcome(place, asked, tried, looker, seat, call)? == (reply, count)
+            }
+            Deed::Act(act) => place.acts(seat, act),
+        };
+        wanted(is_so, "an answer isn't the example's")?;
     }
     wanted(
-        look_around(place, asked, tried)?.look == example.last,
+        look_around(place, asked, tried, looker)?.0 == example.last,
         "the last look isn't the example's",
     )
 }

@@ -1,8 +1,8 @@
 //! The worked examples that are played: a packet that is finished at once, one that a routine keeps, one that is cancelled,
 //! and a remove lock that is drained.
 
-use crate::example::{Deed, Example, IRP};
-use irp_shared::{Act, WordReply};
+use crate::example::{Act, Asked, Deed, Example, IRP};
+use irp_remove::{AcquireRefusal, DrainRefusal};
 use irp_types::{
     Call, CancelAnswer, CancelId, CancelRule, DeviceId, DispatchId, DriverId, IrpRef, Limit,
     LockNo, Owner, Party, Plan, Refusal, Reply, RoutineId, Rule, Seen, Setting, Status,
@@ -202,11 +202,11 @@ const DONE: Reply = Reply::Done;
 const PENDING: Reply = Reply::Status(Status::PENDING);
 
 /// One device finishes one packet.
-static FINISHED: Example = Example {
-    rules: &[],
-    cancels: &[],
-    plans: &[FINISH],
-    drivers: &[&[(READ, DispatchId(0))]],
+pub const FINISHED: Example = Example {
+    asked: &[
+        Asked::Dispatch(FINISH),
+        Asked::Driver(&[(READ, DispatchId(0))]),
+    ],
     seats: 1,
     limit: Limit::Sixteen,
     steps: &[
@@ -219,18 +219,16 @@ static FINISHED: Example = Example {
 };
 
 /// A routine keeps a packet, and its device completes it.
-static KEPT: Example = Example {
-    rules: &[Rule::Watch, Rule::Keeper],
-    cancels: &[],
-    plans: &[
-        FINISH,
-        Plan::ForwardPend { set: Some(KEEPER) },
-        Plan::Forward { set: Some(WATCH) },
-    ],
-    drivers: &[
-        &[(READ, DispatchId(0))],
-        &[(READ, DispatchId(1))],
-        &[(READ, DispatchId(2))],
+pub const KEPT: Example = Example {
+    asked: &[
+        Asked::Routine(Rule::Watch),
+        Asked::Routine(Rule::Keeper),
+        Asked::Dispatch(FINISH),
+        Asked::Dispatch(Plan::ForwardPend { set: Some(KEEPER) }),
+        Asked::Dispatch(Plan::Forward { set: Some(WATCH) }),
+        Asked::Driver(&[(READ, DispatchId(0))]),
+        Asked::Driver(&[(READ, DispatchId(1))]),
+        Asked::Driver(&[(READ, DispatchId(2))]),
     ],
     seats: 1,
     limit: Limit::Sixteen,
@@ -252,16 +250,18 @@ static KEPT: Example = Example {
 
 /// A cancel routine finishes a packet, and its Watch is asked. A second packet, whose Watch is for a success alone, is
 /// cancelled too: only the cancel routine is asked.
-static CANCELLED: Example = Example {
-    rules: &[Rule::Watch],
-    cancels: &[(
-        CancelRule::MustFinish,
-        CancelAnswer::Finish { information: 0 },
-    )],
-    plans: &[Plan::Hold {
-        cancel: Some(CancelId(0)),
-    }],
-    drivers: &[&[(READ, DispatchId(0))]],
+pub const CANCELLED: Example = Example {
+    asked: &[
+        Asked::Routine(Rule::Watch),
+        Asked::Cancel(
+            CancelRule::MustFinish,
+            CancelAnswer::Finish { information: 0 },
+        ),
+        Asked::Dispatch(Plan::Hold {
+            cancel: Some(CancelId(0)),
+        }),
+        Asked::Driver(&[(READ, DispatchId(0))]),
+    ],
     seats: 1,
     limit: Limit::Sixteen,
     steps: &[
@@ -289,11 +289,11 @@ static CANCELLED: Example = Example {
 };
 
 /// A packet stands in a cancel slot. Only who has the token completes it, and once.
-static TAKEN: Example = Example {
-    rules: &[],
-    cancels: &[],
-    plans: &[Plan::HoldSlot],
-    drivers: &[&[(READ, DispatchId(0))]],
+pub const TAKEN: Example = Example {
+    asked: &[
+        Asked::Dispatch(Plan::HoldSlot),
+        Asked::Driver(&[(READ, DispatchId(0))]),
+    ],
     seats: 1,
     limit: Limit::ThirtyTwo,
     steps: &[
@@ -316,43 +316,22 @@ static TAKEN: Example = Example {
 };
 
 /// A remove lock is drained, and its device deleted.
-static DRAINED: Example = Example {
-    rules: &[],
-    cancels: &[],
-    plans: &[],
-    drivers: &[&[]],
+pub const DRAINED: Example = Example {
+    asked: &[Asked::Driver(&[])],
     seats: 2,
     limit: Limit::Sixteen,
     steps: &[
         (0, Deed::Call(CREATE, FIRST, 0)),
-        (
-            0,
-            Deed::Act(Act::Acquire { lock: LOCK, tag: 1 }, WordReply::Acquired),
-        ),
-        (
-            1,
-            Deed::Act(Act::Acquire { lock: LOCK, tag: 2 }, WordReply::Acquired),
-        ),
-        (
-            0,
-            Deed::Act(Act::BeginRemove { lock: LOCK, tag: 1 }, WordReply::Done),
-        ),
+        (0, Deed::Act(Act::Acquire(1, Ok(())))),
+        (1, Deed::Act(Act::Acquire(2, Ok(())))),
+        (0, Deed::Act(Act::BeginRemove(1, Ok(())))),
         (
             1,
-            Deed::Act(
-                Act::Acquire { lock: LOCK, tag: 3 },
-                WordReply::DeletePending,
-            ),
+            Deed::Act(Act::Acquire(3, Err(AcquireRefusal::DeletePending))),
         ),
-        (
-            0,
-            Deed::Act(Act::Drained { lock: LOCK }, WordReply::Busy { word: 3 }),
-        ),
-        (
-            1,
-            Deed::Act(Act::Release { lock: LOCK, tag: 2 }, WordReply::Done),
-        ),
-        (0, Deed::Act(Act::Drained { lock: LOCK }, WordReply::Yes)),
+        (0, Deed::Act(Act::Drained(Err(DrainRefusal::Busy(3))))),
+        (1, Deed::Act(Act::Release(2, Ok(())))),
+        (0, Deed::Act(Act::Drained(Ok(())))),
         (
             1,
             Deed::Call(DELETE, Reply::Refused(Refusal::NotDrained), 0),
@@ -362,35 +341,11 @@ static DRAINED: Example = Example {
     last: Reply::Refused(Refusal::NoIrp),
 };
 
-/// Of each kind one who is asked, but of completion routines two. There are no steps.
-pub const EACH: Example = Example {
-    rules: &[Rule::Change, Rule::Free],
-    cancels: &[(CancelRule::MustLeave, CancelAnswer::Leave)],
-    plans: &[Plan::Hold { cancel: None }],
-    drivers: &[&[(3, DispatchId(0)), (4, DispatchId(0))]],
-    seats: 1,
-    limit: Limit::Sixteen,
-    steps: &[],
-    last: Reply::Refused(Refusal::NoIrp),
-};
-
-/// The worked examples by name.
-#[derive(Clone, Copy)]
-pub enum Which {
-    Finished,
-    Kept,
-    Cancelled,
-    Taken,
-    Drained,
-}
-
-/// The example of this name.
-pub fn example_of(which: Which) -> &'static Example {
-    match which {
-        Which::Finished => &FINISHED,
-        Which::Kept => &KEPT,
-        Which::Cancelled => &CANCELLED,
-        Which::Taken => &TAKEN,
-        Which::Drained => &DRAINED,
-    }
-}
+/// Of each kind one who is asked, but of completion routines two.
+pub const EACH: [Asked; 5] = [
+    Asked::Routine(Rule::Change),
+    Asked::Routine(Rule::Free),
+    Asked::Cancel(CancelRule::MustLeave, CancelAnswer::Leave),
+    Asked::Dispatch(Plan::Hold { cancel: None }),
+    Asked::Driver(&[(3, DispatchId(0)), (4, DispatchId(0))]),
+];

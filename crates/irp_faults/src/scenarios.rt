@@ -1,22 +1,21 @@
 //! The scenarios by their names.
 
-use crate::counting::{Asker, Counting};
+use crate::counting::Counting;
 use crate::example::Example;
-use crate::growing::{create_devices, grow_table};
+use crate::growing::{create_devices, grow_table, grow_tables};
 use crate::in_book::in_book;
-use crate::keeps::{fill_map, fill_seat, fill_slab};
+use crate::keeps::{fill, fill_seat};
 use crate::place::{Alone, Bare};
 use crate::playing::play;
-use crate::rows::{Which, example_of};
+use crate::rows::{CANCELLED, DRAINED, FINISHED, KEPT, TAKEN};
 use crate::seating::seat_pairs;
 use crate::session::session;
 use crate::stores::{add_cancels, add_dispatches, add_drivers, add_routines};
 use crate::tables::add_all;
-use crate::tables_alone::grow_tables;
 use crate::texts::{put_transcript, read_the_script, read_the_transcript, write_the_transcript};
 use crate::tried::{Halt, Tried};
+use irp_manager::{MapKeep, SlabKeep};
 use irp_routines::AnswerTable;
-use irp_shared::Transcript;
 use std::alloc::Global;
 use std::marker::Brand;
 use std::sync::atomic::AtomicU32;
@@ -28,10 +27,8 @@ use std::sync::{Arc, Wait};
 pub enum Where {
     /// In a session, whose transcript is put out.
     Session,
-    /// In a book.
-    Book,
-    /// In a book that copies each entry as it is recorded.
-    Copied,
+    /// In a book, which copies each entry as it is recorded, or doesn't.
+    Book(bool),
     /// By the manager alone.
     Manager,
     /// By a bare core.
@@ -65,7 +62,7 @@ pub enum Text {
 /// What a scenario does.
 #[derive(Clone, Copy)]
 pub enum Work {
-    Play(Where, Which),
+    Play(Where, &'static Example),
     Grow(Growth),
     Text(Text),
 }
@@ -74,52 +71,37 @@ pub enum Work {
 pub const SCENARIOS: [(&str, Work); 29] = [
     (
         "finished_in_a_session",
-        Work::Play(Where::Session, Which::Finished),
+        Work::Play(Where::Session, &FINISHED),
     ),
-    ("kept_in_a_session", Work::Play(Where::Session, Which::Kept)),
+    ("kept_in_a_session", Work::Play(Where::Session, &KEPT)),
     (
         "cancelled_in_a_session",
-        Work::Play(Where::Session, Which::Cancelled),
+        Work::Play(Where::Session, &CANCELLED),
     ),
-    (
-        "taken_in_a_session",
-        Work::Play(Where::Session, Which::Taken),
-    ),
-    (
-        "drained_in_a_session",
-        Work::Play(Where::Session, Which::Drained),
-    ),
+    ("taken_in_a_session", Work::Play(Where::Session, &TAKEN)),
+    ("drained_in_a_session", Work::Play(Where::Session, &DRAINED)),
     (
         "finished_in_a_book",
-        Work::Play(Where::Book, Which::Finished),
+        Work::Play(Where::Book(false), &FINISHED),
     ),
-    ("kept_in_a_book", Work::Play(Where::Book, Which::Kept)),
+    ("kept_in_a_book", Work::Play(Where::Book(false), &KEPT)),
     (
         "cancelled_in_a_book",
-        Work::Play(Where::Book, Which::Cancelled),
+        Work::Play(Where::Book(false), &CANCELLED),
     ),
-    ("kept_with_copies", Work::Play(Where::Copied, Which::Kept)),
+    ("kept_with_copies", Work::Play(Where::Book(true), &KEPT)),
     (
         "finished_by_the_manager",
-        Work::Play(Where::Manager, Which::Finished),
+        Work::Play(Where::Manager, &FINISHED),
     ),
-    (
-        "kept_by_the_manager",
-        Work::Play(Where::Manager, Which::Kept),
-    ),
+    ("kept_by_the_manager", Work::Play(Where::Manager, &KEPT)),
     (
         "cancelled_by_the_manager",
-        Work::Play(Where::Manager, Which::Cancelled),
+        Work::Play(Where::Manager, &CANCELLED),
     ),
-    (
-        "finished_by_a_core",
-        Work::Play(Where::Core, Which::Finished),
-    ),
-    ("kept_by_a_core", Work::Play(Where::Core, Which::Kept)),
-    (
-        "cancelled_by_a_core",
-        Work::Play(Where::Core, Which::Cancelled),
-    ),
+    ("finished_by_a_core", Work::Play(Where::Core, &FINISHED)),
+    ("kept_by_a_core", Work::Play(Where::Core, &KEPT)),
+    ("cancelled_by_a_core", Work::Play(Where::Core, &CANCELLED)),
     ("devices", Work::Grow(Growth::Devices)),
     ("a_table_of_answers", Work::Grow(Growth::AnswerTable)),
     ("tables", Work::Grow(Growth::Tables)),
@@ -136,62 +118,6 @@ pub const SCENARIOS: [(&str, Work); 29] = [
     ("a_transcript_is_written", Work::Text(Text::Written)),
 ];
 
-/// The transcript of an example that is played in a session.
-fn shared<R: Wait>(
-    rt: &R,
-    alloc: Global,
-    ask: Asker,
-    asked: &AtomicU32,
-    example: &Example,
-    tried: &mut Tried,
-) -> Result<Transcript, Halt> {
-    let seats = example.seats.wrapping_add(1);
-    let blank = Blank::new(u64::from(seats));
-    let limit = example.limit;
-    session::<Brand, R>(
-        rt, alloc, blank, ask, 1, seats, limit, asked, example, tried,
-    )
-}
-
-/// Plays an example in a book.
-fn recorded(
-    alloc: Global,
-    ask: Asker,
-    asked: &AtomicU32,
-    example: &Example,
-    copies: bool,
-    tried: &mut Tried,
-) -> Result<(), Halt> {
-    let blank = Blank::new(1);
-    in_book::<Brand>(alloc, blank, ask, asked, example, copies, tried)
-}
-
-/// Who is asked in an example, with the count of the questions.
-fn asker(
-    alloc: Global,
-    count: Arc<AtomicU32>,
-    example: &Example,
-    tried: &mut Tried,
-) -> Result<Asker, Halt> {
-    let mut table = AnswerTable::new(alloc);
-    add_all(alloc, &mut table, example, tried)?;
-    Ok(Counting::new(table, count))
-}
-
-/// Plays an example in a session, and puts its transcript.
-fn put_session<R: Wait>(
-    rt: &R,
-    alloc: Global,
-    ask: Asker,
-    asked: &AtomicU32,
-    example: &Example,
-    tried: &mut Tried,
-    out: &mut Vec<u8>,
-) -> Result<(), Halt> {
-    let transcript = shared(rt, alloc, ask, asked, example, tried)?;
-    put_transcript(alloc, out, transcript, example.seats, tried)
-}
-
 /// Plays an example.
 fn play_there<R: Wait>(
     rt: &R,
@@ -202,20 +128,28 @@ fn play_there<R: Wait>(
     out: &mut Vec<u8>,
 ) -> Result<(), Halt> {
     let asked = Arc::new(alloc, AtomicU32::new(0))?;
-    let ask = asker(alloc, asked.clone()?, example, tried)?;
+    let mut table = AnswerTable::new(alloc);
+    add_all(alloc, &mut table, example.asked, tried)?;
+    let ask = Counting {
+        ask: table,
+        count: asked.clone()?,
+    };
     match place {
-        Where::Session => put_session(rt, alloc, ask, &asked, example, tried, out),
-        Where::Book => recorded(alloc, ask, &asked, example, false, tried),
-        Where::Copied => recorded(alloc, ask, &asked, example, true, tried),
+        Where::Session => {
+            let (seats, limit) = (example.seats.wrapping_add(1), example.limit);
+            let blank = Blank::new(u64::from(seats));
+            let transcript = session::<Brand, R>(
+                rt, alloc, blank, ask, 1, seats, limit, &asked, example, tried,
+            )?;
+            put_transcript(alloc, out, transcript, example.seats, tried)
+        }
+        Where::Book(copies) => {
+            let blank = Blank::new(1);
+            in_book::<Brand>(alloc, blank, ask, &asked, example, copies, tried)
+        }
         Where::Manager => play(&mut Alone::new(alloc, ask), &asked, tried, example),
         Where::Core => play(&mut Bare::new(alloc, ask), &asked, tried, example),
     }
-}
-
-/// Puts seats of a session beside remove seats.
-fn pairs(alloc: Global, tried: &mut Tried) -> Result<(), Halt> {
-    let table = AnswerTable::new(alloc);
-    seat_pairs::<Brand>(alloc, Blank::new(9), table, 1, 9, tried)
 }
 
 /// Has something grow.
@@ -228,10 +162,13 @@ fn grow(alloc: Global, growth: Growth, tried: &mut Tried) -> Result<(), Halt> {
         Growth::Cancels => add_cancels(alloc, tried),
         Growth::Dispatches => add_dispatches(alloc, tried),
         Growth::Drivers => add_drivers(alloc, tried),
-        Growth::Map => fill_map(alloc, tried),
-        Growth::Slab => fill_slab(alloc, tried),
-        Growth::Seat => fill_seat(alloc, tried),
-        Growth::Pairs => pairs(alloc, tried),
+        Growth::Map => fill(alloc, &mut MapKeep::new(alloc), "MapKeep::insert", tried),
+        Growth::Slab => fill(alloc, &mut SlabKeep::new(alloc), "SlabKeep::insert", tried),
+        Growth::Seat => fill_seat::<Brand>(alloc, Blank::new(1), tried),
+        Growth::Pairs => {
+            let table = AnswerTable::new(alloc);
+            seat_pairs::<Brand>(alloc, Blank::new(9), table, 1, 9, tried)
+        }
     }
 }
 
@@ -244,7 +181,7 @@ pub fn perform<R: Wait>(
     out: &mut Vec<u8>,
 ) -> Result<(), Halt> {
     match work {
-        Work::Play(place, which) => { play_there(rt, alloc, place, example_of(which), tried, out) }
+        Work::Play(place, example) => { play_there(rt, alloc, place, example, tried, out) }
         Work::Grow(growth) => grow(alloc, growth, tried),
         Work::Text(Text::Script) => read_the_script(alloc, out, tried),
         Work::Text(Text::Read) => read_the_transcript(alloc, out, tried),

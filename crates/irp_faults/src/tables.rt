@@ -1,10 +1,9 @@
-//! Tables of answers, from the data of examples.
+//! Tables that those who are asked are added to: tables of answers, and the tables behind stores and these.
 
-use crate::example::Example;
-use crate::tables_alone::extent_of;
-use crate::tried::{Halt, Tried};
-use irp_routines::{AnswerTable, Behaviour, Reaction, Reason};
-use irp_types::{CancelAnswer, CancelRule, DispatchId, Plan, Rule};
+use crate::example::Asked;
+use crate::tried::{Halt, Tried, wanted};
+use irp_routines::{AnswerTable, Behaviour, FixedTables, Reaction, Reason};
+use irp_types::{DispatchId, Known};
 use std::alloc::Global;
 
 /// It continues, and replaces nothing.
@@ -18,126 +17,113 @@ const BEHAVIOUR: Behaviour = Behaviour {
     on_error: CONTINUES,
 };
 
-/// Adds a completion routine.
-fn add(table: &mut AnswerTable, rule: Rule, tried: &mut Tried) -> Result<(), Halt> {
-    let before = extent_of(table.tables());
-    match table.add(rule, BEHAVIOUR) {
-        Ok(_) => Ok(()),
-        Err(Reason::Memory) => {
-            tried.refused("AnswerTable::add", extent_of(table.tables()) == before)?;
-            table.add(rule, BEHAVIOUR)?;
-            Ok(())
-        }
-        Err(_) => Err(Halt::Wrong("a routine was refused")),
+/// A call that was refused.
+#[derive(Drop)]
+pub struct Refused {
+    /// The call.
+    name: &'static str,
+    /// Whether memory was missing, and the tables are as they were.
+    is_same: bool,
+    /// What came back.
+    pairs: Vec<(u8, DispatchId)>,
+}
+
+/// Tables that those who are asked are added to.
+pub trait Tables {
+    /// Adds one who is asked, a driver with these pairs. None where that was done.
+    fn put(&mut self, asked: Asked, pairs: Vec<(u8, DispatchId)>) -> Option<Refused>;
+}
+
+/// How much these tables have: the counts of routines, and how many dispatches and drivers.
+pub fn extent_of(tables: &FixedTables) -> (Known, usize, usize) {
+    (
+        tables.counts(),
+        tables.dispatches().len(),
+        tables.drivers().len(),
+    )
+}
+
+impl Tables for AnswerTable {
+    fn put(&mut self, asked: Asked, pairs: Vec<(u8, DispatchId)>) -> Option<Refused> {
+        let before = extent_of(self.tables());
+        let (name, reason, pairs) = match asked {
+            Asked::Routine(rule) => {
+                let reason = self.add(rule, BEHAVIOUR).err()?;
+                ("AnswerTable::add", reason, pairs)
+            }
+            Asked::Cancel(rule, answer) => {
+                let reason = self.add_cancel(rule, answer).err()?;
+                ("AnswerTable::add_cancel", reason, pairs)
+            }
+            Asked::Dispatch(plan) => {
+                let reason = self.add_dispatch(before.0, plan).err()?;
+                ("AnswerTable::add_dispatch", reason, pairs)
+            }
+            Asked::Driver(_) => {
+                let back = self.add_driver(pairs).err()?;
+                ("AnswerTable::add_driver", back.reason, back.item)
+            }
+        };
+        let is_same = extent_of(self.tables()) == before && reason == Reason::Memory;
+        Some(Refused {
+            name,
+            is_same,
+            pairs,
+        })
     }
 }
 
-/// Adds a cancel routine.
-fn add_cancel(
-    table: &mut AnswerTable,
-    routine: (CancelRule, CancelAnswer),
-    tried: &mut Tried,
-) -> Result<(), Halt> {
-    let before = extent_of(table.tables());
-    match table.add_cancel(routine.0, routine.1) {
-        Ok(_) => Ok(()),
-        Err(Reason::Memory) => {
-            tried.refused(
-                "AnswerTable::add_cancel",
-                extent_of(table.tables()) == before,
-            )?;
-            table.add_cancel(routine.0, routine.1)?;
-            Ok(())
-        }
-        Err(_) => Err(Halt::Wrong("a cancel routine was refused")),
+impl Tables for FixedTables {
+    fn put(&mut self, asked: Asked, pairs: Vec<(u8, DispatchId)>) -> Option<Refused> {
+        let before = extent_of(self);
+        let (name, reason, pairs) = match asked {
+            Asked::Routine(rule) => {
+                let reason = self.add_routine(rule).err()?;
+                ("FixedTables::add_routine", reason, pairs)
+            }
+            Asked::Cancel(rule, _) => {
+                let reason = self.add_cancel(rule).err()?;
+                ("FixedTables::add_cancel", reason, pairs)
+            }
+            Asked::Dispatch(_) => {
+                let reason = self.add_dispatch(before.0).err()?;
+                ("FixedTables::add_dispatch", reason, pairs)
+            }
+            Asked::Driver(_) => {
+                let back = self.add_driver(pairs).err()?;
+                ("FixedTables::add_driver", back.reason, back.item)
+            }
+        };
+        let is_same = extent_of(self) == before && reason == Reason::Memory;
+        Some(Refused {
+            name,
+            is_same,
+            pairs,
+        })
     }
 }
 
-/// Adds a dispatch, which may name all routines that there are.
-fn add_dispatch(table: &mut AnswerTable, plan: Plan, tried: &mut Tried) -> Result<(), Halt> {
-    let before = extent_of(table.tables());
-    match table.add_dispatch(before.counts, plan) {
-        Ok(_) => Ok(()),
-        Err(Reason::Memory) => {
-            tried.refused(
-                "AnswerTable::add_dispatch",
-                extent_of(table.tables()) == before,
-            )?;
-            table.add_dispatch(before.counts, plan)?;
-            Ok(())
-        }
-        Err(_) => Err(Halt::Wrong("a dispatch was refused")),
-    }
-}
-
-/// Adds a driver. A refused call has to hand its pairs back.
-fn add_driver(
+/// Adds those who are asked, each dispatch so that it may name all routines that there are. A call that finds no memory has
+/// to leave the tables as they were, and to hand a driver's pairs back. It is made again, with what came back.
+pub fn add_all<T: Tables>(
     alloc: Global,
-    table: &mut AnswerTable,
-    pairs: &[(u8, DispatchId)],
+    tables: &mut T,
+    all: &[Asked],
     tried: &mut Tried,
 ) -> Result<(), Halt> {
-    let before = extent_of(table.tables());
-    let Err(back) = table.add_driver(pairs.to_vec(alloc)?) else {
-        return Ok(());
-    };
-    if back.reason != Reason::Memory || back.item.as_slice() != pairs {
-        return Err(Halt::Wrong("a driver was refused, or not handed back"));
-    }
-    tried.refused(
-        "AnswerTable::add_driver",
-        extent_of(table.tables()) == before,
-    )?;
-    table.add_driver(back.item)?;
-    Ok(())
-}
-
-fn add_all_rules(table: &mut AnswerTable, rules: &[Rule], tried: &mut Tried) -> Result<(), Halt> {
-    for rule in rules {
-        add(table, *rule, tried)?;
+    for asked in all {
+        let pairs = match asked {
+            Asked::Driver(pairs) => *pairs,
+            _ => &[],
+        };
+        let Some(back) = tables.put(*asked, pairs.to_vec(alloc)?) else {
+            continue;
+        };
+        tried.refused(back.name, back.is_same && back.pairs.as_slice() == pairs)?;
+        wanted(
+            tables.put(*asked, back.pairs).is_none(),
+            "a call was refused twice",
+        )?;
     }
     Ok(())
-}
-
-fn add_all_cancels(
-    table: &mut AnswerTable,
-    cancels: &[(CancelRule, CancelAnswer)],
-    tried: &mut Tried,
-) -> Result<(), Halt> {
-    for cancel in cancels {
-        add_cancel(table, *cancel, tried)?;
-    }
-    Ok(())
-}
-
-fn add_all_plans(table: &mut AnswerTable, plans: &[Plan], tried: &mut Tried) -> Result<(), Halt> {
-    for plan in plans {
-        add_dispatch(table, *plan, tried)?;
-    }
-    Ok(())
-}
-
-fn add_all_drivers(
-    alloc: Global,
-    table: &mut AnswerTable,
-    drivers: &[&[(u8, DispatchId)]],
-    tried: &mut Tried,
-) -> Result<(), Halt> {
-    for pairs in drivers {
-        add_driver(alloc, table, pairs, tried)?;
-    }
-    Ok(())
-}
-
-/// Adds those who are asked in an example.
-pub fn add_all(
-    alloc: Global,
-    table: &mut AnswerTable,
-    example: &Example,
-    tried: &mut Tried,
-) -> Result<(), Halt> {
-    add_all_rules(table, example.rules, tried)?;
-    add_all_cancels(table, example.cancels, tried)?;
-    add_all_plans(table, example.plans, tried)?;
-    add_all_drivers(alloc, table, example.drivers, tried)
 }

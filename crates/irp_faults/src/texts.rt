@@ -1,6 +1,6 @@
 //! The texts of scripts and transcripts.
 
-use crate::tried::{Fell, Halt, Tried};
+use crate::tried::{Fell, Halt, Tried, wanted};
 use irp_script::{Verdict, check};
 use irp_shared::{Header, Transcript, TranscriptParts};
 use irp_text::{
@@ -32,23 +32,6 @@ const SCRIPT: &[u8] =
  \"steps\":[{\"seat\":0,\"do\":\"allocate\",\"size\":1,\"as\":\"a\"},{\"seat\":0,\"do\":\"cancel\",\"irp\":\"a\"},
   {\"seat\":0,\"do\":\"acquire\",\"lock\":0,\"tag\":1}]}";
 
-/// Judges a transcript, which has to be legal. Where memory is missing, it is judged again.
-fn judge(alloc: Global, transcript: &Transcript, tried: &mut Tried) -> Result<(), Halt> {
-    let verdict = match check(alloc, transcript) {
-        Ok(verdict) => verdict,
-        Err(_) => {
-            tried.refused("irp_script::check", true)?;
-            check(alloc, transcript)?
-        }
-    };
-    let entries = transcript.entries().len() as u64;
-    if verdict == (Verdict::Legal { entries }) {
-        Ok(())
-    } else {
-        Err(Halt::Wrong("a history isn't legal"))
-    }
-}
-
 /// Puts the lines of the entries of the seats below a number, numbered from 0.
 fn put_entries(
     alloc: Global,
@@ -67,7 +50,8 @@ fn put_entries(
     Ok(())
 }
 
-/// Judges a transcript, and puts its lines as if it were one of so many seats: what further ones did is left out.
+/// Judges a transcript, which has to be legal, and once more where memory is missing. Puts its lines as if it were one of so
+/// many seats: what further ones did is left out.
 pub fn put_transcript(
     alloc: Global,
     out: &mut Vec<u8>,
@@ -75,7 +59,18 @@ pub fn put_transcript(
     seats: u32,
     tried: &mut Tried,
 ) -> Result<(), Halt> {
-    judge(alloc, &transcript, tried)?;
+    let verdict = match check(alloc, &transcript) {
+        Ok(verdict) => verdict,
+        Err(_) => {
+            tried.refused("irp_script::check", true)?;
+            check(alloc, &transcript)?
+        }
+    };
+    let count = transcript.entries().len() as u64;
+    wanted(
+        verdict == (Verdict::Legal { entries: count }),
+        "a history isn't legal",
+    )?;
     let TranscriptParts {
         header,
         entries,
@@ -132,7 +127,7 @@ pub fn read_the_transcript(
     tried: &mut Tried,
 ) -> Result<(), Halt> {
     let transcript = the_transcript(alloc, tried)?;
-    tried.at(1);
+    tried.step = 1;
     put_transcript(alloc, out, transcript, 1, tried)
 }
 
@@ -190,7 +185,7 @@ pub fn write_the_transcript(
     tried: &mut Tried,
 ) -> Result<(), Halt> {
     let transcript = the_transcript(alloc, tried)?;
-    tried.at(1);
+    tried.step = 1;
     let length = TRANSCRIPT.len();
     let (mut bytes, fault) = written(alloc, &transcript, length, length)?;
     if let Some(fault) = fault {
@@ -214,25 +209,26 @@ fn is_cut(alloc: Global, transcript: &Transcript, room: usize) -> Result<bool, H
     Ok(bytes.len() == room && is_beginning(bytes.as_slice(), fault, Cause::Io))
 }
 
-/// Whether an output that fails after as many bytes as the header's line has got that line.
-fn is_header(alloc: Global, transcript: &Transcript) -> Result<bool, Halt> {
+/// Whether an output that fails after as many bytes as the header's line has got that line, and one that takes one byte a
+/// write the whole text.
+fn are_header_and_whole(alloc: Global, transcript: &Transcript) -> Result<bool, Halt> {
     let Some(header) = transcript.header() else {
         return Ok(false);
     };
-    let bytes = written(alloc, transcript, TRANSCRIPT.len(), HEADER_LENGTH)?.0;
-    Ok(bytes.as_slice() == line_of(alloc, header)?.as_slice())
-}
-
-/// Whether an output that takes one byte a write gets the whole text.
-fn is_whole(alloc: Global, transcript: &Transcript) -> Result<bool, Halt> {
-    let (bytes, fault) = written(alloc, transcript, 1, TRANSCRIPT.len())?;
-    Ok(fault.is_none() && bytes.as_slice() == TRANSCRIPT)
+    let begun = written(alloc, transcript, TRANSCRIPT.len(), HEADER_LENGTH)?.0;
+    let is_header = begun.as_slice() == line_of(alloc, header)?.as_slice();
+    let (whole, fault) = written(alloc, transcript, 1, TRANSCRIPT.len())?;
+    Ok(is_header && fault.is_none() && whole.as_slice() == TRANSCRIPT)
 }
 
 /// Writes the transcript to an output that fails after each number of bytes, and to one that takes one byte a write. Puts a
 /// line for each number that was wrong, and how many were tried and were wrong.
 pub fn cut_writes(alloc: Global, out: &mut Vec<u8>) -> Result<(), Halt> {
-    let transcript = the_transcript(alloc, &mut Tried::new(Fell::Nowhere))?;
+    let mut nowhere = Tried {
+        step: 0,
+        fell: Fell::Nowhere,
+    };
+    let transcript = the_transcript(alloc, &mut nowhere)?;
     let mut wrong: u32 = 0;
     for room in 0..TRANSCRIPT.len() {
         if !is_cut(alloc, &transcript, room)? {
@@ -240,7 +236,7 @@ pub fn cut_writes(alloc: Global, out: &mut Vec<u8>) -> Result<(), Halt> {
             writeln!(out, "wrong: a write that fails after {room} bytes")?;
         }
     }
-    if !is_header(alloc, &transcript)? || !is_whole(alloc, &transcript)? {
+    if !are_header_and_whole(alloc, &transcript)? {
         wrong = wrong.wrapping_add(1);
         writeln!(out, "wrong: the header's line, or a write byte by byte")?;
     }
