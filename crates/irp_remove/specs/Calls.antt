@@ -1,7 +1,7 @@
 -- What each call does to a remove seat. The cases of a call exclude each other, so each refusal comes exactly where its
 -- case names it.
--- A step is told by the view before and after, and by some state in which the rule allows it. The word in that state has
--- the parity that is told, where one is, and no clause says that it is the word which the running table had.
+-- A step is described by the view before and after, and by some state in which the rule allows it. Where a parity is
+-- given, the word in that state has it. No clause says that it is the word which the running table had.
 use Rattle.std.specs.Prelude.{◌≡◌, ◌≢◌, ◌⊎◌, ℕ, ◌+◌, ◌-◌, ◌%◌, ◌<◌, ◌≤◌, true, false, List, [], ◌∷◌, ◌++◌, length, Contains, Some, slice_get, slice_set, remove, bit_or}
 use Rattle.irp_remove.specs.declared.refusal.AcquireRefusal.{AcquireRefusal}
 use Rattle.irp_remove.specs.declared.refusal.AcquireRefusal.TheVariants as acquire

@@ -13,7 +13,7 @@ use Rattle.irp_routines.specs.declared.not_added.Reason.{Reason}
 use Rattle.irp_routines.specs.declared.not_added.Reason.TheVariants.{Full, NoRoutine, BadMajor}
 use Rattle.irp_routines.proofs.FirstReasons.{both_none, none_at}
 
--- where no reason is told, the test for it fails
+-- where no reason is given, the test for it fails
 told_not : (test : Bool) (reason : Reason) (other : Option Reason) → cond test (Some reason) other ≡ None → (test ≡ false) × (other ≡ None)
 told_not true reason other none = absurd (none-some reason (sym none))
 told_not false reason other none = (λ i. false, none)

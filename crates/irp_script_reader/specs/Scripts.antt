@@ -1,4 +1,4 @@
--- Whole scripts. The first fault is told: the text's length, whether it is JSON, its form, its keys, and then the parts in
+-- Whole scripts. The first fault is given: the text's length, whether it is JSON, its form, its keys, and then the parts in
 -- order.
 use Rattle.std.specs.Prelude.{◌≡◌, ◌⊎◌, ℕ, ◌<◌, ◌≤◌, ◌==◌, ◌&&◌, Bool, List, [], ◌∷◌, length, codes, IsUtf8, true, false, nat_le, Option, Some, None, Result, Ok, Err, if◌then◌else◌}
 use Rattle.std.specs.Option.{option_and_then}

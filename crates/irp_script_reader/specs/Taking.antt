@@ -43,7 +43,7 @@ unless holds fault = if holds then Ok tt else Err fault
 abbrev pub with_item : {T : Type 0} → List T → T → List T
 with_item items added = items ++ added ∷ []
 
--- the rest of the members, once one was taken; the fault of that one is told with its place
+-- the rest of the members, once one was taken; the fault of that one is given with its place
 abbrev pub told : {L : Type 0} → Section → ℕ → (L → Result L ScriptRefusal) → Result L Fault → Result L ScriptRefusal
 told section index rest (Ok list) = rest list
 told section index rest (Err fault) = Err (At fault section index)

@@ -1,7 +1,7 @@
 -- What each call does to an owner or to a canceller, and the steps that it takes. The cases of a call exclude each
--- other, so each answer comes exactly where its case says. A step is told by the view before and after, and by some
--- state in which the rule allows it. What it found in that state is what is told, and no clause says that it is what
--- the running table had.
+-- other, so each answer comes exactly where its case says. A step is described by the view before and after, and by
+-- some state in which the rule allows it. What it answers is what it found in that state. No clause says that it is
+-- what the running table had.
 use Rattle.std.specs.Prelude.{◌≡◌, ℕ, ◌%◌, ◌<◌, ◌≤◌, true, false, [], ◌∷◌, slice_set, bit_or}
 use Rattle.irp_slots.specs.declared.views.Stage.TheVariants.{Idle, Standing, Done}
 use Rattle.irp_slots.specs.declared.views.Owning.{Owning}

@@ -55,7 +55,7 @@ walk (suc most) records device =
 abbrev pub facts_in : Device → DeviceFacts
 facts_in own = record { driver = own.driver; lock = own.lock; live = own.live }
 
--- what is fixed of a device, and whether it is live, as a caller is told
+-- what is fixed of a device, and whether it is live, as a caller sees it
 abbrev pub facts_shown : DeviceFacts → Facts
 facts_shown facts = record { driver = facts.driver; lock = facts.lock; live = facts.live }
 

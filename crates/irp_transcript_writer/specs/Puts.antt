@@ -6,11 +6,11 @@ use Rattle.irp_transcript_writer.specs.declared.write.Cause.{Cause}
 use Rattle.irp_transcript_writer.specs.declared.write.Cause.TheVariants.{Io, Memory}
 use Rattle.irp_transcript_writer.specs.declared.write.WriteFault.{WriteFault}
 
--- a number of bytes, told up to the greatest `u64`
+-- a number of bytes, counted up to the greatest `u64`
 abbrev pub told : ℕ → ℕ
 told count = min count (2 ^ 64 - 1)
 
--- a beginning of the text went out, which isn't the whole text, and its length is told
+-- a beginning of the text went out, which isn't the whole text, and its length is given
 pub record Begins (text : List ℕ) (old new : Option (List ℕ)) (written : ℕ) : Type 0 where
   pub front : List ℕ
   pub rest : List ℕ
@@ -29,12 +29,12 @@ abbrev pub CountsFault : {T : Type 0} → ℕ → ℕ → Result T WriteFault �
 CountsFault old new (Ok value) = new ≡ old
 CountsFault old new (Err fault) = new ≡ counts_for fault.cause old
 
--- all of the text went out after so many bytes, and their number then is told
+-- all of the text went out after so many bytes, and their number then is given
 pub record Sent (text : List ℕ) (before : ℕ) (old new : Option (List ℕ)) (written : ℕ) : Type 0 where
   pub gone : Appends old new text
   pub count : written ≡ told (before + length text)
 
--- a beginning of the text, not the whole, went out after so many bytes, and their number then is told
+-- a beginning of the text, not the whole, went out after so many bytes, and their number then is given
 pub record Stopped (text : List ℕ) (before : ℕ) (old new : Option (List ℕ)) (written : ℕ) : Type 0 where
   pub front : List ℕ
   pub rest : List ℕ

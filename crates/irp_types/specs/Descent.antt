@@ -215,6 +215,6 @@ pub record Descended (tables : Tables) (irp : IrpRef) (devices : DevicesValue) (
   pub listed : asked ≡ questions_of tables irp old devices frames ++ map as_asked unwinding
   pub replied : status ≡ replied_status frames
 
--- a packet whose sender is told another status than PENDING stands no lower than before
+-- a packet whose sender gets another status than PENDING stands no lower than before
 abbrev pub StaysUp : PacketValue → PacketValue → Status → Type 0
 StaysUp old new status = (status ≡ pending → ⊥) → old.current ≤ new.current
