@@ -8,9 +8,10 @@ use irp_types::DeviceId;
 use std::rt::Clock;
 use std::sync::Wait;
 use std::thread::Threads;
+use std::time::Duration;
 
-/// How many rounds are timed, by all callers together. With four calls in each, their entries fill a history.
-const ROUNDS: u32 = 250_000;
+/// How many calls are made in rounds, by all callers together. Their entries fill a history.
+const CALLS: u32 = 1_000_000;
 
 /// How many packets are allocated and given back.
 const UNUSED: u32 = 20_000;
@@ -28,14 +29,16 @@ const SENDS: u32 = 40;
 pub enum Calls {
     /// Rounds of four calls, by so many threads.
     Rounds,
+    /// Rounds of four calls by one thread, in one session of so many entries after another.
+    Entries,
     /// Packets are allocated and given back, while so many are live, this one too.
     Unused,
     /// Packets are sent through so many devices.
     Sends,
 }
 
-/// Rounds in so many seats, or by the manager alone.
-fn rounds(seats: Option<u32>) -> Work {
+/// So many calls in rounds, in so many seats, or by the manager alone.
+fn rounds(calls: u32, seats: Option<u32>) -> Work {
     Work {
         scene: Scene {
             devices: 0,
@@ -44,7 +47,7 @@ fn rounds(seats: Option<u32>) -> Work {
         },
         batch: Batch::Repeated {
             packet: Packet::Round,
-            count: ROUNDS.checked_div(seats.unwrap_or(1)).unwrap_or(0),
+            count: (calls / 4).checked_div(seats.unwrap_or(1)).unwrap_or(0),
         },
         batches: 1,
         seats,
@@ -85,7 +88,8 @@ pub fn sends(devices: u32, packets: u32, batches: u32, seats: Option<u32>) -> Wo
 }
 
 /// Times calls, by the manager alone or in a session. The time is that of a call of a round, of a packet, or of a send;
-/// where there are more threads than one, those of all threads count.
+/// where there are more threads than one, those of all threads count. Sessions of fewer entries than there are calls
+/// follow one another, and their times are added up.
 pub fn time_calls<R: Threads + Wait + Sync + Clock + AllocGlobal>(
     rt: &R,
     calls: Calls,
@@ -99,9 +103,18 @@ pub fn time_calls<R: Threads + Wait + Sync + Clock + AllocGlobal>(
         PACKETS
     };
     let work = match calls {
-        Calls::Rounds => rounds(one.map(|_| number)),
+        Calls::Rounds => rounds(CALLS, one.map(|_| number)),
+        Calls::Entries => rounds(number, one),
         Calls::Unused => unused(number, one),
         Calls::Sends => sends(number, packets, SENDS, one),
     };
-    Ok(Done::new(work.count(), 0, do_work(rt, work)?.taken))
+    let times = match calls {
+        Calls::Entries => CALLS.checked_div(number).unwrap_or(0),
+        _ => 1,
+    };
+    let mut taken = Duration::ZERO;
+    for _ in 0..times {
+        taken = taken.saturating_add(do_work(rt, work)?.taken);
+    }
+    Ok(Done::new(work.count().saturating_mul(times), 0, taken))
 }

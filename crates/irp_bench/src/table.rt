@@ -36,7 +36,7 @@ struct Row {
 }
 
 /// All that the program times, in this order.
-const TABLE: [Row; 9] = [
+const TABLE: [Row; 10] = [
     Row {
         word: "locks",
         name: "acquire and release, threads",
@@ -68,6 +68,14 @@ const TABLE: [Row; 9] = [
         beside_name: "by the manager alone",
         beside: Load::Alone(Calls::Rounds),
         numbers: &[1, 2, 4, 8],
+    },
+    Row {
+        word: "calls",
+        name: "a recorded call, of four, entries",
+        load: Load::Recorded(Calls::Entries),
+        beside_name: "by the manager alone",
+        beside: Load::Alone(Calls::Entries),
+        numbers: &[1_000, 10_000, 100_000, 1_000_000],
     },
     Row {
         word: "calls",
