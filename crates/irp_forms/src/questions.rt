@@ -57,9 +57,9 @@ fn answer_at(value: &Value) -> Option<Answer>
     if !has_items(value, 3) {
         return None;
     }
-    let keep = keep_named(value.get(0)?.as_str()?)?;
-    let mark = value.get(1)?.as_bool()?;
-    let replacement = replacement_or_null_at(value.get(2)?)?;
+    let keep = keep_named(value.get(0).and_then(Value::as_str)?)?;
+    let mark = value.get(1).and_then(Value::as_bool)?;
+    let replacement = value.get(2).and_then(replacement_or_null_at)?;
     Some(Answer {
         keep,
         mark,
@@ -72,12 +72,12 @@ fn answer_at(value: &Value) -> Option<Answer>
 fn place_at(value: &Value) -> Option<Place>
     ensures { result ≡ place_at (view value.now) }
 {
-    let device = device_or_null_at(value.get(0)?)?;
-    let slot = u32_at(value.get(1)?)?;
-    let use_no = u64_at(value.get(2)?)?;
-    let major = u8_at(value.get(3)?)?;
-    let location = u32_at(value.get(4)?)?;
-    let word = u64_at(value.get(5)?)?;
+    let device = value.get(0).and_then(device_or_null_at)?;
+    let slot = value.get(1).and_then(u32_at)?;
+    let use_no = value.get(2).and_then(u64_at)?;
+    let major = value.get(3).and_then(u8_at)?;
+    let location = value.get(4).and_then(u32_at)?;
+    let word = value.get(5).and_then(u64_at)?;
     Some(Place {
         device,
         irp: IrpRef {
@@ -99,12 +99,12 @@ fn shown_at(value: &Value) -> Option<Shown>
         return None;
     }
     let place = place_at(value)?;
-    let status = status_at(value.get(6)?)?;
-    let information = u64_at(value.get(7)?)?;
-    let pending_returned = value.get(8)?.as_bool()?;
-    let cancel = value.get(9)?.as_bool()?;
-    let context = u64_at(value.get(10)?)?;
-    let has_lower = value.get(11)?.as_bool()?;
+    let status = value.get(6).and_then(status_at)?;
+    let information = value.get(7).and_then(u64_at)?;
+    let pending_returned = value.get(8).and_then(Value::as_bool)?;
+    let cancel = value.get(9).and_then(Value::as_bool)?;
+    let context = value.get(10).and_then(u64_at)?;
+    let has_lower = value.get(11).and_then(Value::as_bool)?;
     Some(Shown {
         device: place.device,
         irp: place.irp,
@@ -125,9 +125,9 @@ fn shown_at(value: &Value) -> Option<Shown>
 fn dispatch_asked_at(value: &Value) -> Option<Asked>
     ensures { result ≡ dispatch_asked_at (view value.now) }
 {
-    let id = dispatch_at(value.get("dispatch")?)?;
-    let shown = shown_at(value.get("shown")?)?;
-    let plan = plan_at(value.get("plan")?)?;
+    let id = value.get("dispatch").and_then(dispatch_at)?;
+    let shown = value.get("shown").and_then(shown_at)?;
+    let plan = value.get("plan").and_then(plan_at)?;
     Some(Asked::Dispatch { id, shown, plan })
 }
 
@@ -136,9 +136,9 @@ fn dispatch_asked_at(value: &Value) -> Option<Asked>
 fn completion_asked_at(value: &Value) -> Option<Asked>
     ensures { result ≡ completion_asked_at (view value.now) }
 {
-    let id = routine_at(value.get("completion")?)?;
-    let shown = shown_at(value.get("shown")?)?;
-    let answer = answer_at(value.get("answer")?)?;
+    let id = value.get("completion").and_then(routine_at)?;
+    let shown = value.get("shown").and_then(shown_at)?;
+    let answer = value.get("answer").and_then(answer_at)?;
     Some(Asked::Completion { id, shown, answer })
 }
 
@@ -147,9 +147,9 @@ fn completion_asked_at(value: &Value) -> Option<Asked>
 fn cancel_asked_at(value: &Value) -> Option<Asked>
     ensures { result ≡ cancel_asked_at (view value.now) }
 {
-    let id = cancel_at(value.get("cancel")?)?;
-    let shown = shown_at(value.get("shown")?)?;
-    let answer = cancel_answer_at(value.get("answer")?)?;
+    let id = value.get("cancel").and_then(cancel_at)?;
+    let shown = value.get("shown").and_then(shown_at)?;
+    let answer = value.get("answer").and_then(cancel_answer_at)?;
     Some(Asked::Cancel { id, shown, answer })
 }
 

@@ -151,8 +151,8 @@ pub fn irp_at(value: &Value) -> Option<IrpRef>
     if !has_items(value, 2) {
         return None;
     }
-    let slot = u32_at(value.get(0)?)?;
-    let use_no = u64_at(value.get(1)?)?;
+    let slot = value.get(0).and_then(u32_at)?;
+    let use_no = value.get(1).and_then(u64_at)?;
     Some(IrpRef {
         slot: slot as usize,
         use_no,
@@ -184,8 +184,8 @@ pub fn routine_at(value: &Value) -> Option<RoutineId>
     if !has_items(value, 2) {
         return None;
     }
-    let rule = rule_at(value.get(0)?)?;
-    let no = u32_at(value.get(1)?)?;
+    let rule = value.get(0).and_then(rule_at)?;
+    let no = value.get(1).and_then(u32_at)?;
     Some(RoutineId { rule, no })
 }
 
@@ -197,14 +197,14 @@ pub fn setting_at(value: &Value) -> Option<Setting>
     if !has_items(value, 4) {
         return None;
     }
-    let rule = rule_at(value.get(0)?)?;
-    let no = u32_at(value.get(1)?)?;
-    let context = u64_at(value.get(2)?)?;
+    let rule = value.get(0).and_then(rule_at)?;
+    let no = value.get(1).and_then(u32_at)?;
+    let context = value.get(2).and_then(u64_at)?;
     let Flags {
         on_success,
         on_error,
         on_cancel,
-    } = flags_at(value.get(3)?)?;
+    } = value.get(3).and_then(flags_at)?;
     Some(Setting {
         routine: RoutineId { rule, no },
         context,
@@ -236,8 +236,8 @@ pub fn replacement_at(value: &Value) -> Option<Replacement>
     if !has_items(value, 2) {
         return None;
     }
-    let status = status_at(value.get(0)?)?;
-    let information = u64_at(value.get(1)?)?;
+    let status = value.get(0).and_then(status_at)?;
+    let information = value.get(1).and_then(u64_at)?;
     Some(Replacement {
         status,
         information,
@@ -266,8 +266,8 @@ fn finish_at(value: &Value) -> Option<Plan>
     if !has_items(value, 3) {
         return None;
     }
-    let status = status_at(value.get(1)?)?;
-    let information = u64_at(value.get(2)?)?;
+    let status = value.get(1).and_then(status_at)?;
+    let information = value.get(2).and_then(u64_at)?;
     Some(Plan::Finish {
         status,
         information,
@@ -282,7 +282,7 @@ fn hold_at(value: &Value) -> Option<Plan>
     if !has_items(value, 2) {
         return None;
     }
-    let cancel = cancel_or_null_at(value.get(1)?)?;
+    let cancel = value.get(1).and_then(cancel_or_null_at)?;
     Some(Plan::Hold { cancel })
 }
 
@@ -294,7 +294,7 @@ fn forward_at(value: &Value) -> Option<Plan>
     if !has_items(value, 2) {
         return None;
     }
-    let set = setting_or_null_at(value.get(1)?)?;
+    let set = value.get(1).and_then(setting_or_null_at)?;
     Some(Plan::Forward { set })
 }
 
@@ -306,7 +306,7 @@ fn forward_pend_at(value: &Value) -> Option<Plan>
     if !has_items(value, 2) {
         return None;
     }
-    let set = setting_or_null_at(value.get(1)?)?;
+    let set = value.get(1).and_then(setting_or_null_at)?;
     Some(Plan::ForwardPend { set })
 }
 
@@ -358,7 +358,7 @@ fn cancel_finish_at(value: &Value) -> Option<CancelAnswer>
     if !has_items(value, 2) {
         return None;
     }
-    let information = u64_at(value.get(1)?)?;
+    let information = value.get(1).and_then(u64_at)?;
     Some(CancelAnswer::Finish { information })
 }
 
@@ -395,11 +395,11 @@ pub fn cancel_answer_at(value: &Value) -> Option<CancelAnswer>
 fn first_counts_at(value: &Value) -> Option<Known>
     ensures { result ≡ first_counts_at (view value.now) }
 {
-    let watch = u32_at(value.get(0)?)?;
-    let change = u32_at(value.get(1)?)?;
-    let keeper = u32_at(value.get(2)?)?;
-    let keep_on_error = u32_at(value.get(3)?)?;
-    let free = u32_at(value.get(4)?)?;
+    let watch = value.get(0).and_then(u32_at)?;
+    let change = value.get(1).and_then(u32_at)?;
+    let keeper = value.get(2).and_then(u32_at)?;
+    let keep_on_error = value.get(3).and_then(u32_at)?;
+    let free = value.get(4).and_then(u32_at)?;
     Some(Known {
         watch,
         change,
@@ -432,7 +432,7 @@ pub fn known_at(value: &Value) -> Option<Known>
         return None;
     }
     let counts = first_counts_at(value)?;
-    let cancel = u32_at(value.get(5)?)?;
+    let cancel = value.get(5).and_then(u32_at)?;
     Some(Known { cancel, ..counts })
 }
 
@@ -444,8 +444,8 @@ pub fn handler_at(value: &Value) -> Option<(u8, DispatchId)>
     if !has_items(value, 2) {
         return None;
     }
-    let major = u8_at(value.get(0)?)?;
-    let dispatch = dispatch_at(value.get(1)?)?;
+    let major = value.get(0).and_then(u8_at)?;
+    let dispatch = value.get(1).and_then(dispatch_at)?;
     Some((major, dispatch))
 }
 
