@@ -2,3 +2,4 @@ pub mod Parts
 pub mod Names
 pub mod Values
 pub mod Questions
+pub mod Fields

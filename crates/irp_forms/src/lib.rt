@@ -1,6 +1,7 @@
 //! The small forms that scripts and transcripts are made of, read from JSON values.
 #![tactic(auto)]
 
+mod fields;
 mod list;
 mod names;
 mod parts;
@@ -8,6 +9,10 @@ mod questions;
 mod unread;
 mod values;
 
+pub use fields::{
+    cancel_or_null_under, device_under, driver_under, irp_under, lock_under, party_under,
+    setting_under, status_under, u8_under, u32_under, u64_under,
+};
 pub use list::{FromJson, list_at};
 pub use names::{Flags, flags_named, rule_at, rule_named};
 pub use parts::{has_items, has_keys, u8_at, u32_at, u64_at};

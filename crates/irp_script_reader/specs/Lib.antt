@@ -1,4 +1,3 @@
-pub mod Fields
 pub mod Labels
 pub mod Taking
 pub mod Routines

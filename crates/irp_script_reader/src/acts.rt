@@ -32,10 +32,13 @@ ghost use Rattle.irp_script_reader.specs.Acts.{
 };
 
 use crate::act::{Named, Step, StepAct};
-use crate::fields::{device_under, lock_in, packet_in, status_in, u8_under, u32_under, u64_under};
+use crate::fields::packet_in;
 use crate::labels::is_label;
 use crate::slot_acts::slot_act_named;
-use irp_forms::{cancel_or_null_at, driver_at, has_keys, party_at, setting_at};
+use irp_forms::{
+    cancel_or_null_under, device_under, driver_under, has_keys, lock_under, party_under,
+    setting_under, status_under, u8_under, u32_under, u64_under,
+};
 use irp_types::{LockNo, Party};
 use serde_json::Value;
 
@@ -47,8 +50,8 @@ fn create_device_at(value: &Value) -> Option<StepAct>
     if !has_keys(value, &["do", "driver", "lock", "seat"]) {
         return None;
     }
-    let driver = driver_at(value.get("driver")?)?;
-    let lock = lock_in(value)?;
+    let driver = driver_under("driver", value)?;
+    let lock = lock_under("lock", value)?;
     Some(StepAct::CreateDevice { driver, lock })
 }
 
@@ -116,7 +119,7 @@ fn allocate_at(place: usize, value: &Value) -> Option<StepAct>
         return None;
     }
     let size = u8_under("size", value)?;
-    let label = value.get("as")?.as_str()?;
+    let label = value.get("as").and_then(Value::as_str)?;
     if is_label(label) {
         Some(StepAct::Allocate { size, label: place })
     } else {
@@ -133,7 +136,7 @@ fn reuse_at(place: usize, value: &Value) -> Option<StepAct>
         return None;
     }
     let irp = packet_in(place, value)?;
-    let status = status_in(value)?;
+    let status = status_under("status", value)?;
     Some(StepAct::Reuse { irp, status })
 }
 
@@ -183,7 +186,7 @@ fn packet_act_named(place: usize, name: &str, value: &Value) -> Option<StepAct>
 fn sender_at(place: usize, value: &Value) -> Option<(Party, Named)>
     ensures { result ≡ sender_at place (view value.now) }
 {
-    let party = party_at(value.get("by")?)?;
+    let party = party_under("by", value)?;
     let irp = packet_in(place, value)?;
     Some((party, irp))
 }
@@ -227,7 +230,7 @@ fn set_routine_at(place: usize, value: &Value) -> Option<StepAct>
         return None;
     }
     let (party, irp) = sender_at(place, value)?;
-    let setting = setting_at(value.get("set")?)?;
+    let setting = setting_under("set", value)?;
     Some(StepAct::SetRoutine {
         party,
         irp,
@@ -257,7 +260,7 @@ fn complete_at(place: usize, value: &Value) -> Option<StepAct>
         return None;
     }
     let (party, irp) = sender_at(place, value)?;
-    let status = status_in(value)?;
+    let status = status_under("status", value)?;
     let information = u64_under("information", value)?;
     Some(StepAct::Complete {
         party,
@@ -276,7 +279,7 @@ fn set_cancel_routine_at(place: usize, value: &Value) -> Option<StepAct>
         return None;
     }
     let (party, irp) = sender_at(place, value)?;
-    let cancel = cancel_or_null_at(value.get("cancel")?)?;
+    let cancel = cancel_or_null_under("cancel", value)?;
     Some(StepAct::SetCancelRoutine { party, irp, cancel })
 }
 
@@ -325,7 +328,7 @@ fn tagged_at(value: &Value) -> Option<(LockNo, u32)>
     if !has_keys(value, &["do", "lock", "seat", "tag"]) {
         return None;
     }
-    let lock = lock_in(value)?;
+    let lock = lock_under("lock", value)?;
     let tag = u32_under("tag", value)?;
     Some((lock, tag))
 }
@@ -338,7 +341,7 @@ fn drained_at(value: &Value) -> Option<StepAct>
     if !has_keys(value, &["do", "lock", "seat"]) {
         return None;
     }
-    let lock = lock_in(value)?;
+    let lock = lock_under("lock", value)?;
     Some(StepAct::Drained { lock })
 }
 
@@ -396,7 +399,7 @@ fn act_named(place: usize, name: &str, value: &Value) -> Option<StepAct>
 fn act_at(place: usize, value: &Value) -> Option<StepAct>
     ensures { result ≡ act_at place (view value.now) }
 {
-    act_named(place, value.get("do")?.as_str()?, value)
+    act_named(place, value.get("do").and_then(Value::as_str)?, value)
 }
 
 /// A step, where a label that it names has this place (this project's own format, docs/FORMATS.md).

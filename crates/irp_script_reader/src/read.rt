@@ -23,13 +23,12 @@ ghost use Rattle.irp_script_reader.specs.Sound.{IsSound};
 ghost use Rattle.irp_script_reader.specs.Taking.{Tells};
 
 use crate::act::Step;
-use crate::fields::u32_under;
 use crate::labels::Labels;
 use crate::lists::{Cancels, Completions, Dispatches, Drivers, Steps};
 use crate::refusal::{Fault, ScriptFault, ScriptRefusal, Section};
 use crate::script::{Script, ScriptForm};
 use crate::taking::{Taking, list_of, refused};
-use irp_forms::has_keys;
+use irp_forms::{has_keys, u32_under};
 use irp_types::{Known, Row};
 use serde_json::Value;
 use std::alloc::Global;

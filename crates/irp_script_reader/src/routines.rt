@@ -61,7 +61,7 @@ fn replace_at(value: &Value) -> Option<Behaviour>
     if !has_items(value, 3) {
         return None;
     }
-    replace_named(value.get(0)?.as_str()?, value)
+    replace_named(value.get(0).and_then(Value::as_str)?, value)
 }
 
 /// A behaviour.

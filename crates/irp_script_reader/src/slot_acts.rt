@@ -12,8 +12,8 @@ ghost use Rattle.irp_script_reader.specs.SlotActs.{
 };
 
 use crate::act::StepAct;
-use crate::fields::{lock_in, packet_in, status_in, u32_under, u64_under};
-use irp_forms::has_keys;
+use crate::fields::packet_in;
+use irp_forms::{has_keys, lock_under, status_under, u32_under, u64_under};
 use serde_json::Value;
 
 /// A reference handed over.
@@ -24,7 +24,7 @@ fn hand_at(value: &Value) -> Option<StepAct>
     if !has_keys(value, &["do", "lock", "seat", "tag", "to"]) {
         return None;
     }
-    let lock = lock_in(value)?;
+    let lock = lock_under("lock", value)?;
     let tag = u32_under("tag", value)?;
     let to = u32_under("to", value)?;
     Some(StepAct::Hand { lock, tag, to })
@@ -67,7 +67,7 @@ fn finish_taken_at(place: usize, value: &Value) -> Option<StepAct>
     }
     let irp = packet_in(place, value)?;
     let slot = u32_under("slot", value)?;
-    let status = status_in(value)?;
+    let status = status_under("status", value)?;
     let information = u64_under("information", value)?;
     Some(StepAct::FinishTaken {
         irp,

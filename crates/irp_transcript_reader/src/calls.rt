@@ -22,7 +22,8 @@ ghost use Rattle.irp_transcript_reader.specs.Calls.{
 
 use crate::party_calls::{party_call_named, plain_call_named};
 use irp_forms::{
-    device_at, driver_at, has_keys, irp_at, lock_at, lock_or_null_at, status_at, u8_at, u64_at,
+    device_under, driver_under, has_keys, irp_under, lock_or_null_at, lock_under, status_under,
+    u8_under, u64_under,
 };
 use irp_types::{Call, IrpRef, LockNo};
 use serde_json::Value;
@@ -43,8 +44,8 @@ fn create_device_at(value: &Value) -> Option<Call>
     if !has_keys(value, &["do", "driver", "lock"]) {
         return None;
     }
-    let driver = driver_at(value.get("driver")?)?;
-    let lock = lock_at(value.get("lock")?)?;
+    let driver = driver_under("driver", value)?;
+    let lock = lock_under("lock", value)?;
     Some(Call::CreateDevice { driver, lock })
 }
 
@@ -56,8 +57,8 @@ fn attach_at(value: &Value) -> Option<Call>
     if !has_keys(value, &["device", "do", "to"]) {
         return None;
     }
-    let device = device_at(value.get("device")?)?;
-    let to = device_at(value.get("to")?)?;
+    let device = device_under("device", value)?;
+    let to = device_under("to", value)?;
     Some(Call::Attach { device, to })
 }
 
@@ -69,7 +70,7 @@ fn detach_at(value: &Value) -> Option<Call>
     if !has_keys(value, &["do", "lower"]) {
         return None;
     }
-    let lower = device_at(value.get("lower")?)?;
+    let lower = device_under("lower", value)?;
     Some(Call::Detach { lower })
 }
 
@@ -97,7 +98,7 @@ fn allocate_at(value: &Value) -> Option<Call>
     if !has_keys(value, &["do", "size"]) {
         return None;
     }
-    let size = u8_at(value.get("size")?)?;
+    let size = u8_under("size", value)?;
     Some(Call::Allocate { size })
 }
 
@@ -109,8 +110,8 @@ fn reuse_at(value: &Value) -> Option<Call>
     if !has_keys(value, &["do", "irp", "status"]) {
         return None;
     }
-    let irp = irp_at(value.get("irp")?)?;
-    let status = status_at(value.get("status")?)?;
+    let irp = irp_under("irp", value)?;
+    let status = status_under("status", value)?;
     Some(Call::Reuse { irp, status })
 }
 
@@ -122,7 +123,7 @@ fn irp_alone_at(value: &Value) -> Option<IrpRef>
     if !has_keys(value, &["do", "irp"]) {
         return None;
     }
-    irp_at(value.get("irp")?)
+    irp_under("irp", value)
 }
 
 /// Whether it has the keys of a call that finishes a packet which was taken from a cancel slot.
@@ -141,10 +142,10 @@ fn finish_taken_at(value: &Value) -> Option<Call>
     if !has_finish_taken_keys(value) {
         return None;
     }
-    let irp = irp_at(value.get("irp")?)?;
-    let token = u64_at(value.get("token")?)?;
-    let status = status_at(value.get("status")?)?;
-    let information = u64_at(value.get("information")?)?;
+    let irp = irp_under("irp", value)?;
+    let token = u64_under("token", value)?;
+    let status = status_under("status", value)?;
+    let information = u64_under("information", value)?;
     Some(Call::FinishTaken {
         irp,
         token,
@@ -203,8 +204,8 @@ fn delete_at(value: &Value) -> Option<EntryCall>
     if !has_keys(value, &["device", "do", "drained", "lock"]) {
         return None;
     }
-    let device = device_at(value.get("device")?)?;
-    let drained = value.get("drained")?.as_bool()?;
+    let device = device_under("device", value)?;
+    let drained = value.get("drained").and_then(Value::as_bool)?;
     let lock = lock_or_null_at(value.get("lock")?)?;
     Some(EntryCall {
         call: Call::Delete { device },
@@ -234,6 +235,6 @@ fn entry_call_named(name: &str, value: &Value) -> Option<EntryCall>
 pub fn entry_call_at(value: &Value) -> Option<EntryCall>
     ensures { result ≡ entry_call_at (view value.now) }
 {
-    let name = value.get("do")?.as_str()?;
+    let name = value.get("do").and_then(Value::as_str)?;
     entry_call_named(name, value)
 }

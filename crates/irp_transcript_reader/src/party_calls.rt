@@ -17,7 +17,8 @@ ghost use Rattle.irp_transcript_reader.specs.Calls.{
 };
 
 use irp_forms::{
-    cancel_or_null_at, device_at, has_keys, irp_at, party_at, setting_at, status_at, u8_at, u64_at,
+    cancel_or_null_under, device_under, has_keys, irp_under, party_under, setting_under,
+    status_under, u8_under, u64_under,
 };
 use irp_types::{Call, IrpRef, Party};
 use serde_json::Value;
@@ -27,8 +28,8 @@ use serde_json::Value;
 fn by_party_at(value: &Value) -> Option<(Party, IrpRef)>
     ensures { result ≡ by_party_at (view value.now) }
 {
-    let party = party_at(value.get("by")?)?;
-    let irp = irp_at(value.get("irp")?)?;
+    let party = party_under("by", value)?;
+    let irp = irp_under("irp", value)?;
     Some((party, irp))
 }
 
@@ -41,8 +42,8 @@ fn set_next_at(value: &Value) -> Option<Call>
         return None;
     }
     let (party, irp) = by_party_at(value)?;
-    let major = u8_at(value.get("major")?)?;
-    let word = u64_at(value.get("word")?)?;
+    let major = u8_under("major", value)?;
+    let word = u64_under("word", value)?;
     Some(Call::SetNext {
         party,
         irp,
@@ -60,7 +61,7 @@ fn set_routine_at(value: &Value) -> Option<Call>
         return None;
     }
     let (party, irp) = by_party_at(value)?;
-    let setting = setting_at(value.get("set")?)?;
+    let setting = setting_under("set", value)?;
     Some(Call::SetRoutine {
         party,
         irp,
@@ -77,7 +78,7 @@ fn call_driver_at(value: &Value) -> Option<Call>
         return None;
     }
     let (party, irp) = by_party_at(value)?;
-    let target = device_at(value.get("target")?)?;
+    let target = device_under("target", value)?;
     Some(Call::CallDriver { party, irp, target })
 }
 
@@ -98,8 +99,8 @@ fn complete_at(value: &Value) -> Option<Call>
         return None;
     }
     let (party, irp) = by_party_at(value)?;
-    let status = status_at(value.get("status")?)?;
-    let information = u64_at(value.get("information")?)?;
+    let status = status_under("status", value)?;
+    let information = u64_under("information", value)?;
     Some(Call::Complete {
         party,
         irp,
@@ -117,7 +118,7 @@ fn set_cancel_routine_at(value: &Value) -> Option<Call>
         return None;
     }
     let (party, irp) = by_party_at(value)?;
-    let cancel = cancel_or_null_at(value.get("cancel")?)?;
+    let cancel = cancel_or_null_under("cancel", value)?;
     Some(Call::SetCancelRoutine { party, irp, cancel })
 }
 

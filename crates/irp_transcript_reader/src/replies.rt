@@ -13,7 +13,8 @@ ghost use Rattle.irp_transcript_reader.specs.Replies.{
 
 use crate::refusals::refusal_named;
 use irp_forms::{
-    cancel_or_null_at, device_at, has_items, has_keys, irp_at, status_at, u32_at, u64_at,
+    cancel_or_null_at, cancel_or_null_under, device_at, device_under, has_items, has_keys,
+    irp_under, status_at, status_under, u32_at, u64_at,
 };
 use irp_types::{Owner, Reply, Seen, Status};
 use serde_json::Value;
@@ -72,10 +73,10 @@ fn seen_at(value: &Value) -> Option<Seen>
         return None;
     }
     let holder = holder_at(value)?;
-    let cancel = value.get(4)?.as_bool()?;
+    let cancel = value.get(4).and_then(Value::as_bool)?;
     let cancel_routine = cancel_or_null_at(value.get(5)?)?;
-    let pending_returned = value.get(6)?.as_bool()?;
-    let marked = value.get(7)?.as_bool()?;
+    let pending_returned = value.get(6).and_then(Value::as_bool)?;
+    let marked = value.get(7).and_then(Value::as_bool)?;
     Some(Seen {
         owner: holder.owner,
         current: holder.current,
@@ -94,13 +95,13 @@ fn naming_reply_at(value: &Value) -> Option<Reply>
     ensures { result ≡ naming_reply_at (view value.now) }
 {
     if has_keys(value, &["device"]) {
-        let device = device_at(value.get("device")?)?;
+        let device = device_under("device", value)?;
         Some(Reply::Device(device))
     } else if has_keys(value, &["irp"]) {
-        let irp = irp_at(value.get("irp")?)?;
+        let irp = irp_under("irp", value)?;
         Some(Reply::Irp(irp))
     } else if has_keys(value, &["previous"]) {
-        let cancel = cancel_or_null_at(value.get("previous")?)?;
+        let cancel = cancel_or_null_under("previous", value)?;
         Some(Reply::Previous(cancel))
     } else {
         None
@@ -113,16 +114,16 @@ fn telling_reply_at(value: &Value) -> Option<Reply>
     ensures { result ≡ telling_reply_at (view value.now) }
 {
     if has_keys(value, &["status"]) {
-        let status = status_at(value.get("status")?)?;
+        let status = status_under("status", value)?;
         Some(Reply::Status(status))
     } else if has_keys(value, &["cancelled"]) {
-        let cancelled = value.get("cancelled")?.as_bool()?;
+        let cancelled = value.get("cancelled").and_then(Value::as_bool)?;
         Some(Reply::Cancelled(cancelled))
     } else if has_keys(value, &["seen"]) {
         let seen = seen_at(value.get("seen")?)?;
         Some(Reply::Seen(seen))
     } else if has_keys(value, &["refused"]) {
-        let refusal = refusal_named(value.get("refused")?.as_str()?)?;
+        let refusal = refusal_named(value.get("refused").and_then(Value::as_str)?)?;
         Some(Reply::Refused(refusal))
     } else {
         None

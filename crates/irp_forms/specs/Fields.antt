@@ -1,4 +1,4 @@
--- What stands under a key of a script or of a step.
+-- What stands under a key of an object.
 use Rattle.std.specs.Prelude.{ℕ, List, Option}
 use Rattle.serde_json.specs.Data.{Data}
 use Rattle.serde_json.specs.Find.{get}
