@@ -11,7 +11,7 @@ use crate::fault::Fault;
 use crate::packets::{Batch, READ, Scene, WATCH, make_batch, make_ready, set_up};
 use irp_routines::{Ask, Dispatch, Routine, Store};
 use irp_shared::{Seat, Session, Shared, Transcript, open};
-use irp_types::{Answer, Known, Plan, Rule, Shown, Status};
+use irp_types::{Answer, IrpRef, Known, Plan, Rule, Shown, Status};
 use std::alloc::Global;
 use std::marker::Brand;
 use std::rt::Clock;
@@ -87,8 +87,25 @@ fn watches(shown: Shown) -> Answer
     }
 }
 
-/// Builds the scene, and does the work with this caller. Answers how long the batches took. Before each batch the packets
-/// that are there are made ready to be sent, which is not in the time.
+/// Does the work with this caller and these packets. Answers how long the batches took. Before each batch the packets are
+/// made ready to be sent, which is not in the time.
+fn time_batches<C: Caller, R: Clock>(
+    rt: &R,
+    caller: &mut C,
+    packets: &mut [IrpRef],
+    work: Work,
+) -> Result<Duration, Fault> {
+    let mut taken = Duration::ZERO;
+    for _ in 0..work.batches {
+        make_ready(caller, packets)?;
+        let start = Instant::now(rt)?;
+        make_batch(caller, work.batch, packets)?;
+        taken = taken.saturating_add(start.elapsed(rt)?);
+    }
+    Ok(taken)
+}
+
+/// Builds the scene, and does the work with this caller. Answers how long the batches took.
 fn timed<C: Caller, R: Clock>(
     rt: &R,
     alloc: Global,
@@ -96,14 +113,7 @@ fn timed<C: Caller, R: Clock>(
     work: Work,
 ) -> Result<Duration, Fault> {
     let mut packets = set_up(caller, alloc, work.scene)?;
-    let mut taken = Duration::ZERO;
-    for _ in 0..work.batches {
-        make_ready(caller, packets.as_mut_slice())?;
-        let start = Instant::now(rt)?;
-        make_batch(caller, work.batch, packets.as_slice())?;
-        taken = taken.saturating_add(start.elapsed(rt)?);
-    }
-    Ok(taken)
+    time_batches(rt, caller, packets.as_mut_slice(), work)
 }
 
 /// A seat that is done, and how long its batches took.
@@ -165,6 +175,16 @@ fn recorded<A: Ask + Send + Drop, L: Session + Send + Sync, R: Threads + Wait + 
     })
 }
 
+/// Does the work by the manager alone.
+fn alone<R: Clock>(rt: &R, alloc: Global, store: Store, work: Work) -> Result<Outcome, Fault> {
+    let mut caller = Alone::new(alloc, store);
+    let taken = timed(rt, alloc, &mut caller, work)?;
+    Ok(Outcome {
+        taken,
+        transcript: None,
+    })
+}
+
 /// Does the work with this store.
 fn with_store<R: Threads + Wait + Sync + Clock>(
     rt: &R,
@@ -173,10 +193,7 @@ fn with_store<R: Threads + Wait + Sync + Clock>(
     work: Work,
 ) -> Result<Outcome, Fault> {
     match work.seats {
-        None => Ok(Outcome {
-            taken: timed(rt, alloc, &mut Alone::new(alloc, store), work)?,
-            transcript: None,
-        }),
+        None => alone(rt, alloc, store, work),
         Some(seats) => {
             let blank = Blank::new(u64::from(seats));
             recorded::<Store, Brand, R>(rt, alloc, blank, store, seats, work)

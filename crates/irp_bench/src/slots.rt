@@ -89,12 +89,33 @@ fn request_all(
 }
 
 /// Swaps a number into the word and 0 out of it again, and sets its lowest bit, so many times.
-fn bare_steps(word: &AtomicU64, count: u32) {
+fn bare_steps(word: &AtomicU64, count: usize) {
     for _ in 0..count {
         word.swap(PACKET.use_no, Ordering::SeqCst);
         word.fetch_or(1, Ordering::SeqCst);
         word.swap(0, Ordering::SeqCst);
     }
+}
+
+/// Times a pair of calls on the slot of each of these owners, or as many bare steps.
+fn time_pairs<R: Clock>(
+    rt: &R,
+    pair: Pair,
+    slots: &Slots,
+    owners: &mut [SlotOwner],
+    canceller: &mut Canceller,
+) -> Result<Duration, Fault>
+    requires owners { All (IsOwnerOf slots.now) owners.old }
+    requires canceller { IsCancellerOf slots.now canceller.old }
+{
+    let word = AtomicU64::new(0);
+    let start = Instant::now(rt)?;
+    match pair {
+        Pair::Withdrawn => withdraw_all(slots, owners)?,
+        Pair::Requested => request_all(slots, owners, canceller)?,
+        Pair::Bare => bare_steps(&word, owners.len()),
+    }
+    Ok(start.elapsed(rt)?)
 }
 
 /// Opens so many slots, and times a pair of calls on each, or as many bare steps. To open them is not in the time.
@@ -105,14 +126,7 @@ fn time_table<R: Clock + AllocGlobal>(rt: &R, pair: Pair, slots: u32) -> Result<
     let Some(mut canceller) = cancellers.pop() else {
         return Err(Fault::Failed);
     };
-    let word = AtomicU64::new(0);
-    let start = Instant::now(rt)?;
-    match pair {
-        Pair::Withdrawn => withdraw_all(&opened, owners.as_mut_slice())?,
-        Pair::Requested => request_all(&opened, owners.as_mut_slice(), &mut canceller)?,
-        Pair::Bare => bare_steps(&word, slots),
-    }
-    Ok(start.elapsed(rt)?)
+    time_pairs(rt, pair, &opened, owners.as_mut_slice(), &mut canceller)
 }
 
 /// Times pairs of calls on slots, of which so many are opened at once, or as many bare steps.

@@ -139,23 +139,33 @@ fn run<R: Threads + Wait + Sync + Clock + AllocGlobal>(
     }
 }
 
-/// The least times of the two loads of a row, which take turns.
+/// The least times of the two loads of a row, which take turns, with this sample.
+fn take_turns<R: Threads + Wait + Sync + Clock + AllocGlobal>(
+    rt: &R,
+    row: Row,
+    number: u32,
+    sample: Option<&Sample>,
+) -> Result<(Done, Done), Fault> {
+    let mut first = Done::NEVER;
+    let mut second = Done::NEVER;
+    for _ in 0..ROUNDS {
+        first = first.min(run(rt, row.load, number, sample)?);
+        second = second.min(run(rt, row.beside, number, sample)?);
+    }
+    Ok((first, second))
+}
+
+/// The least times of the two loads of a row, with a sample where they want one.
 fn least<R: Threads + Wait + Sync + Clock + AllocGlobal>(
     rt: &R,
     row: Row,
     number: u32,
 ) -> Result<(Done, Done), Fault> {
-    let sample = match row.load {
-        Load::Text(_) => Some(record_sample(rt, number)?),
-        _ => None,
-    };
-    let mut first = Done::NEVER;
-    let mut second = Done::NEVER;
-    for _ in 0..ROUNDS {
-        first = first.min(run(rt, row.load, number, sample.as_ref())?);
-        second = second.min(run(rt, row.beside, number, sample.as_ref())?);
+    if let Load::Text(_) = row.load {
+        let sample = record_sample(rt, number)?;
+        return take_turns(rt, row, number, Some(&sample));
     }
-    Ok((first, second))
+    take_turns(rt, row, number, None)
 }
 
 /// Times a row for each of its numbers, and writes a line for each to standard error.

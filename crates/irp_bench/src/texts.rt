@@ -113,6 +113,21 @@ fn first_values(alloc: Global, text: &[u8]) -> Result<(Vec<Value>, u64), Fault> 
     Err(Fault::Failed)
 }
 
+/// A transcript of so many entries beside its text, and the values of the text's first lines.
+fn sample_of(alloc: Global, entries: u32, transcript: Transcript) -> Result<Sample, Fault>
+    ensures { IfOk result (λ sample. sample.text.items ≡ text_of (lines sample.transcript)) }
+{
+    let text = text(alloc, &transcript, 0)?;
+    let (values, bytes) = first_values(alloc, text.as_slice())?;
+    Ok(Sample {
+        entries,
+        transcript,
+        text,
+        values,
+        bytes,
+    })
+}
+
 /// A transcript of so many entries, and its text: in a session of one seat, a packet is sent through four devices again
 /// and again, with the three calls before each send that make it ready.
 ///
@@ -134,15 +149,7 @@ pub fn record_sample<R: Threads + Wait + Sync + Clock + AllocGlobal>(
     if transcript.entries().len() != entries as usize {
         return Err(Fault::Failed);
     }
-    let text = text(rt.alloc(), &transcript, 0)?;
-    let (values, bytes) = first_values(rt.alloc(), text.as_slice())?;
-    Ok(Sample {
-        entries,
-        transcript,
-        text,
-        values,
-        bytes,
-    })
+    sample_of(rt.alloc(), entries, transcript)
 }
 
 /// Writes each value's compact text, and counts the bytes with a newline behind each.
@@ -220,8 +227,10 @@ pub fn perform<R: Clock>(
     sample: &Sample,
 ) -> Result<Done, Fault> {
     let start = Instant::now(rt)?;
-    let _made = work(alloc, task, sample)?;
-    let taken = start.elapsed(rt)?;
+    let made = work(alloc, task, sample)?;
+    let taken = start.elapsed(rt);
+    drop(made);
+    let taken = taken?;
     Ok(match task {
         Task::WriteValues => Done::new(LINES as u32, sample.bytes, taken),
         _ => Done::new(sample.entries, sample.text.len() as u64, taken),
