@@ -87,6 +87,14 @@ pub fn sends(devices: u32, packets: u32, batches: u32, seats: Option<u32>) -> Wo
     }
 }
 
+/// How long a work takes.
+fn time_of<R: Threads + Wait + Sync + Clock + AllocGlobal>(
+    rt: &R,
+    work: Work,
+) -> Result<Duration, Fault> {
+    Ok(do_work(rt, work)?.taken)
+}
+
 /// Times calls, by the manager alone or in a session. The time is that of a call of a round, of a packet, or of a send;
 /// where there are more threads than one, those of all threads count. Sessions of fewer entries than there are calls
 /// follow one another, and their times are added up.
@@ -114,7 +122,7 @@ pub fn time_calls<R: Threads + Wait + Sync + Clock + AllocGlobal>(
     };
     let mut taken = Duration::ZERO;
     for _ in 0..times {
-        taken = taken.saturating_add(do_work(rt, work)?.taken);
+        taken = taken.saturating_add(time_of(rt, work)?);
     }
     Ok(Done::new(work.count().saturating_mul(times), 0, taken))
 }

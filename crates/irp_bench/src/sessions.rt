@@ -177,10 +177,9 @@ fn recorded<A: Ask + Send + Drop, L: Session + Send + Sync, R: Threads + Wait + 
 
 /// Does the work by the manager alone.
 fn alone<R: Clock>(rt: &R, alloc: Global, store: Store, work: Work) -> Result<Outcome, Fault> {
-    let mut caller = Alone::new(alloc, store);
-    let taken = timed(rt, alloc, &mut caller, work)?;
+    let taken = timed(rt, alloc, &mut Alone::new(alloc, store), work);
     Ok(Outcome {
-        taken,
+        taken: taken?,
         transcript: None,
     })
 }
