@@ -1,6 +1,6 @@
 -- Counts of what is handed round: seats one by one, and workers all together.
 use Rattle.std.proofs.Common.{◌≡◌, All, ℕ, zero, suc, ◌+◌, ◌<◌, ◌≤◌, Bool, true, false, cond, ◌||◌, List, [], ◌∷◌, ◌++◌, length, map, set, get_or, refl, sym, subst, ap, ◌∙◌, arith, inl, inr}
-use Rattle.std.proofs.lemmas.List.{map_push, get_or-set_same, get_or-set_other}
+use Rattle.std.proofs.lemmas.List.{get_or-set_other, get_or-set_same, get_or_append_left, get_or_push, map_push}
 use Rattle.std.proofs.lemmas.Bool.Decides.{eqb_tells}
 use Rattle.std.proofs.lemmas.List.Elements.{All-push}
 use Rattle.std.proofs.lemmas.List.Sums.{sum_by-append, sum_by-cons, sum_by-set}
@@ -136,3 +136,13 @@ none_of p (x ∷ xs) none (suc k) d lt = none_of p xs (or_right (p x) (list_any 
 -- what holds of each and of one behind them holds of each of all
 pub all_push : {A : Type 0} (P : A → Type 0) (all front : List A) (last : A) → all ≡ front ++ last ∷ [] → All P front → P last → All P all
 all_push P all front last is each here = subst (All P) (sym is) (All-push P front last each here)
+
+-- what holds of each item by its place and of one behind them holds of each of all
+pub each_push : {A : Type 0} (P : ℕ → A → Type 0) (xs : List A) (v : A) (n : ℕ) → length xs ≡ n
+    → ((k : ℕ) (d : A) → k < n → P k (get_or xs k d)) → P n v → (k : ℕ) (d : A) → k < suc n → P k (get_or (xs ++ v ∷ []) k d)
+each_push P xs v n long each here k d lt = elim (eqb_tells k n) as (λ _. P k (get_or (xs ++ v ∷ []) k d)) [
+  | inl is ↦ subst (λ j. P j (get_or (xs ++ v ∷ []) j d)) (sym is.1) (subst (P n) (sym (get_or_push xs v d n long)) here)
+  | inr other ↦
+      let less : k < n = omega (arith, lt, other.1) in
+      subst (P k) (sym (get_or_append_left xs (v ∷ []) d k (omega (arith, less, long)))) (each k d less)
+]
