@@ -76,14 +76,8 @@ fn pair_up<'a, L: Session>(
 {
     let mut pairs = Vec::new(alloc);
     while let Some(seat) = seats.pop() {
-        let Some(remove) = removes.pop() else {
-            return Ok(pairs);
-        };
-        let Some(canceller) = cancellers.pop() else {
-            return Ok(pairs);
-        };
-        let parties = SlotParties::new(alloc, slots, canceller);
-        let own = ScriptSeat::new(locks, seat, remove, parties);
+        let parties = SlotParties::new(alloc, slots, cancellers.pop().unwrap());
+        let own = ScriptSeat::new(locks, seat, removes.pop().unwrap(), parties);
         pairs.insert(0, own)?;
     }
     Ok(pairs)
