@@ -213,7 +213,7 @@ fn gather<'a, L: Session>(
     while let Some(mut worker) = workers.pop() {
         seats.append(&mut worker.seats)?;
         words.append(&mut worker.words)?;
-        stopped = stopped || worker.stopped;
+        stopped |= worker.stopped;
     }
     put_in_order(&mut words)?;
     Ok(Worked {
