@@ -93,8 +93,7 @@ impl<'a, L: Session> Worker<'a, L> {
         ensures seats { IfOk result (λ _. self.new.seats.items
             ≡ self.old.seats.items ++ seat.entry ∷ []) }
     {
-        self.seats.reserve(1)?;
-        self.seats.push_reserved(seat);
+        self.seats.push(seat)?;
         Ok(())
     }
 
