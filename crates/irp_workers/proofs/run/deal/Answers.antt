@@ -1,4 +1,5 @@
 use Rattle.std.proofs.Common.{◌≡◌, ◌<◌, ◌%◌, ◌++◌, ◌∷◌, [], All, cond, length, ap, sym, subst, ◌∙◌, rules, arith}
+use Rattle.std.specs.Prelude.{IfSome}
 use Rattle.std.specs.List.{count_by}
 use Rattle.std.proofs.lemmas.List.Elements.{All-pop}
 use Rattle.irp_workers.specs.Seats.{IsAtLocks, number_of}
@@ -14,6 +15,14 @@ loop-seat-init g c = record {
   fits = c.requires.fits;
   seats = λ test. let none = c.in_ok-all.ensures.seats test in omega (arith, none);
 }
+
+pub give-requires : goal.give-requires
+give-requires g c =
+    let split = All-pop (IsAtLocks c.args.locks.now) c.loop-seat.seats.items c.pop.new.self.items c.pop.result c.pop.ensures.items c.loop-seat.invariant.fits in
+    let fit : IsAtLocks c.args.locks.now c.in-Some.seat = subst (λ taken. IfSome taken (IsAtLocks c.args.locks.now)) c.in-Some.is split.1 in
+    let below : c.number.result % c.args.workers < c.args.workers = search rules in
+    let was = subst (λ worker. worker.locks.now ≡ c.args.locks.now) (sym c.index_mut-worker.ensures.value) (c.loop-seat.invariant.at_locks (c.number.result % c.args.workers) c.index_mut-worker.result.now below) in
+    subst (λ locks. IsAtLocks locks c.in-Some.seat) (sym was) fit
 
 pub loop-seat-preserved : goal.loop-seat-preserved
 loop-seat-preserved g c =
