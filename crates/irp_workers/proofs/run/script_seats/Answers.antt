@@ -1,4 +1,4 @@
-use Rattle.std.proofs.Common.{◌≡◌, ◌<◌, ◌%◌, ◌++◌, ◌∷◌, [], All, length, set, sym, subst, ap, ◌∙◌, rules, arith}
+use Rattle.std.proofs.Common.{◌≡◌, ◌<◌, ◌%◌, ◌++◌, ◌∷◌, [], All, cond, length, set, sym, subst, ap, ◌∙◌, rules, arith}
 use Rattle.std.specs.Prelude.{IfSome, vec_len}
 use Rattle.std.specs.List.{count_by}
 use Rattle.std.proofs.lemmas.List.{length-map}
@@ -9,7 +9,7 @@ use Rattle.irp_slots.specs.Models.{Publisher}
 use Rattle.irp_slots.specs.Pairing.{IsCancellerOf, IsOwnerOf, table_of}
 use Rattle.irp_workers.specs.Seats.{HasAllSlots, HasTakenNothing}
 use Rattle.irp_workers.proofs.Dealing.{all_of_map, none_owned}
-use Rattle.irp_workers.proofs.Numbers.{all_push, count_last, dealt, each_set, map_set_same}
+use Rattle.irp_workers.proofs.Numbers.{all_push, count_last, dealt, each_set, map_set_same, sum_none}
 use Rattle.irp_workers.proofs.Shares.{count_flat}
 use Rattle.irp_workers.proofs.Working.{found_in}
 use Rattle.irp_workers.proofs.run.script_seats.Goals as goal
@@ -89,3 +89,11 @@ returns-clause-fits g c = all_of_map (λ own. own.remove) (IsSeatOf c.args.locks
 
 pub returns-clause-at_slots : goal.returns-clause-at_slots
 returns-clause-at_slots g c = all_of_map (λ own. own.parties.canceller) (IsCancellerOf c.args.slots.now) c.loop-owner.pairs.items c.args.cancellers.items c.loop-owner.invariant.cancellers c.requires.slots
+
+pub returns-clause-all_owners : goal.returns-clause-all_owners
+returns-clause-all_owners g c =
+    let empty : length c.loop-owner.owners.items ≡ 0 = search rules in
+    λ some test.
+    let so_far = c.loop-owner.invariant.all test in
+    let none = sum_none (λ owner. cond (test owner) 1 0) c.loop-owner.owners.items empty in
+    omega (arith, so_far, none)
