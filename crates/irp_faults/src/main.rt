@@ -67,45 +67,78 @@ fn lines_of<R: Wait>(
     Err(Halt::Wrong("memory was missing twice"))
 }
 
-/// Plays the scenarios of this name, or each where the name is `every`, and writes their results. The writes whose output
-/// fails are no scenario of a refused request: they have a name of their own.
+/// Plays a scenario, and writes its result.
+fn play_one<R: Wait, W: Write>(
+    rt: &R,
+    alloc: Global,
+    writer: &mut W,
+    work: Work,
+    fell: Fell,
+) -> Result<(), Halt> {
+    let mut tried = Tried { step: 0, fell };
+    let lines = lines_of(rt, alloc, work, &mut tried)?;
+    Ok(tell(writer, lines.as_slice(), tried.fell)?)
+}
+
+/// Makes the writes whose output fails, and writes what came of them.
+fn tell_cut_writes<W: Write>(alloc: Global, writer: &mut W) -> Result<(), Halt> {
+    let mut out = Vec::new(alloc);
+    cut_writes(alloc, &mut out)?;
+    Ok(writer.write_all(out.as_slice())?)
+}
+
+/// Plays those of the scenarios that have this name, or each where the name is `every`, and writes their results. The writes
+/// whose output fails are no scenario of a refused request: they have a name of their own.
 fn play_named<R: Wait, W: Write>(
     rt: &R,
     alloc: Global,
     writer: &mut W,
+    scenarios: &[(&str, Work)],
     name: &str,
     fell: Fell,
 ) -> Result<(), Halt> {
-    for scenario in SCENARIOS.iter() {
+    for scenario in scenarios {
         let (known, work) = *scenario;
         if name == known || name == "every" {
-            let mut tried = Tried { step: 0, fell };
-            let lines = lines_of(rt, alloc, work, &mut tried)?;
-            tell(writer, lines.as_slice(), tried.fell)?;
+            play_one(rt, alloc, writer, work, fell)?;
         }
     }
     if name == "cut_writes" || name == "every" {
-        let mut out = Vec::new(alloc);
-        cut_writes(alloc, &mut out)?;
-        writer.write_all(out.as_slice())?;
+        return tell_cut_writes(alloc, writer);
     }
     Ok(())
 }
 
-/// Does what the words ask for. Without one, lists the scenarios. Where memory is missing for the words, they are taken
-/// once more.
+/// Lists the scenarios.
+fn list<W: Write>(writer: &mut W, scenarios: &[(&str, Work)]) -> Result<(), Halt> {
+    for (name, _work) in scenarios {
+        writeln!(writer, "{name}")?;
+    }
+    Ok(())
+}
+
+/// Does what these words ask for. Without one, lists the scenarios.
+fn obey<R: Wait, W: Write>(
+    rt: &R,
+    alloc: Global,
+    writer: &mut W,
+    words: &[String],
+    fell: Fell,
+) -> Result<(), Halt> {
+    let scenarios = &SCENARIOS;
+    match words {
+        [name] => play_named(rt, alloc, writer, scenarios, name.as_str(), fell),
+        _ => list(writer, scenarios),
+    }
+}
+
+/// Does what the program's words ask for. Where memory is missing for them, they are taken once more.
 fn run<R: Wait + Env + AllocGlobal, W: Write>(rt: &R, writer: &mut W) -> Result<(), Halt> {
     let (words, fell) = match words_of(rt) {
         Ok(words) => (words, Fell::Nowhere),
         Err(_) => (words_of(rt)?, Fell::SetUp),
     };
-    if let [name] = words.as_slice() {
-        return play_named(rt, rt.alloc(), writer, name.as_str(), fell);
-    }
-    for (name, _work) in SCENARIOS.iter() {
-        writeln!(writer, "{name}")?;
-    }
-    Ok(())
+    obey(rt, rt.alloc(), writer, words.as_slice(), fell)
 }
 
 fn main(rt: HostRuntime) -> ExitCode {

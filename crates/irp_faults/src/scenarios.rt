@@ -1,6 +1,6 @@
 //! The scenarios by their names.
 
-use crate::counting::Counting;
+use crate::counting::{Asker, Counting};
 use crate::example::Example;
 use crate::growing::{create_devices, grow_table, grow_tables};
 use crate::in_book::in_book;
@@ -118,6 +118,71 @@ pub const SCENARIOS: [(&str, Work); 29] = [
     ("a_transcript_is_written", Work::Text(Text::Written)),
 ];
 
+/// Plays an example in a session, and puts the lines of its transcript.
+fn play_in_session<R: Wait>(
+    rt: &R,
+    alloc: Global,
+    ask: Asker,
+    asked: &AtomicU32,
+    example: &Example,
+    tried: &mut Tried,
+    out: &mut Vec<u8>,
+) -> Result<(), Halt> {
+    let (seats, limit) = (example.seats.wrapping_add(1), example.limit);
+    let blank = Blank::new(u64::from(seats));
+    let transcript = session::<Brand, R>(
+        rt, alloc, blank, ask, 1, seats, limit, asked, example, tried,
+    )?;
+    put_transcript(alloc, out, transcript, example.seats, tried)
+}
+
+/// Plays an example in a book.
+fn play_in_book(
+    alloc: Global,
+    ask: Asker,
+    asked: &AtomicU32,
+    example: &Example,
+    copies: bool,
+    tried: &mut Tried,
+) -> Result<(), Halt> {
+    let blank = Blank::new(1);
+    in_book::<Brand>(alloc, blank, ask, asked, example, copies, tried)
+}
+
+/// Plays an example by a manager alone.
+fn play_alone(
+    alloc: Global,
+    ask: Asker,
+    asked: &AtomicU32,
+    example: &Example,
+    tried: &mut Tried,
+) -> Result<(), Halt> {
+    play(&mut Alone::new(alloc, ask), asked, tried, example)
+}
+
+/// Plays an example by the state of a manager alone.
+fn play_bare(
+    alloc: Global,
+    ask: Asker,
+    asked: &AtomicU32,
+    example: &Example,
+    tried: &mut Tried,
+) -> Result<(), Halt> {
+    play(&mut Bare::new(alloc, ask), asked, tried, example)
+}
+
+/// Adds those whom an example asks, and answers who asks them and counts there.
+fn asker_of(
+    alloc: Global,
+    count: Arc<AtomicU32>,
+    example: &Example,
+    tried: &mut Tried,
+) -> Result<Asker, Halt> {
+    let mut table = AnswerTable::new(alloc);
+    add_all(alloc, &mut table, example.asked, tried)?;
+    Ok(Counting { ask: table, count })
+}
+
 /// Plays an example.
 fn play_there<R: Wait>(
     rt: &R,
@@ -128,27 +193,12 @@ fn play_there<R: Wait>(
     out: &mut Vec<u8>,
 ) -> Result<(), Halt> {
     let asked = Arc::new(alloc, AtomicU32::new(0))?;
-    let mut table = AnswerTable::new(alloc);
-    add_all(alloc, &mut table, example.asked, tried)?;
-    let ask = Counting {
-        ask: table,
-        count: asked.clone()?,
-    };
+    let ask = asker_of(alloc, asked.clone()?, example, tried)?;
     match place {
-        Where::Session => {
-            let (seats, limit) = (example.seats.wrapping_add(1), example.limit);
-            let blank = Blank::new(u64::from(seats));
-            let transcript = session::<Brand, R>(
-                rt, alloc, blank, ask, 1, seats, limit, &asked, example, tried,
-            )?;
-            put_transcript(alloc, out, transcript, example.seats, tried)
-        }
-        Where::Book(copies) => {
-            let blank = Blank::new(1);
-            in_book::<Brand>(alloc, blank, ask, &asked, example, copies, tried)
-        }
-        Where::Manager => play(&mut Alone::new(alloc, ask), &asked, tried, example),
-        Where::Core => play(&mut Bare::new(alloc, ask), &asked, tried, example),
+        Where::Session => play_in_session(rt, alloc, ask, &asked, example, tried, out),
+        Where::Book(copies) => play_in_book(alloc, ask, &asked, example, copies, tried),
+        Where::Manager => play_alone(alloc, ask, &asked, example, tried),
+        Where::Core => play_bare(alloc, ask, &asked, example, tried),
     }
 }
 

@@ -91,6 +91,47 @@ impl<R: Wait, L: Session> Place for Room<'_, R, L> {
     }
 }
 
+/// Why a session that could not be opened ends a scenario.
+fn not_opened(reason: OpenRefused, tried: &mut Tried) -> Halt {
+    match reason {
+        OpenRefused::BadCount => Halt::Wrong("one lock and some seats are a bad count"),
+        OpenRefused::Memory => match tried.refused("irp_shared::open_with_limit", true) {
+            Ok(()) => Halt::Memory,
+            Err(halt) => halt,
+        },
+    }
+}
+
+/// Remove locks, and the token of the first packet's use.
+fn means(alloc: Global, tried: &mut Tried) -> Result<(Removes, Token), Halt> {
+    let removes = Removes::open(alloc, tried)?;
+    let token = taken(alloc, tried)?;
+    Ok((removes, token))
+}
+
+/// Plays an example in a session with these seats, and gives them back.
+fn played<L: Session, R: Wait>(
+    rt: &R,
+    alloc: Global,
+    shared: &Shared<Asker, L>,
+    seats: Vec<Seat<L>>,
+    asked: &AtomicU32,
+    example: &Example,
+    tried: &mut Tried,
+) -> Result<Vec<Seat<L>>, Halt> {
+    let (removes, token) = means(alloc, tried)?;
+    let mut room = Room {
+        rt,
+        shared,
+        seats,
+        removes,
+        token: Some(token),
+        entries: 0,
+    };
+    play(&mut room, asked, tried, example)?;
+    Ok(room.seats)
+}
+
 /// The transcript of a session with one lock and these many seats, the last of which looks on while the others make the
 /// steps of the example. Where the session can't be opened, who would have been asked is gone.
 pub fn session<L: Session, R: Wait>(
@@ -112,26 +153,9 @@ pub fn session<L: Session, R: Wait>(
     let opened = open_with_limit::<Asker, L>(alloc, blank, ask, locks, seats, limit);
     let (shared, places) = match opened {
         Ok(parts) => parts,
-        Err(OpenRefused::Memory) => {
-            tried.refused("irp_shared::open_with_limit", true)?;
-            return Err(Halt::Memory);
-        }
-        Err(OpenRefused::BadCount) => {
-            return Err(Halt::Wrong("one lock and some seats are a bad count"));
-        }
+        Err(reason) => return Err(not_opened(reason, tried)),
     };
-    let places = {
-        let mut room = Room {
-            rt,
-            shared: &shared,
-            seats: places,
-            removes: Removes::open(alloc, tried)?,
-            token: Some(taken(alloc, tried)?),
-            entries: 0,
-        };
-        play(&mut room, asked, tried, example)?;
-        room.seats
-    };
+    let places = played(rt, alloc, &shared, places, asked, example, tried)?;
     match shared.close(places) {
         Ok(transcript) => Ok(transcript),
         Err(_) => Err(Halt::Wrong("the seats kept other entries than the history has")),

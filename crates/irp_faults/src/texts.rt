@@ -50,8 +50,39 @@ fn put_entries(
     Ok(())
 }
 
-/// Judges a transcript, which has to be legal, and once more where memory is missing. Puts its lines as if it were one of so
-/// many seats: what further ones did is left out.
+/// Puts the line of the header, with this number of seats.
+fn put_header(
+    alloc: Global,
+    out: &mut Vec<u8>,
+    header: Option<Header>,
+    seats: u32,
+) -> Result<(), Halt> {
+    let Some(header) = header else {
+        return Err(Halt::Wrong("a transcript has no header"));
+    };
+    let header = Header { seats, ..header };
+    out.extend_from_slice(line_of(alloc, &header)?.as_slice())?;
+    Ok(())
+}
+
+/// Judges a transcript, which has to be legal, and once more where memory is missing.
+fn judge(alloc: Global, transcript: &Transcript, tried: &mut Tried) -> Result<(), Halt> {
+    let verdict = match check(alloc, transcript) {
+        Ok(verdict) => verdict,
+        Err(_) => {
+            tried.refused("irp_script::check", true)?;
+            check(alloc, transcript)?
+        }
+    };
+    let count = transcript.entries().len() as u64;
+    wanted(
+        verdict == (Verdict::Legal { entries: count }),
+        "a history isn't legal",
+    )
+}
+
+/// Judges a transcript, which has to be legal. Puts its lines as if it were one of so many seats: what further ones did is
+/// left out.
 pub fn put_transcript(
     alloc: Global,
     out: &mut Vec<u8>,
@@ -59,28 +90,13 @@ pub fn put_transcript(
     seats: u32,
     tried: &mut Tried,
 ) -> Result<(), Halt> {
-    let verdict = match check(alloc, &transcript) {
-        Ok(verdict) => verdict,
-        Err(_) => {
-            tried.refused("irp_script::check", true)?;
-            check(alloc, &transcript)?
-        }
-    };
-    let count = transcript.entries().len() as u64;
-    wanted(
-        verdict == (Verdict::Legal { entries: count }),
-        "a history isn't legal",
-    )?;
+    judge(alloc, &transcript, tried)?;
     let TranscriptParts {
         header,
         entries,
         ..
     } = transcript.into_parts();
-    let Some(header) = header else {
-        return Err(Halt::Wrong("a transcript has no header"));
-    };
-    let header = Header { seats, ..header };
-    out.extend_from_slice(line_of(alloc, &header)?.as_slice())?;
+    put_header(alloc, out, header, seats)?;
     put_entries(alloc, out, entries.into_vec(), seats)
 }
 
@@ -178,7 +194,34 @@ fn is_beginning(bytes: &[u8], fault: WriteFault, cause: Cause) -> bool {
     fault.cause == cause && fault.written == bytes.len() as u64 && TRANSCRIPT.starts_with(bytes)
 }
 
-/// Reads the transcript and writes it: the text has to be the same. Where memory is missing, it is written again.
+/// Puts what was written, which has to be the text that was read.
+fn put_written(out: &mut Vec<u8>, bytes: &[u8]) -> Result<(), Halt> {
+    if bytes != TRANSCRIPT {
+        return Err(Halt::Wrong("the text that was written isn't the one that was read"));
+    }
+    out.extend_from_slice(bytes)?;
+    Ok(())
+}
+
+/// Writes the transcript, and puts what was written. Where memory is missing, it is written again.
+fn write_whole(
+    alloc: Global,
+    out: &mut Vec<u8>,
+    transcript: &Transcript,
+    tried: &mut Tried,
+) -> Result<(), Halt> {
+    let length = TRANSCRIPT.len();
+    let (bytes, fault) = written(alloc, transcript, length, length)?;
+    let Some(fault) = fault else {
+        return put_written(out, bytes.as_slice());
+    };
+    let is_same = is_beginning(bytes.as_slice(), fault, Cause::Memory);
+    tried.refused("write_transcript", is_same)?;
+    let (bytes, _) = written(alloc, transcript, length, length)?;
+    put_written(out, bytes.as_slice())
+}
+
+/// Reads the transcript and writes it: the text has to be the same.
 pub fn write_the_transcript(
     alloc: Global,
     out: &mut Vec<u8>,
@@ -186,18 +229,7 @@ pub fn write_the_transcript(
 ) -> Result<(), Halt> {
     let transcript = the_transcript(alloc, tried)?;
     tried.step = 1;
-    let length = TRANSCRIPT.len();
-    let (mut bytes, fault) = written(alloc, &transcript, length, length)?;
-    if let Some(fault) = fault {
-        let is_same = is_beginning(bytes.as_slice(), fault, Cause::Memory);
-        tried.refused("write_transcript", is_same)?;
-        bytes = written(alloc, &transcript, length, length)?.0;
-    }
-    if bytes.as_slice() != TRANSCRIPT {
-        return Err(Halt::Wrong("the text that was written isn't the one that was read"));
-    }
-    out.extend_from_slice(bytes.as_slice())?;
-    Ok(())
+    write_whole(alloc, out, &transcript, tried)
 }
 
 /// Writes to an output that fails after so many bytes, and answers whether exactly these went out, and were counted.
@@ -223,24 +255,29 @@ fn are_header_and_whole(alloc: Global, transcript: &Transcript) -> Result<bool, 
 
 /// Writes the transcript to an output that fails after each number of bytes, and to one that takes one byte a write. Puts a
 /// line for each number that was wrong, and how many were tried and were wrong.
-pub fn cut_writes(alloc: Global, out: &mut Vec<u8>) -> Result<(), Halt> {
-    let mut nowhere = Tried {
-        step: 0,
-        fell: Fell::Nowhere,
-    };
-    let transcript = the_transcript(alloc, &mut nowhere)?;
+fn put_cut_writes(alloc: Global, out: &mut Vec<u8>, transcript: &Transcript) -> Result<(), Halt> {
     let mut wrong: u32 = 0;
     for room in 0..TRANSCRIPT.len() {
-        if !is_cut(alloc, &transcript, room)? {
+        if !is_cut(alloc, transcript, room)? {
             wrong = wrong.wrapping_add(1);
             writeln!(out, "wrong: a write that fails after {room} bytes")?;
         }
     }
-    if !are_header_and_whole(alloc, &transcript)? {
+    if !are_header_and_whole(alloc, transcript)? {
         wrong = wrong.wrapping_add(1);
         writeln!(out, "wrong: the header's line, or a write byte by byte")?;
     }
     let tries = TRANSCRIPT.len() + 1;
     writeln!(out, "tried: {tries} {wrong} cut writes")?;
     Ok(())
+}
+
+/// Reads the transcript, and writes it to outputs that fail.
+pub fn cut_writes(alloc: Global, out: &mut Vec<u8>) -> Result<(), Halt> {
+    let mut nowhere = Tried {
+        step: 0,
+        fell: Fell::Nowhere,
+    };
+    let transcript = the_transcript(alloc, &mut nowhere)?;
+    put_cut_writes(alloc, out, &transcript)
 }
