@@ -12,7 +12,7 @@ use irp_types::{
     Answer, Call, CancelAnswer, CancelId, CancelRule, DeviceId, DriverId, IrpRef, Known, LockNo,
     Party, Plan, Refusal, Reply, RoutineId, Rule, Setting, Shown, Status,
 };
-use std::alloc::Global;
+use std::alloc::{AllocError, Global};
 use std::sync::Arc;
 use std::sync::atomic::{AtomicU32, Ordering};
 use std::test::Fail;
@@ -147,6 +147,20 @@ fn finish(shown: Shown) -> CancelAnswer
     CancelAnswer::Finish { information: 0 }
 }
 
+/// Adds these closures to the store, and one driver. Whether the store took each.
+fn fills(
+    alloc: Global,
+    store: &mut Store,
+    watch: Routine,
+    cancel: CancelRoutine,
+    dispatch: Dispatch,
+) -> bool {
+    let has_watch = adds(store, watch);
+    let has_cancel = adds_cancel(store, cancel);
+    let has_dispatch = adds_dispatch(store, dispatch);
+    has_watch && has_cancel && has_dispatch && adds_driver(alloc, store)
+}
+
 /// A store of these closures, with one driver.
 fn store_of(
     alloc: Global,
@@ -155,14 +169,11 @@ fn store_of(
     dispatch: Dispatch,
 ) -> Option<Store> {
     let mut store = Store::new(alloc);
-    if adds(&mut store, watch)
-        && adds_cancel(&mut store, cancel)
-        && adds_dispatch(&mut store, dispatch)
-        && adds_driver(alloc, &mut store)
-    {
-        return Some(store);
+    if fills(alloc, &mut store, watch, cancel, dispatch) {
+        Some(store)
+    } else {
+        None
     }
-    None
 }
 
 /// How often each of the closures was asked.
@@ -192,11 +203,30 @@ impl Counts {
     }
 }
 
-#[test]
-fn each_closure_is_asked_once_for_each_question(rt: HostRuntime) -> Result<(), Fail> {
-    let alloc = rt.alloc();
-    let counts = Arc::new(alloc, Counts::new())?;
-    let (of_watch, of_cancel, of_dispatch) = (counts.clone()?, counts.clone()?, counts.clone()?);
+/// The counts, for each of the three closures.
+#[derive(Drop)]
+struct Shares {
+    watch: Arc<Counts>,
+    cancel: Arc<Counts>,
+    dispatch: Arc<Counts>,
+}
+
+/// Shares the counts with the three closures.
+fn shares_of(counts: &Arc<Counts>) -> Result<Shares, AllocError> {
+    Ok(Shares {
+        watch: counts.clone()?,
+        cancel: counts.clone()?,
+        dispatch: counts.clone()?,
+    })
+}
+
+/// Makes the steps with closures that count in these counts. Whether each is answered as it has to be.
+fn makes_steps(alloc: Global, counts: &Arc<Counts>) -> Result<bool, AllocError> {
+    let Shares {
+        watch: of_watch,
+        cancel: of_cancel,
+        dispatch: of_dispatch,
+    } = shares_of(counts)?;
     let watch = move |shown: Shown| {
         of_watch.watch.fetch_add(1, Ordering::SeqCst);
         look_on(shown)
@@ -212,8 +242,18 @@ fn each_closure_is_asked_once_for_each_question(rt: HostRuntime) -> Result<(), F
     let watch = Routine::new(Rule::Watch, Box::new(alloc, watch)?);
     let cancel = CancelRoutine::new(CancelRule::MustFinish, Box::new(alloc, cancel)?);
     let dispatch = Dispatch::new(ONE_CANCEL, Box::new(alloc, dispatch)?);
-    let store = store_of(alloc, watch, cancel, dispatch).ok_or("a store")?;
-    assert!(rt; last_receipt(alloc, store, &STEPS).is_some());
+    let made = match store_of(alloc, watch, cancel, dispatch) {
+        Some(store) => last_receipt(alloc, store, &STEPS),
+        None => None,
+    };
+    Ok(made.is_some())
+}
+
+#[test]
+fn each_closure_is_asked_once_for_each_question(rt: HostRuntime) -> Result<(), Fail> {
+    let alloc = rt.alloc();
+    let counts = Arc::new(alloc, Counts::new())?;
+    assert!(rt; makes_steps(alloc, &counts)?);
     assert!(rt; counts.counted() == (1, 2, 2));
     Ok(())
 }

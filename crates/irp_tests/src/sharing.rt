@@ -7,7 +7,7 @@ ghost use Rattle.irp_types.specs.Rules.{is_plan_allowed};
 ghost use Rattle.irp_types.specs.State.{no_routines};
 ghost use Rattle.irp_remove.specs.Pairing.{IsSeatOf};
 
-use super::remove::{Holder, LOCK};
+use super::remove::LOCK;
 use super::stores::{READ, adds_dispatch, adds_driver};
 use irp_manager::KnowsNothing;
 use irp_remove::{Locks, RemoveSeat};
@@ -110,6 +110,16 @@ impl Takers {
         self.locks.acquire(&mut self.giver, LOCK, 1).is_ok()
     }
 
+    /// The taker acquires the lock under this tag. Whether it did.
+    fn acquires(&mut self, tag: u32) -> bool {
+        self.locks.acquire(&mut self.taker, LOCK, tag).is_ok()
+    }
+
+    /// The taker gives a reference back. Whether it did.
+    fn releases(&mut self, tag: u32) -> bool {
+        self.locks.release(&mut self.taker, LOCK, tag).is_ok()
+    }
+
     /// The giver's reference goes to the taker. Whether it did.
     fn hands(&mut self) -> bool {
         self.locks
@@ -120,19 +130,10 @@ impl Takers {
 
 /// Has the taker take over the giver's reference once the dispatch runs, acquire the lock itself, and release both, and tells
 /// that it did. Whether the dispatch ran, and all were answered Ok.
-fn takes(mut takers: Takers, meeting: &Meeting) -> bool {
+fn takes(takers: &mut Takers, meeting: &Meeting) -> bool {
     let is_asked = waits(&meeting.asked);
     let is_handed = takers.hands();
-    let Takers {
-        locks,
-        giver: _,
-        taker: seat,
-    } = takers;
-    let mut taker = Holder {
-        locks: &locks,
-        seat,
-    };
-    let is_taken = taker.acquires(2).is_ok() && taker.releases(2) && taker.releases(1);
+    let is_taken = takers.acquires(2) && takers.releases(2) && takers.releases(1);
     meeting.answered.store(true, Ordering::SeqCst);
     is_asked && is_handed && is_taken
 }
@@ -166,7 +167,7 @@ fn meets<A: Ask + Send, L: Session + Send + Sync, R: Threads + Wait + Sync>(
     rt: &R,
     shared: &Shared<A, L>,
     seat: Seat<L>,
-    takers: Takers,
+    takers: &mut Takers,
     meeting: &Meeting,
 ) -> (bool, bool) {
     let sending = move || sends(rt, shared, seat);
@@ -180,7 +181,7 @@ fn session<L: Session + Send + Sync, R: Threads + Wait + Sync>(
     alloc: Global,
     blank: Blank,
     store: Store,
-    takers: Takers,
+    takers: &mut Takers,
     meeting: &Meeting,
 ) -> Option<(bool, bool)>
     requires blank { (blank.name ≡ L.name) × (blank.parts ≡ L.parts) }
@@ -188,8 +189,10 @@ fn session<L: Session + Send + Sync, R: Threads + Wait + Sync>(
     requires fixed { L.fixed ≡ record { locks = 1; tables = store.tables; limit = ThirtyTwo } }
 {
     let (shared, mut seats) = open::<Store, L>(alloc, blank, store, 1, 1).ok()?;
-    let seat = seats.pop()?;
-    Some(meets(rt, &shared, seat, takers, meeting))
+    match seats.pop() {
+        Some(seat) => Some(meets(rt, &shared, seat, takers, meeting)),
+        None => None,
+    }
 }
 
 /// A store of one driver, with this dispatch for reads.
@@ -210,8 +213,20 @@ fn met<R: Threads + Wait + Sync>(
 ) -> Result<bool, Fail> {
     let mut takers = takers_of(alloc)?;
     let has_begun = takers.begins();
-    let met = session::<Brand, R>(rt, alloc, Blank::new(1), store, takers, meeting);
+    let met = session::<Brand, R>(rt, alloc, Blank::new(1), store, &mut takers, meeting);
     Ok(has_begun && met == Some((true, true)))
+}
+
+/// The same, with a dispatch that tells of itself in the meeting. Whether both went well.
+fn is_met<R: Threads + Wait + Sync>(
+    rt: &R,
+    alloc: Global,
+    meeting: &Arc<Meeting>,
+) -> Result<bool, Fail> {
+    let own = meeting.clone()?;
+    let run = Box::new(alloc, move |shown: Shown| plan_after(&own, shown))?;
+    let store = store_of(alloc, Dispatch::new(Known::NONE, run)).ok_or("a store")?;
+    met(rt, alloc, store, meeting)
 }
 
 #[test]
@@ -224,9 +239,6 @@ fn acquire_during_call(rt: HostRuntime) -> Result<(), Fail> {
             answered: AtomicBool::new(false),
         },
     )?;
-    let own = meeting.clone()?;
-    let run = Box::new(alloc, move |shown: Shown| plan_after(&own, shown))?;
-    let store = store_of(alloc, Dispatch::new(Known::NONE, run)).ok_or("a store")?;
-    assert!(rt; met(&rt, alloc, store, &meeting)?);
+    assert!(rt; is_met(&rt, alloc, &meeting)?);
     Ok(())
 }
