@@ -152,13 +152,14 @@ impl Store {
                 item: routine,
             });
         }
-        match rule {
-            Rule::Watch => put(&mut self.watch, routine)?,
-            Rule::Change => put(&mut self.change, routine)?,
-            Rule::Keeper => put(&mut self.keeper, routine)?,
-            Rule::KeepOnError => put(&mut self.keep_on_error, routine)?,
-            Rule::Free => put(&mut self.free, routine)?,
-        }
+        let placed = match rule {
+            Rule::Watch => put(&mut self.watch, routine),
+            Rule::Change => put(&mut self.change, routine),
+            Rule::Keeper => put(&mut self.keeper, routine),
+            Rule::KeepOnError => put(&mut self.keep_on_error, routine),
+            Rule::Free => put(&mut self.free, routine),
+        };
+        placed?;
         Ok(self.tables.add_counted(rule))
     }
 
