@@ -95,6 +95,35 @@ fn time_of<R: Threads + Wait + Sync + Clock + AllocGlobal>(
     Ok(do_work(rt, work)?.taken)
 }
 
+/// How long a work takes that is done so often, one time after another.
+fn time_of_all<R: Threads + Wait + Sync + Clock + AllocGlobal>(
+    rt: &R,
+    work: Work,
+    times: u32,
+) -> Result<Duration, Fault> {
+    let mut taken = Duration::ZERO;
+    for _ in 0..times {
+        taken = taken.saturating_add(time_of(rt, work)?);
+    }
+    Ok(taken)
+}
+
+/// The work of a load, and how often it is done.
+fn work_of(calls: Calls, number: u32, is_recorded: bool) -> (Work, u32) {
+    let one = if is_recorded { Some(1) } else { None };
+    let packets = if is_recorded {
+        RECORDED_PACKETS
+    } else {
+        PACKETS
+    };
+    match calls {
+        Calls::Rounds => (rounds(CALLS, one.map(|_| number)), 1),
+        Calls::Entries => (rounds(number, one), CALLS.checked_div(number).unwrap_or(0)),
+        Calls::Unused => (unused(number, one), 1),
+        Calls::Sends => (sends(number, packets, SENDS, one), 1),
+    }
+}
+
 /// Times calls, by the manager alone or in a session. The time is that of a call of a round, of a packet, or of a send;
 /// where there are more threads than one, those of all threads count. Sessions of fewer entries than there are calls
 /// follow one another, and their times are added up.
@@ -104,25 +133,7 @@ pub fn time_calls<R: Threads + Wait + Sync + Clock + AllocGlobal>(
     number: u32,
     is_recorded: bool,
 ) -> Result<Done, Fault> {
-    let one = if is_recorded { Some(1) } else { None };
-    let packets = if is_recorded {
-        RECORDED_PACKETS
-    } else {
-        PACKETS
-    };
-    let work = match calls {
-        Calls::Rounds => rounds(CALLS, one.map(|_| number)),
-        Calls::Entries => rounds(number, one),
-        Calls::Unused => unused(number, one),
-        Calls::Sends => sends(number, packets, SENDS, one),
-    };
-    let times = match calls {
-        Calls::Entries => CALLS.checked_div(number).unwrap_or(0),
-        _ => 1,
-    };
-    let mut taken = Duration::ZERO;
-    for _ in 0..times {
-        taken = taken.saturating_add(time_of(rt, work)?);
-    }
+    let (work, times) = work_of(calls, number, is_recorded);
+    let taken = time_of_all(rt, work, times)?;
     Ok(Done::new(work.count().saturating_mul(times), 0, taken))
 }
