@@ -209,24 +209,35 @@ fn met<R: Threads + Wait + Sync>(
     rt: &R,
     alloc: Global,
     store: Store,
+    takers: &mut Takers,
     meeting: &Meeting,
-) -> Result<bool, Fail> {
-    let mut takers = takers_of(alloc)?;
+) -> bool {
     let has_begun = takers.begins();
-    let met = session::<Brand, R>(rt, alloc, Blank::new(1), store, &mut takers, meeting);
-    Ok(has_begun && met == Some((true, true)))
+    let met = session::<Brand, R>(rt, alloc, Blank::new(1), store, takers, meeting);
+    has_begun && met == Some((true, true))
 }
 
 /// The same, with a dispatch that tells of itself in the meeting. Whether both went well.
 fn is_met<R: Threads + Wait + Sync>(
     rt: &R,
     alloc: Global,
+    takers: &mut Takers,
     meeting: &Arc<Meeting>,
 ) -> Result<bool, Fail> {
     let own = meeting.clone()?;
     let run = Box::new(alloc, move |shown: Shown| plan_after(&own, shown))?;
     let store = store_of(alloc, Dispatch::new(Known::NONE, run)).ok_or("a store")?;
-    met(rt, alloc, store, meeting)
+    Ok(met(rt, alloc, store, takers, meeting))
+}
+
+/// The same with one new lock and two seats of it.
+fn is_met_with_takers<R: Threads + Wait + Sync>(
+    rt: &R,
+    alloc: Global,
+    meeting: &Arc<Meeting>,
+) -> Result<bool, Fail> {
+    let mut takers = takers_of(alloc)?;
+    is_met(rt, alloc, &mut takers, meeting)
 }
 
 #[test]
@@ -239,6 +250,6 @@ fn acquire_during_call(rt: HostRuntime) -> Result<(), Fail> {
             answered: AtomicBool::new(false),
         },
     )?;
-    assert!(rt; is_met(&rt, alloc, &meeting)?);
+    assert!(rt; is_met_with_takers(&rt, alloc, &meeting)?);
     Ok(())
 }

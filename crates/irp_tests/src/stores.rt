@@ -59,9 +59,9 @@ fn makes_in_book<L: Ledger>(
 ) -> Option<Receipt>
     requires { (blank.name ≡ L.name) × (blank.parts ≡ L.parts) × (blank.parts ≡ 1) }
 {
-    let mut book = Book::new(Manager::new(alloc, store, 1)).ok()?;
     let (_total, share) = blank.open::<L>();
     let seat = Seat::new(alloc, 0, share);
+    let mut book = Book::new(Manager::new(alloc, store, 1)).ok()?;
     makes(&mut book, &seat, steps)
 }
 
