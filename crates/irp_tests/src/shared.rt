@@ -51,28 +51,6 @@ fn are_answered<L: Session>(
     true
 }
 
-/// The first seat learns of the receipt, and the calls are made. Whether each is answered as it has to be.
-fn learns<L: Session>(
-    rt: &impl Wait,
-    shared: &Shared<AnswerTable, L>,
-    seats: &mut [Seat<L>],
-    receipt: &Receipt,
-) -> bool {
-    let Some(seat) = seats.first_mut() else {
-        return false;
-    };
-    learn(seat, receipt);
-    are_answered(rt, shared, seats)
-}
-
-/// Closes the session. How many entries its transcript has; none where the seats aren't those of the session.
-fn length_of<L: Session>(shared: Shared<AnswerTable, L>, seats: Vec<Seat<L>>) -> Option<usize>
-    requires { L.seats ≡ L.parts }
-{
-    let transcript = shared.close(seats).ok()?;
-    Some(transcript.entries().len())
-}
-
 /// A session of two seats, the first of which learns of the receipt. How many entries its transcript has; none where a
 /// call is answered otherwise.
 fn behind<L: Session>(
@@ -87,11 +65,12 @@ fn behind<L: Session>(
     requires fixed { L.fixed ≡ record { locks = 1; tables = table.tables; limit = ThirtyTwo } }
 {
     let (shared, mut seats) = open::<AnswerTable, L>(alloc, blank, table, 1, 2).ok()?;
-    if learns(rt, &shared, seats.as_mut_slice(), receipt) {
-        length_of(shared, seats)
-    } else {
-        None
+    learn(seats.first_mut()?, receipt);
+    if !are_answered(rt, &shared, seats.as_mut_slice()) {
+        return None;
     }
+    let transcript = shared.close(seats).ok()?;
+    Some(transcript.entries().len())
 }
 
 #[test]
