@@ -4,6 +4,7 @@ ghost use Rattle.std.specs.Prelude.{IfErr, IfOk, ◌≡◌, ◌≤◌, ◌<◌, 
 ghost use Rattle.irp_types.specs.Rules.{is_allowed, is_plan_allowed};
 ghost use Rattle.irp_routines.specs.Guarded.{guarded_answer, guarded_plan};
 ghost use Rattle.irp_types.specs.Limits.{most_slots};
+ghost use Rattle.irp_types.specs.State.{Tables};
 ghost use Rattle.irp_shared.specs.Headers.{slots_of};
 ghost use Rattle.irp_shared.specs.Transcripts.{IsTranscript};
 ghost use Rattle.irp_workers.specs.Behaviours.{answer_of, plan_of};
@@ -293,6 +294,20 @@ fn session<L: Session + Send + Sync, T: Threads + Wait + Sync>(
     })
 }
 
+/// Writes the transcript that a run left. `Stopped` where it is written, but a step found no memory or wasn't recorded.
+fn write_finished<O: Out>(alloc: Global, output: &mut O, run: &Finished) -> Result<(), Unfinished>
+    ensures { (script : Script) → (tables : Tables) → IsRun script tables run.now.transcript
+        → (run.now.stopped ≡ false → ShowsEach script run.now.transcript)
+        → AfterScript script tables (O.gone output.old) (O.gone output.new)
+        (O.failures output.old) (O.failures output.new) result }
+{
+    write(alloc, output, &run.transcript)?;
+    if run.stopped {
+        return Err(Unfinished::Stopped);
+    }
+    Ok(())
+}
+
 /// Has so many workers run the script with this store, and writes the transcript.
 fn with_store<O: Out, T: Threads + Wait + Sync>(
     rt: &T,
@@ -307,11 +322,7 @@ fn with_store<O: Out, T: Threads + Wait + Sync>(
 {
     let blank = Blank::new(u64::from(script.seats));
     let run = session::<Brand, T>(rt, alloc, blank, store, script, workers.number)?;
-    write(alloc, output, &run.transcript)?;
-    if run.stopped {
-        return Err(Unfinished::Stopped);
-    }
-    Ok(())
+    write_finished(alloc, output, &run)
 }
 
 /// Adds the script's drivers to a store that has all closures of the script, and goes on.
