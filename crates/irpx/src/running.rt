@@ -10,6 +10,7 @@ ghost use Rattle.irp_shared.specs.Transcripts.{IsTranscript};
 ghost use Rattle.irp_workers.specs.Behaviours.{answer_of, plan_of};
 ghost use Rattle.irp_workers.specs.Numbers.{EachAsOften};
 ghost use Rattle.irp_workers.specs.Seats.{seats_of};
+ghost use Rattle.irpx.specs.Bytes.{Bytes};
 ghost use Rattle.irpx.specs.Input.{TakesAtMost};
 ghost use Rattle.irpx.specs.Running.{
   AfterRun,
@@ -412,6 +413,27 @@ fn run_script<O: Out, T: Threads + Wait + Sync>(
     with_dispatches(rt, alloc, output, script, workers, store)
 }
 
+/// Has so many workers run the script that was read, unless it hands a reference between them.
+fn run_read<O: Out, T: Threads + Wait + Sync>(
+    rt: &T,
+    alloc: Global,
+    output: &mut O,
+    script: &Script,
+    workers: u32,
+) -> Result<(), RunFault>
+    requires { 0 < workers }
+    // What is said of the script is so of every input that holds it.
+    ensures { (input left : Bytes) → HoldsScript input left script.now
+        → AfterRun workers input left (O.gone output.old) (O.gone output.new)
+        (O.failures output.old) (O.failures output.new) result }
+{
+    if let Some(step) = hand_between(script, workers) {
+        return Err(RunFault::HandsBetween { step });
+    }
+    run_script(rt, alloc, output, script, Workers { number: workers })?;
+    Ok(())
+}
+
 /// Reads a script from the input, up to its end or to one byte more than a script may have, has so many workers run its
 /// steps, and writes the transcript (this project's own command line, README.md). The closures behave as the script says.
 ///
@@ -440,9 +462,5 @@ pub fn run<R: Read, O: Out, T: Threads + Wait + Sync>(
     ensures took { TakesAtMost most_taken (R.remaining input.old) (R.remaining input.new) }
 {
     let script = script_of(alloc, input)?;
-    if let Some(step) = hand_between(&script, workers) {
-        return Err(RunFault::HandsBetween { step });
-    }
-    run_script(rt, alloc, output, &script, Workers { number: workers })?;
-    Ok(())
+    run_read(rt, alloc, output, &script, workers)
 }
