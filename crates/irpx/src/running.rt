@@ -1,12 +1,14 @@
 //! The word `run`: a script is read and run by workers, and the transcript is written.
 
-ghost use Rattle.std.specs.Prelude.{IfErr, IfOk, ◌≡◌, ◌≤◌, ◌<◌, false, true};
+ghost use Rattle.std.specs.Prelude.{IfErr, IfOk, List, ◌≡◌, ◌≤◌, ◌<◌, false, true};
 ghost use Rattle.irp_types.specs.Rules.{is_allowed, is_plan_allowed};
 ghost use Rattle.irp_routines.specs.Guarded.{guarded_answer, guarded_plan};
 ghost use Rattle.irp_types.specs.Limits.{most_slots};
 ghost use Rattle.irp_types.specs.State.{Tables};
+ghost use Rattle.irp_manager.specs.Seats.{Seated};
+ghost use Rattle.irp_shared.specs.Closing.{Closes};
 ghost use Rattle.irp_shared.specs.Headers.{slots_of};
-ghost use Rattle.irp_shared.specs.Transcripts.{IsTranscript};
+ghost use Rattle.irp_shared.specs.Transcripts.{IsTranscript, TranscriptValue};
 ghost use Rattle.irp_workers.specs.Behaviours.{answer_of, plan_of};
 ghost use Rattle.irp_workers.specs.Numbers.{EachAsOften};
 ghost use Rattle.irp_workers.specs.Seats.{seats_of};
@@ -34,12 +36,14 @@ use irp_script::hand_between;
 use irp_script_reader::{
     CompletionRoutine, Script, ScriptFault, ScriptForm, ScriptRefusal, read_script,
 };
-use irp_shared::{Form, Seat, Session, Transcript, TranscriptParts, WordLine, open_with_limit};
+use irp_shared::{
+    Form, Seat, Session, Shared, Transcript, TranscriptParts, WordLine, open_with_limit,
+};
 use irp_transcript_writer::Out;
 use irp_types::{Answer, Known, Plan, Row, Shown};
 use irp_workers::{
-    AlwaysOpen, ScriptSeat, cancel_rule, run_workers, script_seats, table_answer, table_cancel,
-    table_plan,
+    AlwaysOpen, ScriptSeat, Worked, cancel_rule, run_workers, script_seats, table_answer,
+    table_cancel, table_plan,
 };
 use std::alloc::{AllocError, AllocFailed, Global};
 use std::io::Read;
@@ -244,6 +248,35 @@ fn run_transcript(
     Ok(transcript)
 }
 
+/// Ends a session whose seats have worked, and gives its transcript, in the form of the script and with the word lines. The
+/// form has at most 64 slots.
+fn finish<L: Session>(
+    alloc: Global,
+    shared: Shared<Store, L>,
+    worked: Worked<'_, L>,
+    form: ScriptForm,
+) -> Result<Finished, Unrun>
+    requires seats { L.seats ≡ L.parts }
+    requires few { slots_of (form_of form) ≤ most_slots }
+    ensures { IfOk result (λ run.
+        (seats : List Seated) × EachAsOften (seats_of worked.entry.seats.items) seats
+        × (closed : TranscriptValue) × Closes L.fixed L.seats seats closed
+        × (run.transcript ≡ run_transcript form worked.entry.words.items closed)
+        × IsTranscript run.transcript × (run.stopped ≡ worked.entry.stopped)) }
+{
+    let stopped = worked.stopped;
+    let words = worked.words;
+    let seats = seats_of(alloc, worked.seats)?;
+    let Ok(transcript) = shared.close(seats) else {
+        return Err(Unrun::ReceiptsDiffer);
+    };
+    let transcript = run_transcript(transcript, form, words)?;
+    Ok(Finished {
+        transcript,
+        stopped,
+    })
+}
+
 /// So many workers run the script in a session of its locks, seats and cancel slots.
 fn session<L: Session + Send + Sync, T: Threads + Wait + Sync>(
     rt: &T,
@@ -282,17 +315,7 @@ fn session<L: Session + Send + Sync, T: Threads + Wait + Sync>(
     let worked = run_workers(
         rt, alloc, &shared, &locks, &slots, pairs, script, &gate, workers,
     )?;
-    let stopped = worked.stopped;
-    let words = worked.words;
-    let seats = seats_of(alloc, worked.seats)?;
-    let Ok(transcript) = shared.close(seats) else {
-        return Err(Unrun::ReceiptsDiffer);
-    };
-    let transcript = run_transcript(transcript, script.form, words)?;
-    Ok(Finished {
-        transcript,
-        stopped,
-    })
+    finish(alloc, shared, worked, script.form)
 }
 
 /// Writes the transcript that a run left. `Stopped` where it is written, but a step found no memory or wasn't recorded.

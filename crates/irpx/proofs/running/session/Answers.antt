@@ -1,10 +1,10 @@
 -- The transcript that was closed, with the script's form and the word lines put in.
-use Rattle.std.proofs.Common.{◌≡◌, ◌++◌, List, IfSome, map, sym, subst, ap, ap₂, ◌∙◌}
+use Rattle.std.proofs.Common.{◌≡◌, ◌++◌, List, false, IfSome, map, sym, subst, ap, ◌∙◌}
 use Rattle.std.specs.List.{count_by}
+use Rattle.std.proofs.lemmas.Result.{IfOk-weaker}
 use Rattle.std.proofs.lemmas.Simd.{map-map}
-use Rattle.irp_types.specs.Histories.{own_entries}
-use Rattle.irp_types.specs.declared.entry.Entry.{Entry}
-use Rattle.irp_shared.specs.Closing.{AllHere}
+use Rattle.irp_manager.specs.Seats.{Seated}
+use Rattle.irp_shared.specs.Closing.{AllHere, Closes}
 use Rattle.irp_shared.specs.Headers.{IsHeader}
 use Rattle.irp_shared.specs.Transcripts.{TranscriptValue}
 use Rattle.irp_workers.specs.Accounts.{calls_at, pair_at}
@@ -13,41 +13,50 @@ use Rattle.irp_workers.specs.Numbers.{EachAsOften}
 use Rattle.irp_workers.specs.Outcomes.{Outcome, outcomes}
 use Rattle.irp_workers.specs.Seats.{pairs_of, seat_at_work, seats_at_work}
 use Rattle.irpx.specs.Running.{IsRun, MakesCalls, ShowsEach}
-use Rattle.irpx.proofs.AtSlots.{of_slots}
+use Rattle.irpx.specs.declared.running.Finished.{Finished}
 use Rattle.irpx.proofs.Calls.{each_made}
 use Rattle.irpx.proofs.Runs.{closed_is_run}
 use Rattle.irpx.proofs.running.session.Goals as goal
 
 pub returns-clause-run : goal.returns-clause-run
 returns-clause-run g c =
-    let closed : TranscriptValue = c.in-Ok-close.transcript in
     let accounts = c.in_ok-worked.ensures.accounts in
-    subst (IsRun c.args.script.now c.args.store.tables) (sym c.in_ok-transcript.ensures.made)
-    (closed_is_run c.args.script.now c.args.store.tables g.L.Session.fixed g.L.Session.seats c.in_ok-seats.seats.items closed c.in_ok-worked.worked.words.items
-    c.in-Ok-close.ensures.closes c.requires.fixed c.requires.seats.1
-    (subst (λ (this : TranscriptValue). IfSome this.header IsHeader) c.in_ok-transcript.ensures.made c.in_ok-transcript.ensures.accepted.accepted)
-    c.in_ok-worked.ensures.words accounts.tokenless accounts.told)
+    IfOk-weaker c.finish.result _ (λ (run : Finished). IsRun c.args.script.now c.args.store.tables run.transcript)
+    (λ run ends.
+    subst (IsRun c.args.script.now c.args.store.tables) (sym ends.4)
+    (closed_is_run c.args.script.now c.args.store.tables g.L.Session.fixed g.L.Session.seats ends.0 ends.2 c.in_ok-worked.worked.words.items
+    ends.3 c.requires.fixed c.requires.seats.1
+    (subst (λ (this : TranscriptValue). IfSome this.header IsHeader) ends.4 ends.5.accepted)
+    c.in_ok-worked.ensures.words accounts.tokenless accounts.told))
+    c.finish.ensures
 
 pub returns-clause-shows : goal.returns-clause-shows
-returns-clause-shows g c going =
+returns-clause-shows g c =
     let accounts = c.in_ok-worked.ensures.accounts in
     let outs : List Outcome = outcomes accounts.tokenless_first c.args.script.now.setup ++ outcomes accounts.tokenless c.args.script.now.steps in
     let pairs = c.in_ok-pairs.pairs.items in
     let worked = c.in_ok-worked.worked.seats.items in
+    IfOk-weaker c.finish.result _ (λ (run : Finished). run.stopped ≡ false → ShowsEach c.args.script.now run.transcript)
+    (λ run ends still.
+    let seats : List Seated = ends.0 in
+    let closed : TranscriptValue = ends.2 in
+    let closes : Closes g.L.Session.fixed g.L.Session.seats seats closed = ends.3 in
+    let going : c.in_ok-worked.worked.stopped ≡ false = sym ends.6 ∙ still in
     let called : NoneTwice (pairs_of pairs) → EachAsOften (map (λ own. once_made outs (seat_calls own.seat own.remove)) pairs) (map (λ own. seat_calls own.seat own.remove) worked) =
     (λ once.
     subst (λ before. EachAsOften before (map (λ own. calls_at (seat_at_work own)) worked)) (map-map (λ own. once_made outs (calls_at own)) seat_at_work pairs)
     (subst (λ after. EachAsOften (map (λ own. once_made outs (calls_at own)) (seats_at_work pairs)) after) (map-map calls_at seat_at_work worked)
     (accounts.all_called going (subst NoneTwice (sym (map-map pair_at seat_at_work pairs)) once)))) in
-    let made : MakesCalls c.args.script.now.seats outs c.in-Ok-close.transcript.entries =
+    let made : MakesCalls c.args.script.now.seats outs closed.entries =
     (λ number lt.
-    each_made (λ own. own.seat) (λ own. own.remove) outs c.args.script.now.seats c.in-Ok.seats.items c.in_ok-seats.seats.items
-    pairs worked c.in-Ok-close.transcript.entries
-    c.in-Ok.ensures.seats (λ test. ap (count_by test) c.in_ok-pairs.ensures.seats) called c.in_ok-seats.ensures
-    (subst (AllHere c.in_ok-seats.seats.items) c.requires.seats.1 c.in-Ok-close.ensures.closes.all_here) c.in-Ok-close.ensures.closes.own number lt) in
-    subst (ShowsEach c.args.script.now) (sym c.in_ok-transcript.ensures.made) (record {
+    each_made (λ own. own.seat) (λ own. own.remove) outs c.args.script.now.seats c.in-Ok.seats.items seats
+    pairs worked closed.entries
+    c.in-Ok.ensures.seats (λ test. ap (count_by test) c.in_ok-pairs.ensures.seats) called ends.1
+    (subst (AllHere seats) c.requires.seats.1 closes.all_here) closes.own number lt) in
+    subst (ShowsEach c.args.script.now) (sym ends.4) (record {
       tokenless_first = accounts.tokenless_first;
       tokenless = accounts.tokenless;
       told = accounts.all_told going;
       made = made;
-    })
+    }))
+    c.finish.ensures
