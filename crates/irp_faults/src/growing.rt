@@ -1,7 +1,7 @@
 //! Device stacks, tables and tables of answers that grow.
 
 use crate::rows::EACH;
-use crate::tables::{add_all, extent_of};
+use crate::tables::{Tables, add_all, extent_of};
 use crate::tried::{Halt, Tried, wanted};
 use irp_routines::{AnswerTable, FixedTables};
 use irp_stack::{NotCreated, Stacks};
@@ -11,7 +11,11 @@ use std::alloc::Global;
 /// Creates as many devices as there may be, and one more, which is refused. Where memory was missing, a device is created
 /// once more. The numbers have to be in turn.
 pub fn create_devices(alloc: Global, tried: &mut Tried) -> Result<(), Halt> {
-    let mut stacks = Stacks::new(alloc);
+    create_in(&mut Stacks::new(alloc), tried)
+}
+
+/// Creates them in these stacks.
+fn create_in(stacks: &mut Stacks, tried: &mut Tried) -> Result<(), Halt> {
     let lock = LockNo(0);
     for number in 0..64 {
         tried.step = number as usize;
@@ -62,23 +66,27 @@ fn copy(alloc: Global, table: &AnswerTable, tried: &mut Tried) -> Result<(), Hal
     )
 }
 
+/// Adds nine times those of each kind.
+fn add_each<T: Tables>(alloc: Global, tables: &mut T, tried: &mut Tried) -> Result<(), Halt> {
+    let each = &EACH;
+    for number in 0..9 {
+        tried.step = number;
+        add_all(alloc, tables, each, tried)?;
+    }
+    Ok(())
+}
+
 /// A table of answers grows, and its tables are copied.
 pub fn grow_table(alloc: Global, tried: &mut Tried) -> Result<(), Halt> {
     let mut table = AnswerTable::new(alloc);
-    for number in 0..9 {
-        tried.step = number;
-        add_all(alloc, &mut table, &EACH, tried)?;
-    }
+    add_each(alloc, &mut table, tried)?;
     copy(alloc, &table, tried)
 }
 
 /// Tables grow.
 pub fn grow_tables(alloc: Global, tried: &mut Tried) -> Result<(), Halt> {
     let mut tables = FixedTables::new(alloc);
-    for number in 0..9 {
-        tried.step = number;
-        add_all(alloc, &mut tables, &EACH, tried)?;
-    }
+    add_each(alloc, &mut tables, tried)?;
     let counts = Known {
         change: 9,
         free: 9,

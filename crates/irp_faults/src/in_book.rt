@@ -9,7 +9,7 @@ use crate::counting::Asker;
 use crate::example::Example;
 use crate::place::{Lack, Place, told};
 use crate::playing::play;
-use crate::tried::{Halt, Tried};
+use crate::tried::{Halt, Tried, carried, made_or};
 use irp_manager::{Book, KnowsNothing, Manager, Seat};
 use irp_types::{Call, Limit, Reply};
 use std::alloc::Global;
@@ -52,11 +52,8 @@ fn book_of(manager: Manager<Asker>, tried: &mut Tried) -> Result<Book<Asker>, Ha
     match Book::new(manager) {
         Ok(book) => Ok(book),
         Err(back) => {
-            tried.refused("Book::new", true)?;
-            match Book::new(back) {
-                Ok(book) => Ok(book),
-                Err(_) => Err(Halt::Wrong("a book was refused twice")),
-            }
+            let back = carried(tried.refused("Book::new", true), back)?;
+            made_or(Book::new(back), "a book was refused twice")
         }
     }
 }
@@ -76,5 +73,5 @@ pub fn in_book<L: Ledger>(
     let (_total, share) = blank.open::<L>();
     let seat = Seat::new(alloc, 0, share);
     let book = book_of(Manager::with_limit(alloc, ask, 1, Limit::Sixteen), tried)?;
-    play(&mut InBook { book, seat, copies }, asked, tried, example)
+    play(InBook { book, seat, copies }, asked, tried, example)
 }

@@ -18,22 +18,35 @@ fn inserted<K: Keep>(alloc: Global, keep: &mut K, use_no: u64) -> Result<Option<
     Ok(keep.insert(None, Live { packet, use_no }).ok())
 }
 
-/// Puts packets into a keep. A refused call has to leave the others there.
-pub fn fill<K: Keep>(
+/// Puts the packet of this number into a keep, from 0, and once more where memory was missing. The keep has to have as many
+/// packets then.
+fn insert_one<K: Keep>(
     alloc: Global,
     keep: &mut K,
+    number: usize,
+    name: &'static str,
+    tried: &mut Tried,
+) -> Result<(), Halt> {
+    if inserted(alloc, keep, number as u64)?.is_none() {
+        tried.refused(name, keep.len() == number)?;
+        inserted(alloc, keep, number as u64)?;
+    }
+    wanted(
+        keep.len() == number.wrapping_add(1),
+        "a keep has another number of packets",
+    )
+}
+
+/// Puts packets into a keep. A refused call has to leave the others there. The keep is gone afterwards.
+pub fn fill<K: Keep + Drop>(
+    alloc: Global,
+    mut keep: K,
     name: &'static str,
     tried: &mut Tried,
 ) -> Result<(), Halt> {
     for number in 0..40usize {
         tried.step = number;
-        if inserted(alloc, keep, number as u64)?.is_none() {
-            tried.refused(name, keep.len() == number)?;
-            inserted(alloc, keep, number as u64)?;
-        }
-        if keep.len() != number + 1 {
-            return Err(Halt::Wrong("a keep has another number of packets"));
-        }
+        insert_one(alloc, &mut keep, number, name, tried)?;
     }
     Ok(())
 }

@@ -118,7 +118,7 @@ fn list<W: Write>(writer: &mut W, scenarios: &[(&str, Work)]) -> Result<(), Halt
 }
 
 /// Does what these words ask for. Without one, lists the scenarios.
-fn obey<R: Wait, W: Write>(
+fn do_words<R: Wait, W: Write>(
     rt: &R,
     alloc: Global,
     writer: &mut W,
@@ -138,7 +138,7 @@ fn run<R: Wait + Env + AllocGlobal, W: Write>(rt: &R, writer: &mut W) -> Result<
         Ok(words) => (words, Fell::Nowhere),
         Err(_) => (words_of(rt)?, Fell::SetUp),
     };
-    obey(rt, rt.alloc(), writer, words.as_slice(), fell)
+    do_words(rt, rt.alloc(), writer, words.as_slice(), fell)
 }
 
 fn main(rt: HostRuntime) -> ExitCode {

@@ -63,28 +63,28 @@ fn outcome<P: Place>(
 
 /// Makes the steps of an example, one after the other, each call after a look, and has a last look: each answer has to be
 /// the example's. The looks are in the seat behind the example's own. One look more comes first, so that a history, which
-/// grows at even numbers, grows in the steps.
-pub fn play<P: Place>(
-    place: &mut P,
+/// grows at even numbers, grows in the steps. The place is gone afterwards.
+pub fn play<P: Place + Drop>(
+    mut place: P,
     asked: &AtomicU32,
     tried: &mut Tried,
     example: &Example,
 ) -> Result<(), Halt> {
     let looker = example.seats;
-    look_around(place, asked, tried, looker)?;
+    look_around(&mut place, asked, tried, looker)?;
     for number in 0..example.steps.len() {
         tried.step = number;
         let (seat, deed) = example.steps[number];
         let is_so = match deed {
             Deed::Call(call, reply, count) => {
-                outcome(place, asked, tried, looker, seat, call)? == (reply, count)
+                outcome(&mut place, asked, tried, looker, seat, call)? == (reply, count)
             }
             Deed::Act(act) => place.acts(seat, act),
         };
         wanted(is_so, "an answer isn't the example's")?;
     }
     wanted(
-        look_around(place, asked, tried, looker)?.0 == example.last,
+        look_around(&mut place, asked, tried, looker)?.0 == example.last,
         "the last look isn't the example's",
     )
 }

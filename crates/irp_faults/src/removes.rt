@@ -38,10 +38,7 @@ impl Removes {
     pub fn open(alloc: Global, tried: &mut Tried) -> Result<Removes, Halt> {
         let (locks, mut seats) = match irp_remove::open(alloc, 1, 2) {
             Ok(opened) => opened,
-            Err(OpenRefusal::Memory) => {
-                tried.refused("irp_remove::open", true)?;
-                return Err(Halt::Memory);
-            }
+            Err(OpenRefusal::Memory) => return Err(tried.lost("irp_remove::open")),
             Err(OpenRefusal::BadCount) => return Err(Halt::Wrong(
                 "one lock and two seats are a bad count",
             )),

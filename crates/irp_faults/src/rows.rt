@@ -202,7 +202,7 @@ const DONE: Reply = Reply::Done;
 const PENDING: Reply = Reply::Status(Status::PENDING);
 
 /// One device finishes one packet.
-pub const FINISHED: Example = Example {
+static FINISHED: Example = Example {
     asked: &[
         Asked::Dispatch(FINISH),
         Asked::Driver(&[(READ, DispatchId(0))]),
@@ -219,7 +219,7 @@ pub const FINISHED: Example = Example {
 };
 
 /// A routine keeps a packet, and its device completes it.
-pub const KEPT: Example = Example {
+static KEPT: Example = Example {
     asked: &[
         Asked::Routine(Rule::Watch),
         Asked::Routine(Rule::Keeper),
@@ -250,7 +250,7 @@ pub const KEPT: Example = Example {
 
 /// A cancel routine finishes a packet, and its Watch is asked. A second packet, whose Watch is for a success alone, is
 /// cancelled too: only the cancel routine is asked.
-pub const CANCELLED: Example = Example {
+static CANCELLED: Example = Example {
     asked: &[
         Asked::Routine(Rule::Watch),
         Asked::Cancel(
@@ -289,7 +289,7 @@ pub const CANCELLED: Example = Example {
 };
 
 /// A packet stands in a cancel slot. Only who has the token completes it, and once.
-pub const TAKEN: Example = Example {
+static TAKEN: Example = Example {
     asked: &[
         Asked::Dispatch(Plan::HoldSlot),
         Asked::Driver(&[(READ, DispatchId(0))]),
@@ -316,7 +316,7 @@ pub const TAKEN: Example = Example {
 };
 
 /// A remove lock is drained, and its device deleted.
-pub const DRAINED: Example = Example {
+static DRAINED: Example = Example {
     asked: &[Asked::Driver(&[])],
     seats: 2,
     limit: Limit::Sixteen,
@@ -340,6 +340,27 @@ pub const DRAINED: Example = Example {
     ],
     last: Reply::Refused(Refusal::NoIrp),
 };
+
+/// The examples by their names.
+#[derive(Clone, Copy)]
+pub enum ExampleName {
+    Finished,
+    Kept,
+    Cancelled,
+    Taken,
+    Drained,
+}
+
+/// The example of this name.
+pub fn example_of(name: ExampleName) -> &'static Example {
+    match name {
+        ExampleName::Finished => &FINISHED,
+        ExampleName::Kept => &KEPT,
+        ExampleName::Cancelled => &CANCELLED,
+        ExampleName::Taken => &TAKEN,
+        ExampleName::Drained => &DRAINED,
+    }
+}
 
 /// Of each kind one who is asked, but of completion routines two.
 pub const EACH: [Asked; 5] = [

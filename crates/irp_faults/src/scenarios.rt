@@ -7,7 +7,7 @@ use crate::in_book::in_book;
 use crate::keeps::{fill, fill_seat};
 use crate::place::{Alone, Bare};
 use crate::playing::play;
-use crate::rows::{CANCELLED, DRAINED, FINISHED, KEPT, TAKEN};
+use crate::rows::{ExampleName, example_of};
 use crate::seating::seat_pairs;
 use crate::session::session;
 use crate::stores::{add_cancels, add_dispatches, add_drivers, add_routines};
@@ -62,7 +62,7 @@ pub enum Text {
 /// What a scenario does.
 #[derive(Clone, Copy)]
 pub enum Work {
-    Play(Where, &'static Example),
+    Play(Where, ExampleName),
     Grow(Growth),
     Text(Text),
 }
@@ -71,37 +71,61 @@ pub enum Work {
 pub const SCENARIOS: [(&str, Work); 29] = [
     (
         "finished_in_a_session",
-        Work::Play(Where::Session, &FINISHED),
+        Work::Play(Where::Session, ExampleName::Finished),
     ),
-    ("kept_in_a_session", Work::Play(Where::Session, &KEPT)),
+    (
+        "kept_in_a_session",
+        Work::Play(Where::Session, ExampleName::Kept),
+    ),
     (
         "cancelled_in_a_session",
-        Work::Play(Where::Session, &CANCELLED),
+        Work::Play(Where::Session, ExampleName::Cancelled),
     ),
-    ("taken_in_a_session", Work::Play(Where::Session, &TAKEN)),
-    ("drained_in_a_session", Work::Play(Where::Session, &DRAINED)),
+    (
+        "taken_in_a_session",
+        Work::Play(Where::Session, ExampleName::Taken),
+    ),
+    (
+        "drained_in_a_session",
+        Work::Play(Where::Session, ExampleName::Drained),
+    ),
     (
         "finished_in_a_book",
-        Work::Play(Where::Book(false), &FINISHED),
+        Work::Play(Where::Book(false), ExampleName::Finished),
     ),
-    ("kept_in_a_book", Work::Play(Where::Book(false), &KEPT)),
+    (
+        "kept_in_a_book",
+        Work::Play(Where::Book(false), ExampleName::Kept),
+    ),
     (
         "cancelled_in_a_book",
-        Work::Play(Where::Book(false), &CANCELLED),
+        Work::Play(Where::Book(false), ExampleName::Cancelled),
     ),
-    ("kept_with_copies", Work::Play(Where::Book(true), &KEPT)),
+    (
+        "kept_with_copies",
+        Work::Play(Where::Book(true), ExampleName::Kept),
+    ),
     (
         "finished_by_the_manager",
-        Work::Play(Where::Manager, &FINISHED),
+        Work::Play(Where::Manager, ExampleName::Finished),
     ),
-    ("kept_by_the_manager", Work::Play(Where::Manager, &KEPT)),
+    (
+        "kept_by_the_manager",
+        Work::Play(Where::Manager, ExampleName::Kept),
+    ),
     (
         "cancelled_by_the_manager",
-        Work::Play(Where::Manager, &CANCELLED),
+        Work::Play(Where::Manager, ExampleName::Cancelled),
     ),
-    ("finished_by_a_core", Work::Play(Where::Core, &FINISHED)),
-    ("kept_by_a_core", Work::Play(Where::Core, &KEPT)),
-    ("cancelled_by_a_core", Work::Play(Where::Core, &CANCELLED)),
+    (
+        "finished_by_a_core",
+        Work::Play(Where::Core, ExampleName::Finished),
+    ),
+    ("kept_by_a_core", Work::Play(Where::Core, ExampleName::Kept)),
+    (
+        "cancelled_by_a_core",
+        Work::Play(Where::Core, ExampleName::Cancelled),
+    ),
     ("devices", Work::Grow(Growth::Devices)),
     ("a_table_of_answers", Work::Grow(Growth::AnswerTable)),
     ("tables", Work::Grow(Growth::Tables)),
@@ -149,28 +173,6 @@ fn play_in_book(
     in_book::<Brand>(alloc, blank, ask, asked, example, copies, tried)
 }
 
-/// Plays an example by a manager alone.
-fn play_alone(
-    alloc: Global,
-    ask: Asker,
-    asked: &AtomicU32,
-    example: &Example,
-    tried: &mut Tried,
-) -> Result<(), Halt> {
-    play(&mut Alone::new(alloc, ask), asked, tried, example)
-}
-
-/// Plays an example by the state of a manager alone.
-fn play_bare(
-    alloc: Global,
-    ask: Asker,
-    asked: &AtomicU32,
-    example: &Example,
-    tried: &mut Tried,
-) -> Result<(), Halt> {
-    play(&mut Bare::new(alloc, ask), asked, tried, example)
-}
-
 /// Adds those whom an example asks, and answers who asks them and counts there.
 fn asker_of(
     alloc: Global,
@@ -197,8 +199,8 @@ fn play_there<R: Wait>(
     match place {
         Where::Session => play_in_session(rt, alloc, ask, &asked, example, tried, out),
         Where::Book(copies) => play_in_book(alloc, ask, &asked, example, copies, tried),
-        Where::Manager => play_alone(alloc, ask, &asked, example, tried),
-        Where::Core => play_bare(alloc, ask, &asked, example, tried),
+        Where::Manager => play(Alone::new(alloc, ask), &asked, tried, example),
+        Where::Core => play(Bare::new(alloc, ask), &asked, tried, example),
     }
 }
 
@@ -212,8 +214,8 @@ fn grow(alloc: Global, growth: Growth, tried: &mut Tried) -> Result<(), Halt> {
         Growth::Cancels => add_cancels(alloc, tried),
         Growth::Dispatches => add_dispatches(alloc, tried),
         Growth::Drivers => add_drivers(alloc, tried),
-        Growth::Map => fill(alloc, &mut MapKeep::new(alloc), "MapKeep::insert", tried),
-        Growth::Slab => fill(alloc, &mut SlabKeep::new(alloc), "SlabKeep::insert", tried),
+        Growth::Map => fill(alloc, MapKeep::new(alloc), "MapKeep::insert", tried),
+        Growth::Slab => fill(alloc, SlabKeep::new(alloc), "SlabKeep::insert", tried),
         Growth::Seat => fill_seat::<Brand>(alloc, Blank::new(1), tried),
         Growth::Pairs => {
             let table = AnswerTable::new(alloc);
@@ -231,7 +233,7 @@ pub fn perform<R: Wait>(
     out: &mut Vec<u8>,
 ) -> Result<(), Halt> {
     match work {
-        Work::Play(place, example) => { play_there(rt, alloc, place, example, tried, out) }
+        Work::Play(place, name) => play_there(rt, alloc, place, example_of(name), tried, out),
         Work::Grow(growth) => grow(alloc, growth, tried),
         Work::Text(Text::Script) => read_the_script(alloc, out, tried),
         Work::Text(Text::Read) => read_the_transcript(alloc, out, tried),

@@ -25,19 +25,16 @@ pub fn seat_pairs<L: Session>(
     requires fixed { L.fixed ≡ record { locks = locks; tables = ask.tables; limit = ThirtyTwo } }
 {
     let Ok((_shared, places)) = open::<AnswerTable, L>(alloc, blank, ask, locks, seats) else {
-        tried.refused("irp_shared::open", true)?;
-        return Err(Halt::Memory);
+        return Err(tried.lost("irp_shared::open"));
     };
     let Ok((own, removes)) = irp_remove::open(alloc, locks, seats) else {
         return Err(Halt::Memory);
     };
     let Ok((slots, owners, cancellers)) = irp_slots::open(alloc, seats, seats) else {
-        tried.refused("irp_slots::open", true)?;
-        return Err(Halt::Memory);
+        return Err(tried.lost("irp_slots::open"));
     };
     let Ok(pairs) = script_seats(alloc, &own, &slots, places, removes, cancellers, owners) else {
-        tried.refused("script_seats", true)?;
-        return Err(Halt::Memory);
+        return Err(tried.lost("script_seats"));
     };
     wanted(pairs.len() == seats as usize, "some seats are missing")
 }

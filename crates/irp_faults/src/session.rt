@@ -8,7 +8,7 @@ use crate::place::{Lack, Place, told};
 use crate::playing::play;
 use crate::removes::Removes;
 use crate::taking::taken;
-use crate::tried::{Halt, Tried};
+use crate::tried::{Halt, Tried, carried, made_or};
 use irp_manager::{NotRecorded, Receipt};
 use irp_shared::{OpenRefused, Seat, Session, Shared, Transcript, needs_token, open_with_limit};
 use irp_slots::Token;
@@ -24,7 +24,7 @@ use std::sync::ledger::Blank;
 struct Room<'a, R, L: Session> {
     rt: &'a R,
     shared: &'a Shared<Asker, L>,
-    seats: Vec<Seat<L>>,
+    seats: &'a mut [Seat<L>],
     removes: Removes,
     token: Option<Token>,
     entries: u64,
@@ -95,32 +95,23 @@ impl<R: Wait, L: Session> Place for Room<'_, R, L> {
 fn not_opened(reason: OpenRefused, tried: &mut Tried) -> Halt {
     match reason {
         OpenRefused::BadCount => Halt::Wrong("one lock and some seats are a bad count"),
-        OpenRefused::Memory => match tried.refused("irp_shared::open_with_limit", true) {
-            Ok(()) => Halt::Memory,
-            Err(halt) => halt,
-        },
+        OpenRefused::Memory => tried.lost("irp_shared::open_with_limit"),
     }
 }
 
-/// Remove locks, and the token of the first packet's use.
-fn means(alloc: Global, tried: &mut Tried) -> Result<(Removes, Token), Halt> {
-    let removes = Removes::open(alloc, tried)?;
-    let token = taken(alloc, tried)?;
-    Ok((removes, token))
-}
-
-/// Plays an example in a session with these seats, and gives them back.
+/// Plays an example in a session with these seats.
 fn played<L: Session, R: Wait>(
     rt: &R,
     alloc: Global,
     shared: &Shared<Asker, L>,
-    seats: Vec<Seat<L>>,
+    seats: &mut [Seat<L>],
     asked: &AtomicU32,
     example: &Example,
     tried: &mut Tried,
-) -> Result<Vec<Seat<L>>, Halt> {
-    let (removes, token) = means(alloc, tried)?;
-    let mut room = Room {
+) -> Result<(), Halt> {
+    let token = taken(alloc, tried)?;
+    let removes = Removes::open(alloc, tried)?;
+    let room = Room {
         rt,
         shared,
         seats,
@@ -128,8 +119,7 @@ fn played<L: Session, R: Wait>(
         token: Some(token),
         entries: 0,
     };
-    play(&mut room, asked, tried, example)?;
-    Ok(room.seats)
+    play(room, asked, tried, example)
 }
 
 /// The transcript of a session with one lock and these many seats, the last of which looks on while the others make the
@@ -151,13 +141,13 @@ pub fn session<L: Session, R: Wait>(
     requires fixed { L.fixed ≡ record { locks = locks; tables = ask.ask.tables; limit = limit } }
 {
     let opened = open_with_limit::<Asker, L>(alloc, blank, ask, locks, seats, limit);
-    let (shared, places) = match opened {
+    let (shared, mut places) = match opened {
         Ok(parts) => parts,
         Err(reason) => return Err(not_opened(reason, tried)),
     };
-    let places = played(rt, alloc, &shared, places, asked, example, tried)?;
-    match shared.close(places) {
-        Ok(transcript) => Ok(transcript),
-        Err(_) => Err(Halt::Wrong("the seats kept other entries than the history has")),
-    }
+    let seats = places.as_mut_slice();
+    let done = played(rt, alloc, &shared, seats, asked, example, tried);
+    let (shared, places) = carried(done, (shared, places))?;
+    let closed = shared.close(places);
+    made_or(closed, "the seats kept other entries than the history has")
 }

@@ -1,8 +1,8 @@
 //! Tables that those who are asked are added to: tables of answers, and the tables behind stores and these.
 
 use crate::example::Asked;
-use crate::tried::{Halt, Tried, wanted};
-use irp_routines::{AnswerTable, Behaviour, FixedTables, Reaction, Reason};
+use crate::tried::{Halt, Tried, carried, wanted};
+use irp_routines::{AnswerTable, Behaviour, FixedTables, NotAdded, Reaction, Reason};
 use irp_types::{DispatchId, Known};
 use std::alloc::Global;
 
@@ -43,32 +43,43 @@ pub fn extent_of(tables: &FixedTables) -> (Known, usize, usize) {
     )
 }
 
+/// What a call came to that takes no pairs: where it was refused, they come back as those of a driver do.
+fn without_pairs<I: Drop>(
+    made: Result<I, Reason>,
+    pairs: Vec<(u8, DispatchId)>,
+) -> Option<NotAdded<Vec<(u8, DispatchId)>>> {
+    match made {
+        Ok(_) => None,
+        Err(reason) => Some(NotAdded {
+            reason,
+            item: pairs,
+        }),
+    }
+}
+
 impl Tables for AnswerTable {
     fn put(&mut self, asked: Asked, pairs: Vec<(u8, DispatchId)>) -> Option<Refused> {
         let before = extent_of(self.tables());
-        let (name, reason, pairs) = match asked {
-            Asked::Routine(rule) => {
-                let reason = self.add(rule, BEHAVIOUR).err()?;
-                ("AnswerTable::add", reason, pairs)
-            }
-            Asked::Cancel(rule, answer) => {
-                let reason = self.add_cancel(rule, answer).err()?;
-                ("AnswerTable::add_cancel", reason, pairs)
-            }
-            Asked::Dispatch(plan) => {
-                let reason = self.add_dispatch(before.0, plan).err()?;
-                ("AnswerTable::add_dispatch", reason, pairs)
-            }
-            Asked::Driver(_) => {
-                let back = self.add_driver(pairs).err()?;
-                ("AnswerTable::add_driver", back.reason, back.item)
-            }
+        let (name, back) = match asked {
+            Asked::Routine(rule) => (
+                "AnswerTable::add",
+                without_pairs(self.add(rule, BEHAVIOUR), pairs),
+            ),
+            Asked::Cancel(rule, answer) => (
+                "AnswerTable::add_cancel",
+                without_pairs(self.add_cancel(rule, answer), pairs),
+            ),
+            Asked::Dispatch(plan) => (
+                "AnswerTable::add_dispatch",
+                without_pairs(self.add_dispatch(before.0, plan), pairs),
+            ),
+            Asked::Driver(_) => ("AnswerTable::add_driver", self.add_driver(pairs).err()),
         };
-        let is_same = extent_of(self.tables()) == before && reason == Reason::Memory;
+        let back = back?;
         Some(Refused {
             name,
-            is_same,
-            pairs,
+            is_same: extent_of(self.tables()) == before && back.reason == Reason::Memory,
+            pairs: back.item,
         })
     }
 }
@@ -76,29 +87,26 @@ impl Tables for AnswerTable {
 impl Tables for FixedTables {
     fn put(&mut self, asked: Asked, pairs: Vec<(u8, DispatchId)>) -> Option<Refused> {
         let before = extent_of(self);
-        let (name, reason, pairs) = match asked {
-            Asked::Routine(rule) => {
-                let reason = self.add_routine(rule).err()?;
-                ("FixedTables::add_routine", reason, pairs)
-            }
-            Asked::Cancel(rule, _) => {
-                let reason = self.add_cancel(rule).err()?;
-                ("FixedTables::add_cancel", reason, pairs)
-            }
-            Asked::Dispatch(_) => {
-                let reason = self.add_dispatch(before.0).err()?;
-                ("FixedTables::add_dispatch", reason, pairs)
-            }
-            Asked::Driver(_) => {
-                let back = self.add_driver(pairs).err()?;
-                ("FixedTables::add_driver", back.reason, back.item)
-            }
+        let (name, back) = match asked {
+            Asked::Routine(rule) => (
+                "FixedTables::add_routine",
+                without_pairs(self.add_routine(rule), pairs),
+            ),
+            Asked::Cancel(rule, _) => (
+                "FixedTables::add_cancel",
+                without_pairs(self.add_cancel(rule), pairs),
+            ),
+            Asked::Dispatch(_) => (
+                "FixedTables::add_dispatch",
+                without_pairs(self.add_dispatch(before.0), pairs),
+            ),
+            Asked::Driver(_) => ("FixedTables::add_driver", self.add_driver(pairs).err()),
         };
-        let is_same = extent_of(self) == before && reason == Reason::Memory;
+        let back = back?;
         Some(Refused {
             name,
-            is_same,
-            pairs,
+            is_same: extent_of(self) == before && back.reason == Reason::Memory,
+            pairs: back.item,
         })
     }
 }
@@ -119,9 +127,10 @@ pub fn add_all<T: Tables>(
         let Some(back) = tables.put(*asked, pairs.to_vec(alloc)?) else {
             continue;
         };
-        tried.refused(back.name, back.is_same && back.pairs.as_slice() == pairs)?;
+        let is_same = back.is_same && back.pairs.as_slice() == pairs;
+        let own = carried(tried.refused(back.name, is_same), back.pairs)?;
         wanted(
-            tables.put(*asked, back.pairs).is_none(),
+            tables.put(*asked, own).is_none(),
             "a call was refused twice",
         )?;
     }

@@ -9,8 +9,7 @@ use std::alloc::Global;
 /// missing for the slot, all is gone.
 pub fn taken(alloc: Global, tried: &mut Tried) -> Result<Token, Halt> {
     let Ok((slots, mut owners, _)) = open(alloc, 1, 1) else {
-        tried.refused("irp_slots::open", true)?;
-        return Err(Halt::Memory);
+        return Err(tried.lost("irp_slots::open"));
     };
     let Some(mut owner) = owners.pop() else {
         return Err(Halt::Wrong("a slot has no owner"));

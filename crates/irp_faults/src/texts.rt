@@ -1,13 +1,13 @@
 //! The texts of scripts and transcripts.
 
-use crate::tried::{Fell, Halt, Tried, wanted};
+use crate::tried::{Fell, Halt, Tried, carried, made_or, wanted};
 use irp_script::{Verdict, check};
 use irp_shared::{Header, Transcript, TranscriptParts};
 use irp_text::{
-    Cause, ReadFault, ScriptFault, WriteFault, WriterOut, read_script, read_transcript,
+    Cause, ReadFault, Script, ScriptFault, WriteFault, WriterOut, read_script, read_transcript,
     write_transcript,
 };
-use irp_transcript_writer::line_of;
+use irp_transcript_writer::{Written, line_of};
 use irp_types::Entry;
 use std::alloc::Global;
 use std::io::{self, Write};
@@ -32,6 +32,17 @@ const SCRIPT: &[u8] =
  \"steps\":[{\"seat\":0,\"do\":\"allocate\",\"size\":1,\"as\":\"a\"},{\"seat\":0,\"do\":\"cancel\",\"irp\":\"a\"},
   {\"seat\":0,\"do\":\"acquire\",\"lock\":0,\"tag\":1}]}";
 
+/// The transcript's text. The constant is named here alone: a proof takes it in for each function that names it.
+fn transcript_text() -> &'static [u8] {
+    TRANSCRIPT
+}
+
+/// Puts the line of a value.
+fn put_line<T: Written>(alloc: Global, out: &mut Vec<u8>, value: &T) -> Result<(), Halt> {
+    out.extend_from_slice(line_of(alloc, value)?.as_slice())?;
+    Ok(())
+}
+
 /// Puts the lines of the entries of the seats below a number, numbered from 0.
 fn put_entries(
     alloc: Global,
@@ -43,7 +54,7 @@ fn put_entries(
     for entry in entries {
         if entry.seat < seats {
             let own = Entry { number, ..entry };
-            out.extend_from_slice(line_of(alloc, &own)?.as_slice())?;
+            put_line(alloc, out, &own)?;
             number = number.wrapping_add(1);
         }
     }
@@ -60,9 +71,7 @@ fn put_header(
     let Some(header) = header else {
         return Err(Halt::Wrong("a transcript has no header"));
     };
-    let header = Header { seats, ..header };
-    out.extend_from_slice(line_of(alloc, &header)?.as_slice())?;
-    Ok(())
+    put_line(alloc, out, &Header { seats, ..header })
 }
 
 /// Judges a transcript, which has to be legal, and once more where memory is missing.
@@ -90,50 +99,58 @@ pub fn put_transcript(
     seats: u32,
     tried: &mut Tried,
 ) -> Result<(), Halt> {
-    judge(alloc, &transcript, tried)?;
+    let transcript = carried(judge(alloc, &transcript, tried), transcript)?;
     let TranscriptParts {
         header,
         entries,
         ..
     } = transcript.into_parts();
-    put_header(alloc, out, header, seats)?;
+    let entries = carried(put_header(alloc, out, header, seats), entries)?;
     put_entries(alloc, out, entries.into_vec(), seats)
 }
 
-/// Reads the script, and puts how many steps it has. Where memory is missing, it is read again.
-pub fn read_the_script(alloc: Global, out: &mut Vec<u8>, tried: &mut Tried) -> Result<(), Halt> {
-    let read = match read_script(alloc, SCRIPT) {
+/// Reads the script. Where memory is missing, it is read again.
+fn the_script(alloc: Global, tried: &mut Tried) -> Result<Script, Halt> {
+    let text = SCRIPT;
+    let read = match read_script(alloc, text) {
         Err(ScriptFault::NoMemory) => {
             tried.refused("read_script", true)?;
-            read_script(alloc, SCRIPT)
+            read_script(alloc, text)
         }
         other => other,
     };
-    let Ok(script) = read else {
-        return Err(Halt::Wrong("the script was refused"));
-    };
-    let (setup, steps) = (script.setup.as_slice().len(), script.steps.as_slice().len());
-    writeln!(
-        out,
-        "setup {setup}, steps {steps}, labels {}",
-        script.labels
-    )?;
+    made_or(read, "the script was refused")
+}
+
+/// How many steps before the workers, steps of theirs and labels the script has.
+fn lengths_of(script: &Script) -> (usize, usize, usize) {
+    (
+        script.setup.as_slice().len(),
+        script.steps.as_slice().len(),
+        script.labels,
+    )
+}
+
+/// Reads the script, and puts how many steps it has.
+pub fn read_the_script(alloc: Global, out: &mut Vec<u8>, tried: &mut Tried) -> Result<(), Halt> {
+    let script = the_script(alloc, tried)?;
+    let (setup, steps, labels) = lengths_of(&script);
+    drop(script);
+    writeln!(out, "setup {setup}, steps {steps}, labels {labels}")?;
     Ok(())
 }
 
 /// Reads the transcript. Where memory is missing, it is read again.
 fn the_transcript(alloc: Global, tried: &mut Tried) -> Result<Transcript, Halt> {
-    let read = match read_transcript(alloc, TRANSCRIPT) {
+    let text = transcript_text();
+    let read = match read_transcript(alloc, text) {
         Err(ReadFault::NoMemory) => {
             tried.refused("read_transcript", true)?;
-            read_transcript(alloc, TRANSCRIPT)
+            read_transcript(alloc, text)
         }
         other => other,
     };
-    match read {
-        Ok(transcript) => Ok(transcript),
-        Err(_) => Err(Halt::Wrong("the transcript was refused")),
-    }
+    made_or(read, "the transcript was refused")
 }
 
 /// Reads the transcript, judges it, and puts its lines.
@@ -179,7 +196,7 @@ fn written(
     most: usize,
     room: usize,
 ) -> Result<(Vec<u8>, Option<WriteFault>), Halt> {
-    let mut bytes = Vec::with_capacity(alloc, TRANSCRIPT.len())?;
+    let mut bytes = Vec::with_capacity(alloc, transcript_text().len())?;
     let mut out = WriterOut::new(Cut {
         bytes: &mut bytes,
         most,
@@ -191,12 +208,14 @@ fn written(
 
 /// Whether a write stopped for this cause, and what went out is a beginning of the text, as long as it tells.
 fn is_beginning(bytes: &[u8], fault: WriteFault, cause: Cause) -> bool {
-    fault.cause == cause && fault.written == bytes.len() as u64 && TRANSCRIPT.starts_with(bytes)
+    fault.cause == cause
+        && fault.written == bytes.len() as u64
+        && transcript_text().starts_with(bytes)
 }
 
 /// Puts what was written, which has to be the text that was read.
 fn put_written(out: &mut Vec<u8>, bytes: &[u8]) -> Result<(), Halt> {
-    if bytes != TRANSCRIPT {
+    if bytes != transcript_text() {
         return Err(Halt::Wrong("the text that was written isn't the one that was read"));
     }
     out.extend_from_slice(bytes)?;
@@ -210,7 +229,7 @@ fn write_whole(
     transcript: &Transcript,
     tried: &mut Tried,
 ) -> Result<(), Halt> {
-    let length = TRANSCRIPT.len();
+    let length = transcript_text().len();
     let (bytes, fault) = written(alloc, transcript, length, length)?;
     let Some(fault) = fault else {
         return put_written(out, bytes.as_slice());
@@ -229,12 +248,15 @@ pub fn write_the_transcript(
 ) -> Result<(), Halt> {
     let transcript = the_transcript(alloc, tried)?;
     tried.step = 1;
-    write_whole(alloc, out, &transcript, tried)
+    let done = write_whole(alloc, out, &transcript, tried);
+    drop(transcript);
+    done
 }
 
 /// Writes to an output that fails after so many bytes, and answers whether exactly these went out, and were counted.
 fn is_cut(alloc: Global, transcript: &Transcript, room: usize) -> Result<bool, Halt> {
-    let (bytes, fault) = written(alloc, transcript, TRANSCRIPT.len(), room)?;
+    let length = transcript_text().len();
+    let (bytes, fault) = written(alloc, transcript, length, room)?;
     let Some(fault) = fault else {
         return Ok(false);
     };
@@ -247,17 +269,19 @@ fn are_header_and_whole(alloc: Global, transcript: &Transcript) -> Result<bool, 
     let Some(header) = transcript.header() else {
         return Ok(false);
     };
-    let begun = written(alloc, transcript, TRANSCRIPT.len(), HEADER_LENGTH)?.0;
+    let text = transcript_text();
+    let begun = written(alloc, transcript, text.len(), HEADER_LENGTH)?.0;
     let is_header = begun.as_slice() == line_of(alloc, header)?.as_slice();
-    let (whole, fault) = written(alloc, transcript, 1, TRANSCRIPT.len())?;
-    Ok(is_header && fault.is_none() && whole.as_slice() == TRANSCRIPT)
+    let (whole, fault) = written(alloc, transcript, 1, text.len())?;
+    Ok(is_header && fault.is_none() && whole.as_slice() == text)
 }
 
 /// Writes the transcript to an output that fails after each number of bytes, and to one that takes one byte a write. Puts a
 /// line for each number that was wrong, and how many were tried and were wrong.
 fn put_cut_writes(alloc: Global, out: &mut Vec<u8>, transcript: &Transcript) -> Result<(), Halt> {
+    let length = transcript_text().len();
     let mut wrong: u32 = 0;
-    for room in 0..TRANSCRIPT.len() {
+    for room in 0..length {
         if !is_cut(alloc, transcript, room)? {
             wrong = wrong.wrapping_add(1);
             writeln!(out, "wrong: a write that fails after {room} bytes")?;
@@ -265,9 +289,9 @@ fn put_cut_writes(alloc: Global, out: &mut Vec<u8>, transcript: &Transcript) -> 
     }
     if !are_header_and_whole(alloc, transcript)? {
         wrong = wrong.wrapping_add(1);
-        writeln!(out, "wrong: the header's line, or a write byte by byte")?;
+        out.extend_from_slice(b"wrong: the header's line, or a write byte by byte\n")?;
     }
-    let tries = TRANSCRIPT.len() + 1;
+    let tries = length + 1;
     writeln!(out, "tried: {tries} {wrong} cut writes")?;
     Ok(())
 }
@@ -279,5 +303,7 @@ pub fn cut_writes(alloc: Global, out: &mut Vec<u8>) -> Result<(), Halt> {
         fell: Fell::Nowhere,
     };
     let transcript = the_transcript(alloc, &mut nowhere)?;
-    put_cut_writes(alloc, out, &transcript)
+    let done = put_cut_writes(alloc, out, &transcript);
+    drop(transcript);
+    done
 }

@@ -1,5 +1,7 @@
 //! What became of the one request for memory that is refused.
 
+ghost use Rattle.std.specs.Prelude.{◌≡◌, IfOk};
+
 use irp_routines::NotAdded;
 use std::alloc::{AllocError, AllocFailed};
 use std::io;
@@ -46,6 +48,24 @@ pub fn wanted(is_so: bool, what: &'static str) -> Result<(), Halt> {
     }
 }
 
+/// Carries a value past something that was done: gives it on where that went well, and lets it go otherwise.
+pub fn carried<T: Drop>(done: Result<(), Halt>, value: T) -> Result<T, Halt>
+    ensures { IfOk result (λ given. given ≡ value) }
+{
+    match done {
+        Ok(()) => Ok(value),
+        Err(halt) => Err(halt),
+    }
+}
+
+/// What was made, or that something is wrong.
+pub fn made_or<T: Drop, E: Drop>(made: Result<T, E>, what: &'static str) -> Result<T, Halt> {
+    match made {
+        Ok(made) => Ok(made),
+        Err(_) => Err(Halt::Wrong(what)),
+    }
+}
+
 /// Where the refused request fell, as far as it showed.
 #[derive(Clone, Copy)]
 pub enum Fell {
@@ -78,5 +98,13 @@ impl Tried {
         }
         self.fell = Fell::Call(self.step, name);
         Ok(())
+    }
+
+    /// Notes that a call of this name was refused, and kept what it got. Answers why that ends the scenario.
+    pub fn lost(&mut self, name: &'static str) -> Halt {
+        match self.refused(name, true) {
+            Ok(()) => Halt::Memory,
+            Err(halt) => halt,
+        }
     }
 }
