@@ -6,10 +6,8 @@ ghost use Rattle.irp_types.specs.Rules.{is_allowed, is_plan_allowed, is_cancel_a
 ghost use Rattle.irp_types.specs.State.{no_routines};
 ghost use Rattle.irp_types.specs.declared.routine.CancelRule.TheVariants.{MustLeave};
 
-use crate::tried::{Halt, Tried, carried, wanted};
-use irp_routines::{
-    Ask, CancelRoutine, Dispatch, NotAdded, Reason, Routine, Store, guarded_answer,
-};
+use crate::tried::{Halt, Tried, wanted};
+use irp_routines::{Ask, CancelRoutine, Dispatch, Reason, Routine, Store, guarded_answer};
 use irp_types::{
     Answer, CancelAnswer, CancelId, CancelRule, DispatchId, DriverId, IrpRef, Known, Plan,
     RoutineId, Rule, Shown, Status,
@@ -146,161 +144,100 @@ fn ask_all(store: &Store, kind: Kind, count: &AtomicU32) -> Result<(), Halt> {
     Ok(())
 }
 
-/// What a refused call handed back, which has to have left all as it was and to have asked nobody.
-fn handed_back<T: Drop>(
-    store: &Store,
-    count: &AtomicU32,
-    before: (Known, u32, u32, u32),
-    name: &'static str,
-    back: NotAdded<T>,
-    tried: &mut Tried,
-) -> Result<T, Halt> {
-    let is_same = standing_of(store, count) == before && back.reason == Reason::Memory;
-    carried(tried.refused(name, is_same), back.item)
-}
-
-/// Adds a completion routine to a store, which has to give it the number of this place.
-fn put_routine(
-    store: &mut Store,
-    item: Routine,
-    place: u32,
-    count: &AtomicU32,
-    tried: &mut Tried,
-) -> Result<(), Halt> {
-    let before = standing_of(store, count);
-    let id = match store.add(item) {
-        Ok(id) => id,
-        Err(back) => {
-            let item = handed_back(store, count, before, "Store::add", back, tried)?;
-            store.add(item)?
-        }
-    };
-    wanted(id == routine_at(place), "a routine has another number")
-}
-
-/// Adds a cancel routine to a store, which has to give it the number of this place.
-fn put_cancel(
-    store: &mut Store,
-    item: CancelRoutine,
-    place: u32,
-    count: &AtomicU32,
-    tried: &mut Tried,
-) -> Result<(), Halt> {
-    let before = standing_of(store, count);
-    let id = match store.add_cancel(item) {
-        Ok(id) => id,
-        Err(back) => {
-            let item = handed_back(store, count, before, "Store::add_cancel", back, tried)?;
-            store.add_cancel(item)?
-        }
-    };
-    wanted(id == CancelId(place), "a cancel routine has another number")
-}
-
-/// Adds a dispatch to a store, which has to give it the number of this place.
-fn put_dispatch(
-    store: &mut Store,
-    item: Dispatch,
-    place: u32,
-    count: &AtomicU32,
-    tried: &mut Tried,
-) -> Result<(), Halt> {
-    let before = standing_of(store, count);
-    let id = match store.add_dispatch(item) {
-        Ok(id) => id,
-        Err(back) => {
-            let item = handed_back(store, count, before, "Store::add_dispatch", back, tried)?;
-            store.add_dispatch(item)?
-        }
-    };
-    wanted(id == DispatchId(place), "a dispatch has another number")
-}
-
-/// Adds a driver to a store, which has to give it the number of this place.
-fn put_driver(
-    store: &mut Store,
-    item: Vec<(u8, DispatchId)>,
-    place: u32,
-    count: &AtomicU32,
-    tried: &mut Tried,
-) -> Result<(), Halt> {
-    let before = standing_of(store, count);
-    let id = match store.add_driver(item) {
-        Ok(id) => id,
-        Err(back) => {
-            let item = handed_back(store, count, before, "Store::add_driver", back, tried)?;
-            store.add_driver(item)?
-        }
-    };
-    wanted(id == DriverId(place), "a driver has another number")
-}
-
-/// Adds completion routines of each rule.
+/// Adds completion routines of each rule. A refused call has to hand the routine back, which is added again.
 pub fn add_routines(alloc: Global, tried: &mut Tried) -> Result<(), Halt> {
     let count = Arc::new(alloc, AtomicU32::new(0))?;
     let mut store = Store::new(alloc);
     for place in 0..MANY {
         tried.step = place as usize;
+        let before = standing_of(&store, &count);
         let own = count.clone()?;
         let rule = routine_at(place).rule;
         let run = move |shown: Shown| answers(&own, place.wrapping_add(1), rule, shown, CONTINUES);
         let item = Routine::new(rule, Box::new(alloc, run)?);
-        put_routine(&mut store, item, place, &count, tried)?;
+        let id = match store.add(item) {
+            Ok(id) => id,
+            Err(back) => {
+                let is_same = standing_of(&store, &count) == before
+                    && back.reason == Reason::Memory;
+                tried.refused("Store::add", is_same)?;
+                store.add(back.item)?
+            }
+        };
+        wanted(id == routine_at(place), "a routine has another number")?;
     }
     ask_all(&store, Kind::Routine, &count)
 }
 
-/// Adds cancel routines.
+/// Adds cancel routines. A refused call has to hand the routine back, which is added again.
 pub fn add_cancels(alloc: Global, tried: &mut Tried) -> Result<(), Halt> {
     let count = Arc::new(alloc, AtomicU32::new(0))?;
     let mut store = Store::new(alloc);
     for place in 0..MANY {
         tried.step = place as usize;
+        let before = standing_of(&store, &count);
         let own = count.clone()?;
         let run = move |_shown: Shown| leaves(&own, place.wrapping_add(1));
         let item = CancelRoutine::new(CancelRule::MustLeave, Box::new(alloc, run)?);
-        put_cancel(&mut store, item, place, &count, tried)?;
+        let id = match store.add_cancel(item) {
+            Ok(id) => id,
+            Err(back) => {
+                let is_same = standing_of(&store, &count) == before
+                    && back.reason == Reason::Memory;
+                tried.refused("Store::add_cancel", is_same)?;
+                store.add_cancel(back.item)?
+            }
+        };
+        wanted(id == CancelId(place), "a cancel routine has another number")?;
     }
     ask_all(&store, Kind::Cancel, &count)
 }
 
-/// Adds dispatches.
+/// Adds dispatches. A refused call has to hand the dispatch back, which is added again.
 pub fn add_dispatches(alloc: Global, tried: &mut Tried) -> Result<(), Halt> {
     let count = Arc::new(alloc, AtomicU32::new(0))?;
     let mut store = Store::new(alloc);
     for place in 0..MANY {
         tried.step = place as usize;
+        let before = standing_of(&store, &count);
         let own = count.clone()?;
         let run = move |shown: Shown| plans(&own, place.wrapping_add(1), shown);
         let item = Dispatch::new(Known::NONE, Box::new(alloc, run)?);
-        put_dispatch(&mut store, item, place, &count, tried)?;
+        let id = match store.add_dispatch(item) {
+            Ok(id) => id,
+            Err(back) => {
+                let is_same = standing_of(&store, &count) == before
+                    && back.reason == Reason::Memory;
+                tried.refused("Store::add_dispatch", is_same)?;
+                store.add_dispatch(back.item)?
+            }
+        };
+        wanted(id == DispatchId(place), "a dispatch has another number")?;
     }
     ask_all(&store, Kind::Dispatch, &count)
 }
 
-/// Adds drivers of one dispatch to a store, the dispatch before them.
-fn add_drivers_of(
-    alloc: Global,
-    store: &mut Store,
-    dispatch: Dispatch,
-    count: &AtomicU32,
-    tried: &mut Tried,
-) -> Result<(), Halt> {
-    store.add_dispatch(dispatch)?;
-    for place in 0..MANY {
-        tried.step = place as usize;
-        let item = [(3, DispatchId(0))].to_vec(alloc)?;
-        put_driver(store, item, place, count, tried)?;
-    }
-    ask_all(store, Kind::Driver, count)
-}
-
-/// Adds drivers of one dispatch.
+/// Adds drivers of one dispatch. A refused call has to hand the pairs back, which are added again.
 pub fn add_drivers(alloc: Global, tried: &mut Tried) -> Result<(), Halt> {
     let count = Arc::new(alloc, AtomicU32::new(0))?;
     let own = count.clone()?;
     let run = move |shown: Shown| plans(&own, 1, shown);
-    let dispatch = Dispatch::new(Known::NONE, Box::new(alloc, run)?);
     let mut store = Store::new(alloc);
-    add_drivers_of(alloc, &mut store, dispatch, &count, tried)
+    store.add_dispatch(Dispatch::new(Known::NONE, Box::new(alloc, run)?))?;
+    for place in 0..MANY {
+        tried.step = place as usize;
+        let before = standing_of(&store, &count);
+        let item = [(3, DispatchId(0))].to_vec(alloc)?;
+        let id = match store.add_driver(item) {
+            Ok(id) => id,
+            Err(back) => {
+                let is_same = standing_of(&store, &count) == before
+                    && back.reason == Reason::Memory;
+                tried.refused("Store::add_driver", is_same)?;
+                store.add_driver(back.item)?
+            }
+        };
+        wanted(id == DriverId(place), "a driver has another number")?;
+    }
+    ask_all(&store, Kind::Driver, &count)
 }
