@@ -4,32 +4,22 @@ ghost use Rattle.std.specs.Prelude.{◌≡◌, ◌<◌, IfOk};
 
 use crate::example::IRP;
 use crate::tried::{Halt, Tried, wanted};
-use irp_manager::{Keep, Live, Seat};
-use irp_packet::Packet;
+use irp_manager::{Keep, Seat};
 use irp_types::{Call, Entry, Reply, Row};
 use std::alloc::Global;
 use std::sync::ledger::{Blank, Ledger};
 
-/// Puts a packet into a keep, under this use number. None where memory was missing.
-fn inserted<K: Keep>(alloc: Global, keep: &mut K, use_no: u64) -> Result<Option<usize>, Halt> {
-    let Ok(packet) = Packet::new(alloc, 1) else {
-        return Err(Halt::Wrong("a packet of one location was refused"));
-    };
-    Ok(keep.insert(None, Live { packet, use_no }).ok())
-}
-
 /// Puts the packet of this number into a keep, from 0, and once more where memory was missing. The keep has to have as many
 /// packets then.
 fn insert_one<K: Keep>(
-    alloc: Global,
     keep: &mut K,
     number: usize,
     name: &'static str,
     tried: &mut Tried,
 ) -> Result<(), Halt> {
-    if inserted(alloc, keep, number as u64)?.is_none() {
+    if keep.insert(None, 1, number as u64).is_err() {
         tried.refused(name, keep.len() == number)?;
-        inserted(alloc, keep, number as u64)?;
+        keep.insert(None, 1, number as u64)?;
     }
     wanted(
         keep.len() == number.wrapping_add(1),
@@ -39,14 +29,13 @@ fn insert_one<K: Keep>(
 
 /// Puts packets into a keep. A refused call has to leave the others there. The keep is gone afterwards.
 pub fn fill<K: Keep + Drop>(
-    alloc: Global,
     mut keep: K,
     name: &'static str,
     tried: &mut Tried,
 ) -> Result<(), Halt> {
     for number in 0..40usize {
         tried.step = number;
-        insert_one(alloc, &mut keep, number, name, tried)?;
+        insert_one(&mut keep, number, name, tried)?;
     }
     Ok(())
 }

@@ -214,8 +214,8 @@ fn grow(alloc: Global, growth: Growth, tried: &mut Tried) -> Result<(), Halt> {
         Growth::Cancels => add_cancels(alloc, tried),
         Growth::Dispatches => add_dispatches(alloc, tried),
         Growth::Drivers => add_drivers(alloc, tried),
-        Growth::Map => fill(alloc, MapKeep::new(alloc), "MapKeep::insert", tried),
-        Growth::Slab => fill(alloc, SlabKeep::new(alloc), "SlabKeep::insert", tried),
+        Growth::Map => fill(MapKeep::new(alloc), "MapKeep::insert", tried),
+        Growth::Slab => fill(SlabKeep::new(alloc), "SlabKeep::insert", tried),
         Growth::Seat => fill_seat::<Brand>(alloc, Blank::new(1), tried),
         Growth::Pairs => {
             let table = AnswerTable::new(alloc);

@@ -1,7 +1,7 @@
 -- No call asks more than the devices and locations that it may come to.
-use Rattle.std.proofs.Common.{◌≡◌, ℕ, ◌+◌, ◌-◌, ◌<◌, ◌≤◌, Bool, true, false, cond, List, [], ◌∷◌, ◌++◌, length, map, filter, take, reverse, get_or, Option, Some, None, MatchOption, refl, sym, ◌∙◌, ap, subst, arith, inl, inr}
+use Rattle.std.proofs.Common.{◌≡◌, ℕ, ◌+◌, ◌-◌, ◌≤◌, Bool, true, false, cond, List, [], ◌∷◌, length, map, filter, take, reverse, Option, Some, None, MatchOption, refl, sym, ◌∙◌, ap, subst, arith, inl, inr}
 use Rattle.std.specs.Prelude.{◌==◌, unwrap_or}
-use Rattle.std.specs.List.{flat_map, count_by, position, AllByRecursion}
+use Rattle.std.specs.List.{position, AllByRecursion}
 use Rattle.std.specs.Option.{option_map_or}
 use Rattle.std.proofs.lemmas.Bool.{cases_lt}
 use Rattle.std.proofs.lemmas.List.{get_or_past, length-map, length-take, length-reverse, length-append}
@@ -11,9 +11,9 @@ use Rattle.irp_types.specs.Status.{cancelled, invalid_device_request}
 use Rattle.irp_types.specs.Packet.{PacketValue, size_of, location_at, cleared, with_status, after_take}
 use Rattle.irp_types.specs.Limits.{most_locations}
 use Rattle.irp_types.specs.Stacks.{DevicesValue, stack_of, depth_of, stack_size_of, AreStacks}
-use Rattle.irp_types.specs.Unwinding.{Asking, as_asked, place_of, keeper_of, stop_of, from_to, is_met_at, IsAskedRight, AreAsked, Unwound}
+use Rattle.irp_types.specs.Unwinding.{Asking, as_asked, place_of, keeper_of, stop_of, from_to, is_met_at, IsAskedRight, AreAsked}
 use Rattle.irp_types.specs.State.{StateValue, Fixed, Tables, packet_of}
-use Rattle.irp_types.specs.Descent.{Frame, no_frame, last_frame, first_location, plans, is_copying, dispatch_at, shown_to, as_question, question_at, questions_of, devices_down, AreFrames, PassedDown, Ends, Descended}
+use Rattle.irp_types.specs.Descent.{Frame, no_frame, last_frame, first_location, plans, is_copying, dispatch_at, shown_to, as_question, question_at, questions_of, devices_down, AreFrames, Ends, Descended}
 use Rattle.irp_types.specs.Refusals.{first_refusal}
 use Rattle.irp_types.specs.Standing.{StandingFacts}
 use Rattle.irp_types.specs.Steps.{Unasked, Completes, after_cancel, Follows, Cancels, Effect, Step}

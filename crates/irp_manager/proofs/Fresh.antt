@@ -1,30 +1,17 @@
 -- The standing facts once a packet or a device was made.
-use Rattle.std.proofs.Common.{◌≡◌, ℕ, ◌+◌, ◌<◌, ◌≤◌, true, false, refl, List, [], ◌∷◌, Option, None, ◌||◌, ◌==◌, Some, sym, ◌∙◌, ap, subst, arith, ◌⊎◌, inl, inr}
-use Rattle.std.specs.Prelude.{nat_lt, if◌then◌else◌, Result, Ok, Err}
-use Rattle.std.proofs.lemmas.Bool.{cases_eq, or_from, ne_eqb, cond-false}
+use Rattle.std.proofs.Common.{◌≡◌, ℕ, ◌+◌, ◌<◌, ◌≤◌, true, false, refl, List, [], ◌∷◌, Option, None, Some, sym, ◌∙◌, ap, subst, arith, ◌⊎◌, inl, inr}
+use Rattle.std.proofs.lemmas.Bool.{cases_eq}
 use Rattle.std.proofs.lemmas.Option.{same_Some, none-some}
 use Rattle.std.specs.FinMap as fin
-use Rattle.irp_types.specs.Limits.{most_locations}
 use Rattle.irp_types.specs.Checks.{Check, first_failing, or_else}
-use Rattle.irp_types.specs.Packet.{PacketValue, new_packet}
+use Rattle.irp_types.specs.Packet.{PacketValue}
 use Rattle.irp_types.specs.Stacks.{DevicesValue, AreStacks}
 use Rattle.irp_types.specs.State.{StateValue, LivePacket, live_at}
 use Rattle.irp_types.specs.Steps.{with_new_packet}
 use Rattle.irp_types.specs.Standing.{IsSound, StandingFacts}
 use Rattle.irp_types.specs.declared.routine.Known.{Known}
 use Rattle.irp_types.specs.declared.refusal.Refusal.{Refusal}
-use Rattle.irp_types.specs.declared.refusal.Refusal.TheVariants.{BadSize}
 use Rattle.irp_manager.proofs.Maps.{get_inserted, get_kept, get_removed, get_left}
-
--- a size in range gives a packet
-pub made : (size : ℕ) (packet : PacketValue) → 1 ≤ size → size ≤ most_locations
-    → ◌≡◌ {A = Result PacketValue Refusal} (Ok packet) (if (size == 0) || nat_lt most_locations size then Err BadSize else Ok (new_packet size)) → packet ≡ new_packet size
-made size packet some few is =
-    let not_none : (size == 0) ≡ false = ne_eqb size 0 (λ zero. omega arith) in
-    let not_many : nat_lt most_locations size ≡ false = grind arith in
-    let fits : ((size == 0) || nat_lt most_locations size) ≡ false = or_from (size == 0) (nat_lt most_locations size) not_none not_many in
-    let given : ◌≡◌ {A = Result PacketValue Refusal} (Ok packet) (Ok (new_packet size)) = is ∙ cond-false _ _ _ fits in
-    cc
 
 -- a live packet is the new one, or stood before
 new_or_old : (state : StateValue) (slot : ℕ) (packet : PacketValue) (other : ℕ) (there : LivePacket) → live_at (with_new_packet state slot packet) other ≡ Some there

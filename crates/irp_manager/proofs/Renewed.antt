@@ -15,7 +15,7 @@ use Rattle.irp_types.specs.declared.refusal.Refusal.{Refusal}
 use Rattle.irp_types.specs.declared.reply.Reply.{Reply}
 use Rattle.irp_types.specs.declared.reply.Reply.TheVariants.{Irp, Refused}
 use Rattle.irp_manager.specs.Slots.{Slots}
-use Rattle.irp_manager.specs.Calls.{packet_refusal_in, reuse_refusal_in}
+use Rattle.irp_manager.specs.Calls.{reuse_refusal_in}
 use Rattle.irp_manager.proofs.Maps.{insert_same}
 use Rattle.irp_manager.proofs.OnePacket.{found, packet_checked}
 use Rattle.irp_manager.proofs.Sound.{sound_reset}

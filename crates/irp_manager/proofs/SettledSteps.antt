@@ -1,12 +1,12 @@
 -- Where each closure has one answer, a state and a call settle the step.
-use Rattle.std.proofs.Common.{◌≡◌, ℕ, ◌≤◌, Bool, not, is_some, List, [], ◌∷◌, map, Option, Some, None, MatchOption, refl, sym, ◌∙◌, ap, subst, arith}
-use Rattle.std.specs.Prelude.{◌==◌, unwrap_or}
+use Rattle.std.proofs.Common.{◌≡◌, ℕ, ◌≤◌, Bool, not, is_some, List, [], ◌∷◌, map, Option, Some, None, MatchOption, refl, sym, ◌∙◌, ap, subst}
+use Rattle.std.specs.Prelude.{◌==◌}
 use Rattle.std.specs.List.{AllByRecursion}
 use Rattle.irp_types.specs.Status.{cancelled, is_completable}
 use Rattle.irp_types.specs.Checks.{Check, or_else}
 use Rattle.irp_types.specs.Packet.{PacketValue, size_of, new_packet, with_status, after_take}
 use Rattle.irp_types.specs.Unwinding.{Asking, as_asked}
-use Rattle.irp_types.specs.State.{StateValue, LivePacket, Fixed, Tables, live_at, packet_of, with_packet}
+use Rattle.irp_types.specs.State.{StateValue, Fixed, Tables, packet_of, with_packet}
 use Rattle.irp_types.specs.Refusals.{has_ended, packet_refusal, party_refusal, ended_check, complete_refusal, take_refusal, first_refusal}
 use Rattle.irp_types.specs.Standing.{IsSound, StandingFacts}
 use Rattle.irp_types.specs.Steps.{Unasked, Completes, shown_to_cancel, after_cancel, Follows, Cancels, with_new_packet, Effect}
@@ -32,7 +32,7 @@ use Rattle.irp_types.specs.declared.reply.Reply.{Reply}
 use Rattle.irp_types.specs.declared.reply.Reply.TheVariants.{Irp, Status as StatusIs, Refused}
 use Rattle.irp_unwind.specs.Laws.{AreRepliesOf, IsReplyOf, UnwindingIsSettled, DescentIsSettled}
 use Rattle.irp_manager.specs.Laws.{IsSameSlot}
-use Rattle.irp_manager.proofs.Sound.{sound_new, is_so, passed, own_passed, both_passed, cancellable_here, held_here}
+use Rattle.irp_manager.proofs.Sound.{is_so, passed, own_passed, both_passed, cancellable_here, held_here}
 use Rattle.irp_manager.proofs.Named.{sound_named}
 
 -- what is asked, the reply and the next state are the same

@@ -22,11 +22,10 @@ ghost use Rattle.irp_manager.specs.Notes.{known_by};
 ghost use Rattle.irp_manager.specs.Rooms.{can_ask};
 ghost use Rattle.irp_manager.specs.ManagerStates.{state_of, most_asked, Stepped, SteppedAny, SentStays, SenderStays, SlotGranted, Agrees, KeepsFixed};
 
-use crate::keep::{Keep, Live};
+use crate::keep::Keep;
 use crate::note::DrainNote;
 use crate::packets::USE_LIMIT;
 use crate::{cancellation, packets};
-use irp_packet::Packet;
 use irp_routines::Ask;
 use irp_stack::{NotCreated, Stacks};
 use irp_types::{
@@ -258,12 +257,8 @@ impl<K: Keep> ManagerState<K> {
         if let Some(refusal) = self.allocate_refusal(size) {
             return Ok(Reply::Refused(refusal));
         }
-        let packet = match Packet::new(self.alloc, size) {
-            Ok(packet) => packet,
-            Err(refusal) => return Ok(Reply::Refused(refusal)),
-        };
         let use_no = self.next_use;
-        let slot = self.keep.insert(wish, Live { packet, use_no })?;
+        let slot = self.keep.insert(wish, size, use_no)?;
         self.next_use += 1;
         Ok(Reply::Irp(IrpRef { slot, use_no }))
     }
@@ -288,7 +283,7 @@ impl<K: Keep> ManagerState<K> {
         if let Some(refusal) = self.flight_refusal(irp) {
             return Reply::Refused(refusal);
         }
-        let _gone = self.keep.take(irp.slot);
+        self.keep.give_back(irp.slot);
         Reply::Done
     }
 

@@ -86,13 +86,13 @@ impl Keep for MapKeep {
         self.places.get_mut(&slot)
     }
 
-    fn take(&mut self, slot: usize) -> Option<Live> {
-        self.places.remove(&slot)
+    fn give_back(&mut self, slot: usize) {
+        let _gone = self.places.remove(&slot);
     }
 
-    fn insert(&mut self, wish: Option<usize>, packet: Live) -> Result<usize, AllocError> {
+    fn insert(&mut self, wish: Option<usize>, size: u8, use_no: u64) -> Result<usize, AllocError> {
         let slot = self.choose(wish);
-        self.places.insert(slot, packet)?;
+        self.places.insert(slot, Live::of_size(size, use_no))?;
         Ok(slot)
     }
 }

@@ -1,6 +1,6 @@
 //! A packet, its readers, the calls that a packet answers by itself, and the steps that the layers above take.
 
-ghost use Rattle.std.specs.Prelude.{◌≡◌, ◌+◌, ◌<◌, ◌≤◌, ◌==◌, ◌||◌, if◌then◌else◌, nat_lt, false};
+ghost use Rattle.std.specs.Prelude.{◌≡◌, ◌+◌, ◌<◌, ◌≤◌, ◌==◌, ◌||◌, if◌then◌else◌, nat_lt, false, replicate};
 ghost use Rattle.irp_types.specs.Limits.{most_locations};
 ghost use Rattle.irp_types.specs.Checks.{answer_unless, value_unless};
 ghost use Rattle.irp_types.specs.Packet.{size_of, cleared, location_at, found_location, with_location, with_status, new_packet, is_nothing, set_next_refusal, copy_to_next_refusal, skip_refusal, set_routine_refusal, mark_pending_refusal, after_set_next, after_copy, after_skip, after_set_routine, after_mark, after_enter, after_rise, after_reset};
@@ -72,6 +72,18 @@ impl Model for Packet {
     } };
 }
 
+/// Puts as many cleared locations as `size`, which is at most 32, in place of those that are there.
+#[inline]
+fn put_cleared(locations: &mut ArrayVec<Location, MOST_LOCATIONS>, size: u8)
+    requires { size ≤ most_locations }
+    ensures { locations.new.items ≡ replicate size cleared }
+{
+    locations.clear();
+    for _number in 0..size {
+        locations.push(CLEARED);
+    }
+}
+
 impl Packet {
     /// A packet of `size` locations, as it is allocated: every location cleared, status and information 0, no flag
     /// and no cancel routine set, owned by the originator and not prepared. It stands above its highest location,
@@ -88,11 +100,19 @@ impl Packet {
         if size == 0 || size as usize > MOST_LOCATIONS {
             return Err(Refusal::BadSize);
         }
+        Ok(Packet::of_size(size))
+    }
+
+    /// The same for a size from 1 to 32, which can't be refused (WDK: "IoAllocateIrp").
+    #[inline(always)]
+    pub fn of_size(size: u8) -> Packet
+        requires some { 1 ≤ size }
+        requires few { size ≤ most_locations }
+        ensures { result ≡ new_packet size }
+    {
         let mut locations = ArrayVec::new();
-        for _number in 0..size {
-            locations.push(CLEARED);
-        }
-        Ok(Packet {
+        put_cleared(&mut locations, size);
+        Packet {
             locations,
             current: size as u32 + 1,
             status: Status::SUCCESS,
@@ -103,7 +123,7 @@ impl Packet {
             owner: Owner::Originator,
             preparation: Preparation::Nothing,
             slot_held: false,
-        })
+        }
     }
 
     /// How many locations it has, from 1 to 32.
@@ -455,6 +475,19 @@ impl Packet {
         ensures { self.new ≡ record self.old { slot_held = slot_held } }
     {
         self.slot_held = slot_held;
+    }
+
+    /// Makes the packet as newly allocated, of this size, from 1 to 32, where it lies (WDK: "IoAllocateIrp").
+    #[inline]
+    pub fn renew(&mut self, size: u8)
+        requires some { 1 ≤ size }
+        requires few { size ≤ most_locations }
+        ensures { self.new ≡ new_packet size }
+    {
+        put_cleared(&mut self.locations, size);
+        self.current = size as u32 + 1;
+        self.preparation = Preparation::Nothing;
+        self.reset(Status::SUCCESS);
     }
 
     /// Makes the packet as newly allocated, of the same size, with this status (WDK: "IoReuseIrp").

@@ -1,4 +1,4 @@
-use Rattle.std.proofs.Common.{◌≡◌, ◌++◌, ◌∷◌, [], ℕ, List, Some, length, refl, sym, ap, ◌≤◌, ◌∙◌, subst, rules, arith, length-append}
+use Rattle.std.proofs.Common.{◌≡◌, ◌++◌, ◌∷◌, [], List, Some, length, refl, sym, ap, ◌≤◌, ◌∙◌, subst, rules, arith, length-append}
 use Rattle.std.specs.Prelude.{slice_get, vec_capacity}
 use Rattle.irp_types.specs.State.{Fixed}
 use Rattle.irp_types.specs.Steps.{Step}

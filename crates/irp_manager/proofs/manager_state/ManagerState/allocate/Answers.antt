@@ -10,7 +10,7 @@ use Rattle.irp_types.specs.declared.reply.Reply.TheVariants.{Refused, Irp}
 use Rattle.irp_types.specs.Standing.{StandingFacts}
 use Rattle.irp_manager.specs.ManagerStates.{state_of}
 use Rattle.irp_manager.proofs.Sound.{sound_new}
-use Rattle.irp_manager.proofs.Fresh.{made, stands_new}
+use Rattle.irp_manager.proofs.Fresh.{stands_new}
 use Rattle.irp_manager.proofs.manager_state.ManagerState.allocate.Goals as goal
 
 pub returns-in-Some-clause-stepped : goal.returns-in-Some-clause-stepped
@@ -32,10 +32,9 @@ returns-clause-stepped g c tables drained stands =
     let slot : ℕ = c.in_ok-slot.slot in
     let number : ℕ = c.args.self.now.next_use in
     let fits = c.allocate_refusal.ensures.fits c.in_default.is in
-    let packet : c.in-Ok.packet ≡ new_packet size = made size c.in-Ok.packet fits.0 fits.1 c.in-Ok.ensures in
     let vacant : fin.get state.live slot ≡ None = c.in_ok-slot.ensures.vacant in
     let put : g.K.Keep.live c.insert.new.self ≡ fin.insert state.live slot (record { packet = new_packet size; use_no = number }) =
-    c.in_ok-slot.ensures.put ∙ (λ i. fin.insert state.live slot (record { packet = packet i; use_no = number })) in
+    c.in_ok-slot.ensures.put in
     let new : StateValue = record state { live = g.K.Keep.live c.insert.new.self; next_use = number + 1 } in
     let is : new ≡ with_new_packet state slot (new_packet size) = λ i. record state { live = put i; next_use = number + 1 } in
     let reply : Reply = Irp (record { slot = slot; use_no = number }) in

@@ -13,8 +13,8 @@ pub returns : goal.returns
 returns g c tables drained stands =
     let state : StateValue = state_of g.K.Keep.live c.args.self.now in
     let irp = c.args.irp in
-    let new : StateValue = record state { live = g.K.Keep.live c.take-gone.new.self } in
-    let left : new ≡ record state { live = fin.remove state.live irp.slot } = λ i. record state { live = c.take-gone.ensures.others i } in
+    let new : StateValue = record state { live = g.K.Keep.live c.give_back.new.self } in
+    let left : new ≡ record state { live = fin.remove state.live irp.slot } = λ i. record state { live = c.give_back.ensures i } in
     record {
       step = λ fixed same agrees.
           subst (λ (given : Option Refusal). MatchOption given (Unasked [] Done new Done (record state { live = fin.remove state.live irp.slot })) (λ refusal. Unasked [] Done new (Refused refusal) state))

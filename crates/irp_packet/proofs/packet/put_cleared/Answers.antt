@@ -3,7 +3,7 @@ use Rattle.std.proofs.Common.{arith, ◌++◌, ◌∷◌, [], ◌∙◌, ap}
 use Rattle.std.proofs.lemmas.Grind.{common_steps}
 use Rattle.std.proofs.lemmas.List.{replicate-append-replicate, length-replicate}
 use Rattle.irp_types.specs.Packet.{cleared}
-use Rattle.irp_packet.proofs.packet.Packet.new.Goals as goal
+use Rattle.irp_packet.proofs.packet.put_cleared.Goals as goal
 
 pub push-requires : goal.push-requires
 push-requires c = grind (arith, common_steps, c.loop-number.invariant, length-replicate c.loop-number._number cleared)
@@ -11,9 +11,3 @@ push-requires c = grind (arith, common_steps, c.loop-number.invariant, length-re
 pub loop-number-preserved : goal.loop-number-preserved
 loop-number-preserved c =
     c.push.ensures.items ∙ ap (λ items. items ++ cleared ∷ []) c.loop-number.invariant ∙ replicate-append-replicate c.loop-number._number 1 cleared
-
-pub invariant_of-result : goal.invariant_of-result
-invariant_of-result c = grind (arith, common_steps, c.loop-number.invariant, length-replicate c.args.size cleared)
-
-pub returns : goal.returns
-returns c = grind (arith, common_steps, c.loop-number.invariant)
