@@ -5,7 +5,7 @@ ghost use Rattle.std.specs.Prelude.{◌≡◌, ◌<◌, IfOk};
 use crate::example::IRP;
 use crate::tried::{Halt, Tried, wanted};
 use irp_manager::{Keep, Seat};
-use irp_types::{Call, Entry, Reply, Row};
+use irp_types::{Call, Entry, Questions, Reply};
 use std::alloc::Global;
 use std::sync::ledger::{Blank, Ledger};
 
@@ -67,7 +67,7 @@ pub fn fill_seat<L: Ledger>(alloc: Global, blank: Blank, tried: &mut Tried) -> R
             call: Call::Look { irp: IRP },
             lock: None,
             drained: false,
-            asked: Row::from_vec(Vec::new(alloc)),
+            asked: Questions::from_vec(Vec::new(alloc)),
             reply: Reply::Done,
         };
         seat.took(entry, &mut total);

@@ -487,7 +487,7 @@ impl Packet {
         put_cleared(&mut self.locations, size);
         self.current = size as u32 + 1;
         self.preparation = Preparation::Nothing;
-        self.reset(Status::SUCCESS);
+        self.begin(Status::SUCCESS);
     }
 
     /// Makes the packet as newly allocated, of the same size, with this status (WDK: "IoReuseIrp").
@@ -495,6 +495,16 @@ impl Packet {
         ensures { self.new ≡ after_reset self.old status }
     {
         self.locations.fill(CLEARED);
+        self.begin(status);
+    }
+
+    // makes all but the locations as newly allocated, with this status
+    #[inline]
+    fn begin(&mut self, status: Status)
+        ensures { self.new ≡ record (after_reset self.old status) {
+          locations = self.old.locations;
+        } }
+    {
         self.current = self.locations.len() as u32 + 1;
         self.status = status;
         self.information = 0;

@@ -4,7 +4,7 @@ use crate::calls::guess_call;
 use crate::questions::guess_asked;
 use crate::replies::guess_reply;
 use crate::scan::Scan;
-use irp_types::{Asked, Entry, Row};
+use irp_types::{Asked, Entry, Questions};
 use std::alloc::Global;
 
 /// The entry that the line tells, if this project wrote it; else any entry, or none. None also where memory ran out.
@@ -26,7 +26,7 @@ pub fn guess_entry(alloc: Global, line: &[u8], asked: &mut Vec<Asked>) -> Option
         call: called.call,
         lock: called.lock,
         drained: called.drained,
-        asked: Row::from_vec(asked),
+        asked: Questions::from_vec(asked),
         reply,
     })
 }

@@ -11,7 +11,7 @@ ghost use Rattle.irp_script.specs.Replayed.{MakesAgain, slot_named};
 use crate::recorded_answers::RecordedAnswers;
 use irp_manager::{DrainNote, ManagerState, MapKeep, step_is_settled};
 use irp_shared::Header;
-use irp_types::{Entry, LockNo, Reply, Row};
+use irp_types::{Entry, LockNo, Questions, Reply};
 use std::alloc::AllocError;
 
 /// A note that answers the same of each lock, as an entry says.
@@ -69,7 +69,7 @@ pub fn makes_again(
         call: entry.call,
         lock: applied.lock,
         drained: applied.drained,
-        asked: Row::from_vec(applied.asked),
+        asked: Questions::from_vec(applied.asked),
         reply: applied.reply,
     };
     step_is_settled();

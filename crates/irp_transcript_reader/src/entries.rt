@@ -8,7 +8,7 @@ ghost use Rattle.irp_transcript_reader.specs.Lines.{entry_at, recorded_at};
 use crate::calls::{EntryCall, entry_call_at};
 use crate::replies::reply_at;
 use irp_forms::{Unread, form_of, has_keys, list_at, u32_under, u64_under};
-use irp_types::{Entry, Reply};
+use irp_types::{Asked, Entry, Questions, Reply, Row};
 use serde_json::Value;
 use std::alloc::Global;
 
@@ -54,14 +54,14 @@ pub fn entry_at(alloc: Global, value: &Value) -> Result<Entry, Unread>
     let Some(asked) = value.get("asked") else {
         return Err(Unread::Form);
     };
-    let asked = list_at(alloc, asked)?;
+    let asked: Row<Asked> = list_at(alloc, asked)?;
     Ok(Entry {
         number: recorded.number,
         seat: recorded.seat,
         call: recorded.called.call,
         lock: recorded.called.lock,
         drained: recorded.called.drained,
-        asked,
+        asked: Questions::from_vec(asked.into_vec()),
         reply: recorded.reply,
     })
 }

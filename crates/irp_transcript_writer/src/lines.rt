@@ -1,14 +1,15 @@
 //! The lines' own forms: questions, replies, entries and the header.
 #![tactic(auto, unfolding(json::specs::Print::escape_byte))]
 
-ghost use Rattle.std.specs.Prelude.{◌≡◌, ◌++◌, OnOk};
+ghost use Rattle.std.specs.Prelude.{◌≡◌, ◌++◌, map, OnOk};
 ghost use Rattle.serde_json.specs.Written.{compact_text};
+ghost use Rattle.irp_transcript_writer.specs.Json.{list};
 ghost use Rattle.irp_transcript_writer.specs.Lines.{asked_json, completions_json, entry_json, header_json, reply_json};
 
 use crate::calls::put_call;
 use crate::form::{Written, put, put_list, put_one, put_text, put_two};
 use irp_shared::{Form, Header};
-use irp_types::{Asked, Entry, Known, Reply};
+use irp_types::{Asked, Entry, Known, Questions, Reply};
 use std::alloc::AllocError;
 
 impl Written for Asked {
@@ -29,6 +30,14 @@ impl Written for Asked {
                 put_two(out, ",\"cancel\":", &id, ",\"shown\":", &shown, "}")
             }
         }
+    }
+}
+
+impl Written for Questions {
+    ghost json = { λ questions. list (map asked_json questions) };
+
+    fn write(&self, out: &mut Vec<u8>) -> Result<(), AllocError> {
+        put_list(out, self.as_slice())
     }
 }
 

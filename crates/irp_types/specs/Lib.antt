@@ -14,3 +14,4 @@ pub mod Steps
 pub mod Histories
 pub mod Standing
 pub mod Lending
+pub mod Sharing

@@ -1,13 +1,13 @@
 //! The entries of a history.
 
-ghost use Rattle.std.specs.Prelude.{◌≡◌, ◌≤◌, [], length, vec_capacity, IsTrue};
+ghost use Rattle.std.specs.Prelude.{◌≡◌, ◌≤◌, [], length, vec_capacity, IsTrue, IfSome};
 ghost use mathlib.Core.Logic.{◌↔◌};
 
 use crate::asked::Asked;
 use crate::call::Call;
 use crate::names::LockNo;
+use crate::questions::Questions;
 use crate::reply::Reply;
-use crate::row::Row;
 
 /// One recorded call (this project's own rule). Large fields come first, since fields lie in this order.
 #[derive(Drop)]
@@ -16,7 +16,7 @@ pub struct Entry {
     pub number: u64,
     pub call: Call,
     /// What was asked of closures, in order.
-    pub asked: Row<Asked>,
+    pub asked: Questions,
     pub reply: Reply,
     /// The seat that made the call, from 0.
     pub seat: u32,
@@ -34,6 +34,23 @@ fn are_same(one: &[Asked], other: &[Asked]) -> bool
 }
 
 impl Entry {
+    /// This entry with these questions, which are its own.
+    #[inline]
+    fn with(&self, asked: Questions) -> Entry
+        requires { asked ≡ self.now.asked }
+        ensures { result ≡ self.now }
+    {
+        Entry {
+            number: self.number,
+            seat: self.seat,
+            call: self.call,
+            lock: self.lock,
+            drained: self.drained,
+            asked,
+            reply: self.reply,
+        }
+    }
+
     /// An equal entry, whose questions lie in the room given: an empty vector with room for as many as this entry has.
     /// It takes no memory, and can't fail (this project's own rule).
     pub fn copy_into(&self, room: Vec<Asked>) -> Entry
@@ -45,15 +62,17 @@ impl Entry {
         for item in self.asked.as_slice() {
             asked.push_reserved(*item);
         }
-        Entry {
-            number: self.number,
-            seat: self.seat,
-            call: self.call,
-            lock: self.lock,
-            drained: self.drained,
-            asked: Row::from_vec(asked),
-            reply: self.reply,
-        }
+        self.with(Questions::from_vec(asked))
+    }
+
+    /// An equal entry, which shares its questions with this one. None where they can't be shared: where they lie with this
+    /// entry alone. It takes no memory (this project's own rule).
+    #[inline]
+    pub fn shared(&self) -> Option<Entry>
+        ensures { IfSome result (λ same. same ≡ self.now) }
+    {
+        let asked = self.asked.shared()?;
+        Some(self.with(asked))
     }
 
     /// Whether the two say the same, each field and each question.

@@ -11,6 +11,7 @@ mod limit;
 pub mod limits;
 mod location;
 mod names;
+mod questions;
 mod refusal;
 mod reply;
 mod routine;
@@ -29,6 +30,7 @@ pub use laws::{
 pub use limit::Limit;
 pub use location::{Location, Owner, Preparation};
 pub use names::{CancelId, DeviceId, DispatchId, DriverId, IrpRef, LockNo};
+pub use questions::{Questions, SharedPlace};
 pub use refusal::Refusal;
 pub use reply::{Reply, Seen};
 pub use routine::{CancelRule, Known, RoutineId, Rule, Setting};

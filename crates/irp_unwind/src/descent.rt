@@ -10,13 +10,15 @@ ghost use Rattle.irp_unwind.specs.Conditions.{HasDevices, HasRoutines};
 ghost use Rattle.irp_unwind.specs.Descents.{Descends, can_ask_down};
 
 use crate::device::{ask_plan, device_below, end_at, is_passing, marks_location, pass_on};
-use crate::ending::Sent;
+use crate::ending::{Ending, Sent};
 use irp_packet::Packet;
 use irp_routines::Ask;
 use irp_stack::Stacks;
 use irp_types::{Asked, DeviceId, IrpRef, Status};
 
-/// Sends a packet to a device, in stacks that are in order: to this device, and then to those below.
+/// Sends a packet to a device, in stacks that are in order: to this device, and then to those below. What became of it is
+/// written once, at the last device, but for the status where a device marked its location: what is returned would be copied
+/// at each device.
 fn descend_from<A: Ask>(
     packet: &mut Packet,
     irp: IrpRef,
@@ -24,7 +26,8 @@ fn descend_from<A: Ask>(
     ask: &A,
     target: DeviceId,
     asked: &mut Vec<Asked>,
-) -> Sent
+    sent: &mut Sent,
+)
     requires stacked { AreStacks stacks.now.devices }
     requires created { target.0 < length stacks.now.devices.facts }
     requires deep { stack_size_of stacks.now.devices target.0 < packet.old.current }
@@ -36,24 +39,21 @@ fn descend_from<A: Ask>(
     ensures descends { Descends
         (IsAnswered (A.may_plan ask.now) (A.may_answer ask.now) (A.may_cancel ask.now))
         (A.tables ask.now) irp stacks.now.devices packet.old target.0 packet.new asked.old.items
-        asked.new.items result }
+        asked.new.items sent.new }
     ensures capacity { vec_capacity asked.new ≡ vec_capacity asked.old }
 {
     packet.enter(target);
     let plan = ask_plan(packet, irp, stacks, ask, target, asked);
     if !is_passing(plan) {
-        return end_at(packet, irp, ask, target, plan, asked);
+        *sent = end_at(packet, irp, ask, target, plan, asked);
+        return;
     }
     let lower = device_below(stacks, target);
     pass_on(packet, plan);
-    let sent = descend_from(packet, irp, stacks, ask, lower, asked);
+    descend_from(packet, irp, stacks, ask, lower, asked, sent);
     if marks_location(plan) {
-        return Sent {
-            status: Status::PENDING,
-            ..sent
-        };
+        sent.status = Status::PENDING;
     }
-    sent
 }
 
 /// Sends a packet to a device, and answers the status that the sender gets, and how it ended.
@@ -102,5 +102,10 @@ pub fn descend<A: Ask>(
     // the two tell that the stacks are in order, and that `current` is at most one above the size
     stacks.are_stacks();
     let _current = packet.current();
-    descend_from(packet, irp, stacks, ask, target, asked)
+    let mut sent = Sent {
+        status: Status::PENDING,
+        ending: Ending::Ended,
+    };
+    descend_from(packet, irp, stacks, ask, target, asked, &mut sent);
+    sent
 }

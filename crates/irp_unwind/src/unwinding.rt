@@ -25,15 +25,22 @@ fn clear_below(packet: &mut Packet)
     }
 }
 
-/// Unwinds a packet, below whose current location all is cleared: one location, and then the rest.
-fn unwind_from<A: Ask>(packet: &mut Packet, irp: IrpRef, ask: &A, asked: &mut Vec<Asked>) -> Ending
+/// Unwinds a packet, below whose current location all is cleared: one location, and then the rest. How it ends is written
+/// once, at the end: what is returned would be copied at each location.
+fn unwind_from<A: Ask>(
+    packet: &mut Packet,
+    irp: IrpRef,
+    ask: &A,
+    asked: &mut Vec<Asked>,
+    ending: &mut Ending,
+)
     requires bare { IsBare packet.old }
     requires placed { packet.old.current ≤ size_of packet.old }
     requires devices { HasDevices packet.old (packet.old.current + 1) }
     requires routines { HasRoutines (A.tables ask.now).counts packet.old packet.old.current }
     requires room { vec_len asked.old + can_ask_up packet.old ≤ vec_capacity asked.old }
     ensures unwinds { Unwinds (A.may_answer ask.now) irp packet.old packet.new asked.old.items
-        asked.new.items result }
+        asked.new.items ending.new }
     ensures capacity { vec_capacity asked.new ≡ vec_capacity asked.old }
 {
     let number = packet.current();
@@ -47,13 +54,15 @@ fn unwind_from<A: Ask>(packet: &mut Packet, irp: IrpRef, ask: &A, asked: &mut Ve
             None => Owner::Originator,
         };
         packet.set_owner(owner);
-        return Ending::Kept(owner);
+        *ending = Ending::Kept(owner);
+        return;
     }
     if number == packet.size() {
         packet.set_owner(Owner::Ended);
-        return Ending::Ended;
+        *ending = Ending::Ended;
+        return;
     }
-    unwind_from(packet, irp, ask, asked)
+    unwind_from(packet, irp, ask, asked, ending);
 }
 
 /// Unwinds a packet from its current location up, and answers how that ended.
@@ -86,5 +95,7 @@ pub fn unwind<A: Ask>(packet: &mut Packet, irp: IrpRef, ask: &A, asked: &mut Vec
     ensures capacity { vec_capacity asked.new ≡ vec_capacity asked.old }
 {
     clear_below(packet);
-    unwind_from(packet, irp, ask, asked)
+    let mut ending = Ending::Ended;
+    unwind_from(packet, irp, ask, asked, &mut ending);
+    ending
 }

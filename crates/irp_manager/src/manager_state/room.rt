@@ -69,7 +69,7 @@ impl<K: Keep> ManagerState<K> {
 
     /// How many questions a call asks at most, by the packet and the target that it finds.
     #[inline]
-    fn can_ask(&self, call: Call) -> usize
+    pub(crate) fn can_ask(&self, call: Call) -> usize
         ensures { can_ask (state_of K.live self.now) call ≤ result }
     {
         match call {

@@ -29,8 +29,8 @@ returns-then-not-is_passing-clause-descends g t c =
     ends_here (g.A.Ask.may_plan ask) (g.A.Ask.may_answer ask) (g.A.Ask.may_cancel ask) (g.A.Ask.tables ask) c.args.irp c.args.stacks.now.devices packet c.args.asked.now.items device plan
     c.end_at.new.packet c.ask_plan-plan.new.asked.items c.end_at.new.asked.items c.end_at.result low c.requires.within c.requires.stacked c.requires.created stops here ends c.end_at.ensures.status
 
-pub descend_from-sent-requires : goal.descend_from-sent-requires
-descend_from-sent-requires g t c κs within =
+pub descend_from-requires : goal.descend_from-requires
+descend_from-requires g t c κs within =
     let ask = c.args.ask.now in
     let packet = c.args.packet.now in
     let device = c.args.target in
@@ -69,14 +69,14 @@ returns-then-marks_location-clause-descends g t c =
     c.requires.deep c.requires.within c.requires.stacked c.requires.created c.device_below-lower.ensures passes c.enter.ensures c.ask_plan-plan.ensures.planned c.pass_on.ensures in
     let may = IsAnswered (g.A.Ask.may_plan ask) (g.A.Ask.may_answer ask) (g.A.Ask.may_cancel ask) in
     let marks : option_map_or marks_location plan false ≡ true = sym c.marks_location.ensures ∙ c.if-marks_location.true in
-    let sent = c.descend_from-sent.result in
-    subst (λ (status : Status). Descends may (g.A.Ask.tables ask) c.args.irp c.args.stacks.now.devices packet device.0 c.descend_from-sent.new.packet c.args.asked.now.items c.descend_from-sent.new.asked.items (record sent { status = status }))
+    let sent = c.descend_from.new.sent in
+    subst (λ (status : Status). Descends may (g.A.Ask.tables ask) c.args.irp c.args.stacks.now.devices packet device.0 c.descend_from.new.packet c.args.asked.now.items c.descend_from.new.asked.items (record sent { status = status }))
     (cond-true _ _ _ marks)
     (goes_on (g.A.Ask.may_plan ask) (g.A.Ask.may_answer ask) (g.A.Ask.may_cancel ask) (g.A.Ask.tables ask) c.args.irp c.args.stacks.now.devices packet c.args.asked.now.items
-    device.0 c.device_below-lower.result.0 plan c.pass_on.new.packet c.descend_from-sent.new.packet c.ask_plan-plan.new.asked.items c.descend_from-sent.new.asked.items sent to c.descend_from-sent.ensures.descends)
+    device.0 c.device_below-lower.result.0 plan c.pass_on.new.packet c.descend_from.new.packet c.ask_plan-plan.new.asked.items c.descend_from.new.asked.items sent to c.descend_from.ensures.descends)
 
-pub returns-clause-descends : goal.returns-clause-descends
-returns-clause-descends g t c =
+pub returns-else-marks_location-clause-descends : goal.returns-else-marks_location-clause-descends
+returns-else-marks_location-clause-descends g t c =
     let ask = c.args.ask.now in
     let packet = c.args.packet.now in
     let device = c.args.target in
@@ -87,8 +87,8 @@ returns-clause-descends g t c =
     c.requires.deep c.requires.within c.requires.stacked c.requires.created c.device_below-lower.ensures passes c.enter.ensures c.ask_plan-plan.ensures.planned c.pass_on.ensures in
     let may = IsAnswered (g.A.Ask.may_plan ask) (g.A.Ask.may_answer ask) (g.A.Ask.may_cancel ask) in
     let marks : option_map_or marks_location plan false ≡ false = sym c.marks_location.ensures ∙ c.if-marks_location.false in
-    let sent = c.descend_from-sent.result in
-    subst (λ (status : Status). Descends may (g.A.Ask.tables ask) c.args.irp c.args.stacks.now.devices packet device.0 c.descend_from-sent.new.packet c.args.asked.now.items c.descend_from-sent.new.asked.items (record sent { status = status }))
+    let sent = c.descend_from.new.sent in
+    subst (λ (status : Status). Descends may (g.A.Ask.tables ask) c.args.irp c.args.stacks.now.devices packet device.0 c.descend_from.new.packet c.args.asked.now.items c.descend_from.new.asked.items (record sent { status = status }))
     (cond-false _ _ _ marks)
     (goes_on (g.A.Ask.may_plan ask) (g.A.Ask.may_answer ask) (g.A.Ask.may_cancel ask) (g.A.Ask.tables ask) c.args.irp c.args.stacks.now.devices packet c.args.asked.now.items
-    device.0 c.device_below-lower.result.0 plan c.pass_on.new.packet c.descend_from-sent.new.packet c.ask_plan-plan.new.asked.items c.descend_from-sent.new.asked.items sent to c.descend_from-sent.ensures.descends)
+    device.0 c.device_below-lower.result.0 plan c.pass_on.new.packet c.descend_from.new.packet c.ask_plan-plan.new.asked.items c.descend_from.new.asked.items sent to c.descend_from.ensures.descends)

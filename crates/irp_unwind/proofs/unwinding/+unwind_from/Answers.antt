@@ -70,8 +70,8 @@ returns-clause-unwinds g t c =
     let may = g.A.Ask.may_answer c.args.ask.now in
     let size : size_of c.leave.new.packet ≡ size_of packet = ap (λ (value : PacketValue). size_of value) c.leave.ensures ∙ length_left packet c.consult-answer.result.mark in
     let below : packet.current < size_of packet = omega (arith, c.requires.placed, c.current-number.ensures.current, c.size.ensures.size, c.if-number-size.false) in
-    let unwound = subst (λ value. Unwinds may c.args.irp value c.unwind_from.new.packet c.consult-answer.new.asked.items c.unwind_from.new.asked.items c.unwind_from.result)
+    let unwound = subst (λ value. Unwinds may c.args.irp value c.unwind_from.new.packet c.consult-answer.new.asked.items c.unwind_from.new.asked.items c.unwind_from.new.ending)
     c.leave.ensures c.unwind_from.ensures.unwinds in
     let goes_on : c.consult-answer.result.keep ≡ false = grind rules in
     continues may c.args.irp packet c.args.asked.now.items c.consult-answer.new.asked.items c.unwind_from.new.asked.items c.consult-answer.result
-    c.unwind_from.new.packet c.unwind_from.result c.requires.bare c.requires.devices below c.consult-answer.ensures.consulted c.consult-answer.ensures.mark goes_on unwound
+    c.unwind_from.new.packet c.unwind_from.new.ending c.requires.bare c.requires.devices below c.consult-answer.ensures.consulted c.consult-answer.ensures.mark goes_on unwound

@@ -26,7 +26,7 @@ entry g c = record {
   call = c.args.call;
   lock = c.in-Ok-apply.applied.lock;
   drained = c.in-Ok-apply.applied.drained;
-  asked = c.from_vec.result;
+  asked = c.put.result;
   reply = c.in-Ok-apply.applied.reply;
 }
 
@@ -42,11 +42,11 @@ before : (g : Over) → goal.After-history_goes_on g → Fixed
 before g c = fixed_with c.self.inside.state c.self.inside.guarded.tables
 
 -- the step that is recorded
-stepped : (g : Over) (c : goal.After-history_goes_on g) → Step (before g c) (state_of slabbed c.self.inside.state) c.in-Ok-apply.applied.drained c.args.call c.from_vec.result c.in-Ok-apply.applied.reply (state_of slabbed c.apply.new.self)
+stepped : (g : Over) (c : goal.After-history_goes_on g) → Step (before g c) (state_of slabbed c.self.inside.state) c.in-Ok-apply.applied.drained c.args.call c.put.result c.in-Ok-apply.applied.reply (state_of slabbed c.apply.new.self)
 unfolding before
 stepped g c =
     subst (λ (asked : List Asked). Step (before g c) (state_of slabbed c.self.inside.state) c.in-Ok-apply.applied.drained c.args.call asked c.in-Ok-apply.applied.reply (state_of slabbed c.apply.new.self))
-    (sym c.from_vec.ensures) (c.in-Ok-apply.ensures.stepped.step (before g c) refl (refl, refl))
+    (sym c.put.ensures) (c.in-Ok-apply.ensures.stepped.step (before g c) refl (refl, refl))
 
 leads : (g : Over) (c : goal.After-history_goes_on g) → LeadsTo (before g c) c.push_reserved.new.self.items (state_of slabbed c.apply.new.self)
 unfolding entry before
@@ -79,6 +79,7 @@ invariant_of-self-2 g c =
       leads = leads_on g c;
       stands = c.in-Ok-apply.ensures.stepped.stands;
       few = omega (arith, length-append c.self.inside.history.items (entry g c ∷ []));
+      spare = c.copied-copy.ensures.empty;
     }
 
 pub returns-clause-legal : goal.returns-clause-legal
@@ -93,8 +94,8 @@ returns-clause-recorded g c =
     let held = c.self.inside.guarded in
     let own = g.A.Ask.tables held.ask ≡ held.tables in
     let may = subst (λ (asked : List Asked). AreAnswered (PassesPlan held.tables own (g.A.Ask.may_plan held.ask)) (PassesAnswer held.tables own (g.A.Ask.may_answer held.ask)) (PassesCancel held.tables own (g.A.Ask.may_cancel held.ask)) asked)
-    (sym c.from_vec.ensures) c.in-Ok-apply.ensures.may in
-    let few = subst (λ (asked : List Asked). length asked ≤ most_asked c.args.call) (sym c.from_vec.ensures) c.in-Ok-apply.ensures.few in
+    (sym c.put.ensures) c.in-Ok-apply.ensures.may in
+    let few = subst (λ (asked : List Asked). length asked ≤ most_asked c.args.call) (sym c.put.ensures) c.in-Ok-apply.ensures.few in
     rw (← c.self.view_is) (record {
       entry = entry g c;
       appended = grown g c;
@@ -105,8 +106,8 @@ returns-clause-recorded g c =
         by = c.number.ensures;
         asks = refl;
         noted = c.in-Ok-apply.ensures.drained;
-        deletes = λ device deletes done. done_is_drained (before g c) (state_of slabbed c.self.inside.state) c.in-Ok-apply.applied.drained device c.from_vec.result c.in-Ok-apply.applied.reply (state_of slabbed c.apply.new.self)
-            (subst (λ (call : Call). Step (before g c) (state_of slabbed c.self.inside.state) c.in-Ok-apply.applied.drained call c.from_vec.result c.in-Ok-apply.applied.reply (state_of slabbed c.apply.new.self)) deletes (stepped g c)) done;
+        deletes = λ device deletes done. done_is_drained (before g c) (state_of slabbed c.self.inside.state) c.in-Ok-apply.applied.drained device c.put.result c.in-Ok-apply.applied.reply (state_of slabbed c.apply.new.self)
+            (subst (λ (call : Call). Step (before g c) (state_of slabbed c.self.inside.state) c.in-Ok-apply.applied.drained call c.put.result c.in-Ok-apply.applied.reply (state_of slabbed c.apply.new.self)) deletes (stepped g c)) done;
         few = few;
         told = c.of-receipt.ensures;
       };
@@ -117,12 +118,12 @@ pub copied-copy-requires-clause-ample : goal.copied-copy-requires-clause-ample
 copied-copy-requires-clause-ample g c =
     let state = state_of slabbed c.self.inside.state in
     let few : length c.in-Ok-apply.applied.asked.items ≤ can_ask state c.args.call = few_stepped _ _ _ _ _ _ _ _ c.in-Ok-apply.ensures.stepped c.self.invariant.stands in
-    let ample : can_ask state c.args.call ≤ vec_capacity c.in-Ok.room = c.in-Ok.ensures.1 in
-    let same : length c.from_vec.result ≡ length c.in-Ok-apply.applied.asked.items = ap length c.from_vec.ensures in
+    let ample : can_ask state c.args.call ≤ vec_capacity c.place_for.new.spare = c.in-Ok.ensures.ample in
+    let same : length c.put.result ≡ length c.in-Ok-apply.applied.asked.items = ap length c.put.ensures in
     omega (arith, few, ample, same)
 
 pub returns-clause-copied : goal.returns-clause-copied
 unfolding entry
 returns-clause-copied g c =
     let number : c.of-receipt.result.number ≡ length c.self.inside.history.items = ap (λ (receipt : Receipted). receipt.number) c.of-receipt.ensures ∙ place g c in
-    (λ i. slice_get (grown g c i) (number i)) ∙ get_last c.self.inside.history.items (entry g c) ∙ ap Some (sym c.copied-copy.ensures)
+    (λ i. slice_get (grown g c i) (number i)) ∙ get_last c.self.inside.history.items (entry g c) ∙ ap Some (sym c.copied-copy.ensures.copied)
