@@ -1,6 +1,6 @@
 //! The entries of a history.
 
-ghost use Rattle.std.specs.Prelude.{◌≡◌, ◌≤◌, [], length, vec_capacity, IsTrue, IfSome};
+ghost use Rattle.std.specs.Prelude.{◌≡◌, ◌≤◌, [], length, vec_capacity, IsTrue};
 ghost use mathlib.Core.Logic.{◌↔◌};
 
 use crate::asked::Asked;
@@ -8,6 +8,7 @@ use crate::call::Call;
 use crate::names::LockNo;
 use crate::questions::Questions;
 use crate::reply::Reply;
+use std::mem;
 
 /// One recorded call (this project's own rule). Large fields come first, since fields lie in this order.
 #[derive(Drop)]
@@ -65,14 +66,21 @@ impl Entry {
         self.with(Questions::from_vec(asked))
     }
 
-    /// An equal entry, which shares its questions with this one. None where they can't be shared: where they lie with this
-    /// entry alone. It takes no memory (this project's own rule).
+    /// An equal entry, which shares its questions with this one where it may. Else they lie in the room given: an empty
+    /// vector with room for as many as this entry has, and then an empty one without. It takes no memory, and can't fail
+    /// (this project's own rule).
     #[inline]
-    pub fn shared(&self) -> Option<Entry>
-        ensures { IfSome result (λ same. same ≡ self.now) }
+    pub fn shared_copy(&self, room: &mut Vec<Asked>) -> Entry
+        requires empty { room.old.items ≡ [] }
+        requires ample { length self.now.asked ≤ vec_capacity room.old }
+        ensures copied { result ≡ self.now }
+        ensures empty { room.new.items ≡ [] }
     {
-        let asked = self.asked.shared()?;
-        Some(self.with(asked))
+        if let Some(asked) = self.asked.shared() {
+            return self.with(asked);
+        }
+        let none = Vec::new(*room.allocator());
+        self.copy_into(mem::replace(room, none))
     }
 
     /// Whether the two say the same, each field and each question.

@@ -54,7 +54,7 @@ impl Questions {
     /// The same questions, in the same place. None where they can't be shared: where some lie with their entry alone. It
     /// takes no memory.
     #[inline]
-    pub fn shared(&self) -> Option<Questions>
+    pub(crate) fn shared(&self) -> Option<Questions>
         ensures { IfSome result (λ same. same ≡ self.now) }
     {
         match &self.place {

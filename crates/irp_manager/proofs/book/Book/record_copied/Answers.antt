@@ -79,7 +79,7 @@ invariant_of-self-2 g c =
       leads = leads_on g c;
       stands = c.in-Ok-apply.ensures.stepped.stands;
       few = omega (arith, length-append c.self.inside.history.items (entry g c ∷ []));
-      spare = c.copied-copy.ensures.empty;
+      spare = c.shared_copy-copy.ensures.empty;
     }
 
 pub returns-clause-legal : goal.returns-clause-legal
@@ -114,8 +114,8 @@ returns-clause-recorded g c =
       answered = may;
     })
 
-pub copied-copy-requires-clause-ample : goal.copied-copy-requires-clause-ample
-copied-copy-requires-clause-ample g c =
+pub shared_copy-copy-requires-clause-ample : goal.shared_copy-copy-requires-clause-ample
+shared_copy-copy-requires-clause-ample g c =
     let state = state_of slabbed c.self.inside.state in
     let few : length c.in-Ok-apply.applied.asked.items ≤ can_ask state c.args.call = few_stepped _ _ _ _ _ _ _ _ c.in-Ok-apply.ensures.stepped c.self.invariant.stands in
     let ample : can_ask state c.args.call ≤ vec_capacity c.place_for.new.spare = c.in-Ok.ensures.ample in
@@ -126,4 +126,4 @@ pub returns-clause-copied : goal.returns-clause-copied
 unfolding entry
 returns-clause-copied g c =
     let number : c.of-receipt.result.number ≡ length c.self.inside.history.items = ap (λ (receipt : Receipted). receipt.number) c.of-receipt.ensures ∙ place g c in
-    (λ i. slice_get (grown g c i) (number i)) ∙ get_last c.self.inside.history.items (entry g c) ∙ ap Some (sym c.copied-copy.ensures.copied)
+    (λ i. slice_get (grown g c i) (number i)) ∙ get_last c.self.inside.history.items (entry g c) ∙ ap Some (sym c.shared_copy-copy.ensures.copied)
