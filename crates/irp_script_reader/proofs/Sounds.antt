@@ -103,7 +103,7 @@ one_cancel counts Keeper = refl
 one_cancel counts KeepOnError = refl
 one_cancel counts Free = refl
 
-all_cancel : (counts : Known) (routines : List CompletionRoutine) → (with_all counts routines).cancel ≡ counts.cancel
+pub all_cancel : (counts : Known) (routines : List CompletionRoutine) → (with_all counts routines).cancel ≡ counts.cancel
 all_cancel counts [] = refl
 all_cancel counts (first ∷ others) = all_cancel (with_one counts first.rule) others ∙ one_cancel counts first.rule
 

@@ -55,7 +55,7 @@ impl ScriptForm {
     }
 }
 
-/// What a script says, key by key (this project's own format, docs/FORMATS.md).
+/// What a script says, key by key, whether or not it is sound (this project's own format, docs/FORMATS.md).
 #[derive(Drop)]
 pub struct ScriptParts {
     /// Which steps it may have.
@@ -73,11 +73,11 @@ pub struct ScriptParts {
     pub dispatches: Row<Plan>,
     /// The drivers by number: major function codes and their dispatches, in the order of the text.
     pub drivers: Row<Row<(u8, DispatchId)>>,
-    /// The steps before the workers, none of them on a remove lock or on a cancel slot.
+    /// The steps before the workers: in a `Script`, none of them on a remove lock or on a cancel slot.
     pub setup: Row<Step>,
     /// The steps of the workers.
     pub steps: Row<Step>,
-    /// How many labels the steps name, at most 4,096 in a script that was read. Each label's place is below it.
+    /// How many labels the steps name, at most 4,096 in a script that was read, where each label's place is below it.
     pub labels: usize,
 }
 
@@ -102,8 +102,8 @@ impl Model for Script {
 }
 
 impl Script {
-    /// The script of these parts, on condition that they are sound. It takes no memory (this project's own format,
-    /// docs/FORMATS.md).
+    /// The script of these parts, on condition that they are sound (this project's own format, docs/FORMATS.md). It
+    /// takes no memory.
     pub fn new(parts: ScriptParts) -> Script
         requires { IsSound parts }
         ensures { result ≡ parts }
@@ -111,7 +111,7 @@ impl Script {
         Script { parts }
     }
 
-    /// What it says, key by key, which is sound (this project's own format, docs/FORMATS.md).
+    /// What it says, key by key, and that it is sound (this project's own format, docs/FORMATS.md).
     pub fn parts(&self) -> &ScriptParts
         ensures parts { result.now ≡ self.now }
         ensures sound { IsSound self.now }
