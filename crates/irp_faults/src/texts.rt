@@ -124,10 +124,11 @@ fn the_script(alloc: Global, tried: &mut Tried) -> Result<Script, Halt> {
 
 /// How many steps before the workers, steps of theirs and labels the script has.
 fn lengths_of(script: &Script) -> (usize, usize, usize) {
+    let parts = script.parts();
     (
-        script.setup.as_slice().len(),
-        script.steps.as_slice().len(),
-        script.labels,
+        parts.setup.as_slice().len(),
+        parts.steps.as_slice().len(),
+        parts.labels,
     )
 }
 

@@ -40,8 +40,8 @@ use Rattle.irp_script_reader.specs.declared.refusal.ScriptRefusal.TheVariants.{A
 use Rattle.irp_script_reader.specs.declared.refusal.Section.{Section}
 use Rattle.irp_script_reader.specs.declared.refusal.Section.TheVariants as section
 use Rattle.irp_script_reader.specs.declared.script.CompletionRoutine.{CompletionRoutine}
-use Rattle.irp_script_reader.specs.declared.script.Script.{Script}
 use Rattle.irp_script_reader.specs.declared.script.ScriptForm.{ScriptForm}
+use Rattle.irp_script_reader.specs.declared.script.ScriptParts.{ScriptParts}
 use Rattle.irp_script_reader.specs.declared.read.FormKey.{FormKey}
 use Rattle.irp_script_reader.specs.declared.read.FormKey.TheVariants as keys
 
@@ -103,7 +103,7 @@ one_cancel counts Keeper = refl
 one_cancel counts KeepOnError = refl
 one_cancel counts Free = refl
 
-all_cancel : (counts : Known) (routines : List CompletionRoutine) → (with_all counts routines).cancel ≡ counts.cancel
+pub all_cancel : (counts : Known) (routines : List CompletionRoutine) → (with_all counts routines).cancel ≡ counts.cancel
 all_cancel counts [] = refl
 all_cancel counts (first ∷ others) = all_cancel (with_one counts first.rule) others ∙ one_cancel counts first.rule
 
@@ -314,13 +314,13 @@ script_sound whole =
       steps = λ k step within. (seated.1.3 k step within).0;
     }))))))))))
 
-pub told_sound : (result : Result Script ScriptFault) (whole : Data) → Tells result (script_at whole) → IfOk result IsSound
+pub told_sound : (result : Result ScriptParts ScriptFault) (whole : Data) → Tells result (script_at whole) → IfOk result IsSound
 told_sound (Ok script) whole is = subst (λ given. IfOk given IsSound) is (script_sound whole)
 told_sound (Err (Refused refusal)) whole is = tt
 told_sound (Err NoMemory) whole is = tt
 
 -- what the value of a text gives is what the text gives
-pub told_reads : (result : Result Script ScriptFault) (text : List ℕ) (whole : Data) → length text ≤ 1048576 → IsUtf8 text → read text ≡ Some whole
+pub told_reads : (result : Result ScriptParts ScriptFault) (text : List ℕ) (whole : Data) → length text ≤ 1048576 → IsUtf8 text → read text ≡ Some whole
     → Tells result (script_at whole) → ReadsScript result text
 told_reads (Ok script) text whole few utf8 is given = (whole, (few, utf8, is), given)
 told_reads (Err (Refused refusal)) text whole few utf8 is given = inr (inr (whole, (few, utf8, is), given))

@@ -29,6 +29,7 @@ use Rattle.irp_script_reader.specs.declared.refusal.Section.TheVariants as secti
 use Rattle.irp_script_reader.specs.declared.script.Script.{Script}
 use Rattle.irp_script_reader.specs.declared.script.ScriptForm.{ScriptForm}
 use Rattle.irp_script_reader.specs.declared.script.ScriptForm.TheVariants as forms
+use Rattle.irp_script_reader.specs.declared.script.ScriptParts.{ScriptParts}
 
 -- the form that has this number
 abbrev pub form_of : Option ℕ → Result FormKey ScriptRefusal
@@ -111,8 +112,8 @@ steps_at form seats whole = do
   steps ← list_at takes_step section.Steps (codes "steps") (no_steps form seats false setup.labels) whole
   Ok (setup.steps, steps)
 
--- the script that a JSON value is, or its first fault
-unfoldable pub script_at : Data → Result Script ScriptRefusal
+-- what the script says that a JSON value is, or its first fault
+unfoldable pub script_at : Data → Result ScriptParts ScriptRefusal
 script_at whole = do
   given ← form_at whole
   its ← keys_at given whole

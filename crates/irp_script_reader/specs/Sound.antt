@@ -1,4 +1,4 @@
--- What is true of every script that is read, list by list.
+-- What is true of every script, list by list.
 use Rattle.std.specs.Prelude.{◌≡◌, ℕ, ◌+◌, ◌<◌, ◌≤◌, List, [], ◌∷◌, length, true}
 use Rattle.std.specs.List.{All}
 use Rattle.irp_types.specs.State.{no_routines}
@@ -12,8 +12,8 @@ use Rattle.irp_script_reader.specs.Plans.{is_driver, is_plan_sound, names_known}
 use Rattle.irp_script_reader.specs.Routines.{obeys_its_rule}
 use Rattle.irp_script_reader.specs.declared.act.Step.{Step}
 use Rattle.irp_script_reader.specs.declared.script.CompletionRoutine.{CompletionRoutine}
-use Rattle.irp_script_reader.specs.declared.script.Script.{Script}
 use Rattle.irp_script_reader.specs.declared.script.ScriptForm.{ScriptForm}
+use Rattle.irp_script_reader.specs.declared.script.ScriptParts.{ScriptParts}
 
 -- the counts with one more completion routine of a rule
 abbrev pub with_one : Known → Rule → Known
@@ -29,7 +29,7 @@ with_all counts [] = counts
 with_all counts (first ∷ others) = with_all (with_one counts first.rule) others
 
 -- the routines that a script has
-abbrev pub known_of : Script → Known
+abbrev pub known_of : ScriptParts → Known
 known_of script = record (with_all no_routines script.completions) { cancel = length script.cancels }
 
 -- what a script's dispatch may plan: what the form has, sound, and with routines that the script has
@@ -43,7 +43,7 @@ IsStep form seats step = (step.seat < seats) × (may_do form seats step.seat ste
 -- There are no more cancel slots than there may be; behaviours are those of their rules; plans are those that the form
 -- has, sound, and name only routines that the script has; drivers name only dispatches that it has; each step's seat is
 -- there and may do it; and `setup` has no step on a remove lock or on a cancel slot.
-pub record IsSound (script : Script) : Type 0 where
+pub record IsSound (script : ScriptParts) : Type 0 where
   pub slots : slots_of script.form ≤ most_slots
   pub completions : All (λ routine. obeys_its_rule routine ≡ true) script.completions
   pub dispatches : All (IsPlan script.form (known_of script)) script.dispatches

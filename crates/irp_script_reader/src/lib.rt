@@ -18,4 +18,4 @@ mod taking;
 pub use act::{Named, Step, StepAct};
 pub use read::read_script;
 pub use refusal::{Fault, ScriptFault, ScriptRefusal, Section};
-pub use script::{Behaviour, CompletionRoutine, Script, ScriptForm};
+pub use script::{Behaviour, CompletionRoutine, Script, ScriptForm, ScriptParts};

@@ -26,7 +26,7 @@ use crate::act::Step;
 use crate::labels::Labels;
 use crate::lists::{Cancels, Completions, Dispatches, Drivers, Steps};
 use crate::refusal::{Fault, ScriptFault, ScriptRefusal, Section};
-use crate::script::{Script, ScriptForm};
+use crate::script::{Script, ScriptForm, ScriptParts};
 use crate::taking::{Taking, list_of, refused};
 use irp_forms::{has_keys, u32_under};
 use irp_types::{Known, Row};
@@ -254,9 +254,9 @@ fn steps_at(
     Ok((steps, others))
 }
 
-/// The script that a JSON value is.
+/// What the script says that a JSON value is.
 #[tactic(auto, unfolding(crate::specs::Scripts::script_at))]
-fn script_at(alloc: Global, value: &Value) -> Result<Script, ScriptFault>
+fn script_at(alloc: Global, value: &Value) -> Result<ScriptParts, ScriptFault>
     ensures { Tells result (script_at (view value.now)) }
 {
     let given = form_at(value)?;
@@ -269,7 +269,7 @@ fn script_at(alloc: Global, value: &Value) -> Result<Script, ScriptFault>
     let dispatches = dispatches_at(alloc, form, cancels.counts, value)?;
     let drivers = drivers_at(alloc, dispatches.plans.as_slice().len(), value)?;
     let (setup, steps) = steps_at(alloc, form, seats, value)?;
-    Ok(Script {
+    Ok(ScriptParts {
         form,
         seats,
         locks,
@@ -300,7 +300,10 @@ pub fn read_script(alloc: Global, bytes: &[u8]) -> Result<Script, ScriptFault>
         return Err(ScriptFault::Refused(ScriptRefusal::TooLong));
     }
     match Value::from_slice(alloc, bytes) {
-        Ok(value) => script_at(alloc, &value),
+        Ok(value) => {
+            let parts = script_at(alloc, &value)?;
+            Ok(Script::new(parts))
+        }
         Err(error) => {
             if error.is_memory() {
                 Err(ScriptFault::NoMemory)

@@ -2,9 +2,11 @@
 
 ghost use Rattle.std.specs.Prelude.{◌≡◌};
 ghost use Rattle.irp_script_reader.specs.Forms.{slots_of};
+ghost use Rattle.irp_script_reader.specs.Sound.{IsSound};
 
 use crate::act::Step;
 use irp_types::{CancelAnswer, DispatchId, Plan, Replacement, Row, Rule};
+use std::marker::Model;
 
 /// What a completion routine of a script does (this project's own format, docs/FORMATS.md).
 #[derive(Clone, Copy, PartialEq, Eq, Debug)]
@@ -53,9 +55,9 @@ impl ScriptForm {
     }
 }
 
-/// What a script says, key by key (this project's own format, docs/FORMATS.md).
+/// What a script says, key by key, whether or not it is sound (this project's own format, docs/FORMATS.md).
 #[derive(Drop)]
-pub struct Script {
+pub struct ScriptParts {
     /// Which steps it may have.
     pub form: ScriptForm,
     /// How many seats there are, 1 to 64 in a script that was read.
@@ -71,10 +73,49 @@ pub struct Script {
     pub dispatches: Row<Plan>,
     /// The drivers by number: major function codes and their dispatches, in the order of the text.
     pub drivers: Row<Row<(u8, DispatchId)>>,
-    /// The steps before the workers, none of them on a remove lock or on a cancel slot.
+    /// The steps before the workers: in a `Script`, none of them on a remove lock or on a cancel slot.
     pub setup: Row<Step>,
     /// The steps of the workers.
     pub steps: Row<Step>,
-    /// How many labels the steps name, at most 4,096 in a script that was read. Each label's place is below it.
+    /// How many labels the steps name, at most 4,096 in a script that was read, where each label's place is below it.
     pub labels: usize,
+}
+
+/// A script, which is sound: its closures keep their rules, its drivers name only dispatches that it has, and each seat
+/// may do its steps (this project's own format, docs/FORMATS.md).
+///
+/// Contracts see it as its parts.
+#[derive(Drop)]
+pub struct Script {
+    parts: ScriptParts,
+}
+
+impl Model for Script {
+    ghost use Rattle.irp_script_reader.specs.Sound.{IsSound};
+    ghost use Rattle.irp_script_reader.specs.declared.script.ScriptParts.{ScriptParts};
+
+    ghost Value = { ScriptParts };
+
+    ghost view = { λ own. own.parts };
+
+    ghost invariant = { λ own. IsSound own.parts };
+}
+
+impl Script {
+    /// The script of these parts, on condition that they are sound (this project's own format, docs/FORMATS.md). It
+    /// takes no memory.
+    pub fn new(parts: ScriptParts) -> Script
+        requires { IsSound parts }
+        ensures { result ≡ parts }
+    {
+        Script { parts }
+    }
+
+    /// What it says, key by key, and that it is sound (this project's own format, docs/FORMATS.md).
+    pub fn parts(&self) -> &ScriptParts
+        ensures parts { result.now ≡ self.now }
+        ensures sound { IsSound self.now }
+    {
+        &self.parts
+    }
 }

@@ -7,7 +7,7 @@ ghost use Rattle.irp_types.specs.declared.limit.Limit.TheVariants.{ThirtyTwo};
 
 use irp_routines::AnswerTable;
 use irp_script::{Gate, ScriptSeat, Worked, run_workers, script_seats};
-use irp_script_reader::{Named, Script, ScriptForm, Step, StepAct};
+use irp_script_reader::{Named, ScriptForm, ScriptParts, Step, StepAct};
 use irp_shared::{Session, WordLine, open};
 use irp_types::{DriverId, LockNo, Row};
 use std::alloc::{AllocError, Global};
@@ -35,13 +35,19 @@ const fn by(seat: u32, act: StepAct) -> Step {
     Step { seat, act }
 }
 
-/// A script of these steps with one lock and one label. Who is asked is handed in beside it.
-fn script(alloc: Global, seats: u32, setup: &[Step], steps: &[Step]) -> Result<Script, AllocError>
+/// The parts of a script of these steps, sound or not, with one lock and one label. Who is asked is handed in beside
+/// them.
+fn script(
+    alloc: Global,
+    seats: u32,
+    setup: &[Step],
+    steps: &[Step],
+) -> Result<ScriptParts, AllocError>
     ensures { IfOk result (λ script. (script.seats ≡ seats) × (script.locks ≡ 1)) }
 {
     let setup = Row::from_vec(setup.to_vec(alloc)?);
     let steps = Row::from_vec(steps.to_vec(alloc)?);
-    Ok(Script {
+    Ok(ScriptParts {
         form: ScriptForm::One,
         seats,
         locks: 1,
@@ -79,7 +85,7 @@ fn session<L: Session + Send + Sync, G: Gate + Sync, R: Threads + Wait + Sync>(
     alloc: Global,
     blank: Blank,
     ask: AnswerTable,
-    script: &Script,
+    script: &ScriptParts,
     gate: &G,
     workers: u32,
 ) -> Result<Made, Fail>

@@ -36,7 +36,7 @@ use crate::words::put_in_order;
 use crate::worker::Worker;
 use irp_remove::{Locks, RemoveSeat};
 use irp_routines::Ask;
-use irp_script_reader::{Script, Step};
+use irp_script_reader::{ScriptParts, Step};
 use irp_shared::{Seat, Session, Shared, WordLine};
 use irp_slot_parties::SlotParties;
 use irp_slots::{Canceller, SlotOwner, Slots};
@@ -272,7 +272,7 @@ pub fn run_workers<
     locks: &'a Locks,
     slots: &'a Slots,
     seats: Vec<ScriptSeat<'a, L>>,
-    script: &Script,
+    script: &ScriptParts,
     gate: &G,
     workers: u32,
 ) -> Result<Worked<'a, L>, AllocError>

@@ -1,16 +1,18 @@
 -- What the tables of a store are, once some of a script's routines, dispatches and drivers are added.
-use Rattle.std.proofs.Common.{◌≡◌, ℕ, ◌+◌, ◌<◌, ◌≤◌, List, [], ◌∷◌, ◌++◌, length, get_or, take, map, refl, sym, ap, ap₂, ◌∙◌, arith, append_assoc, append-nil, length-append}
+use Rattle.std.proofs.Common.{◌≡◌, ℕ, ◌+◌, ◌<◌, ◌≤◌, List, [], ◌∷◌, ◌++◌, length, get_or, take, map, All, refl, sym, ap, ap₂, subst, ◌∙◌, arith, append_assoc, append-nil, length-append, zero-add}
 use Rattle.std.proofs.lemmas.List.{map-append, take_all, take_more}
-use Rattle.irp_types.specs.State.{Tables, Entrance}
+use Rattle.irp_types.specs.State.{Tables, Entrance, no_routines}
 use Rattle.irp_types.specs.declared.answer.CancelAnswer.{CancelAnswer}
 use Rattle.irp_types.specs.declared.answer.Plan.{Plan}
 use Rattle.irp_types.specs.declared.routine.CancelRule.{CancelRule}
 use Rattle.irp_types.specs.declared.routine.Known.{Known}
 use Rattle.irp_types.specs.declared.routine.Rule.{Rule}
 use Rattle.irp_types.specs.declared.routine.Rule.TheVariants.{Watch, Change, Keeper, KeepOnError, Free}
-use Rattle.irp_routines.specs.Tables.{by_major, one_more, with_cancel, with_dispatch, with_driver, with_routine}
-use Rattle.irp_script_reader.specs.Sound.{with_all, with_one}
+use Rattle.irp_routines.specs.Tables.{by_major, no_tables, one_more, with_cancel, with_dispatch, with_driver, with_routine}
+use Rattle.irp_script_reader.proofs.Sounds.{all_cancel}
+use Rattle.irp_script_reader.specs.Sound.{known_of, with_all, with_one}
 use Rattle.irp_script_reader.specs.declared.script.CompletionRoutine.{CompletionRoutine}
+use Rattle.irp_script_reader.specs.declared.script.ScriptParts.{ScriptParts}
 use Rattle.irp_workers.specs.Behaviours.{cancel_rule_of}
 use Rattle.irpx.specs.Running.{and_cancels, and_dispatches, and_drivers, and_routines}
 
@@ -22,6 +24,10 @@ added told push grows xs i d below old new is pushed =
 -- all items are added
 pub all_added : {X : Type 0} (told : List X → Tables) (xs : List X) (i : ℕ) → length xs ≤ i → (tables : Tables) → tables ≡ told (take i xs) → tables ≡ told xs
 all_added told xs i over tables is = is ∙ ap told (take_all i xs over)
+
+-- the same of the list that these items are
+pub all_of : {X : Type 0} (told : List X → Tables) (xs ys : List X) → xs ≡ ys → (i : ℕ) → length xs ≤ i → (tables : Tables) → tables ≡ told (take i xs) → tables ≡ told ys
+all_of told xs ys same i over tables is = all_added told xs i over tables is ∙ ap told same
 
 -- ---- completion routines
 
@@ -81,3 +87,15 @@ drivers_grow tables drivers driver =
 
 pub drivers_none : (tables : Tables) → tables ≡ and_drivers [] tables
 drivers_none tables = ap (λ (all : List (List Entrance)). record tables { drivers = all }) (sym (append-nil tables.drivers))
+
+-- ---- what holds of a script's closures
+
+-- what holds of each item holds of the one that a loop is at
+pub holds_at : {X : Type 0} (P : X → Type 0) (xs ys : List X) (i : ℕ) (d : X) → ys ≡ xs → All P xs → i < length ys → P (get_or ys i d)
+holds_at P xs ys i d same holds below = subst (All P) (sym same) holds i d below
+
+-- a store with a script's completion routines and cancel routines has as many as the script
+pub counts_known : (script : ScriptParts) → (and_cancels script.cancels (and_routines script.completions no_tables)).counts ≡ known_of script
+counts_known script =
+    ap (λ n. record (with_all no_routines script.completions) { cancel = n })
+    (ap (λ n. n + length script.cancels) (all_cancel no_routines script.completions) ∙ zero-add (length script.cancels))

@@ -1,15 +1,16 @@
 //! The word `run`: a script is read and run by workers, and the transcript is written.
 
-ghost use Rattle.std.specs.Prelude.{IfErr, IfOk, List, ◌≡◌, ◌≤◌, ◌<◌, false, true};
-ghost use Rattle.irp_types.specs.Rules.{is_allowed, is_plan_allowed};
-ghost use Rattle.irp_routines.specs.Guarded.{guarded_answer, guarded_plan};
+ghost use Rattle.std.specs.Prelude.{IfErr, IfOk, List, ◌≡◌, ◌≤◌, ◌<◌, false, true, position};
 ghost use Rattle.irp_types.specs.Limits.{most_slots};
+ghost use Rattle.irp_types.specs.Rules.{is_plan_allowed};
 ghost use Rattle.irp_types.specs.State.{Tables};
 ghost use Rattle.irp_manager.specs.Seats.{Seated};
 ghost use Rattle.irp_shared.specs.Closing.{Closes};
 ghost use Rattle.irp_shared.specs.Headers.{slots_of};
 ghost use Rattle.irp_shared.specs.Transcripts.{IsTranscript, TranscriptValue};
-ghost use Rattle.irp_workers.specs.Behaviours.{answer_of, plan_of};
+ghost use Rattle.irp_script.specs.Between.{hands_between};
+ghost use Rattle.irp_script_reader.specs.Plans.{is_plan_sound, names_known};
+ghost use Rattle.irp_workers.specs.Behaviours.{plan_of};
 ghost use Rattle.irp_workers.specs.Numbers.{EachAsOften};
 ghost use Rattle.irp_workers.specs.Seats.{seats_of};
 ghost use Rattle.irpx.specs.Bytes.{Bytes};
@@ -31,16 +32,14 @@ ghost use Rattle.irpx.specs.Running.{
 
 use crate::input::{InputFault, read_up_to};
 use crate::writing::{Unwritten, write};
-use irp_routines::{CancelRoutine, Dispatch, Routine, Store, guarded_answer, guarded_plan};
+use irp_routines::{CancelRoutine, Dispatch, Routine, Store};
 use irp_script::hand_between;
-use irp_script_reader::{
-    CompletionRoutine, Script, ScriptFault, ScriptForm, ScriptRefusal, read_script,
-};
+use irp_script_reader::{Script, ScriptFault, ScriptForm, ScriptParts, ScriptRefusal, read_script};
 use irp_shared::{
     Form, Seat, Session, Shared, Transcript, TranscriptParts, WordLine, open_with_limit,
 };
 use irp_transcript_writer::Out;
-use irp_types::{Answer, Known, Plan, Row, Shown};
+use irp_types::{Known, Plan, Row, Shown};
 use irp_workers::{
     AlwaysOpen, ScriptSeat, Worked, cancel_rule, run_workers, script_seats, table_answer,
     table_cancel, table_plan,
@@ -175,6 +174,25 @@ struct Workers {
     ghost some: { 0 < number },
 }
 
+/// A plan of a script, for a dispatch that may name these routines: it is sound, and its routine is one of them.
+#[derive(Clone, Copy)]
+struct Planned {
+    known: Known,
+    plan: Plan,
+    ghost sound: { is_plan_sound plan ≡ true },
+    ghost named: { names_known known plan ≡ true },
+}
+
+impl Planned {
+    /// What the dispatch answers to what it is shown. It is allowed, as the plan is by its type.
+    fn answer(self, shown: Shown) -> Plan
+        ensures answer { result ≡ plan_of self.plan shown }
+        ensures allowed { is_plan_allowed self.known shown result ≡ true }
+    {
+        table_plan(self.plan, shown)
+    }
+}
+
 /// What a run left: the transcript, and whether a step found no memory or wasn't recorded.
 #[derive(Drop)]
 struct Finished {
@@ -283,7 +301,7 @@ fn session<L: Session + Send + Sync, T: Threads + Wait + Sync>(
     alloc: Global,
     blank: Blank,
     store: Store,
-    script: &Script,
+    script: &ScriptParts,
     workers: u32,
 ) -> Result<Finished, Unrun>
     requires workers { 0 < workers }
@@ -337,7 +355,7 @@ fn with_store<O: Out, T: Threads + Wait + Sync>(
     rt: &T,
     alloc: Global,
     output: &mut O,
-    script: &Script,
+    script: &ScriptParts,
     workers: Workers,
     store: Store,
 ) -> Result<(), Unfinished>
@@ -354,7 +372,7 @@ fn with_dispatches<O: Out, T: Threads + Wait + Sync>(
     rt: &T,
     alloc: Global,
     output: &mut O,
-    script: &Script,
+    script: &ScriptParts,
     workers: Workers,
     mut store: Store,
 ) -> Result<(), Unfinished>
@@ -374,24 +392,6 @@ fn with_dispatches<O: Out, T: Threads + Wait + Sync>(
     with_store(rt, alloc, output, script, workers, store)
 }
 
-/// What a completion routine of a script answers to what it is shown, where its rule allows that; it does in every script
-/// that was read.
-fn allowed_answer(routine: CompletionRoutine, shown: Shown) -> Answer
-    ensures answer { result ≡ guarded_answer routine.rule shown (answer_of routine shown) }
-    ensures allowed { is_allowed routine.rule shown result ≡ true }
-{
-    guarded_answer(routine.rule, shown, table_answer(routine, shown))
-}
-
-/// What a dispatch of a script with this plan answers to what it is shown, where that is allowed to a dispatch that may name
-/// these routines; it is in every script that was read.
-fn planned_so(known: Known, plan: Plan, shown: Shown) -> Plan
-    ensures plan { result ≡ guarded_plan known shown (plan_of plan shown) }
-    ensures allowed { is_plan_allowed known shown result ≡ true }
-{
-    guarded_plan(known, shown, table_plan(plan, shown))
-}
-
 /// Has so many workers run the script with a store that behaves as it says, and writes the transcript. All closures are made
 /// here, since no function hands out what it makes of them.
 fn run_script<O: Out, T: Threads + Wait + Sync>(
@@ -405,16 +405,17 @@ fn run_script<O: Out, T: Threads + Wait + Sync>(
         (O.gone output.old) (O.gone output.new)
         (O.failures output.old) (O.failures output.new) result }
 {
+    let parts = script.parts();
     let mut store = Store::new(alloc);
-    let routines = script.completions.as_slice();
+    let routines = parts.completions.as_slice();
     for routine in routines {
         let routine = *routine;
-        let answer = Box::new(alloc, move |shown: Shown| allowed_answer(routine, shown))?;
+        let answer = Box::new(alloc, move |shown: Shown| table_answer(routine, shown))?;
         let Ok(_routine) = store.add(Routine::new(routine.rule, answer)) else {
             return Err(Unfinished::NoTranscript(Unrun::NoMemory));
         };
     }
-    let answers = script.cancels.as_slice();
+    let answers = parts.cancels.as_slice();
     for answer in answers {
         let answer = *answer;
         let answered = move |shown: Shown| table_cancel(answer, shown);
@@ -424,16 +425,24 @@ fn run_script<O: Out, T: Threads + Wait + Sync>(
         };
     }
     let known = store.tables().counts();
-    let plans = script.dispatches.as_slice();
+    let plans = parts.dispatches.as_slice();
     for plan in plans {
         let plan = *plan;
-        let planned = move |shown: Shown| planned_so(known, plan, shown);
-        let planned = Box::new(alloc, planned)?;
-        let Ok(_dispatch) = store.add_dispatch(Dispatch::new(known, planned)) else {
+        let planned = Planned { known, plan };
+        let answer = Box::new(alloc, move |shown: Shown| planned.answer(shown))?;
+        let Ok(_dispatch) = store.add_dispatch(Dispatch::new(known, answer)) else {
             return Err(Unfinished::NoTranscript(Unrun::NoMemory));
         };
     }
-    with_dispatches(rt, alloc, output, script, workers, store)
+    with_dispatches(rt, alloc, output, parts, workers, store)
+}
+
+/// The first step of the script that hands a reference between seats that fall to different of so many workers.
+fn first_hand(script: &Script, workers: u32) -> Option<usize>
+    requires { 0 < workers }
+    ensures { result ≡ position (hands_between workers) script.now.steps }
+{
+    hand_between(script.parts(), workers)
 }
 
 /// Has so many workers run the script that was read, unless it hands a reference between them.
@@ -450,7 +459,7 @@ fn run_read<O: Out, T: Threads + Wait + Sync>(
         → AfterRun workers input left (O.gone output.old) (O.gone output.new)
         (O.failures output.old) (O.failures output.new) result }
 {
-    if let Some(step) = hand_between(script, workers) {
+    if let Some(step) = first_hand(script, workers) {
         return Err(RunFault::HandsBetween { step });
     }
     run_script(rt, alloc, output, script, Workers { number: workers })?;

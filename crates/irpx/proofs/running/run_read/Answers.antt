@@ -9,4 +9,4 @@ keeps_itself (Some bytes) = refl
 
 pub returns-in-Some : goal.returns-in-Some
 returns-in-Some g c = λ input left holds.
-    (c.args.script.now, (holds, sym c.hand_between.ensures ∙ c.in-Some.is), (keeps_itself (g.O.Out.gone c.args.output.now), refl))
+    (c.args.script.now, (holds, sym c.first_hand.ensures ∙ c.in-Some.is), (keeps_itself (g.O.Out.gone c.args.output.now), refl))

@@ -1,14 +1,18 @@
 -- One routine, one dispatch more is added, and at the end the store has the tables of the script but for the drivers.
-use Rattle.std.proofs.Common.{◌≡◌, List, ap, subst, ◌∙◌}
+use Rattle.std.proofs.Common.{◌≡◌, List, true, get_or, ap, sym, subst, ◌∙◌}
 use Rattle.irp_types.specs.State.{Tables}
 use Rattle.irp_types.specs.declared.answer.CancelAnswer.{CancelAnswer}
 use Rattle.irp_types.specs.declared.answer.Plan.{Plan}
 use Rattle.irp_types.specs.declared.answer.Plan.TheVariants as plan
+use Rattle.irp_types.specs.declared.routine.Known.{Known}
 use Rattle.irp_routines.specs.Tables.{no_tables, with_cancel, with_dispatch, with_routine}
+use Rattle.irp_script_reader.specs.Plans.{names_known}
+use Rattle.irp_script_reader.specs.Sound.{IsPlan, known_of}
 use Rattle.irp_script_reader.specs.declared.script.CompletionRoutine.{CompletionRoutine}
+use Rattle.irp_script_reader.specs.declared.script.ScriptParts.{ScriptParts}
 use Rattle.irp_workers.specs.Behaviours.{cancel_rule_of}
 use Rattle.irpx.specs.Running.{AfterScript, and_cancels, and_dispatches, and_drivers, and_routines}
-use Rattle.irpx.proofs.Adding.{added, all_added, cancels_grow, dispatches_grow, routines_grow}
+use Rattle.irpx.proofs.Adding.{added, all_of, cancels_grow, counts_known, dispatches_grow, holds_at, routines_grow}
 use Rattle.irpx.proofs.running.run_script.Goals as goal
 
 pub loop-routine-preserved : goal.loop-routine-preserved
@@ -33,17 +37,33 @@ loop-plan-preserved g c =
     c.loop-plan.store.tables c.add_dispatch.new.self.tables c.loop-plan.invariant
     (c.in-Ok-add_dispatch.ensures.added.1 ∙ ap (with_dispatch c.loop-plan.store.tables) (c.new-in-loop-plan-2.ensures ∙ (c.counts-known.ensures ∙ ap (λ (tables : Tables). tables.counts) c.tables.ensures)))
 
+pub invariant_of-planned : goal.invariant_of-planned
+invariant_of-planned g c =
+    let none : Plan = plan.Finish (record { 0 = 0 }) 0 in
+    let script : ScriptParts = c.args.script.now in
+    let routines : c.loop-routine.store.tables ≡ and_routines script.completions no_tables =
+    all_of (λ (routines : List CompletionRoutine). and_routines routines no_tables) _ _ (c.as_slice-routines.ensures ∙ ap (λ (parts : ScriptParts). parts.completions) c.parts-parts.ensures.parts) c.loop-routine.routine-index c.loop-routine-test.false c.loop-routine.store.tables c.loop-routine.invariant in
+    let cancels : c.loop-answer.store.tables ≡ and_cancels script.cancels c.loop-routine.store.tables =
+    all_of (λ (answers : List CancelAnswer). and_cancels answers c.loop-routine.store.tables) _ _ (c.as_slice-answers.ensures ∙ ap (λ (parts : ScriptParts). parts.cancels) c.parts-parts.ensures.parts) c.loop-answer.answer-index c.loop-answer-test.false c.loop-answer.store.tables c.loop-answer.invariant in
+    let known : c.counts-known.result ≡ known_of script =
+    c.counts-known.ensures ∙ (ap (λ (tables : Tables). tables.counts) (c.tables.ensures ∙ (cancels ∙ ap (and_cancels script.cancels) routines)) ∙ counts_known script) in
+    let plans : IsPlan script.form (known_of script) (get_or c.as_slice-plans.result.now c.loop-plan.plan-index none) =
+    holds_at (IsPlan script.form (known_of script)) _ _ c.loop-plan.plan-index none (c.as_slice-plans.ensures ∙ ap (λ (parts : ScriptParts). parts.dispatches) c.parts-parts.ensures.parts) c.parts-parts.ensures.sound.dispatches c.loop-plan-test.true in
+    record {
+      sound = plans.1;
+      named = subst (λ (counts : Known). names_known counts (get_or c.as_slice-plans.result.now c.loop-plan.plan-index none) ≡ true) (sym known) plans.2;
+    }
+
 pub returns : goal.returns
 returns g c =
-    let routines : c.loop-routine.store.tables ≡ and_routines c.args.script.now.completions no_tables =
-    all_added (λ (routines : List CompletionRoutine). and_routines routines no_tables) c.as_slice-routines.result.now c.loop-routine.routine-index c.loop-routine-test.false c.loop-routine.store.tables c.loop-routine.invariant
-    ∙ ap (λ (routines : List CompletionRoutine). and_routines routines no_tables) c.as_slice-routines.ensures in
-    let cancels : c.loop-answer.store.tables ≡ and_cancels c.args.script.now.cancels c.loop-routine.store.tables =
-    all_added (λ (answers : List CancelAnswer). and_cancels answers c.loop-routine.store.tables) c.as_slice-answers.result.now c.loop-answer.answer-index c.loop-answer-test.false c.loop-answer.store.tables c.loop-answer.invariant
-    ∙ ap (λ (answers : List CancelAnswer). and_cancels answers c.loop-routine.store.tables) c.as_slice-answers.ensures in
-    let dispatches : c.loop-plan.store.tables ≡ and_dispatches c.args.script.now.dispatches c.loop-answer.store.tables =
-    all_added (λ (plans : List Plan). and_dispatches plans c.loop-answer.store.tables) c.as_slice-plans.result.now c.loop-plan.plan-index c.loop-plan-test.false c.loop-plan.store.tables c.loop-plan.invariant
-    ∙ ap (λ (plans : List Plan). and_dispatches plans c.loop-answer.store.tables) c.as_slice-plans.ensures in
-    subst (λ (tables : Tables). AfterScript c.args.script.now (and_drivers c.args.script.now.drivers tables) (g.O.Out.gone c.args.output.now) (g.O.Out.gone c.with_dispatches.new.output) (g.O.Out.failures c.args.output.now) (g.O.Out.failures c.with_dispatches.new.output) c.with_dispatches.result)
-    (dispatches ∙ ap (and_dispatches c.args.script.now.dispatches) (cancels ∙ ap (and_cancels c.args.script.now.cancels) routines))
-    c.with_dispatches.ensures
+    let script : ScriptParts = c.args.script.now in
+    let routines : c.loop-routine.store.tables ≡ and_routines script.completions no_tables =
+    all_of (λ (routines : List CompletionRoutine). and_routines routines no_tables) _ _ (c.as_slice-routines.ensures ∙ ap (λ (parts : ScriptParts). parts.completions) c.parts-parts.ensures.parts) c.loop-routine.routine-index c.loop-routine-test.false c.loop-routine.store.tables c.loop-routine.invariant in
+    let cancels : c.loop-answer.store.tables ≡ and_cancels script.cancels c.loop-routine.store.tables =
+    all_of (λ (answers : List CancelAnswer). and_cancels answers c.loop-routine.store.tables) _ _ (c.as_slice-answers.ensures ∙ ap (λ (parts : ScriptParts). parts.cancels) c.parts-parts.ensures.parts) c.loop-answer.answer-index c.loop-answer-test.false c.loop-answer.store.tables c.loop-answer.invariant in
+    let dispatches : c.loop-plan.store.tables ≡ and_dispatches script.dispatches c.loop-answer.store.tables =
+    all_of (λ (plans : List Plan). and_dispatches plans c.loop-answer.store.tables) _ _ (c.as_slice-plans.ensures ∙ ap (λ (parts : ScriptParts). parts.dispatches) c.parts-parts.ensures.parts) c.loop-plan.plan-index c.loop-plan-test.false c.loop-plan.store.tables c.loop-plan.invariant in
+    let after : (parts : ScriptParts) → Tables → Type 0 = λ parts tables.
+    AfterScript parts (and_drivers parts.drivers tables) (g.O.Out.gone c.args.output.now) (g.O.Out.gone c.with_dispatches.new.output) (g.O.Out.failures c.args.output.now) (g.O.Out.failures c.with_dispatches.new.output) c.with_dispatches.result in
+    subst (after script) (dispatches ∙ ap (and_dispatches script.dispatches) (cancels ∙ ap (and_cancels script.cancels) routines))
+    (subst (λ (parts : ScriptParts). after parts c.loop-plan.store.tables) c.parts-parts.ensures.parts c.with_dispatches.ensures)
