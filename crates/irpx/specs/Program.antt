@@ -1,5 +1,5 @@
 -- What the program does for its words.
-use Rattle.std.specs.Prelude.{ℕ, ◌≡◌, ◌⊎◌, List, Result, Ok, Err}
+use Rattle.std.specs.Prelude.{ℕ, ◌≡◌, ◌⊎◌, Result, Ok, Err}
 use Rattle.irp_script.specs.declared.checker.Verdict.{Verdict}
 use Rattle.irpx.specs.Bytes.{Bytes}
 use Rattle.irpx.specs.Checking.{HasVerdict, Told, Unchecked, most_taken as most_checked}
