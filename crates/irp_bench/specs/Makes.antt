@@ -4,7 +4,7 @@ use Rattle.irp_types.specs.Status.{success, pending}
 use Rattle.irp_types.specs.declared.names.DeviceId.{DeviceId}
 use Rattle.irp_types.specs.declared.names.IrpRef.{IrpRef}
 use Rattle.irp_types.specs.declared.refusal.Refusal.{Refusal}
-use Rattle.irp_types.specs.declared.call.Call.{Call}
+use Rattle.irp_types.specs.Calls.{Call}
 use Rattle.irp_types.specs.declared.call.Call.TheVariants.{Allocate, CallDriver, Complete, Free}
 use Rattle.irp_types.specs.declared.call.Party.TheVariants.{Originator}
 use Rattle.irp_types.specs.declared.reply.Reply.{Reply}

@@ -4,7 +4,7 @@ ghost use Rattle.std.specs.Prelude.{Bool, List, IfOk};
 ghost use Rattle.std.proofs.Props.{props};
 ghost use Rattle.irp_types.specs.Standing.{StandingFacts};
 ghost use Rattle.irp_types.specs.declared.asked.Asked.{Asked};
-ghost use Rattle.irp_types.specs.declared.call.Call.{Call};
+ghost use Rattle.irp_types.specs.Calls.{Call};
 ghost use Rattle.irp_types.specs.declared.reply.Reply.{Reply};
 ghost use Rattle.irp_manager.specs.Keeps.{slabbed};
 ghost use Rattle.irp_manager.specs.ManagerStates.{state_of, Stepped};

@@ -3,3 +3,4 @@ pub mod Names
 pub mod Values
 pub mod Questions
 pub mod Fields
+pub mod Calls

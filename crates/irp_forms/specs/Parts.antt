@@ -12,6 +12,11 @@ abbrev pub ◌>>=◌ : {A B : Type 0} → Option A → (A → Option B) → Opti
 (Some value) >>= next = next value
 None >>= next = None
 
+-- the one, or else the other
+abbrev pub or_else : {T : Type 0} → Option T → Option T → Option T
+or_else (Some value) other = Some value
+or_else None other = other
+
 -- what was answered is what is read, unless memory ran out
 abbrev pub Gives : {T : Type 0} → Result T Unread → Option T → Type 0
 Gives (Ok value) read = read ≡ Some value

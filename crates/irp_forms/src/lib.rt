@@ -1,6 +1,7 @@
 //! The small forms that scripts and transcripts are made of, read from JSON values.
 #![tactic(auto)]
 
+mod calls;
 mod fields;
 mod list;
 mod names;
@@ -9,6 +10,7 @@ mod questions;
 mod unread;
 mod values;
 
+pub use calls::call_named;
 pub use fields::{
     cancel_or_null_under, device_under, driver_under, irp_under, lock_under, party_under,
     setting_under, status_under, u8_under, u32_under, u64_under,

@@ -1,9 +1,10 @@
 //! Numbers, and which items and keys there are.
 
-ghost use Rattle.std.specs.Prelude.{◌≡◌, map};
+ghost use Rattle.std.specs.Prelude.{◌≡◌, ◌++◌, map};
 ghost use Rattle.serde_json.specs.View.{view};
 ghost use Rattle.irp_forms.specs.Parts.{
   count_members,
+  each_key,
   has_items,
   has_keys,
   number_at,
@@ -84,19 +85,37 @@ fn count_members(value: &Value) -> usize
     }
 }
 
-/// Whether it has as many members as there are keys, and each key: where the keys differ, an object with exactly these
-/// keys.
-#[tactic(auto, unfolding(crate::specs::Parts::has_keys))]
-pub fn has_keys(value: &Value, keys: &[&str]) -> bool
-    ensures { result ≡ has_keys (map (λ key. key.now) keys.now) (view value.now) }
+/// Whether each of these keys is there.
+fn has_each(value: &Value, keys: &[&str]) -> bool
+    ensures { result ≡ each_key (map (λ key. key.now) keys.now) (view value.now) }
 {
-    if count_members(value) != keys.len() {
-        return false;
-    }
     for key in keys {
         if value.get(*key).is_none() {
             return false;
         }
     }
     true
+}
+
+/// Whether it has as many members as there are keys, and each key: where the keys differ, an object with exactly these
+/// keys.
+#[tactic(auto, unfolding(crate::specs::Parts::has_keys))]
+pub fn has_keys(value: &Value, keys: &[&str]) -> bool
+    ensures { result ≡ has_keys (map (λ key. key.now) keys.now) (view value.now) }
+{
+    count_members(value) == keys.len() && has_each(value, keys)
+}
+
+/// The same of some keys and those beside them.
+pub(crate) fn has_keys_beside(value: &Value, keys: &[&str], beside: &[&str]) -> bool
+    ensures { result ≡ has_keys (map (λ key. key.now) keys.now
+        ++ map (λ key. key.now) beside.now) (view value.now) }
+{
+    if count_members(value) != keys.len() + beside.len() {
+        return false;
+    }
+    if !has_each(value, keys) {
+        return false;
+    }
+    has_each(value, beside)
 }

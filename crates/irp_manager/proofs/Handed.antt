@@ -2,7 +2,7 @@
 use Rattle.std.proofs.Common.{◌≡◌, List, [], Bool, sym, subst}
 use Rattle.std.specs.Prelude.{Result, Ok, Err, IfOk}
 use Rattle.irp_types.specs.State.{Tables}
-use Rattle.irp_types.specs.declared.call.Call.{Call}
+use Rattle.irp_types.specs.Calls.{Call}
 use Rattle.irp_types.specs.declared.asked.Asked.{Asked}
 use Rattle.irp_types.specs.declared.reply.Reply.{Reply}
 use Rattle.irp_manager.specs.Slots.{Slots}

@@ -1,5 +1,5 @@
 -- What a call on one live packet does.
-use Rattle.std.specs.Prelude.{ℕ, ◌≡◌, Bool, true, false, not, ◌==◌, List, [], ◌∷◌, ◌++◌, Option, Some, None, nat_le}
+use Rattle.std.specs.Prelude.{ℕ, ◌≡◌, not, ◌==◌, List, [], ◌∷◌, ◌++◌, Option, Some, None, nat_le}
 use Rattle.irp_types.specs.Limits.{use_limit}
 use Rattle.irp_types.specs.Checks.{first_failing, or_else}
 use Rattle.irp_types.specs.Packet.{PacketValue, with_status, after_set_next, after_copy, after_skip, after_set_routine, after_mark, after_take, after_reset}
@@ -14,8 +14,6 @@ use Rattle.irp_types.specs.declared.status.Status.{Status}
 use Rattle.irp_types.specs.declared.routine.Setting.{Setting}
 use Rattle.irp_types.specs.declared.answer.CancelAnswer.{CancelAnswer}
 use Rattle.irp_types.specs.declared.call.Party.{Party}
-use Rattle.irp_types.specs.declared.call.Call.{Call}
-use Rattle.irp_types.specs.declared.call.Call.TheVariants.{CreateDevice, Attach, Detach, Delete, Allocate, Free, Reuse, SetNext, CopyToNext, Skip, SetRoutine, MarkPending, CallDriver, Complete, FinishTaken, SetCancelRoutine, Cancel, Look}
 use Rattle.irp_types.specs.declared.asked.Asked.{Asked}
 use Rattle.irp_types.specs.declared.refusal.Refusal.{Refusal}
 use Rattle.irp_types.specs.declared.refusal.Refusal.TheVariants.{NoIrp, Stale, NotOwner, Ended, Full}
@@ -48,27 +46,6 @@ reuse_refusal_in live irp use_no =
 abbrev pub Renews : Option Refusal → Status → ℕ → LivePacket → LivePacket → Type 0
 Renews None status use_no old new = new ≡ record { packet = after_reset old.packet status; use_no = use_no }
 Renews (Some refusal) status use_no old new = new ≡ old
-
--- a call that names a party
-abbrev pub names_party : Call → Bool
-names_party (CreateDevice driver lock) = false
-names_party (Attach device to) = false
-names_party (Detach lower) = false
-names_party (Delete device) = false
-names_party (Allocate size) = false
-names_party (Free irp) = false
-names_party (Reuse irp status) = false
-names_party (SetNext party irp major word) = true
-names_party (CopyToNext party irp) = true
-names_party (Skip party irp) = true
-names_party (SetRoutine party irp setting) = true
-names_party (MarkPending party irp) = true
-names_party (CallDriver party irp target) = true
-names_party (Complete party irp status information) = true
-names_party (FinishTaken irp token status information) = false
-names_party (SetCancelRoutine party irp cancel) = true
-names_party (Cancel irp) = false
-names_party (Look irp) = false
 
 -- a live packet was refused and is as before, or it has become one that the relation allows
 abbrev pub Goes : Option Refusal → (PacketValue → Type 0) → LivePacket → LivePacket → List Asked → Reply → Type 0

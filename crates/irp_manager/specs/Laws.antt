@@ -13,7 +13,7 @@ use Rattle.irp_types.specs.declared.answer.Answer.{Answer}
 use Rattle.irp_types.specs.declared.answer.CancelAnswer.{CancelAnswer}
 use Rattle.irp_types.specs.declared.answer.Plan.{Plan}
 use Rattle.irp_types.specs.declared.asked.Asked.{Asked}
-use Rattle.irp_types.specs.declared.call.Call.{Call}
+use Rattle.irp_types.specs.Calls.{Call}
 use Rattle.irp_types.specs.declared.call.Call.TheVariants.{Allocate}
 use Rattle.irp_types.specs.declared.reply.Reply.{Reply}
 use Rattle.irp_types.specs.declared.reply.Reply.TheVariants.{Irp}

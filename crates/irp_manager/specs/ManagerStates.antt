@@ -6,7 +6,7 @@ use Rattle.irp_types.specs.Descent.{StaysUp}
 use Rattle.irp_types.specs.Steps.{Step}
 use Rattle.irp_types.specs.Standing.{StandingFacts}
 use Rattle.irp_types.specs.declared.asked.Asked.{Asked}
-use Rattle.irp_types.specs.declared.call.Call.{Call}
+use Rattle.irp_types.specs.Calls.{Call}
 use Rattle.irp_types.specs.declared.call.Call.TheVariants.{Allocate, CallDriver, Complete, FinishTaken, Cancel}
 use Rattle.irp_types.specs.declared.call.Party.{Party}
 use Rattle.irp_types.specs.declared.names.IrpRef.{IrpRef}

@@ -1,7 +1,7 @@
 -- How many questions a call can ask, by the packet and the target that it finds.
 use Rattle.std.specs.Prelude.{ℕ, ◌+◌}
 use Rattle.irp_types.specs.State.{StateValue, packet_of}
-use Rattle.irp_types.specs.declared.call.Call.{Call}
+use Rattle.irp_types.specs.Calls.{Call}
 use Rattle.irp_types.specs.declared.call.Call.TheVariants.{CallDriver, Complete, FinishTaken, Cancel}
 use Rattle.irp_unwind.specs.Endings.{can_ask_up}
 use Rattle.irp_unwind.specs.Descents.{can_ask_down}

@@ -2,7 +2,7 @@
 
 ghost use Rattle.std.specs.Prelude.{◌≡◌, ◌<◌, ◌+◌, ◌++◌, ◌∷◌, [], length, OnErr, OnOk, if◌then◌else◌, nat_lt};
 
-use irp_types::Entry;
+use irp_types::{Call, Entry, Questions, Reply};
 use std::alloc::{AllocError, Global};
 use std::marker::Model;
 use std::sync::ledger::{Book as Total, Ledger, Share};
@@ -87,7 +87,8 @@ impl<L: Ledger> Seat<L> {
         &self.share
     }
 
-    /// Makes room for one more entry.
+    /// Makes room for one more entry, in memory that the system has given: it gives fresh memory only where that is first
+    /// written, which takes long beside a call, and nobody is to wait for it under a lock.
     ///
     /// # Errors
     ///
@@ -98,7 +99,26 @@ impl<L: Ledger> Seat<L> {
         ensures same { (self.new.number ≡ self.old.number) × (self.new.seen ≡ self.old.seen)
             × (self.new.entries ≡ self.old.entries) }
     {
-        self.entries.reserve(1)
+        self.entries.reserve(1)?;
+        self.touch();
+        Ok(())
+    }
+
+    /// Writes an entry where the next one is to lie, and takes it away again.
+    fn touch(&mut self)
+        requires { 0 < self.old.room }
+        ensures { self.new ≡ self.old }
+    {
+        self.entries.push_reserved(Entry {
+            number: 0,
+            call: Call::Allocate { size: 0 },
+            asked: Questions::from_vec(Vec::new(*self.entries.allocator())),
+            reply: Reply::Done,
+            seat: self.number,
+            lock: None,
+            drained: false,
+        });
+        let _ = self.entries.pop();
     }
 
     /// Takes one more entry, on condition that there is room for it, and counts it in the ledger's total.

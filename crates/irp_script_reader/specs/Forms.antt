@@ -2,6 +2,7 @@
 use Rattle.std.specs.Prelude.{ℕ, ◌%◌, ◌==◌, ◌&&◌, Bool, true, false, not, nat_lt}
 use Rattle.irp_types.specs.declared.answer.Plan.{Plan}
 use Rattle.irp_types.specs.declared.answer.Plan.TheVariants.{HoldSlot}
+use Rattle.irp_types.specs.declared.call.Call.TheVariants.{FinishTaken}
 use Rattle.irp_script_reader.specs.declared.act.StepAct.{StepAct}
 use Rattle.irp_script_reader.specs.declared.act.StepAct.TheVariants as act
 use Rattle.irp_script_reader.specs.declared.script.ScriptForm.{ScriptForm}
@@ -28,7 +29,7 @@ may_do form seats seat (act.Hand lock tag to) = is_two form && (nat_lt to seats 
 may_do form seats seat (act.Publish slot irp) = owns form seats seat slot
 may_do form seats seat (act.Withdraw slot) = owns form seats seat slot
 may_do form seats seat (act.Request slot) = is_two form
-may_do form seats seat (act.FinishTaken irp slot status information) = is_two form
+may_do form seats seat (act.Call (FinishTaken irp slot status information)) = is_two form
 may_do form seats seat other = true
 
 -- what `setup` may have: what isn't on a remove lock or on a cancel slot
@@ -41,7 +42,7 @@ suits_setup (act.Hand lock tag to) = false
 suits_setup (act.Publish slot irp) = false
 suits_setup (act.Withdraw slot) = false
 suits_setup (act.Request slot) = false
-suits_setup (act.FinishTaken irp slot status information) = false
+suits_setup (act.Call (FinishTaken irp slot status information)) = false
 suits_setup other = true
 
 -- what a dispatch may plan in a script of the form: only in form 2 it holds a packet for a cancel slot

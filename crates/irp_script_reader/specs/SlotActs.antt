@@ -5,6 +5,7 @@ use Rattle.serde_json.specs.Data.{Data}
 use Rattle.serde_json.specs.Find.{get}
 use Rattle.irp_forms.specs.Parts.{◌>>=◌, has_keys, u32_at, u64_at}
 use Rattle.irp_forms.specs.Values.{lock_at, status_at}
+use Rattle.irp_types.specs.declared.call.Call.TheVariants.{FinishTaken}
 use Rattle.irp_script_reader.specs.Labels.{named_at}
 use Rattle.irp_script_reader.specs.declared.act.StepAct.{StepAct}
 use Rattle.irp_script_reader.specs.declared.act.StepAct.TheVariants as act
@@ -34,7 +35,7 @@ finish_taken_at place form =
       slot ← get (codes "slot") form >>= u32_at
       status ← get (codes "status") form >>= status_at
       information ← get (codes "information") form >>= u64_at
-      Some (act.FinishTaken irp slot status information)) else None
+      Some (act.Call (FinishTaken irp slot status information))) else None
 
 -- what is done with a slot that the step names alone, by its name
 unfoldable pub slot_alone_act : List ℕ → ℕ → Option StepAct

@@ -5,7 +5,7 @@ ghost use Rattle.irp_script_reader.specs.Forms.{is_two, may_do, may_plan, owns, 
 
 use crate::act::StepAct;
 use crate::script::ScriptForm;
-use irp_types::Plan;
+use irp_types::{Call, Plan};
 
 impl StepAct {
     /// Whether `setup` may have it: it is on no remove lock and on no cancel slot.
@@ -22,7 +22,7 @@ impl StepAct {
                 | StepAct::Publish { .. }
                 | StepAct::Withdraw { .. }
                 | StepAct::Request { .. }
-                | StepAct::FinishTaken { .. }
+                | StepAct::Call(Call::FinishTaken { .. })
         )
     }
 }
@@ -54,7 +54,7 @@ impl ScriptForm {
             StepAct::Publish { slot, .. } => self.owns(seats, seat, slot),
             StepAct::Withdraw { slot } => self.owns(seats, seat, slot),
             StepAct::Request { .. } => self.is_two(),
-            StepAct::FinishTaken { .. } => self.is_two(),
+            StepAct::Call(Call::FinishTaken { .. }) => self.is_two(),
             _ => true,
         }
     }

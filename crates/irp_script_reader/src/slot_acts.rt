@@ -14,6 +14,7 @@ ghost use Rattle.irp_script_reader.specs.SlotActs.{
 use crate::act::StepAct;
 use crate::fields::packet_in;
 use irp_forms::{has_keys, lock_under, status_under, u32_under, u64_under};
+use irp_types::Call;
 use serde_json::Value;
 
 /// A reference handed over.
@@ -66,15 +67,15 @@ fn finish_taken_at(place: usize, value: &Value) -> Option<StepAct>
         return None;
     }
     let irp = packet_in(place, value)?;
-    let slot = u32_under("slot", value)?;
+    let token = u32_under("slot", value)?;
     let status = status_under("status", value)?;
     let information = u64_under("information", value)?;
-    Some(StepAct::FinishTaken {
+    Some(StepAct::Call(Call::FinishTaken {
         irp,
-        slot,
+        token,
         status,
         information,
-    })
+    }))
 }
 
 /// What is done with a slot that the step names alone, by its name.

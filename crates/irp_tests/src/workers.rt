@@ -9,7 +9,7 @@ use irp_routines::AnswerTable;
 use irp_script::{Gate, ScriptSeat, Worked, run_workers, script_seats};
 use irp_script_reader::{Named, ScriptForm, ScriptParts, Step, StepAct};
 use irp_shared::{Session, WordLine, open};
-use irp_types::{DriverId, LockNo, Row};
+use irp_types::{Call, DriverId, LockNo, Row};
 use std::alloc::{AllocError, Global};
 use std::marker::Brand;
 use std::sync::Wait;
@@ -19,16 +19,16 @@ use std::thread::Threads;
 
 const LOCK: LockNo = LockNo(0);
 
-const CREATE: StepAct = StepAct::CreateDevice {
+const CREATE: StepAct = StepAct::Call(Call::CreateDevice {
     driver: DriverId(0),
     lock: LOCK,
-};
+});
 
 const ALLOCATE: StepAct = StepAct::Allocate { size: 1, label: 0 };
 
-const LOOK: StepAct = StepAct::Look {
+const LOOK: StepAct = StepAct::Call(Call::Look {
     irp: Named::Label(0),
-};
+});
 
 /// A step of this seat.
 const fn by(seat: u32, act: StepAct) -> Step {

@@ -3,7 +3,7 @@ use Rattle.std.specs.Prelude.{ℕ, List, [], ◌∷◌, codes, Option, Some, Non
 use Rattle.std.proofs.Common.{bytes_eq}
 use Rattle.serde_json.specs.Data.{Data, string}
 use Rattle.serde_json.specs.Find.{at, get, as_bool, as_str}
-use Rattle.irp_forms.specs.Parts.{◌>>=◌, has_items, has_keys, u32_at, u64_at}
+use Rattle.irp_forms.specs.Parts.{◌>>=◌, or_else, has_items, has_keys, u32_at, u64_at}
 use Rattle.irp_forms.specs.Values.{cancel_or_null_at, device_at, irp_at, status_at}
 use Rattle.irp_types.specs.declared.location.Owner.{Owner}
 use Rattle.irp_types.specs.declared.location.Owner.TheVariants as owners
@@ -13,11 +13,6 @@ use Rattle.irp_types.specs.declared.reply.Reply.{Reply}
 use Rattle.irp_types.specs.declared.reply.Reply.TheVariants as replies
 use Rattle.irp_types.specs.declared.reply.Seen.{Seen}
 use Rattle.irp_transcript_reader.specs.declared.replies.Holder.{Holder}
-
--- the first, or else the second
-abbrev pub or_else : {T : Type 0} → Option T → Option T → Option T
-or_else (Some value) other = Some value
-or_else None other = other
 
 -- a refusal of a call that names what isn't there or isn't the caller's
 unfoldable pub refusal_of_names : List ℕ → Option Refusal

@@ -4,7 +4,7 @@ use Rattle.std.specs.Prelude.{ℕ, List, [], ◌∷◌, ◌==◌, codes, Option,
 use Rattle.std.proofs.Common.{bytes_eq}
 use Rattle.serde_json.specs.Data.{Data, string}
 use Rattle.serde_json.specs.Find.{get, as_str}
-use Rattle.irp_forms.specs.Parts.{◌>>=◌, has_keys, u32_at, u64_at}
+use Rattle.irp_forms.specs.Parts.{◌>>=◌, or_else, has_keys, u32_at, u64_at}
 use Rattle.irp_forms.specs.Values.{lock_at}
 use Rattle.irp_types.specs.declared.names.LockNo.{LockNo}
 use Rattle.irp_shared.specs.declared.word_line.Act.{Act}
@@ -12,7 +12,6 @@ use Rattle.irp_shared.specs.declared.word_line.Act.TheVariants as acts
 use Rattle.irp_shared.specs.declared.word_line.WordLine.{WordLine}
 use Rattle.irp_shared.specs.declared.word_line.WordReply.{WordReply}
 use Rattle.irp_shared.specs.declared.word_line.WordReply.TheVariants as word_replies
-use Rattle.irp_transcript_reader.specs.Replies.{or_else}
 
 -- the answer of a step on a remove lock by its name
 unfoldable pub lock_reply_named : List ℕ → Option WordReply

@@ -5,27 +5,19 @@ ghost use Rattle.serde_json.specs.View.{view};
 ghost use Rattle.irp_forms.specs.Parts.{has_keys};
 ghost use Rattle.irp_transcript_reader.specs.Calls.{
   allocate_at,
-  attach_at,
-  call_named,
-  create_device_at,
   delete_at,
-  detach_at,
-  device_call_named,
   entry_call_at,
   entry_call_named,
   finish_taken_at,
   finish_taken_keys,
-  irp_alone_at,
-  packet_call_named,
-  reuse_at,
+  other_call_named,
 };
 
-use crate::party_calls::{party_call_named, plain_call_named};
 use irp_forms::{
-    device_under, driver_under, has_keys, irp_under, lock_or_null_at, lock_under, status_under,
-    u8_under, u64_under,
+    call_named, device_under, has_keys, irp_under, lock_or_null_at, status_under, u8_under,
+    u64_under,
 };
-use irp_types::{Call, IrpRef, LockNo};
+use irp_types::{Call, LockNo};
 use serde_json::Value;
 
 /// An entry's call, with the lock of the entry and whether that was known to be drained, which only a delete tells.
@@ -34,60 +26,6 @@ pub struct EntryCall {
     pub call: Call,
     pub lock: Option<LockNo>,
     pub drained: bool,
-}
-
-/// A call that creates a device.
-#[tactic(auto, unfolding(crate::specs::Calls::create_device_at))]
-fn create_device_at(value: &Value) -> Option<Call>
-    ensures { result ≡ create_device_at (view value.now) }
-{
-    if !has_keys(value, &["do", "driver", "lock"]) {
-        return None;
-    }
-    let driver = driver_under("driver", value)?;
-    let lock = lock_under("lock", value)?;
-    Some(Call::CreateDevice { driver, lock })
-}
-
-/// A call that puts a device on another's stack.
-#[tactic(auto, unfolding(crate::specs::Calls::attach_at))]
-fn attach_at(value: &Value) -> Option<Call>
-    ensures { result ≡ attach_at (view value.now) }
-{
-    if !has_keys(value, &["device", "do", "to"]) {
-        return None;
-    }
-    let device = device_under("device", value)?;
-    let to = device_under("to", value)?;
-    Some(Call::Attach { device, to })
-}
-
-/// A call that takes the device off that stands on this one.
-#[tactic(auto, unfolding(crate::specs::Calls::detach_at))]
-fn detach_at(value: &Value) -> Option<Call>
-    ensures { result ≡ detach_at (view value.now) }
-{
-    if !has_keys(value, &["do", "lower"]) {
-        return None;
-    }
-    let lower = device_under("lower", value)?;
-    Some(Call::Detach { lower })
-}
-
-/// A call on devices by its name, but for a delete.
-#[tactic(auto, unfolding(crate::specs::Calls::device_call_named))]
-fn device_call_named(name: &str, value: &Value) -> Option<Call>
-    ensures { result ≡ device_call_named name.now (view value.now) }
-{
-    if name == "create_device" {
-        create_device_at(value)
-    } else if name == "attach" {
-        attach_at(value)
-    } else if name == "detach" {
-        detach_at(value)
-    } else {
-        None
-    }
 }
 
 /// A call that allocates a packet.
@@ -100,30 +38,6 @@ fn allocate_at(value: &Value) -> Option<Call>
     }
     let size = u8_under("size", value)?;
     Some(Call::Allocate { size })
-}
-
-/// A call that begins another use of a packet.
-#[tactic(auto, unfolding(crate::specs::Calls::reuse_at))]
-fn reuse_at(value: &Value) -> Option<Call>
-    ensures { result ≡ reuse_at (view value.now) }
-{
-    if !has_keys(value, &["do", "irp", "status"]) {
-        return None;
-    }
-    let irp = irp_under("irp", value)?;
-    let status = status_under("status", value)?;
-    Some(Call::Reuse { irp, status })
-}
-
-/// The packet of a call that names nothing else.
-#[tactic(auto, unfolding(crate::specs::Calls::irp_alone_at))]
-fn irp_alone_at(value: &Value) -> Option<IrpRef>
-    ensures { result ≡ irp_alone_at (view value.now) }
-{
-    if !has_keys(value, &["do", "irp"]) {
-        return None;
-    }
-    irp_under("irp", value)
 }
 
 /// Whether it has the keys of a call that finishes a packet which was taken from a cancel slot.
@@ -154,45 +68,17 @@ fn finish_taken_at(value: &Value) -> Option<Call>
     })
 }
 
-/// A call on a packet that no party makes, by its name.
-#[tactic(auto, unfolding(crate::specs::Calls::packet_call_named))]
-fn packet_call_named(name: &str, value: &Value) -> Option<Call>
-    ensures { result ≡ packet_call_named name.now (view value.now) }
+/// A call by its name, but for a delete.
+#[tactic(auto, unfolding(crate::specs::Calls::other_call_named))]
+fn other_call_named(name: &str, value: &Value) -> Option<Call>
+    ensures { result ≡ other_call_named name.now (view value.now) }
 {
     if name == "allocate" {
         allocate_at(value)
-    } else if name == "free" {
-        let irp = irp_alone_at(value)?;
-        Some(Call::Free { irp })
-    } else if name == "reuse" {
-        reuse_at(value)
     } else if name == "finish_taken" {
         finish_taken_at(value)
-    } else if name == "cancel" {
-        let irp = irp_alone_at(value)?;
-        Some(Call::Cancel { irp })
-    } else if name == "look" {
-        let irp = irp_alone_at(value)?;
-        Some(Call::Look { irp })
     } else {
-        None
-    }
-}
-
-/// A call by its name, but for a delete.
-#[tactic(auto, unfolding(crate::specs::Calls::call_named))]
-fn call_named(name: &str, value: &Value) -> Option<Call>
-    ensures { result ≡ call_named name.now (view value.now) }
-{
-    if let Some(call) = device_call_named(name, value) {
-        return Some(call);
-    }
-    if let Some(call) = packet_call_named(name, value) {
-        return Some(call);
-    }
-    match plain_call_named(name, value) {
-        Some(call) => Some(call),
-        None => party_call_named(name, value),
+        call_named(name, &[], irp_under("irp", value), value)
     }
 }
 
@@ -222,7 +108,7 @@ fn entry_call_named(name: &str, value: &Value) -> Option<EntryCall>
     if name == "delete" {
         return delete_at(value);
     }
-    let call = call_named(name, value)?;
+    let call = other_call_named(name, value)?;
     Some(EntryCall {
         call,
         lock: None,

@@ -5,7 +5,6 @@ mod calls;
 mod entries;
 mod forms;
 mod headers;
-mod party_calls;
 mod read;
 mod read_fault;
 mod reading;

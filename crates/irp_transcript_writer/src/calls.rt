@@ -3,7 +3,7 @@
 
 ghost use Rattle.std.specs.Prelude.{◌≡◌, ◌++◌, codes, true, false, None, OnOk};
 ghost use Rattle.serde_json.specs.Written.{compact_text};
-ghost use Rattle.irp_manager.specs.Calls.{names_party};
+ghost use Rattle.irp_types.specs.Calls.{names_party};
 ghost use Rattle.irp_transcript_writer.specs.Lines.{call_json, irp_json, party_json};
 
 use crate::form::{put, put_one, put_text, put_two};

@@ -48,6 +48,9 @@ use Rattle.irp_types.specs.contracts.answer.PlanPartialEq.TheImpl as plan_eq
 use Rattle.irp_types.specs.contracts.asked.AskedPartialEq.TheImpl as asked_eq
 use Rattle.irp_types.specs.contracts.call.PartyPartialEq.TheImpl as party_eq
 use Rattle.irp_types.specs.contracts.call.CallPartialEq.TheImpl as call_eq
+use Rattle.std.specs.contracts.prelude.U64PartialEq.TheImpl as u64_eq
+use Rattle.irp_types.specs.Calls.{Call}
+use denote.Builtin.{u64}
 use Rattle.irp_types.specs.contracts.location.OwnerPartialEq.TheImpl as owner_eq
 use Rattle.irp_types.specs.contracts.reply.SeenPartialEq.TheImpl as seen_eq
 use Rattle.irp_types.specs.contracts.reply.ReplyPartialEq.TheImpl as reply_eq
@@ -115,7 +118,7 @@ option e (Some x) (Some y) = Decides-like _ (ap Some) (same_Some x y) (e x y)
 
 -- ---- names
 
-irp : Tells irp_eq.eq-value.it
+pub irp : Tells irp_eq.eq-value.it
 irp = fields irp_ref.struct irp_ref.the_propositions (also unsigned_Decides (last unsigned_Decides))
 
 device : Tells device_eq.eq-value.it
@@ -182,9 +185,13 @@ asked =
 party : Tells party_eq.eq-value.it
 party = variants a_party.enum (or empty (or (last device) end))
 
-pub call : Tells call_eq.eq-value.it
+-- the test of two calls
+abbrev pub same_call : Call → Call → Bool
+same_call = (call_eq.eq-value irp_ref.the_row u64 irp_eq.ghosts irp_eq.dict u64_eq.ghosts u64_eq.dict).it
+
+pub call : Tells same_call
 call =
-    variants a_call.enum
+    variants (a_call.enum irp_ref.the_row u64)
     (or (also driver (last lock)) (or (also device (last device)) (or (last device) (or (last device) (or (last unsigned_Decides)
     (or (last irp) (or (also irp (last status)) (or (also party (also irp (also unsigned_Decides (last unsigned_Decides))))
     (or (also party (last irp)) (or (also party (last irp)) (or (also party (also irp (last setting))) (or (also party (last irp))

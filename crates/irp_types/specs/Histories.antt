@@ -9,7 +9,7 @@ use Rattle.irp_types.specs.Refusals.{has_ended}
 use Rattle.irp_types.specs.Steps.{Step}
 use Rattle.irp_types.specs.declared.names.LockNo.{LockNo}
 use Rattle.irp_types.specs.declared.entry.Entry.{Entry}
-use Rattle.irp_types.specs.declared.call.Call.{Call}
+use Rattle.irp_types.specs.Calls.{Call}
 use Rattle.irp_types.specs.declared.call.Call.TheVariants.{Delete}
 
 -- the lock of the device that a call deletes, where that device was created

@@ -2,6 +2,7 @@ pub mod Limits
 pub mod Status
 pub mod Refusal
 pub mod Rules
+pub mod Calls
 pub mod Checks
 pub mod Packet
 pub mod Unwinding

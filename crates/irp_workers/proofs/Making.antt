@@ -4,7 +4,7 @@ use Rattle.std.specs.List.{cons_option, count_by}
 use Rattle.std.proofs.lemmas.List.{append-nil, append_assoc}
 use Rattle.std.proofs.lemmas.List.Elements.{filter_map-append}
 use Rattle.std.proofs.lemmas.List.Sums.{sum_by-cons}
-use Rattle.irp_types.specs.declared.call.Call.{Call}
+use Rattle.irp_types.specs.Calls.{Call}
 use Rattle.irp_workers.specs.StepKinds.{kind_of}
 use Rattle.irp_workers.specs.Made.{SeatCalls, NoneTwice, call_by, calls_of, once_made}
 use Rattle.irp_workers.specs.Outcomes.{Outcome, nameless_call}

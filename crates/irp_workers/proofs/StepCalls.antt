@@ -3,10 +3,11 @@ use Rattle.std.proofs.Common.{◌≡◌, false, Option, Some, refl, sym, subst, 
 use Rattle.std.specs.Option.{option_map}
 use Rattle.std.specs.Prelude.{IfSome}
 use Rattle.irp_types.specs.declared.names.IrpRef.{IrpRef}
-use Rattle.irp_types.specs.declared.call.Call.{Call}
+use Rattle.irp_types.specs.Calls.{Call}
 use Rattle.irp_shared.specs.Sharing.{needs_token}
 use Rattle.irp_script_reader.specs.declared.act.StepAct.{StepAct}
-use Rattle.irp_script_reader.specs.declared.act.StepAct.TheVariants.{CreateDevice, Attach, Detach, Delete, Allocate, Free, Reuse, SetNext, CopyToNext, Skip, SetRoutine, MarkPending, CallDriver, Complete, SetCancelRoutine, Cancel, Look, Acquire, Release, BeginRemove, Drained, Hand, Publish, Withdraw, Request, FinishTaken}
+use Rattle.irp_script_reader.specs.declared.act.StepAct.TheVariants.{Call as Made, Allocate, Acquire, Release, BeginRemove, Drained, Hand, Publish, Withdraw, Request}
+use Rattle.irp_types.specs.declared.call.Call.TheVariants as calls
 use Rattle.irp_workers.specs.StepKinds.{call_of}
 use Rattle.irp_workers.specs.Made.{nameless}
 use Rattle.irp_workers.specs.Outcomes.{any_packet}
@@ -17,23 +18,24 @@ Tokenless made = needs_token made ≡ false
 -- of each act: its call of any packet, and that the call needs no token
 each_call : (act : StepAct) (irp : IrpRef)
     → (option_map nameless (call_of act irp) ≡ call_of act any_packet) × IfSome (call_of act irp) Tokenless
-each_call (CreateDevice driver lock) irp = (refl, refl)
-each_call (Attach device to) irp = (refl, refl)
-each_call (Detach lower) irp = (refl, refl)
-each_call (Delete device) irp = (refl, refl)
+each_call (Made (calls.CreateDevice driver lock)) irp = (refl, refl)
+each_call (Made (calls.Attach device to)) irp = (refl, refl)
+each_call (Made (calls.Detach lower)) irp = (refl, refl)
+each_call (Made (calls.Delete device)) irp = (refl, refl)
 each_call (Allocate size label) irp = (refl, refl)
-each_call (Free named) irp = (refl, refl)
-each_call (Reuse named status) irp = (refl, refl)
-each_call (SetNext party named major word) irp = (refl, refl)
-each_call (CopyToNext party named) irp = (refl, refl)
-each_call (Skip party named) irp = (refl, refl)
-each_call (SetRoutine party named setting) irp = (refl, refl)
-each_call (MarkPending party named) irp = (refl, refl)
-each_call (CallDriver party named target) irp = (refl, refl)
-each_call (Complete party named status information) irp = (refl, refl)
-each_call (SetCancelRoutine party named cancel) irp = (refl, refl)
-each_call (Cancel named) irp = (refl, refl)
-each_call (Look named) irp = (refl, refl)
+each_call (Made (calls.Allocate size)) irp = (refl, refl)
+each_call (Made (calls.Free named)) irp = (refl, refl)
+each_call (Made (calls.Reuse named status)) irp = (refl, refl)
+each_call (Made (calls.SetNext party named major word)) irp = (refl, refl)
+each_call (Made (calls.CopyToNext party named)) irp = (refl, refl)
+each_call (Made (calls.Skip party named)) irp = (refl, refl)
+each_call (Made (calls.SetRoutine party named setting)) irp = (refl, refl)
+each_call (Made (calls.MarkPending party named)) irp = (refl, refl)
+each_call (Made (calls.CallDriver party named target)) irp = (refl, refl)
+each_call (Made (calls.Complete party named status information)) irp = (refl, refl)
+each_call (Made (calls.SetCancelRoutine party named cancel)) irp = (refl, refl)
+each_call (Made (calls.Cancel named)) irp = (refl, refl)
+each_call (Made (calls.Look named)) irp = (refl, refl)
 each_call (Acquire lock tag) irp = (refl, tt)
 each_call (Release lock tag) irp = (refl, tt)
 each_call (BeginRemove lock tag) irp = (refl, tt)
@@ -42,7 +44,7 @@ each_call (Hand lock tag to) irp = (refl, tt)
 each_call (Publish slot named) irp = (refl, tt)
 each_call (Withdraw slot) irp = (refl, tt)
 each_call (Request slot) irp = (refl, tt)
-each_call (FinishTaken named slot status information) irp = (refl, tt)
+each_call (Made (calls.FinishTaken named slot status information)) irp = (refl, tt)
 
 pub nameless_of : (act : StepAct) (irp : IrpRef) (made : Call) → call_of act irp ≡ Some made → call_of act any_packet ≡ Some (nameless made)
 nameless_of act irp made is = sym (each_call act irp).0 ∙ ap (option_map nameless) is

@@ -1,9 +1,10 @@
 -- The labels that steps bind.
 use Rattle.std.specs.Prelude.{ℕ, Option, Some, None}
+use Rattle.irp_types.specs.declared.call.Call.TheVariants.{Reuse}
 use Rattle.irp_script_reader.specs.declared.act.Named.{Named}
 use Rattle.irp_script_reader.specs.declared.act.Named.TheVariants.{Label, Irp}
 use Rattle.irp_script_reader.specs.declared.act.StepAct.{StepAct}
-use Rattle.irp_script_reader.specs.declared.act.StepAct.TheVariants.{Allocate, Reuse}
+use Rattle.irp_script_reader.specs.declared.act.StepAct.TheVariants.{Call, Allocate}
 
 -- the label by which a packet is named
 abbrev pub label_in : Named → Option ℕ
@@ -13,5 +14,5 @@ label_in (Irp irp) = None
 -- the label that an act binds: an allocation its own, and a reuse the one that named its packet
 abbrev pub label_of : StepAct → Option ℕ
 label_of (Allocate size label) = Some label
-label_of (Reuse irp status) = label_in irp
+label_of (Call (Reuse irp status)) = label_in irp
 label_of other = None

@@ -1,22 +1,7 @@
 -- The calls that seats have made, and those of a script's steps, but for the packets and the tokens that they name.
 use Rattle.std.specs.Prelude.{ℕ, ◌≤◌, ◌==◌, if◌then◌else◌, Option, None, List, ◌++◌, map}
 use Rattle.std.specs.List.{count_by, filter_map}
-use Rattle.irp_types.specs.declared.call.Call.{Call}
-use Rattle.irp_types.specs.declared.call.Call.TheVariants.{
-  Free,
-  Reuse,
-  SetNext,
-  CopyToNext,
-  Skip,
-  SetRoutine,
-  MarkPending,
-  CallDriver,
-  Complete,
-  FinishTaken,
-  SetCancelRoutine,
-  Cancel,
-  Look,
-}
+use Rattle.irp_types.specs.Calls.{Call, call_with}
 use Rattle.irp_types.specs.declared.entry.Entry.{Entry}
 use Rattle.irp_manager.specs.Seats.{Seated}
 use Rattle.irp_remove.specs.Seats.{Holder}
@@ -26,20 +11,7 @@ use Rattle.irp_workers.specs.Pairs.{Pair, pair_of}
 
 -- a call with that packet in the place of its own, and 0 in the place of a token
 abbrev pub nameless : Call → Call
-nameless (Free irp) = Free any_packet
-nameless (Reuse irp status) = Reuse any_packet status
-nameless (SetNext party irp major word) = SetNext party any_packet major word
-nameless (CopyToNext party irp) = CopyToNext party any_packet
-nameless (Skip party irp) = Skip party any_packet
-nameless (SetRoutine party irp setting) = SetRoutine party any_packet setting
-nameless (MarkPending party irp) = MarkPending party any_packet
-nameless (CallDriver party irp target) = CallDriver party any_packet target
-nameless (Complete party irp status information) = Complete party any_packet status information
-nameless (FinishTaken irp token status information) = FinishTaken any_packet 0 status information
-nameless (SetCancelRoutine party irp cancel) = SetCancelRoutine party any_packet cancel
-nameless (Cancel irp) = Cancel any_packet
-nameless (Look irp) = Look any_packet
-nameless other = other
+nameless call = call_with call any_packet 0
 
 -- the call of a step, if it is one of this seat's and is a call
 abbrev pub call_by : ℕ → Outcome → Option Call

@@ -8,7 +8,7 @@ ghost use Rattle.irp_workers.specs.Labels.{label_of};
 
 use crate::step_call::named_by;
 use irp_script_reader::{Named, StepAct};
-use irp_types::{IrpRef, Reply};
+use irp_types::{Call, IrpRef, Reply};
 use std::alloc::{AllocError, Global};
 use std::sync::{Mutex, Wait};
 
@@ -31,10 +31,12 @@ fn label_of(act: StepAct) -> Option<usize>
 {
     match act {
         StepAct::Allocate { label, .. } => Some(label),
-        StepAct::Reuse {
-            irp: Named::Label(label),
-            ..
-        } => Some(label),
+        StepAct::Call(
+            Call::Reuse {
+                irp: Named::Label(label),
+                ..
+            },
+        ) => Some(label),
         _ => None,
     }
 }

@@ -6,9 +6,6 @@ ghost use Rattle.irp_workers.specs.StepKinds.{
   kind_of,
   lock_act,
   named_by,
-  owners_call_of,
-  plain_call_of,
-  preparing_call_of,
   slot_act,
 };
 
@@ -22,20 +19,8 @@ pub fn named_by(act: StepAct) -> Option<Named>
     ensures { result ≡ named_by act }
 {
     match act {
-        StepAct::Free { irp }
-        | StepAct::Reuse { irp, .. }
-        | StepAct::SetNext { irp, .. }
-        | StepAct::CopyToNext { irp, .. }
-        | StepAct::Skip { irp, .. }
-        | StepAct::SetRoutine { irp, .. }
-        | StepAct::MarkPending { irp, .. }
-        | StepAct::CallDriver { irp, .. }
-        | StepAct::Complete { irp, .. }
-        | StepAct::SetCancelRoutine { irp, .. }
-        | StepAct::Cancel { irp }
-        | StepAct::Look { irp }
-        | StepAct::Publish { irp, .. }
-        | StepAct::FinishTaken { irp, .. } => Some(irp),
+        StepAct::Call(call) => call.packet(),
+        StepAct::Publish { irp, .. } => Some(irp),
         _ => None,
     }
 }
@@ -53,13 +38,15 @@ pub fn kind_of(act: StepAct) -> StepKind
         StepAct::Publish { slot, .. } => StepKind::OnSlot(SlotAct::Publish { slot }),
         StepAct::Withdraw { slot } => StepKind::OnSlot(SlotAct::Withdraw { slot }),
         StepAct::Request { slot } => StepKind::OnSlot(SlotAct::Request { slot }),
-        StepAct::FinishTaken {
-            slot,
-            status,
-            information,
-            ..
-        } => StepKind::Finishes {
-            slot,
+        StepAct::Call(
+            Call::FinishTaken {
+                token,
+                status,
+                information,
+                ..
+            },
+        ) => StepKind::Finishes {
+            slot: token,
             status,
             information,
         },
@@ -90,81 +77,14 @@ pub fn slot_act(on: SlotAct) -> Act
     }
 }
 
-/// The call that an act makes which names no party, of this packet where it names one.
-fn plain_call_of(act: StepAct, irp: IrpRef) -> Option<Call>
-    ensures { result ≡ plain_call_of act irp }
-{
-    match act {
-        StepAct::CreateDevice { driver, lock } => Some(Call::CreateDevice { driver, lock }),
-        StepAct::Attach { device, to } => Some(Call::Attach { device, to }),
-        StepAct::Detach { lower } => Some(Call::Detach { lower }),
-        StepAct::Delete { device } => Some(Call::Delete { device }),
-        StepAct::Allocate { size, .. } => Some(Call::Allocate { size }),
-        StepAct::Free { .. } => Some(Call::Free { irp }),
-        StepAct::Reuse { status, .. } => Some(Call::Reuse { irp, status }),
-        StepAct::Cancel { .. } => Some(Call::Cancel { irp }),
-        StepAct::Look { .. } => Some(Call::Look { irp }),
-        _ => None,
-    }
-}
-
-/// The call that an act makes in which a party prepares this packet.
-fn preparing_call_of(act: StepAct, irp: IrpRef) -> Option<Call>
-    ensures { result ≡ preparing_call_of act irp }
-{
-    match act {
-        StepAct::SetNext {
-            party,
-            major,
-            word,
-            ..
-        } => Some(Call::SetNext {
-            party,
-            irp,
-            major,
-            word,
-        }),
-        StepAct::CopyToNext { party, .. } => Some(Call::CopyToNext { party, irp }),
-        StepAct::Skip { party, .. } => Some(Call::Skip { party, irp }),
-        StepAct::SetRoutine { party, setting, .. } => Some(Call::SetRoutine {
-            party,
-            irp,
-            setting,
-        }),
-        _ => None,
-    }
-}
-
-/// The call that an act makes in which the owner of this packet holds it or lets it go.
-fn owners_call_of(act: StepAct, irp: IrpRef) -> Option<Call>
-    ensures { result ≡ owners_call_of act irp }
-{
-    match act {
-        StepAct::MarkPending { party, .. } => Some(Call::MarkPending { party, irp }),
-        StepAct::CallDriver { party, target, .. } => Some(Call::CallDriver { party, irp, target }),
-        StepAct::Complete {
-            party,
-            status,
-            information,
-            ..
-        } => Some(Call::Complete {
-            party,
-            irp,
-            status,
-            information,
-        }),
-        StepAct::SetCancelRoutine { party, cancel, .. } => {
-            Some(Call::SetCancelRoutine { party, irp, cancel })
-        }
-        _ => None,
-    }
-}
-
 /// The call of the manager that an act makes without a token, of this packet where it names one. None for other acts.
 pub fn call_of(act: StepAct, irp: IrpRef) -> Option<Call>
     ensures { result ≡ call_of act irp }
 {
-    plain_call_of(act, irp)
-        .or(preparing_call_of(act, irp))
-        .or(owners_call_of(act, irp))
+    match act {
+        StepAct::Call(Call::FinishTaken { .. }) => None,
+        StepAct::Call(call) => Some(call.with(irp, 0)),
+        StepAct::Allocate { size, .. } => Some(Call::Allocate { size }),
+        _ => None,
+    }
 }

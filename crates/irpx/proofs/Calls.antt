@@ -11,10 +11,9 @@ use Rattle.std.proofs.lemmas.Option.{slice_get-get_or}
 use Rattle.std.proofs.lemmas.Slice.Eq.{slice_eq-Decides}
 use Rattle.std.specs.Cmp.Lexicographic.{pointwise}
 use Rattle.irp_types.specs.Histories.{own_entries}
-use Rattle.irp_types.specs.declared.call.Call.{Call}
+use Rattle.irp_types.specs.Calls.{Call}
 use Rattle.irp_types.specs.declared.entry.Entry.{Entry}
-use Rattle.irp_types.specs.contracts.call.CallPartialEq.TheImpl as call_eq
-use Rattle.irp_types.proofs.Deciding.{call}
+use Rattle.irp_types.proofs.Deciding.{call, same_call}
 use Rattle.irp_manager.specs.Seats.{Seated}
 use Rattle.irp_remove.specs.Seats.{Holder}
 use Rattle.irp_shared.specs.Closing.{AllHere, IsKept}
@@ -27,7 +26,7 @@ use Rattle.irp_workers.proofs.Carried.{carried}
 use Rattle.irp_workers.proofs.Numbers.{count_map}
 
 abbrev same_calls : List Call → List Call → Bool
-same_calls one other = pointwise call_eq.eq-value.it one other
+same_calls one other = pointwise same_call one other
 
 same_tells : (one other : List Call) → Decides (same_calls one other) (one ≡ other)
 same_tells one other = slice_eq-Decides call one other (same_calls one other) refl

@@ -11,7 +11,7 @@ ghost use Rattle.irp_types.specs.Standing.{StandingFacts};
 ghost use Rattle.irp_types.specs.declared.routine.Known.{Known};
 ghost use Rattle.irp_routines.specs.Answers.{AreAnswered};
 ghost use Rattle.irp_manager.specs.Notes.{known_by};
-ghost use Rattle.irp_manager.specs.Calls.{names_party};
+ghost use Rattle.irp_types.specs.Calls.{names_party};
 ghost use Rattle.irp_manager.specs.Rooms.{can_ask};
 ghost use Rattle.irp_manager.specs.ManagerStates.{state_of, Stepped, SteppedAny, SentStays, SenderStays};
 

@@ -4,7 +4,7 @@ use Rattle.irp_types.specs.State.{Fixed}
 use Rattle.irp_types.specs.Steps.{Step}
 use Rattle.irp_types.specs.Histories.{IsEntryAt, LeadsTo}
 use Rattle.irp_types.specs.declared.asked.Asked.{Asked}
-use Rattle.irp_types.specs.declared.call.Call.{Call}
+use Rattle.irp_types.specs.Calls.{Call}
 use Rattle.irp_types.specs.declared.entry.Entry.{Entry}
 use Rattle.irp_types.proofs.LongerLists.{get_last}
 use Rattle.irp_routines.specs.Answers.{AreAnswered}

@@ -1,5 +1,5 @@
 use Rattle.std.proofs.Common.{sym, subst}
-use Rattle.irp_types.specs.declared.call.Call.{Call}
+use Rattle.irp_types.specs.Calls.{Call}
 use Rattle.irp_types.specs.declared.call.Call.TheVariants.{SetNext, CopyToNext, Skip, SetRoutine, MarkPending, SetCancelRoutine}
 use Rattle.irp_manager.specs.ManagerStates.{Stepped}
 use Rattle.irp_manager.proofs.Handed.{handed}

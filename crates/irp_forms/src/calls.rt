@@ -1,0 +1,340 @@
+//! Calls of the manager that entries of a transcript and steps of a script tell in the same way.
+
+ghost use Rattle.std.specs.Prelude.{◌≡◌, map};
+ghost use Rattle.serde_json.specs.View.{view};
+ghost use Rattle.irp_forms.specs.Calls.{
+  attach_at,
+  by_party_at,
+  call_driver_at,
+  call_named,
+  complete_at,
+  create_device_at,
+  detach_at,
+  device_call_named,
+  packet_alone_at,
+  packet_call_named,
+  party_alone_at,
+  party_call_named,
+  plain_call_named,
+  reuse_at,
+  set_cancel_routine_at,
+  set_next_at,
+  set_routine_at,
+};
+
+use crate::fields::{
+    cancel_or_null_under, device_under, driver_under, lock_under, party_under, setting_under,
+    status_under, u8_under, u64_under,
+};
+use crate::parts::has_keys_beside;
+use irp_types::{Call, Party};
+use serde_json::Value;
+
+/// A call that creates a device.
+#[tactic(auto, unfolding(crate::specs::Calls::create_device_at))]
+fn create_device_at<P: Copy, T: Copy>(beside: &[&str], value: &Value) -> Option<Call<P, T>>
+    ensures { result ≡ create_device_at (map (λ key. key.now) beside.now) (view value.now) }
+{
+    if !has_keys_beside(value, &["do", "driver", "lock"], beside) {
+        return None;
+    }
+    let driver = driver_under("driver", value)?;
+    let lock = lock_under("lock", value)?;
+    Some(Call::CreateDevice { driver, lock })
+}
+
+/// A call that puts a device on another's stack.
+#[tactic(auto, unfolding(crate::specs::Calls::attach_at))]
+fn attach_at<P: Copy, T: Copy>(beside: &[&str], value: &Value) -> Option<Call<P, T>>
+    ensures { result ≡ attach_at (map (λ key. key.now) beside.now) (view value.now) }
+{
+    if !has_keys_beside(value, &["device", "do", "to"], beside) {
+        return None;
+    }
+    let device = device_under("device", value)?;
+    let to = device_under("to", value)?;
+    Some(Call::Attach { device, to })
+}
+
+/// A call that takes the device off that stands on this one.
+#[tactic(auto, unfolding(crate::specs::Calls::detach_at))]
+fn detach_at<P: Copy, T: Copy>(beside: &[&str], value: &Value) -> Option<Call<P, T>>
+    ensures { result ≡ detach_at (map (λ key. key.now) beside.now) (view value.now) }
+{
+    if !has_keys_beside(value, &["do", "lower"], beside) {
+        return None;
+    }
+    let lower = device_under("lower", value)?;
+    Some(Call::Detach { lower })
+}
+
+/// A call on devices, by its name.
+#[tactic(auto, unfolding(crate::specs::Calls::device_call_named))]
+fn device_call_named<P: Copy, T: Copy>(
+    name: &str,
+    beside: &[&str],
+    value: &Value,
+) -> Option<Call<P, T>>
+    ensures { result ≡ device_call_named name.now (map (λ key. key.now) beside.now) (view value.now) }
+{
+    if name == "create_device" {
+        create_device_at(beside, value)
+    } else if name == "attach" {
+        attach_at(beside, value)
+    } else if name == "detach" {
+        detach_at(beside, value)
+    } else {
+        None
+    }
+}
+
+/// The packet of a call that names nothing else.
+#[tactic(auto, unfolding(crate::specs::Calls::packet_alone_at))]
+fn packet_alone_at<P: Copy>(beside: &[&str], packet: Option<P>, value: &Value) -> Option<P>
+    ensures { result ≡ packet_alone_at (map (λ key. key.now) beside.now) packet (view value.now) }
+{
+    if has_keys_beside(value, &["do", "irp"], beside) {
+        packet
+    } else {
+        None
+    }
+}
+
+/// A call that begins another use of a packet.
+#[tactic(auto, unfolding(crate::specs::Calls::reuse_at))]
+fn reuse_at<P: Copy, T: Copy>(
+    beside: &[&str],
+    packet: Option<P>,
+    value: &Value,
+) -> Option<Call<P, T>>
+    ensures { result ≡ reuse_at (map (λ key. key.now) beside.now) packet (view value.now) }
+{
+    if !has_keys_beside(value, &["do", "irp", "status"], beside) {
+        return None;
+    }
+    let irp = packet?;
+    let status = status_under("status", value)?;
+    Some(Call::Reuse { irp, status })
+}
+
+/// A call on a packet that no party makes, by its name.
+#[tactic(auto, unfolding(crate::specs::Calls::packet_call_named))]
+fn packet_call_named<P: Copy, T: Copy>(
+    name: &str,
+    beside: &[&str],
+    packet: Option<P>,
+    value: &Value,
+) -> Option<Call<P, T>>
+    ensures { result ≡ packet_call_named name.now (map (λ key. key.now) beside.now) packet (view value.now) }
+{
+    if name == "free" {
+        let irp = packet_alone_at(beside, packet, value)?;
+        Some(Call::Free { irp })
+    } else if name == "reuse" {
+        reuse_at(beside, packet, value)
+    } else if name == "cancel" {
+        let irp = packet_alone_at(beside, packet, value)?;
+        Some(Call::Cancel { irp })
+    } else if name == "look" {
+        let irp = packet_alone_at(beside, packet, value)?;
+        Some(Call::Look { irp })
+    } else {
+        None
+    }
+}
+
+/// The party and its packet.
+#[tactic(auto, unfolding(crate::specs::Calls::by_party_at))]
+fn by_party_at<P: Copy>(packet: Option<P>, value: &Value) -> Option<(Party, P)>
+    ensures { result ≡ by_party_at packet (view value.now) }
+{
+    let party = party_under("by", value)?;
+    let irp = packet?;
+    Some((party, irp))
+}
+
+/// The party and its packet of a call that names nothing else.
+#[tactic(auto, unfolding(crate::specs::Calls::party_alone_at))]
+fn party_alone_at<P: Copy>(beside: &[&str], packet: Option<P>, value: &Value) -> Option<(Party, P)>
+    ensures { result ≡ party_alone_at (map (λ key. key.now) beside.now) packet (view value.now) }
+{
+    if has_keys_beside(value, &["by", "do", "irp"], beside) {
+        by_party_at(packet, value)
+    } else {
+        None
+    }
+}
+
+/// A call of a party that names nothing but its packet, by its name.
+#[tactic(auto, unfolding(crate::specs::Calls::plain_call_named))]
+fn plain_call_named<P: Copy, T: Copy>(
+    name: &str,
+    beside: &[&str],
+    packet: Option<P>,
+    value: &Value,
+) -> Option<Call<P, T>>
+    ensures { result ≡ plain_call_named name.now (map (λ key. key.now) beside.now) packet (view value.now) }
+{
+    if name == "copy_to_next" {
+        let (party, irp) = party_alone_at(beside, packet, value)?;
+        Some(Call::CopyToNext { party, irp })
+    } else if name == "skip" {
+        let (party, irp) = party_alone_at(beside, packet, value)?;
+        Some(Call::Skip { party, irp })
+    } else if name == "mark_pending" {
+        let (party, irp) = party_alone_at(beside, packet, value)?;
+        Some(Call::MarkPending { party, irp })
+    } else {
+        None
+    }
+}
+
+/// A call that fills the next lower location.
+#[tactic(auto, unfolding(crate::specs::Calls::set_next_at))]
+fn set_next_at<P: Copy, T: Copy>(
+    beside: &[&str],
+    packet: Option<P>,
+    value: &Value,
+) -> Option<Call<P, T>>
+    ensures { result ≡ set_next_at (map (λ key. key.now) beside.now) packet (view value.now) }
+{
+    if !has_keys_beside(value, &["by", "do", "irp", "major", "word"], beside) {
+        return None;
+    }
+    let (party, irp) = by_party_at(packet, value)?;
+    let major = u8_under("major", value)?;
+    let word = u64_under("word", value)?;
+    Some(Call::SetNext {
+        party,
+        irp,
+        major,
+        word,
+    })
+}
+
+/// A call that sets a completion routine.
+#[tactic(auto, unfolding(crate::specs::Calls::set_routine_at))]
+fn set_routine_at<P: Copy, T: Copy>(
+    beside: &[&str],
+    packet: Option<P>,
+    value: &Value,
+) -> Option<Call<P, T>>
+    ensures { result ≡ set_routine_at (map (λ key. key.now) beside.now) packet (view value.now) }
+{
+    if !has_keys_beside(value, &["by", "do", "irp", "set"], beside) {
+        return None;
+    }
+    let (party, irp) = by_party_at(packet, value)?;
+    let setting = setting_under("set", value)?;
+    Some(Call::SetRoutine {
+        party,
+        irp,
+        setting,
+    })
+}
+
+/// A call that sends a packet.
+#[tactic(auto, unfolding(crate::specs::Calls::call_driver_at))]
+fn call_driver_at<P: Copy, T: Copy>(
+    beside: &[&str],
+    packet: Option<P>,
+    value: &Value,
+) -> Option<Call<P, T>>
+    ensures { result ≡ call_driver_at (map (λ key. key.now) beside.now) packet (view value.now) }
+{
+    if !has_keys_beside(value, &["by", "do", "irp", "target"], beside) {
+        return None;
+    }
+    let (party, irp) = by_party_at(packet, value)?;
+    let target = device_under("target", value)?;
+    Some(Call::CallDriver { party, irp, target })
+}
+
+/// A call that completes a packet.
+#[tactic(auto, unfolding(crate::specs::Calls::complete_at))]
+fn complete_at<P: Copy, T: Copy>(
+    beside: &[&str],
+    packet: Option<P>,
+    value: &Value,
+) -> Option<Call<P, T>>
+    ensures { result ≡ complete_at (map (λ key. key.now) beside.now) packet (view value.now) }
+{
+    if !has_keys_beside(value, &["by", "do", "information", "irp", "status"], beside) {
+        return None;
+    }
+    let (party, irp) = by_party_at(packet, value)?;
+    let status = status_under("status", value)?;
+    let information = u64_under("information", value)?;
+    Some(Call::Complete {
+        party,
+        irp,
+        status,
+        information,
+    })
+}
+
+/// A call that sets a cancel routine, or takes it out.
+#[tactic(auto, unfolding(crate::specs::Calls::set_cancel_routine_at))]
+fn set_cancel_routine_at<P: Copy, T: Copy>(
+    beside: &[&str],
+    packet: Option<P>,
+    value: &Value,
+) -> Option<Call<P, T>>
+    ensures { result ≡ set_cancel_routine_at (map (λ key. key.now) beside.now) packet (view value.now) }
+{
+    if !has_keys_beside(value, &["by", "cancel", "do", "irp"], beside) {
+        return None;
+    }
+    let (party, irp) = by_party_at(packet, value)?;
+    let cancel = cancel_or_null_under("cancel", value)?;
+    Some(Call::SetCancelRoutine { party, irp, cancel })
+}
+
+/// A call of a party that names more than its packet, by its name.
+#[tactic(auto, unfolding(crate::specs::Calls::party_call_named))]
+fn party_call_named<P: Copy, T: Copy>(
+    name: &str,
+    beside: &[&str],
+    packet: Option<P>,
+    value: &Value,
+) -> Option<Call<P, T>>
+    ensures { result ≡ party_call_named name.now (map (λ key. key.now) beside.now) packet (view value.now) }
+{
+    if name == "set_next" {
+        set_next_at(beside, packet, value)
+    } else if name == "set_routine" {
+        set_routine_at(beside, packet, value)
+    } else if name == "call_driver" {
+        call_driver_at(beside, packet, value)
+    } else if name == "complete" {
+        complete_at(beside, packet, value)
+    } else if name == "set_cancel_routine" {
+        set_cancel_routine_at(beside, packet, value)
+    } else {
+        None
+    }
+}
+
+/// The call of this name that an object tells with its own keys and those beside them, where this is what its packet reads
+/// as. None for an allocation, a deletion of a device and a finish of a taken packet, which entries and steps tell in
+/// different ways; none for another name or another form (this project's own format, docs/FORMATS.md).
+#[tactic(auto, unfolding(crate::specs::Calls::call_named))]
+pub fn call_named<P: Copy, T: Copy>(
+    name: &str,
+    beside: &[&str],
+    packet: Option<P>,
+    value: &Value,
+) -> Option<Call<P, T>>
+    ensures { result ≡ call_named name.now (map (λ key. key.now) beside.now) packet (view value.now) }
+{
+    if let Some(call) = device_call_named(name, beside, value) {
+        return Some(call);
+    }
+    if let Some(call) = packet_call_named(name, beside, packet, value) {
+        return Some(call);
+    }
+    match plain_call_named(name, beside, packet, value) {
+        Some(call) => Some(call),
+        None => party_call_named(name, beside, packet, value),
+    }
+}
