@@ -116,7 +116,7 @@ reply_one device location (Some Skip) = refl
 reply_one device location (Some (Forward set)) = refl
 reply_one device location (Some (ForwardPend set)) = refl
 
-or_cond : (one two : Bool) (first second : Status) → cond one first (cond two first second) ≡ cond (one || two) first second
+pub or_cond : (one two : Bool) (first second : Status) → cond one first (cond two first second) ≡ cond (one || two) first second
 or_cond true two first second = refl
 or_cond false two first second = refl
 

@@ -1,7 +1,8 @@
 //! A packet on its way down.
 
-ghost use Rattle.std.specs.Prelude.{◌≡◌, ◌+◌, ◌-◌, ◌<◌, ◌≤◌, None, false, length, vec_len, vec_capacity};
+ghost use Rattle.std.specs.Prelude.{◌≡◌, ◌+◌, ◌-◌, ◌<◌, ◌≤◌, None, false, if◌then◌else◌, length, vec_len, vec_capacity};
 ghost use Rattle.irp_types.specs.Packet.{size_of, is_nothing};
+ghost use Rattle.irp_types.specs.Status.{pending};
 ghost use Rattle.irp_types.specs.Stacks.{AreStacks, stack_size_of};
 ghost use Rattle.irp_types.specs.Descent.{StaysUp};
 ghost use Rattle.irp_types.specs.Standing.{IsSound};
@@ -10,15 +11,29 @@ ghost use Rattle.irp_unwind.specs.Conditions.{HasDevices, HasRoutines};
 ghost use Rattle.irp_unwind.specs.Descents.{Descends, can_ask_down};
 
 use crate::device::{ask_plan, device_below, end_at, is_passing, marks_location, pass_on};
-use crate::ending::{Ending, Sent};
+use crate::ending::Sent;
 use irp_packet::Packet;
 use irp_routines::Ask;
 use irp_stack::Stacks;
 use irp_types::{Asked, DeviceId, IrpRef, Status};
 
-/// Sends a packet to a device, in stacks that are in order: to this device, and then to those below. What became of it is
-/// written once, at the last device, but for the status where a device marked its location: what is returned would be copied
-/// at each device.
+/// What the sender gets of what became of the packet further down: PENDING in place of the status where a device above
+/// marked its location.
+#[inline]
+fn reply_above(is_marked: bool, sent: Sent) -> Sent
+    ensures { result ≡ record sent { status = if is_marked then pending else sent.status } }
+{
+    if is_marked {
+        return Sent {
+            status: Status::PENDING,
+            ..sent
+        };
+    }
+    sent
+}
+
+/// Sends a packet to a device, in stacks that are in order: to this device, and then to those below, until one keeps it or
+/// finishes it.
 fn descend_from<A: Ask>(
     packet: &mut Packet,
     irp: IrpRef,
@@ -26,8 +41,7 @@ fn descend_from<A: Ask>(
     ask: &A,
     target: DeviceId,
     asked: &mut Vec<Asked>,
-    sent: &mut Sent,
-)
+) -> Sent
     requires stacked { AreStacks stacks.now.devices }
     requires created { target.0 < length stacks.now.devices.facts }
     requires deep { stack_size_of stacks.now.devices target.0 < packet.old.current }
@@ -39,20 +53,21 @@ fn descend_from<A: Ask>(
     ensures descends { Descends
         (IsAnswered (A.may_plan ask.now) (A.may_answer ask.now) (A.may_cancel ask.now))
         (A.tables ask.now) irp stacks.now.devices packet.old target.0 packet.new asked.old.items
-        asked.new.items sent.new }
+        asked.new.items result }
     ensures capacity { vec_capacity asked.new ≡ vec_capacity asked.old }
 {
-    packet.enter(target);
-    let plan = ask_plan(packet, irp, stacks, ask, target, asked);
-    if !is_passing(plan) {
-        *sent = end_at(packet, irp, ask, target, plan, asked);
-        return;
-    }
-    let lower = device_below(stacks, target);
-    pass_on(packet, plan);
-    descend_from(packet, irp, stacks, ask, lower, asked, sent);
-    if marks_location(plan) {
-        sent.status = Status::PENDING;
+    let mut device = target;
+    let mut is_marked = false;
+    loop {
+        packet.enter(device);
+        let plan = ask_plan(packet, irp, stacks, ask, device, asked);
+        if !is_passing(plan) {
+            let sent = end_at(packet, irp, ask, device, plan, asked);
+            return reply_above(is_marked, sent);
+        }
+        pass_on(packet, plan);
+        is_marked = is_marked || marks_location(plan);
+        device = device_below(stacks, device);
     }
 }
 
@@ -102,10 +117,5 @@ pub fn descend<A: Ask>(
     // the two tell that the stacks are in order, and that `current` is at most one above the size
     stacks.are_stacks();
     let _current = packet.current();
-    let mut sent = Sent {
-        status: Status::PENDING,
-        ending: Ending::Ended,
-    };
-    descend_from(packet, irp, stacks, ask, target, asked, &mut sent);
-    sent
+    descend_from(packet, irp, stacks, ask, target, asked)
 }

@@ -3,6 +3,7 @@
 ghost use Rattle.std.specs.Prelude.{◌≡◌, ◌+◌, ◌≤◌, None, false, vec_len, vec_capacity};
 ghost use Rattle.irp_types.specs.Packet.{size_of};
 ghost use Rattle.irp_types.specs.Standing.{IsSound};
+ghost use Rattle.irp_types.specs.Unwinding.{owner_from};
 ghost use Rattle.irp_unwind.specs.Conditions.{HasDevices, HasRoutines};
 ghost use Rattle.irp_unwind.specs.Turns.{IsBare, bared};
 ghost use Rattle.irp_unwind.specs.Endings.{can_ask_up, Unwinds};
@@ -11,7 +12,7 @@ use crate::ending::Ending;
 use crate::turn::{consult, device_above, leave};
 use irp_packet::Packet;
 use irp_routines::Ask;
-use irp_types::{Asked, IrpRef, Owner};
+use irp_types::{Asked, DeviceId, IrpRef, Owner};
 
 /// Clears the locations below the current one.
 #[inline]
@@ -25,44 +26,45 @@ fn clear_below(packet: &mut Packet)
     }
 }
 
-/// Unwinds a packet, below whose current location all is cleared: one location, and then the rest. How it ends is written
-/// once, at the end: what is returned would be copied at each location.
-fn unwind_from<A: Ask>(
-    packet: &mut Packet,
-    irp: IrpRef,
-    ask: &A,
-    asked: &mut Vec<Asked>,
-    ending: &mut Ending,
-)
+/// The owner of a packet that was kept: this device, or the originator where there is none.
+#[inline]
+fn owner_from(above: Option<DeviceId>) -> Owner
+    ensures { result ≡ owner_from above }
+{
+    match above {
+        Some(device) => Owner::Device(device),
+        None => Owner::Originator,
+    }
+}
+
+/// Unwinds a packet, below whose current location all is cleared: one location after another, until a routine keeps it or
+/// it stands above the highest.
+fn unwind_from<A: Ask>(packet: &mut Packet, irp: IrpRef, ask: &A, asked: &mut Vec<Asked>) -> Ending
     requires bare { IsBare packet.old }
     requires placed { packet.old.current ≤ size_of packet.old }
     requires devices { HasDevices packet.old (packet.old.current + 1) }
     requires routines { HasRoutines (A.tables ask.now).counts packet.old packet.old.current }
     requires room { vec_len asked.old + can_ask_up packet.old ≤ vec_capacity asked.old }
     ensures unwinds { Unwinds (A.may_answer ask.now) irp packet.old packet.new asked.old.items
-        asked.new.items ending.new }
+        asked.new.items result }
     ensures capacity { vec_capacity asked.new ≡ vec_capacity asked.old }
 {
-    let number = packet.current();
-    let above = device_above(packet, number);
-    let answer = consult(packet, irp, ask, asked);
-    leave(packet, answer);
-    let kept = answer.keep;
-    if kept {
-        let owner = match above {
-            Some(device) => Owner::Device(device),
-            None => Owner::Originator,
-        };
-        packet.set_owner(owner);
-        *ending = Ending::Kept(owner);
-        return;
+    loop {
+        let number = packet.current();
+        let above = device_above(packet, number);
+        let answer = consult(packet, irp, ask, asked);
+        leave(packet, answer);
+        let kept = answer.keep;
+        if kept {
+            let owner = owner_from(above);
+            packet.set_owner(owner);
+            return Ending::Kept(owner);
+        }
+        if number == packet.size() {
+            packet.set_owner(Owner::Ended);
+            return Ending::Ended;
+        }
     }
-    if number == packet.size() {
-        packet.set_owner(Owner::Ended);
-        *ending = Ending::Ended;
-        return;
-    }
-    unwind_from(packet, irp, ask, asked, ending);
 }
 
 /// Unwinds a packet from its current location up, and answers how that ended.
@@ -95,7 +97,5 @@ pub fn unwind<A: Ask>(packet: &mut Packet, irp: IrpRef, ask: &A, asked: &mut Vec
     ensures capacity { vec_capacity asked.new ≡ vec_capacity asked.old }
 {
     clear_below(packet);
-    let mut ending = Ending::Ended;
-    unwind_from(packet, irp, ask, asked, &mut ending);
-    ending
+    unwind_from(packet, irp, ask, asked)
 }

@@ -10,8 +10,8 @@ pub returns-clause-unwinds : goal.returns-clause-unwinds
 returns-clause-unwinds g c =
     let some : 1 ≤ c.args.packet.now.current = subst (λ (value : PacketValue). 1 ≤ value.current) c.clear_below.ensures.bared c.clear_below.ensures.bare.placed in
     unwinds_bared c.args.packet.now some c.requires.placed (g.A.Ask.may_answer c.args.ask.now) c.args.irp c.unwind_from.new.packet
-    c.args.asked.now.items c.unwind_from.new.asked.items c.unwind_from.new.ending
-    (subst (λ value. Unwinds (g.A.Ask.may_answer c.args.ask.now) c.args.irp value c.unwind_from.new.packet c.args.asked.now.items c.unwind_from.new.asked.items c.unwind_from.new.ending)
+    c.args.asked.now.items c.unwind_from.new.asked.items c.unwind_from.result
+    (subst (λ value. Unwinds (g.A.Ask.may_answer c.args.ask.now) c.args.irp value c.unwind_from.new.packet c.args.asked.now.items c.unwind_from.new.asked.items c.unwind_from.result)
     c.clear_below.ensures.bared c.unwind_from.ensures.unwinds)
 
 pub returns-clause-sound : goal.returns-clause-sound
