@@ -1,5 +1,6 @@
 -- What a JSON value reads as: numbers, keys, items and lists. None where the value has another form.
-use Rattle.std.specs.Prelude.{◌≡◌, ℕ, ◌^◌, ◌-◌, ◌==◌, ◌&&◌, List, [], ◌∷◌, length, nat_le, Bool, true, false, is_some, Option, Some, None, Result, Ok, Err, if◌then◌else◌}
+use Rattle.std.specs.Prelude.{◌≡◌, ℕ, ◌^◌, ◌-◌, ◌==◌, ◌&&◌, List, [], ◌∷◌, length, map, nat_le, Bool, true, false, is_some, Option, Some, None, Result, Ok, Err, if◌then◌else◌}
+use Rattle.std.specs.Borrow.{Bor}
 use Rattle.serde_json.specs.Data.{Data, null, array, object, Items, no_items, item}
 use Rattle.serde_json.specs.Find.{get, as_number, as_u64, as_array}
 use Rattle.serde_json.specs.Events.{items_len, members_len}
@@ -57,6 +58,10 @@ has_items count form = false
 abbrev pub count_members : Data → ℕ
 count_members (object members) = members_len members
 count_members form = 0
+
+-- the keys that a list of text slices names
+abbrev pub keys_in : List (Bor (List ℕ)) → List (List ℕ)
+keys_in slices = map (λ slice. slice.now) slices
 
 -- each of these keys is there
 abbrev pub each_key : List (List ℕ) → Data → Bool

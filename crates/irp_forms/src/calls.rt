@@ -1,7 +1,8 @@
 //! Calls of the manager that entries of a transcript and steps of a script tell in the same way.
 
-ghost use Rattle.std.specs.Prelude.{◌≡◌, map};
+ghost use Rattle.std.specs.Prelude.{◌≡◌};
 ghost use Rattle.serde_json.specs.View.{view};
+ghost use Rattle.irp_forms.specs.Parts.{keys_in};
 ghost use Rattle.irp_forms.specs.Calls.{
   attach_at,
   by_party_at,
@@ -33,7 +34,7 @@ use serde_json::Value;
 /// A call that creates a device.
 #[tactic(auto, unfolding(crate::specs::Calls::create_device_at))]
 fn create_device_at<P: Copy, T: Copy>(beside: &[&str], value: &Value) -> Option<Call<P, T>>
-    ensures { result ≡ create_device_at (map (λ key. key.now) beside.now) (view value.now) }
+    ensures { result ≡ create_device_at (keys_in beside.now) (view value.now) }
 {
     if !has_keys_beside(value, &["do", "driver", "lock"], beside) {
         return None;
@@ -46,7 +47,7 @@ fn create_device_at<P: Copy, T: Copy>(beside: &[&str], value: &Value) -> Option<
 /// A call that puts a device on another's stack.
 #[tactic(auto, unfolding(crate::specs::Calls::attach_at))]
 fn attach_at<P: Copy, T: Copy>(beside: &[&str], value: &Value) -> Option<Call<P, T>>
-    ensures { result ≡ attach_at (map (λ key. key.now) beside.now) (view value.now) }
+    ensures { result ≡ attach_at (keys_in beside.now) (view value.now) }
 {
     if !has_keys_beside(value, &["device", "do", "to"], beside) {
         return None;
@@ -59,7 +60,7 @@ fn attach_at<P: Copy, T: Copy>(beside: &[&str], value: &Value) -> Option<Call<P,
 /// A call that takes the device off that stands on this one.
 #[tactic(auto, unfolding(crate::specs::Calls::detach_at))]
 fn detach_at<P: Copy, T: Copy>(beside: &[&str], value: &Value) -> Option<Call<P, T>>
-    ensures { result ≡ detach_at (map (λ key. key.now) beside.now) (view value.now) }
+    ensures { result ≡ detach_at (keys_in beside.now) (view value.now) }
 {
     if !has_keys_beside(value, &["do", "lower"], beside) {
         return None;
@@ -75,7 +76,7 @@ fn device_call_named<P: Copy, T: Copy>(
     beside: &[&str],
     value: &Value,
 ) -> Option<Call<P, T>>
-    ensures { result ≡ device_call_named name.now (map (λ key. key.now) beside.now) (view value.now) }
+    ensures { result ≡ device_call_named name.now (keys_in beside.now) (view value.now) }
 {
     if name == "create_device" {
         create_device_at(beside, value)
@@ -91,7 +92,7 @@ fn device_call_named<P: Copy, T: Copy>(
 /// The packet of a call that names nothing else.
 #[tactic(auto, unfolding(crate::specs::Calls::packet_alone_at))]
 fn packet_alone_at<P: Copy>(beside: &[&str], packet: Option<P>, value: &Value) -> Option<P>
-    ensures { result ≡ packet_alone_at (map (λ key. key.now) beside.now) packet (view value.now) }
+    ensures { result ≡ packet_alone_at (keys_in beside.now) packet (view value.now) }
 {
     if has_keys_beside(value, &["do", "irp"], beside) {
         packet
@@ -107,7 +108,7 @@ fn reuse_at<P: Copy, T: Copy>(
     packet: Option<P>,
     value: &Value,
 ) -> Option<Call<P, T>>
-    ensures { result ≡ reuse_at (map (λ key. key.now) beside.now) packet (view value.now) }
+    ensures { result ≡ reuse_at (keys_in beside.now) packet (view value.now) }
 {
     if !has_keys_beside(value, &["do", "irp", "status"], beside) {
         return None;
@@ -125,7 +126,7 @@ fn packet_call_named<P: Copy, T: Copy>(
     packet: Option<P>,
     value: &Value,
 ) -> Option<Call<P, T>>
-    ensures { result ≡ packet_call_named name.now (map (λ key. key.now) beside.now) packet (view value.now) }
+    ensures { result ≡ packet_call_named name.now (keys_in beside.now) packet (view value.now) }
 {
     if name == "free" {
         let irp = packet_alone_at(beside, packet, value)?;
@@ -156,7 +157,7 @@ fn by_party_at<P: Copy>(packet: Option<P>, value: &Value) -> Option<(Party, P)>
 /// The party and its packet of a call that names nothing else.
 #[tactic(auto, unfolding(crate::specs::Calls::party_alone_at))]
 fn party_alone_at<P: Copy>(beside: &[&str], packet: Option<P>, value: &Value) -> Option<(Party, P)>
-    ensures { result ≡ party_alone_at (map (λ key. key.now) beside.now) packet (view value.now) }
+    ensures { result ≡ party_alone_at (keys_in beside.now) packet (view value.now) }
 {
     if has_keys_beside(value, &["by", "do", "irp"], beside) {
         by_party_at(packet, value)
@@ -173,7 +174,7 @@ fn plain_call_named<P: Copy, T: Copy>(
     packet: Option<P>,
     value: &Value,
 ) -> Option<Call<P, T>>
-    ensures { result ≡ plain_call_named name.now (map (λ key. key.now) beside.now) packet (view value.now) }
+    ensures { result ≡ plain_call_named name.now (keys_in beside.now) packet (view value.now) }
 {
     if name == "copy_to_next" {
         let (party, irp) = party_alone_at(beside, packet, value)?;
@@ -196,7 +197,7 @@ fn set_next_at<P: Copy, T: Copy>(
     packet: Option<P>,
     value: &Value,
 ) -> Option<Call<P, T>>
-    ensures { result ≡ set_next_at (map (λ key. key.now) beside.now) packet (view value.now) }
+    ensures { result ≡ set_next_at (keys_in beside.now) packet (view value.now) }
 {
     if !has_keys_beside(value, &["by", "do", "irp", "major", "word"], beside) {
         return None;
@@ -219,7 +220,7 @@ fn set_routine_at<P: Copy, T: Copy>(
     packet: Option<P>,
     value: &Value,
 ) -> Option<Call<P, T>>
-    ensures { result ≡ set_routine_at (map (λ key. key.now) beside.now) packet (view value.now) }
+    ensures { result ≡ set_routine_at (keys_in beside.now) packet (view value.now) }
 {
     if !has_keys_beside(value, &["by", "do", "irp", "set"], beside) {
         return None;
@@ -240,7 +241,7 @@ fn call_driver_at<P: Copy, T: Copy>(
     packet: Option<P>,
     value: &Value,
 ) -> Option<Call<P, T>>
-    ensures { result ≡ call_driver_at (map (λ key. key.now) beside.now) packet (view value.now) }
+    ensures { result ≡ call_driver_at (keys_in beside.now) packet (view value.now) }
 {
     if !has_keys_beside(value, &["by", "do", "irp", "target"], beside) {
         return None;
@@ -257,7 +258,7 @@ fn complete_at<P: Copy, T: Copy>(
     packet: Option<P>,
     value: &Value,
 ) -> Option<Call<P, T>>
-    ensures { result ≡ complete_at (map (λ key. key.now) beside.now) packet (view value.now) }
+    ensures { result ≡ complete_at (keys_in beside.now) packet (view value.now) }
 {
     if !has_keys_beside(value, &["by", "do", "information", "irp", "status"], beside) {
         return None;
@@ -280,7 +281,7 @@ fn set_cancel_routine_at<P: Copy, T: Copy>(
     packet: Option<P>,
     value: &Value,
 ) -> Option<Call<P, T>>
-    ensures { result ≡ set_cancel_routine_at (map (λ key. key.now) beside.now) packet (view value.now) }
+    ensures { result ≡ set_cancel_routine_at (keys_in beside.now) packet (view value.now) }
 {
     if !has_keys_beside(value, &["by", "cancel", "do", "irp"], beside) {
         return None;
@@ -298,7 +299,7 @@ fn party_call_named<P: Copy, T: Copy>(
     packet: Option<P>,
     value: &Value,
 ) -> Option<Call<P, T>>
-    ensures { result ≡ party_call_named name.now (map (λ key. key.now) beside.now) packet (view value.now) }
+    ensures { result ≡ party_call_named name.now (keys_in beside.now) packet (view value.now) }
 {
     if name == "set_next" {
         set_next_at(beside, packet, value)
@@ -325,7 +326,7 @@ pub fn call_named<P: Copy, T: Copy>(
     packet: Option<P>,
     value: &Value,
 ) -> Option<Call<P, T>>
-    ensures { result ≡ call_named name.now (map (λ key. key.now) beside.now) packet (view value.now) }
+    ensures { result ≡ call_named name.now (keys_in beside.now) packet (view value.now) }
 {
     if let Some(call) = device_call_named(name, beside, value) {
         return Some(call);

@@ -1,12 +1,13 @@
 //! Numbers, and which items and keys there are.
 
-ghost use Rattle.std.specs.Prelude.{◌≡◌, ◌++◌, map};
+ghost use Rattle.std.specs.Prelude.{◌≡◌, ◌++◌};
 ghost use Rattle.serde_json.specs.View.{view};
 ghost use Rattle.irp_forms.specs.Parts.{
   count_members,
   each_key,
   has_items,
   has_keys,
+  keys_in,
   number_at,
   u32_at,
   u64_at,
@@ -87,7 +88,7 @@ fn count_members(value: &Value) -> usize
 
 /// Whether each of these keys is there.
 fn has_each(value: &Value, keys: &[&str]) -> bool
-    ensures { result ≡ each_key (map (λ key. key.now) keys.now) (view value.now) }
+    ensures { result ≡ each_key (keys_in keys.now) (view value.now) }
 {
     for key in keys {
         if value.get(*key).is_none() {
@@ -101,15 +102,14 @@ fn has_each(value: &Value, keys: &[&str]) -> bool
 /// keys.
 #[tactic(auto, unfolding(crate::specs::Parts::has_keys))]
 pub fn has_keys(value: &Value, keys: &[&str]) -> bool
-    ensures { result ≡ has_keys (map (λ key. key.now) keys.now) (view value.now) }
+    ensures { result ≡ has_keys (keys_in keys.now) (view value.now) }
 {
     count_members(value) == keys.len() && has_each(value, keys)
 }
 
 /// The same of some keys and those beside them.
 pub(crate) fn has_keys_beside(value: &Value, keys: &[&str], beside: &[&str]) -> bool
-    ensures { result ≡ has_keys (map (λ key. key.now) keys.now
-        ++ map (λ key. key.now) beside.now) (view value.now) }
+    ensures { result ≡ has_keys (keys_in keys.now ++ keys_in beside.now) (view value.now) }
 {
     if count_members(value) != keys.len() + beside.len() {
         return false;
