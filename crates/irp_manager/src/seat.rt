@@ -2,7 +2,7 @@
 
 ghost use Rattle.std.specs.Prelude.{◌≡◌, ◌<◌, ◌+◌, ◌++◌, ◌∷◌, [], length, OnErr, OnOk, if◌then◌else◌, nat_lt};
 
-use irp_types::{Call, Entry, Questions, Reply};
+use irp_types::Entry;
 use std::alloc::{AllocError, Global};
 use std::marker::Model;
 use std::sync::ledger::{Book as Total, Ledger, Share};
@@ -87,38 +87,18 @@ impl<L: Ledger> Seat<L> {
         &self.share
     }
 
-    /// Makes room for one more entry, in memory that the system has given: it gives fresh memory only where that is first
-    /// written, which takes long beside a call, and nobody is to wait for it under a lock.
+    /// Makes room for one more entry. Either way the seat says what it said.
     ///
     /// # Errors
     ///
-    /// `AllocError` where a growth was refused, and then the seat is as it was. Either way it says what it said.
+    /// `AllocError` where a growth was refused, and then the seat is as it was.
     pub fn room(&mut self) -> Result<(), AllocError>
         ensures ok { OnOk result (0 < self.new.room) }
         ensures err { OnErr result (self.new ≡ self.old) }
         ensures same { (self.new.number ≡ self.old.number) × (self.new.seen ≡ self.old.seen)
             × (self.new.entries ≡ self.old.entries) }
     {
-        self.entries.reserve(1)?;
-        self.touch();
-        Ok(())
-    }
-
-    /// Writes an entry where the next one is to lie, and takes it away again.
-    fn touch(&mut self)
-        requires { 0 < self.old.room }
-        ensures { self.new ≡ self.old }
-    {
-        self.entries.push_reserved(Entry {
-            number: 0,
-            call: Call::Allocate { size: 0 },
-            asked: Questions::from_vec(Vec::new(*self.entries.allocator())),
-            reply: Reply::Done,
-            seat: self.number,
-            lock: None,
-            drained: false,
-        });
-        let _ = self.entries.pop();
+        self.entries.reserve(1)
     }
 
     /// Takes one more entry, on condition that there is room for it, and counts it in the ledger's total.
