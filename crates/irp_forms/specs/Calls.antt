@@ -5,8 +5,8 @@ use Rattle.std.specs.Prelude.{ℕ, List, ◌∷◌, codes, Option, Some, None, i
 use Rattle.std.proofs.Common.{bytes_eq}
 use Rattle.serde_json.specs.Data.{Data}
 use Rattle.serde_json.specs.Find.{get}
-use Rattle.irp_forms.specs.Parts.{◌>>=◌, or_else, has_keys, u8_at, u64_at}
-use Rattle.irp_forms.specs.Values.{cancel_or_null_at, device_at, driver_at, lock_at, party_at, setting_at, status_at}
+use Rattle.irp_forms.specs.Parts.{◌>>=◌, or_null_at, or_else, has_keys, u8_at, u64_at}
+use Rattle.irp_forms.specs.Values.{cancel_at, device_at, driver_at, lock_at, party_at, setting_at, status_at}
 use Rattle.irp_types.specs.declared.call.Call.{Call as CallOf}
 use Rattle.irp_types.specs.declared.call.Call.TheVariants as calls
 use Rattle.irp_types.specs.declared.call.Party.{Party}
@@ -111,7 +111,7 @@ unfoldable pub set_cancel_routine_at : {P T : Type 0} → Keys → Option P → 
 set_cancel_routine_at beside packet form =
     if has_keys (codes "by" ∷ codes "cancel" ∷ codes "do" ∷ codes "irp" ∷ beside) form then (do
       caller ← by_party_at packet form
-      cancel ← get (codes "cancel") form >>= cancel_or_null_at
+      cancel ← get (codes "cancel") form >>= or_null_at cancel_at
       Some (calls.SetCancelRoutine caller.0 caller.1 cancel)) else None
 
 -- a call of a party that names more than its packet

@@ -3,8 +3,8 @@ use Rattle.std.specs.Prelude.{ℕ, List, [], ◌∷◌, codes, Bool, true, false
 use Rattle.std.proofs.Common.{bytes_eq}
 use Rattle.serde_json.specs.Data.{Data}
 use Rattle.serde_json.specs.Find.{at, get, as_bool, as_str}
-use Rattle.irp_forms.specs.Parts.{◌>>=◌, has_items, has_keys, u8_at, u32_at, u64_at}
-use Rattle.irp_forms.specs.Values.{cancel_answer_at, cancel_at, device_or_null_at, dispatch_at, plan_at, replacement_or_null_at, routine_at, status_at}
+use Rattle.irp_forms.specs.Parts.{◌>>=◌, has_items, has_keys, or_null_at, u8_at, u32_at, u64_at}
+use Rattle.irp_forms.specs.Values.{cancel_answer_at, cancel_at, device_at, dispatch_at, plan_at, replacement_at, routine_at, status_at}
 use Rattle.irp_types.specs.declared.answer.Answer.{Answer}
 use Rattle.irp_types.specs.declared.asked.Asked.{Asked}
 use Rattle.irp_types.specs.declared.asked.Asked.TheVariants as questions
@@ -22,13 +22,13 @@ unfoldable pub answer_at : Data → Option Answer
 answer_at form = if has_items 3 form then (do
   keep ← at 0 form >>= as_str >>= keep_named
   mark ← at 1 form >>= as_bool
-  replacement ← at 2 form >>= replacement_or_null_at
+  replacement ← at 2 form >>= or_null_at replacement_at
   Some (record { keep = keep; mark = mark; replacement = replacement })) else None
 
 -- the first six things that a closure is shown
 unfoldable pub place_at : Data → Option Place
 place_at form = do
-  device ← at 0 form >>= device_or_null_at
+  device ← at 0 form >>= or_null_at device_at
   slot ← at 1 form >>= u32_at
   use_no ← at 2 form >>= u64_at
   major ← at 3 form >>= u8_at

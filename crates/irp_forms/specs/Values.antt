@@ -27,17 +27,9 @@ use Rattle.irp_types.specs.declared.status.Status.{Status}
 unfoldable pub device_at : Data → Option DeviceId
 device_at form = u32_at form >>= λ given. Some (record { 0 = given })
 
--- a device by its number, or null
-unfoldable pub device_or_null_at : Data → Option (Option DeviceId)
-device_or_null_at form = or_null_at device_at form
-
 -- a cancel routine by its number
 unfoldable pub cancel_at : Data → Option CancelId
 cancel_at form = u32_at form >>= λ given. Some (record { 0 = given })
-
--- a cancel routine by its number, or null
-unfoldable pub cancel_or_null_at : Data → Option (Option CancelId)
-cancel_or_null_at form = or_null_at cancel_at form
 
 -- a dispatch routine by its number
 unfoldable pub dispatch_at : Data → Option DispatchId
@@ -50,10 +42,6 @@ driver_at form = u32_at form >>= λ given. Some (record { 0 = given })
 -- a remove lock by its number
 unfoldable pub lock_at : Data → Option LockNo
 lock_at form = u32_at form >>= λ given. Some (record { 0 = given })
-
--- a remove lock by its number, or null
-unfoldable pub lock_or_null_at : Data → Option (Option LockNo)
-lock_or_null_at form = or_null_at lock_at form
 
 -- a status by its number
 unfoldable pub status_at : Data → Option Status
@@ -93,20 +81,12 @@ setting_at form = if has_items 4 form then (do
     on_cancel = flags.on_cancel;
   })) else None
 
--- a setting or null
-unfoldable pub setting_or_null_at : Data → Option (Option Setting)
-setting_or_null_at form = or_null_at setting_at form
-
 -- a replacement: status and information
 unfoldable pub replacement_at : Data → Option Replacement
 replacement_at form = if has_items 2 form then (do
   status ← at 0 form >>= status_at
   information ← at 1 form >>= u64_at
   Some (record { status = status; information = information })) else None
-
--- a replacement or null
-unfoldable pub replacement_or_null_at : Data → Option (Option Replacement)
-replacement_or_null_at form = or_null_at replacement_at form
 
 -- a plan that finishes, with its status and information
 unfoldable pub finish_at : Data → Option Plan
@@ -118,19 +98,19 @@ finish_at form = if has_items 3 form then (do
 -- a plan that holds, with its cancel routine or null
 unfoldable pub hold_at : Data → Option Plan
 hold_at form = if has_items 2 form then (do
-  cancel ← at 1 form >>= cancel_or_null_at
+  cancel ← at 1 form >>= or_null_at cancel_at
   Some (plans.Hold cancel)) else None
 
 -- a plan that forwards, with its setting or null
 unfoldable pub forward_at : Data → Option Plan
 forward_at form = if has_items 2 form then (do
-  setting ← at 1 form >>= setting_or_null_at
+  setting ← at 1 form >>= or_null_at setting_at
   Some (plans.Forward setting)) else None
 
 -- a plan that forwards and pends, with its setting or null
 unfoldable pub forward_pend_at : Data → Option Plan
 forward_pend_at form = if has_items 2 form then (do
-  setting ← at 1 form >>= setting_or_null_at
+  setting ← at 1 form >>= or_null_at setting_at
   Some (plans.ForwardPend setting)) else None
 
 -- a plan by its name

@@ -23,10 +23,7 @@ ghost use Rattle.irp_forms.specs.Calls.{
   set_routine_at,
 };
 
-use crate::fields::{
-    cancel_or_null_under, device_under, driver_under, lock_under, party_under, setting_under,
-    status_under, u8_under, u64_under,
-};
+use crate::from_value::under;
 use crate::parts::has_keys_beside;
 use irp_types::{Call, Party};
 use serde_json::Value;
@@ -39,8 +36,8 @@ fn create_device_at<P: Copy, T: Copy>(beside: &[&str], value: &Value) -> Option<
     if !has_keys_beside(value, &["do", "driver", "lock"], beside) {
         return None;
     }
-    let driver = driver_under("driver", value)?;
-    let lock = lock_under("lock", value)?;
+    let driver = under("driver", value)?;
+    let lock = under("lock", value)?;
     Some(Call::CreateDevice { driver, lock })
 }
 
@@ -52,8 +49,8 @@ fn attach_at<P: Copy, T: Copy>(beside: &[&str], value: &Value) -> Option<Call<P,
     if !has_keys_beside(value, &["device", "do", "to"], beside) {
         return None;
     }
-    let device = device_under("device", value)?;
-    let to = device_under("to", value)?;
+    let device = under("device", value)?;
+    let to = under("to", value)?;
     Some(Call::Attach { device, to })
 }
 
@@ -65,7 +62,7 @@ fn detach_at<P: Copy, T: Copy>(beside: &[&str], value: &Value) -> Option<Call<P,
     if !has_keys_beside(value, &["do", "lower"], beside) {
         return None;
     }
-    let lower = device_under("lower", value)?;
+    let lower = under("lower", value)?;
     Some(Call::Detach { lower })
 }
 
@@ -114,7 +111,7 @@ fn reuse_at<P: Copy, T: Copy>(
         return None;
     }
     let irp = packet?;
-    let status = status_under("status", value)?;
+    let status = under("status", value)?;
     Some(Call::Reuse { irp, status })
 }
 
@@ -149,7 +146,7 @@ fn packet_call_named<P: Copy, T: Copy>(
 fn by_party_at<P: Copy>(packet: Option<P>, value: &Value) -> Option<(Party, P)>
     ensures { result ≡ by_party_at packet (view value.now) }
 {
-    let party = party_under("by", value)?;
+    let party = under("by", value)?;
     let irp = packet?;
     Some((party, irp))
 }
@@ -203,8 +200,8 @@ fn set_next_at<P: Copy, T: Copy>(
         return None;
     }
     let (party, irp) = by_party_at(packet, value)?;
-    let major = u8_under("major", value)?;
-    let word = u64_under("word", value)?;
+    let major = under("major", value)?;
+    let word = under("word", value)?;
     Some(Call::SetNext {
         party,
         irp,
@@ -226,7 +223,7 @@ fn set_routine_at<P: Copy, T: Copy>(
         return None;
     }
     let (party, irp) = by_party_at(packet, value)?;
-    let setting = setting_under("set", value)?;
+    let setting = under("set", value)?;
     Some(Call::SetRoutine {
         party,
         irp,
@@ -247,7 +244,7 @@ fn call_driver_at<P: Copy, T: Copy>(
         return None;
     }
     let (party, irp) = by_party_at(packet, value)?;
-    let target = device_under("target", value)?;
+    let target = under("target", value)?;
     Some(Call::CallDriver { party, irp, target })
 }
 
@@ -264,8 +261,8 @@ fn complete_at<P: Copy, T: Copy>(
         return None;
     }
     let (party, irp) = by_party_at(packet, value)?;
-    let status = status_under("status", value)?;
-    let information = u64_under("information", value)?;
+    let status = under("status", value)?;
+    let information = under("information", value)?;
     Some(Call::Complete {
         party,
         irp,
@@ -287,7 +284,7 @@ fn set_cancel_routine_at<P: Copy, T: Copy>(
         return None;
     }
     let (party, irp) = by_party_at(packet, value)?;
-    let cancel = cancel_or_null_under("cancel", value)?;
+    let cancel = under("cancel", value)?;
     Some(Call::SetCancelRoutine { party, irp, cancel })
 }
 

@@ -2,7 +2,7 @@
 #![tactic(auto)]
 
 mod calls;
-mod fields;
+mod from_value;
 mod list;
 mod names;
 mod parts;
@@ -11,16 +11,10 @@ mod unread;
 mod values;
 
 pub use calls::call_named;
-pub use fields::{
-    cancel_or_null_under, device_under, driver_under, irp_under, lock_under, party_under,
-    setting_under, status_under, u8_under, u32_under, u64_under,
-};
+pub use from_value::{FromValue, nth, under};
 pub use list::{FromJson, list_at};
-pub use names::{Flags, flags_named, rule_at, rule_named};
-pub use parts::{has_items, has_keys, u8_at, u32_at, u64_at};
+pub use names::{Flags, flags_named, rule_named};
+pub use parts::{has_items, has_keys};
 pub use questions::keep_named;
 pub use unread::{Unread, form_of};
-pub use values::{
-    cancel_answer_at, cancel_or_null_at, completions_at, device_at, driver_at, handler_at, irp_at,
-    lock_at, lock_or_null_at, party_at, plan_at, setting_at, status_at,
-};
+pub use values::completions_at;

@@ -13,13 +13,10 @@ ghost use Rattle.irp_forms.specs.Questions.{
   shown_at,
 };
 
+use crate::from_value::{FromValue, nth, under};
 use crate::list::FromJson;
-use crate::parts::{has_items, has_keys, u8_at, u32_at, u64_at};
+use crate::parts::{has_items, has_keys};
 use crate::unread::{Unread, form_of};
-use crate::values::{
-    cancel_answer_at, cancel_at, device_or_null_at, dispatch_at, plan_at, replacement_or_null_at,
-    routine_at, status_at,
-};
 use irp_types::{Answer, Asked, DeviceId, IrpRef, Shown};
 use serde_json::Value;
 use std::alloc::Global;
@@ -50,21 +47,23 @@ pub fn keep_named(name: &str) -> Option<bool>
 }
 
 /// A completion routine's answer: its name, the mark, and the replacement or null.
-#[tactic(auto, unfolding(crate::specs::Questions::answer_at))]
-fn answer_at(value: &Value) -> Option<Answer>
-    ensures { result ≡ answer_at (view value.now) }
-{
-    if !has_items(value, 3) {
-        return None;
+impl FromValue for Answer {
+    ghost form = { answer_at };
+
+    #[tactic(auto, unfolding(crate::specs::Questions::answer_at))]
+    fn from_value(value: &Value) -> Option<Self> {
+        if !has_items(value, 3) {
+            return None;
+        }
+        let keep = keep_named(value.get(0).and_then(Value::as_str)?)?;
+        let mark = nth(1, value)?;
+        let replacement = nth(2, value)?;
+        Some(Answer {
+            keep,
+            mark,
+            replacement,
+        })
     }
-    let keep = keep_named(value.get(0).and_then(Value::as_str)?)?;
-    let mark = value.get(1).and_then(Value::as_bool)?;
-    let replacement = value.get(2).and_then(replacement_or_null_at)?;
-    Some(Answer {
-        keep,
-        mark,
-        replacement,
-    })
 }
 
 /// The first six things that a closure is shown.
@@ -72,12 +71,12 @@ fn answer_at(value: &Value) -> Option<Answer>
 fn place_at(value: &Value) -> Option<Place>
     ensures { result ≡ place_at (view value.now) }
 {
-    let device = value.get(0).and_then(device_or_null_at)?;
-    let slot = value.get(1).and_then(u32_at)?;
-    let use_no = value.get(2).and_then(u64_at)?;
-    let major = value.get(3).and_then(u8_at)?;
-    let location = value.get(4).and_then(u32_at)?;
-    let word = value.get(5).and_then(u64_at)?;
+    let device = nth(0, value)?;
+    let slot: u32 = nth(1, value)?;
+    let use_no = nth(2, value)?;
+    let major = nth(3, value)?;
+    let location = nth(4, value)?;
+    let word = nth(5, value)?;
     Some(Place {
         device,
         irp: IrpRef {
@@ -91,33 +90,35 @@ fn place_at(value: &Value) -> Option<Place>
 }
 
 /// What a closure is shown, of twelve items.
-#[tactic(auto, unfolding(crate::specs::Questions::shown_at))]
-fn shown_at(value: &Value) -> Option<Shown>
-    ensures { result ≡ shown_at (view value.now) }
-{
-    if !has_items(value, 12) {
-        return None;
+impl FromValue for Shown {
+    ghost form = { shown_at };
+
+    #[tactic(auto, unfolding(crate::specs::Questions::shown_at))]
+    fn from_value(value: &Value) -> Option<Self> {
+        if !has_items(value, 12) {
+            return None;
+        }
+        let place = place_at(value)?;
+        let status = nth(6, value)?;
+        let information = nth(7, value)?;
+        let pending_returned = nth(8, value)?;
+        let cancel = nth(9, value)?;
+        let context = nth(10, value)?;
+        let has_lower = nth(11, value)?;
+        Some(Shown {
+            device: place.device,
+            irp: place.irp,
+            major: place.major,
+            location: place.location,
+            word: place.word,
+            status,
+            information,
+            pending_returned,
+            cancel,
+            context,
+            has_lower,
+        })
     }
-    let place = place_at(value)?;
-    let status = value.get(6).and_then(status_at)?;
-    let information = value.get(7).and_then(u64_at)?;
-    let pending_returned = value.get(8).and_then(Value::as_bool)?;
-    let cancel = value.get(9).and_then(Value::as_bool)?;
-    let context = value.get(10).and_then(u64_at)?;
-    let has_lower = value.get(11).and_then(Value::as_bool)?;
-    Some(Shown {
-        device: place.device,
-        irp: place.irp,
-        major: place.major,
-        location: place.location,
-        word: place.word,
-        status,
-        information,
-        pending_returned,
-        cancel,
-        context,
-        has_lower,
-    })
 }
 
 /// A dispatch routine's question.
@@ -125,9 +126,9 @@ fn shown_at(value: &Value) -> Option<Shown>
 fn dispatch_asked_at(value: &Value) -> Option<Asked>
     ensures { result ≡ dispatch_asked_at (view value.now) }
 {
-    let id = value.get("dispatch").and_then(dispatch_at)?;
-    let shown = value.get("shown").and_then(shown_at)?;
-    let plan = value.get("plan").and_then(plan_at)?;
+    let id = under("dispatch", value)?;
+    let shown = under("shown", value)?;
+    let plan = under("plan", value)?;
     Some(Asked::Dispatch { id, shown, plan })
 }
 
@@ -136,9 +137,9 @@ fn dispatch_asked_at(value: &Value) -> Option<Asked>
 fn completion_asked_at(value: &Value) -> Option<Asked>
     ensures { result ≡ completion_asked_at (view value.now) }
 {
-    let id = value.get("completion").and_then(routine_at)?;
-    let shown = value.get("shown").and_then(shown_at)?;
-    let answer = value.get("answer").and_then(answer_at)?;
+    let id = under("completion", value)?;
+    let shown = under("shown", value)?;
+    let answer = under("answer", value)?;
     Some(Asked::Completion { id, shown, answer })
 }
 
@@ -147,25 +148,27 @@ fn completion_asked_at(value: &Value) -> Option<Asked>
 fn cancel_asked_at(value: &Value) -> Option<Asked>
     ensures { result ≡ cancel_asked_at (view value.now) }
 {
-    let id = value.get("cancel").and_then(cancel_at)?;
-    let shown = value.get("shown").and_then(shown_at)?;
-    let answer = value.get("answer").and_then(cancel_answer_at)?;
+    let id = under("cancel", value)?;
+    let shown = under("shown", value)?;
+    let answer = under("answer", value)?;
     Some(Asked::Cancel { id, shown, answer })
 }
 
 /// A question, by the keys that it has (this project's own format, docs/FORMATS.md).
-#[tactic(auto, unfolding(crate::specs::Questions::asked_at))]
-pub fn asked_at(value: &Value) -> Option<Asked>
-    ensures { result ≡ asked_at (view value.now) }
-{
-    if has_keys(value, &["dispatch", "plan", "shown"]) {
-        dispatch_asked_at(value)
-    } else if has_keys(value, &["answer", "completion", "shown"]) {
-        completion_asked_at(value)
-    } else if has_keys(value, &["answer", "cancel", "shown"]) {
-        cancel_asked_at(value)
-    } else {
-        None
+impl FromValue for Asked {
+    ghost form = { asked_at };
+
+    #[tactic(auto, unfolding(crate::specs::Questions::asked_at))]
+    fn from_value(value: &Value) -> Option<Self> {
+        if has_keys(value, &["dispatch", "plan", "shown"]) {
+            dispatch_asked_at(value)
+        } else if has_keys(value, &["answer", "completion", "shown"]) {
+            completion_asked_at(value)
+        } else if has_keys(value, &["answer", "cancel", "shown"]) {
+            cancel_asked_at(value)
+        } else {
+            None
+        }
     }
 }
 
@@ -173,6 +176,6 @@ impl FromJson for Asked {
     ghost at = { asked_at };
 
     fn from_json(_alloc: Global, value: &Value) -> Result<Self, Unread> {
-        form_of(asked_at(value))
+        form_of(FromValue::from_value(value))
     }
 }

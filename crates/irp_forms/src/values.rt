@@ -2,16 +2,14 @@
 
 ghost use Rattle.std.specs.Prelude.{◌≡◌};
 ghost use Rattle.serde_json.specs.View.{view};
-ghost use Rattle.irp_forms.specs.Names.{cancel_rule_at};
+ghost use Rattle.irp_forms.specs.Names.{cancel_rule_at, flags_at, rule_at};
 ghost use Rattle.irp_forms.specs.Values.{
   cancel_answer_at,
   cancel_answer_named,
   cancel_at,
   cancel_finish_at,
-  cancel_or_null_at,
   completions_at,
   device_at,
-  device_or_null_at,
   dispatch_at,
   driver_at,
   finish_at,
@@ -23,238 +21,205 @@ ghost use Rattle.irp_forms.specs.Values.{
   irp_at,
   known_at,
   lock_at,
-  lock_or_null_at,
   party_at,
   plan_at,
   plan_named,
   replacement_at,
-  replacement_or_null_at,
   routine_at,
   setting_at,
-  setting_or_null_at,
   status_at,
 };
 
+use crate::from_value::{FromValue, nth};
 use crate::list::FromJson;
 use crate::names::{Flags, cancel_rule_at, flags_at, rule_at};
-use crate::parts::{has_items, u8_at, u32_at, u64_at};
+use crate::parts::has_items;
 use crate::unread::{Unread, form_of};
 use irp_types::{
     CancelAnswer, CancelId, CancelRule, DeviceId, DispatchId, DriverId, IrpRef, Known, LockNo,
-    Party, Plan, Replacement, RoutineId, Setting, Status,
+    Party, Plan, Replacement, RoutineId, Rule, Setting, Status,
 };
 use serde_json::Value;
 use std::alloc::Global;
 
 /// A device by its number (this project's own format, docs/FORMATS.md).
-#[tactic(auto, unfolding(crate::specs::Values::device_at))]
-pub fn device_at(value: &Value) -> Option<DeviceId>
-    ensures { result ≡ device_at (view value.now) }
-{
-    let number = u32_at(value)?;
-    Some(DeviceId(number))
-}
+impl FromValue for DeviceId {
+    ghost form = { device_at };
 
-/// A device by its number, or null, which is read as `Some(None)` (this project's own format, docs/FORMATS.md).
-#[tactic(auto, unfolding(crate::specs::Values::device_or_null_at))]
-pub fn device_or_null_at(value: &Value) -> Option<Option<DeviceId>>
-    ensures { result ≡ device_or_null_at (view value.now) }
-{
-    match value {
-        Value::Null => Some(None),
-        _ => {
-            let device = device_at(value)?;
-            Some(Some(device))
-        }
+    #[tactic(auto, unfolding(crate::specs::Values::device_at))]
+    fn from_value(value: &Value) -> Option<Self> {
+        Some(DeviceId(u32::from_value(value)?))
     }
 }
 
 /// A cancel routine by its number (this project's own format, docs/FORMATS.md).
-#[tactic(auto, unfolding(crate::specs::Values::cancel_at))]
-pub fn cancel_at(value: &Value) -> Option<CancelId>
-    ensures { result ≡ cancel_at (view value.now) }
-{
-    let number = u32_at(value)?;
-    Some(CancelId(number))
-}
+impl FromValue for CancelId {
+    ghost form = { cancel_at };
 
-/// A cancel routine by its number, or null, which is read as `Some(None)`
-/// (this project's own format, docs/FORMATS.md).
-#[tactic(auto, unfolding(crate::specs::Values::cancel_or_null_at))]
-pub fn cancel_or_null_at(value: &Value) -> Option<Option<CancelId>>
-    ensures { result ≡ cancel_or_null_at (view value.now) }
-{
-    match value {
-        Value::Null => Some(None),
-        _ => {
-            let cancel = cancel_at(value)?;
-            Some(Some(cancel))
-        }
+    #[tactic(auto, unfolding(crate::specs::Values::cancel_at))]
+    fn from_value(value: &Value) -> Option<Self> {
+        Some(CancelId(u32::from_value(value)?))
     }
 }
 
 /// A dispatch routine by its number (this project's own format, docs/FORMATS.md).
-#[tactic(auto, unfolding(crate::specs::Values::dispatch_at))]
-pub fn dispatch_at(value: &Value) -> Option<DispatchId>
-    ensures { result ≡ dispatch_at (view value.now) }
-{
-    let number = u32_at(value)?;
-    Some(DispatchId(number))
+impl FromValue for DispatchId {
+    ghost form = { dispatch_at };
+
+    #[tactic(auto, unfolding(crate::specs::Values::dispatch_at))]
+    fn from_value(value: &Value) -> Option<Self> {
+        Some(DispatchId(u32::from_value(value)?))
+    }
 }
 
 /// A driver by its number (this project's own format, docs/FORMATS.md).
-#[tactic(auto, unfolding(crate::specs::Values::driver_at))]
-pub fn driver_at(value: &Value) -> Option<DriverId>
-    ensures { result ≡ driver_at (view value.now) }
-{
-    let number = u32_at(value)?;
-    Some(DriverId(number))
+impl FromValue for DriverId {
+    ghost form = { driver_at };
+
+    #[tactic(auto, unfolding(crate::specs::Values::driver_at))]
+    fn from_value(value: &Value) -> Option<Self> {
+        Some(DriverId(u32::from_value(value)?))
+    }
 }
 
 /// A remove lock by its number (this project's own format, docs/FORMATS.md).
-#[tactic(auto, unfolding(crate::specs::Values::lock_at))]
-pub fn lock_at(value: &Value) -> Option<LockNo>
-    ensures { result ≡ lock_at (view value.now) }
-{
-    let number = u32_at(value)?;
-    Some(LockNo(number))
-}
+impl FromValue for LockNo {
+    ghost form = { lock_at };
 
-/// A remove lock by its number, or null, which is read as `Some(None)` (this project's own format, docs/FORMATS.md).
-#[tactic(auto, unfolding(crate::specs::Values::lock_or_null_at))]
-pub fn lock_or_null_at(value: &Value) -> Option<Option<LockNo>>
-    ensures { result ≡ lock_or_null_at (view value.now) }
-{
-    match value {
-        Value::Null => Some(None),
-        _ => {
-            let lock = lock_at(value)?;
-            Some(Some(lock))
-        }
+    #[tactic(auto, unfolding(crate::specs::Values::lock_at))]
+    fn from_value(value: &Value) -> Option<Self> {
+        Some(LockNo(u32::from_value(value)?))
     }
 }
 
 /// A status by its number (this project's own format, docs/FORMATS.md).
-#[tactic(auto, unfolding(crate::specs::Values::status_at))]
-pub fn status_at(value: &Value) -> Option<Status>
-    ensures { result ≡ status_at (view value.now) }
-{
-    let number = u32_at(value)?;
-    Some(Status(number))
+impl FromValue for Status {
+    ghost form = { status_at };
+
+    #[tactic(auto, unfolding(crate::specs::Values::status_at))]
+    fn from_value(value: &Value) -> Option<Self> {
+        Some(Status(u32::from_value(value)?))
+    }
 }
 
 /// A packet by its slot, below 2^32, and its use (this project's own format, docs/FORMATS.md).
-#[tactic(auto, unfolding(crate::specs::Values::irp_at))]
-pub fn irp_at(value: &Value) -> Option<IrpRef>
-    ensures { result ≡ irp_at (view value.now) }
-{
-    if !has_items(value, 2) {
-        return None;
+impl FromValue for IrpRef {
+    ghost form = { irp_at };
+
+    #[tactic(auto, unfolding(crate::specs::Values::irp_at))]
+    fn from_value(value: &Value) -> Option<Self> {
+        if !has_items(value, 2) {
+            return None;
+        }
+        let slot: u32 = nth(0, value)?;
+        let use_no = nth(1, value)?;
+        Some(IrpRef {
+            slot: slot as usize,
+            use_no,
+        })
     }
-    let slot = value.get(0).and_then(u32_at)?;
-    let use_no = value.get(1).and_then(u64_at)?;
-    Some(IrpRef {
-        slot: slot as usize,
-        use_no,
-    })
 }
 
 /// A party: `"o"` for the originator, or the device's number (this project's own format, docs/FORMATS.md).
-#[tactic(auto, unfolding(crate::specs::Values::party_at))]
-pub fn party_at(value: &Value) -> Option<Party>
-    ensures { result ≡ party_at (view value.now) }
-{
-    match value {
-        Value::String(name) => {
-            if name.as_str() == "o" {
-                Some(Party::Originator)
-            } else {
-                None
+impl FromValue for Party {
+    ghost form = { party_at };
+
+    #[tactic(auto, unfolding(crate::specs::Values::party_at))]
+    fn from_value(value: &Value) -> Option<Self> {
+        match value {
+            Value::String(name) => {
+                if name.as_str() == "o" {
+                    Some(Party::Originator)
+                } else {
+                    None
+                }
             }
+            _ => Some(Party::Device(DeviceId::from_value(value)?)),
         }
-        _ => Some(Party::Device(device_at(value)?)),
+    }
+}
+
+impl FromValue for Rule {
+    ghost form = { rule_at };
+
+    fn from_value(value: &Value) -> Option<Self> {
+        rule_at(value)
+    }
+}
+
+impl FromValue for Flags {
+    ghost form = { flags_at };
+
+    fn from_value(value: &Value) -> Option<Self> {
+        flags_at(value)
+    }
+}
+
+impl FromValue for CancelRule {
+    ghost form = { cancel_rule_at };
+
+    fn from_value(value: &Value) -> Option<Self> {
+        cancel_rule_at(value)
     }
 }
 
 /// A completion routine by its rule and its number there (this project's own format, docs/FORMATS.md).
-#[tactic(auto, unfolding(crate::specs::Values::routine_at))]
-pub fn routine_at(value: &Value) -> Option<RoutineId>
-    ensures { result ≡ routine_at (view value.now) }
-{
-    if !has_items(value, 2) {
-        return None;
+impl FromValue for RoutineId {
+    ghost form = { routine_at };
+
+    #[tactic(auto, unfolding(crate::specs::Values::routine_at))]
+    fn from_value(value: &Value) -> Option<Self> {
+        if !has_items(value, 2) {
+            return None;
+        }
+        let rule = nth(0, value)?;
+        let no = nth(1, value)?;
+        Some(RoutineId { rule, no })
     }
-    let rule = value.get(0).and_then(rule_at)?;
-    let no = value.get(1).and_then(u32_at)?;
-    Some(RoutineId { rule, no })
 }
 
 /// A setting: rule, number, context and flags (this project's own format, docs/FORMATS.md).
-#[tactic(auto, unfolding(crate::specs::Values::setting_at))]
-pub fn setting_at(value: &Value) -> Option<Setting>
-    ensures { result ≡ setting_at (view value.now) }
-{
-    if !has_items(value, 4) {
-        return None;
-    }
-    let rule = value.get(0).and_then(rule_at)?;
-    let no = value.get(1).and_then(u32_at)?;
-    let context = value.get(2).and_then(u64_at)?;
-    let Flags {
-        on_success,
-        on_error,
-        on_cancel,
-    } = value.get(3).and_then(flags_at)?;
-    Some(Setting {
-        routine: RoutineId { rule, no },
-        context,
-        on_success,
-        on_error,
-        on_cancel,
-    })
-}
+impl FromValue for Setting {
+    ghost form = { setting_at };
 
-/// A setting, or null, which is read as `Some(None)` (this project's own format, docs/FORMATS.md).
-#[tactic(auto, unfolding(crate::specs::Values::setting_or_null_at))]
-pub fn setting_or_null_at(value: &Value) -> Option<Option<Setting>>
-    ensures { result ≡ setting_or_null_at (view value.now) }
-{
-    match value {
-        Value::Null => Some(None),
-        _ => {
-            let setting = setting_at(value)?;
-            Some(Some(setting))
+    #[tactic(auto, unfolding(crate::specs::Values::setting_at))]
+    fn from_value(value: &Value) -> Option<Self> {
+        if !has_items(value, 4) {
+            return None;
         }
+        let rule = nth(0, value)?;
+        let no = nth(1, value)?;
+        let context = nth(2, value)?;
+        let Flags {
+            on_success,
+            on_error,
+            on_cancel,
+        } = nth(3, value)?;
+        Some(Setting {
+            routine: RoutineId { rule, no },
+            context,
+            on_success,
+            on_error,
+            on_cancel,
+        })
     }
 }
 
 /// A replacement: status and information (this project's own format, docs/FORMATS.md).
-#[tactic(auto, unfolding(crate::specs::Values::replacement_at))]
-pub fn replacement_at(value: &Value) -> Option<Replacement>
-    ensures { result ≡ replacement_at (view value.now) }
-{
-    if !has_items(value, 2) {
-        return None;
-    }
-    let status = value.get(0).and_then(status_at)?;
-    let information = value.get(1).and_then(u64_at)?;
-    Some(Replacement {
-        status,
-        information,
-    })
-}
+impl FromValue for Replacement {
+    ghost form = { replacement_at };
 
-/// A replacement, or null, which is read as `Some(None)` (this project's own format, docs/FORMATS.md).
-#[tactic(auto, unfolding(crate::specs::Values::replacement_or_null_at))]
-pub fn replacement_or_null_at(value: &Value) -> Option<Option<Replacement>>
-    ensures { result ≡ replacement_or_null_at (view value.now) }
-{
-    match value {
-        Value::Null => Some(None),
-        _ => {
-            let replacement = replacement_at(value)?;
-            Some(Some(replacement))
+    #[tactic(auto, unfolding(crate::specs::Values::replacement_at))]
+    fn from_value(value: &Value) -> Option<Self> {
+        if !has_items(value, 2) {
+            return None;
         }
+        let status = nth(0, value)?;
+        let information = nth(1, value)?;
+        Some(Replacement {
+            status,
+            information,
+        })
     }
 }
 
@@ -266,8 +231,8 @@ fn finish_at(value: &Value) -> Option<Plan>
     if !has_items(value, 3) {
         return None;
     }
-    let status = value.get(1).and_then(status_at)?;
-    let information = value.get(2).and_then(u64_at)?;
+    let status = nth(1, value)?;
+    let information = nth(2, value)?;
     Some(Plan::Finish {
         status,
         information,
@@ -282,7 +247,7 @@ fn hold_at(value: &Value) -> Option<Plan>
     if !has_items(value, 2) {
         return None;
     }
-    let cancel = value.get(1).and_then(cancel_or_null_at)?;
+    let cancel = nth(1, value)?;
     Some(Plan::Hold { cancel })
 }
 
@@ -294,7 +259,7 @@ fn forward_at(value: &Value) -> Option<Plan>
     if !has_items(value, 2) {
         return None;
     }
-    let set = value.get(1).and_then(setting_or_null_at)?;
+    let set = nth(1, value)?;
     Some(Plan::Forward { set })
 }
 
@@ -306,7 +271,7 @@ fn forward_pend_at(value: &Value) -> Option<Plan>
     if !has_items(value, 2) {
         return None;
     }
-    let set = value.get(1).and_then(setting_or_null_at)?;
+    let set = nth(1, value)?;
     Some(Plan::ForwardPend { set })
 }
 
@@ -342,12 +307,13 @@ fn plan_named(name: &str, value: &Value) -> Option<Plan>
 
 /// A plan: its name, which stands first, and what it names. `Plan::HoldSlot` is a plan of form 2 alone, and is read in
 /// either form: a reader of form 1 refuses it (this project's own format, docs/FORMATS.md).
-#[tactic(auto, unfolding(crate::specs::Values::plan_at))]
-pub fn plan_at(value: &Value) -> Option<Plan>
-    ensures { result ≡ plan_at (view value.now) }
-{
-    let name = value.get(0)?.as_str()?;
-    plan_named(name, value)
+impl FromValue for Plan {
+    ghost form = { plan_at };
+
+    #[tactic(auto, unfolding(crate::specs::Values::plan_at))]
+    fn from_value(value: &Value) -> Option<Self> {
+        plan_named(value.get(0)?.as_str()?, value)
+    }
 }
 
 /// An answer that finishes the packet, with its information.
@@ -358,7 +324,7 @@ fn cancel_finish_at(value: &Value) -> Option<CancelAnswer>
     if !has_items(value, 2) {
         return None;
     }
-    let information = value.get(1).and_then(u64_at)?;
+    let information = nth(1, value)?;
     Some(CancelAnswer::Finish { information })
 }
 
@@ -380,14 +346,14 @@ fn cancel_answer_named(name: &str, value: &Value) -> Option<CancelAnswer>
     }
 }
 
-/// A cancel routine's answer: its name, which stands first, and what it names
-/// (this project's own format, docs/FORMATS.md).
-#[tactic(auto, unfolding(crate::specs::Values::cancel_answer_at))]
-pub fn cancel_answer_at(value: &Value) -> Option<CancelAnswer>
-    ensures { result ≡ cancel_answer_at (view value.now) }
-{
-    let name = value.get(0)?.as_str()?;
-    cancel_answer_named(name, value)
+/// A cancel routine's answer: its name, which stands first, and what it names (this project's own format, docs/FORMATS.md).
+impl FromValue for CancelAnswer {
+    ghost form = { cancel_answer_at };
+
+    #[tactic(auto, unfolding(crate::specs::Values::cancel_answer_at))]
+    fn from_value(value: &Value) -> Option<Self> {
+        cancel_answer_named(value.get(0)?.as_str()?, value)
+    }
 }
 
 /// How many completion routines of each rule, from the first five items.
@@ -395,11 +361,11 @@ pub fn cancel_answer_at(value: &Value) -> Option<CancelAnswer>
 fn first_counts_at(value: &Value) -> Option<Known>
     ensures { result ≡ first_counts_at (view value.now) }
 {
-    let watch = value.get(0).and_then(u32_at)?;
-    let change = value.get(1).and_then(u32_at)?;
-    let keeper = value.get(2).and_then(u32_at)?;
-    let keep_on_error = value.get(3).and_then(u32_at)?;
-    let free = value.get(4).and_then(u32_at)?;
+    let watch = nth(0, value)?;
+    let change = nth(1, value)?;
+    let keeper = nth(2, value)?;
+    let keep_on_error = nth(3, value)?;
+    let free = nth(4, value)?;
     Some(Known {
         watch,
         change,
@@ -422,38 +388,41 @@ pub fn completions_at(value: &Value) -> Option<Known>
     }
 }
 
-/// How many completion routines of each rule, and how many cancel routines
-/// (this project's own format, docs/FORMATS.md).
-#[tactic(auto, unfolding(crate::specs::Values::known_at))]
-pub fn known_at(value: &Value) -> Option<Known>
-    ensures { result ≡ known_at (view value.now) }
-{
-    if !has_items(value, 6) {
-        return None;
+/// How many completion routines of each rule, and how many cancel routines (this project's own format, docs/FORMATS.md).
+impl FromValue for Known {
+    ghost form = { known_at };
+
+    #[tactic(auto, unfolding(crate::specs::Values::known_at))]
+    fn from_value(value: &Value) -> Option<Self> {
+        if !has_items(value, 6) {
+            return None;
+        }
+        let counts = first_counts_at(value)?;
+        let cancel = nth(5, value)?;
+        Some(Known { cancel, ..counts })
     }
-    let counts = first_counts_at(value)?;
-    let cancel = value.get(5).and_then(u32_at)?;
-    Some(Known { cancel, ..counts })
 }
 
 /// A major function code, up to 255, and its dispatch (this project's own format, docs/FORMATS.md).
-#[tactic(auto, unfolding(crate::specs::Values::handler_at))]
-pub fn handler_at(value: &Value) -> Option<(u8, DispatchId)>
-    ensures { result ≡ handler_at (view value.now) }
-{
-    if !has_items(value, 2) {
-        return None;
+impl FromValue for (u8, DispatchId) {
+    ghost form = { handler_at };
+
+    #[tactic(auto, unfolding(crate::specs::Values::handler_at))]
+    fn from_value(value: &Value) -> Option<Self> {
+        if !has_items(value, 2) {
+            return None;
+        }
+        let major = nth(0, value)?;
+        let dispatch = nth(1, value)?;
+        Some((major, dispatch))
     }
-    let major = value.get(0).and_then(u8_at)?;
-    let dispatch = value.get(1).and_then(dispatch_at)?;
-    Some((major, dispatch))
 }
 
 impl FromJson for CancelRule {
     ghost at = { cancel_rule_at };
 
     fn from_json(_alloc: Global, value: &Value) -> Result<Self, Unread> {
-        form_of(cancel_rule_at(value))
+        form_of(FromValue::from_value(value))
     }
 }
 
@@ -461,7 +430,7 @@ impl FromJson for Known {
     ghost at = { known_at };
 
     fn from_json(_alloc: Global, value: &Value) -> Result<Self, Unread> {
-        form_of(known_at(value))
+        form_of(FromValue::from_value(value))
     }
 }
 
@@ -469,6 +438,6 @@ impl FromJson for (u8, DispatchId) {
     ghost at = { handler_at };
 
     fn from_json(_alloc: Global, value: &Value) -> Result<Self, Unread> {
-        form_of(handler_at(value))
+        form_of(FromValue::from_value(value))
     }
 }
