@@ -2,9 +2,10 @@
 use Rattle.std.proofs.Common.{◌≡◌, ℕ, suc, ◌^◌, ◌<◌, Bool, true, false, Option, Some, None, refl, arith}
 use Rattle.std.specs.Prelude.{IfSome}
 use Rattle.serde_json.specs.Data.{string}
+use Rattle.irp_forms.specs.Parts.{or_null_at}
 use Rattle.irp_forms.specs.Names.{rule_at, rule_named, flags_at, flags_named}
 use Rattle.irp_forms.specs.Questions.{answer_at, keep_named}
-use Rattle.irp_forms.specs.Values.{cancel_answer_at, cancel_answer_named, cancel_at, cancel_finish_at, cancel_or_null_at, device_at, device_or_null_at, finish_at, forward_at, forward_pend_at, hold_at, irp_at, lock_at, lock_or_null_at, party_at, plan_at, plan_named, replacement_at, replacement_or_null_at, routine_at, setting_at, setting_or_null_at, status_at}
+use Rattle.irp_forms.specs.Values.{cancel_answer_at, cancel_answer_named, cancel_at, cancel_finish_at, device_at, finish_at, forward_at, forward_pend_at, hold_at, irp_at, lock_at, party_at, plan_at, plan_named, replacement_at, routine_at, setting_at, status_at}
 use Rattle.irp_types.specs.declared.answer.Answer.{Answer}
 use Rattle.irp_types.specs.declared.answer.CancelAnswer.{CancelAnswer}
 use Rattle.irp_types.specs.declared.answer.CancelAnswer.TheVariants as cancel_answer
@@ -55,18 +56,15 @@ unfolding party_at
 party_back party.Originator h = refl
 party_back (party.Device device) h = rw (device_back device h)
 
-pub device_or_null_back : (option : Option DeviceId) → IfSome option DeviceFits → device_or_null_at (or_null device_json option) ≡ Some option
-unfolding device_or_null_at
+pub device_or_null_back : (option : Option DeviceId) → IfSome option DeviceFits → or_null_at device_at (or_null device_json option) ≡ Some option
 device_or_null_back None h = refl
 device_or_null_back (Some device) h = rw (device_back device h)
 
-pub cancel_or_null_back : (option : Option CancelId) → IfSome option CancelFits → cancel_or_null_at (or_null cancel_json option) ≡ Some option
-unfolding cancel_or_null_at
+pub cancel_or_null_back : (option : Option CancelId) → IfSome option CancelFits → or_null_at cancel_at (or_null cancel_json option) ≡ Some option
 cancel_or_null_back None h = refl
 cancel_or_null_back (Some cancel) h = rw (cancel_back cancel h)
 
-pub lock_or_null_back : (option : Option LockNo) → IfSome option LockFits → lock_or_null_at (or_null lock_json option) ≡ Some option
-unfolding lock_or_null_at
+pub lock_or_null_back : (option : Option LockNo) → IfSome option LockFits → or_null_at lock_at (or_null lock_json option) ≡ Some option
 lock_or_null_back None h = refl
 lock_or_null_back (Some lock) h = rw (lock_back lock h)
 
@@ -102,8 +100,7 @@ pub setting_back : (setting : Setting) → SettingFits setting → setting_at (s
 setting_back setting h =
     flags_back setting.routine.rule setting.routine.no setting.context setting.on_success setting.on_error setting.on_cancel h.0 h.1
 
-setting_or_null_back : (option : Option Setting) → IfSome option SettingFits → setting_or_null_at (or_null setting_json option) ≡ Some option
-unfolding setting_or_null_at
+setting_or_null_back : (option : Option Setting) → IfSome option SettingFits → or_null_at setting_at (or_null setting_json option) ≡ Some option
 setting_or_null_back None h = refl
 setting_or_null_back (Some setting) h = rw (setting_back setting h)
 
@@ -121,8 +118,7 @@ unfolding replacement_at
 replacement_back replacement h = rw (status_back replacement.status h.0, u64_back replacement.information h.1)
 
 replacement_or_null_back : (option : Option Replacement) → IfSome option ReplacementFits
-    → replacement_or_null_at (or_null replacement_json option) ≡ Some option
-unfolding replacement_or_null_at
+    → or_null_at replacement_at (or_null replacement_json option) ≡ Some option
 replacement_or_null_back None h = refl
 replacement_or_null_back (Some replacement) h = rw (replacement_back replacement h)
 

@@ -19,7 +19,7 @@ use crate::act::{Step, StepAct};
 use crate::fields::packet_in;
 use crate::labels::is_label;
 use crate::slot_acts::slot_act_named;
-use irp_forms::{call_named, device_under, has_keys, lock_under, u8_under, u32_under};
+use irp_forms::{call_named, has_keys, under};
 use irp_types::{Call, LockNo};
 use serde_json::Value;
 
@@ -31,7 +31,7 @@ fn delete_at(value: &Value) -> Option<StepAct>
     if !has_keys(value, &["device", "do", "seat"]) {
         return None;
     }
-    let device = device_under("device", value)?;
+    let device = under("device", value)?;
     Some(StepAct::Call(Call::Delete { device }))
 }
 
@@ -43,7 +43,7 @@ fn allocate_at(place: usize, value: &Value) -> Option<StepAct>
     if !has_keys(value, &["as", "do", "seat", "size"]) {
         return None;
     }
-    let size = u8_under("size", value)?;
+    let size = under("size", value)?;
     let label = value.get("as").and_then(Value::as_str)?;
     if is_label(label) {
         Some(StepAct::Allocate { size, label: place })
@@ -75,8 +75,8 @@ fn tagged_at(value: &Value) -> Option<(LockNo, u32)>
     if !has_keys(value, &["do", "lock", "seat", "tag"]) {
         return None;
     }
-    let lock = lock_under("lock", value)?;
-    let tag = u32_under("tag", value)?;
+    let lock = under("lock", value)?;
+    let tag = under("tag", value)?;
     Some((lock, tag))
 }
 
@@ -88,7 +88,7 @@ fn drained_at(value: &Value) -> Option<StepAct>
     if !has_keys(value, &["do", "lock", "seat"]) {
         return None;
     }
-    let lock = lock_under("lock", value)?;
+    let lock = under("lock", value)?;
     Some(StepAct::Drained { lock })
 }
 
@@ -149,6 +149,6 @@ pub fn step_at(place: usize, value: &Value) -> Option<Step>
     ensures { result ≡ step_at place (view value.now) }
 {
     let act = act_at(place, value)?;
-    let seat = u32_under("seat", value)?;
+    let seat = under("seat", value)?;
     Some(Step { seat, act })
 }

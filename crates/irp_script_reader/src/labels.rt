@@ -18,7 +18,7 @@ ghost use Rattle.irp_script_reader.specs.Taking.{Gives};
 use crate::act::Named;
 use crate::refusal::Fault;
 use crate::taking::Stop;
-use irp_forms::irp_at;
+use irp_forms::FromValue;
 use serde_json::Value;
 use std::alloc::Global;
 use std::marker::Model;
@@ -167,7 +167,7 @@ pub fn named_at(place: usize, value: &Value) -> Option<Named>
             }
         }
         _ => {
-            let irp = irp_at(value)?;
+            let irp = FromValue::from_value(value)?;
             Some(Named::Irp(irp))
         }
     }

@@ -23,7 +23,7 @@ use crate::refusal::Fault;
 use crate::routines::{completion_at, counted, one_more};
 use crate::script::{CompletionRoutine, ScriptForm};
 use crate::taking::{Stop, Taking, formed, unless, with_item};
-use irp_forms::{Unread, cancel_answer_at, list_at, plan_at};
+use irp_forms::{FromValue, Unread, list_at};
 use irp_types::limits::{MOST_DISPATCHES, MOST_DRIVERS};
 use irp_types::{CancelAnswer, DispatchId, Known, Plan, Row};
 use serde_json::Value;
@@ -100,7 +100,7 @@ impl Taking for Cancels {
     /// `BadField` where it is no cancel routine's answer, `TooMany` where there are as many as there may be.
     #[tactic(auto, unfolding(crate::specs::Members::takes_cancel))]
     fn take(self, _alloc: Global, value: &Value) -> Result<Self, Stop> {
-        let answer = formed(cancel_answer_at(value))?;
+        let answer = formed(CancelAnswer::from_value(value))?;
         let counts = self.counts;
         let cancel = in_room(one_more(counts.cancel))?;
         let answers = with_item(self.answers, answer)?;
@@ -118,7 +118,7 @@ impl Taking for Dispatches {
     /// `NoRoutine` where it names a routine that isn't there, `TooMany` where there are as many as there may be.
     #[tactic(auto, unfolding(crate::specs::Members::takes_dispatch))]
     fn take(self, _alloc: Global, value: &Value) -> Result<Self, Stop> {
-        let plan = formed(plan_at(value))?;
+        let plan = formed(Plan::from_value(value))?;
         let Dispatches { form, known, plans } = self;
         unless(form.may_plan(plan), Fault::BadField)?;
         unless(is_plan_sound(plan), Fault::RuleBroken)?;

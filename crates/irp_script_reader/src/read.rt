@@ -28,7 +28,7 @@ use crate::lists::{Cancels, Completions, Dispatches, Drivers, Steps};
 use crate::refusal::{Fault, ScriptFault, ScriptRefusal, Section};
 use crate::script::{Script, ScriptForm, ScriptParts};
 use crate::taking::{Taking, list_of, refused};
-use irp_forms::{has_keys, u32_under};
+use irp_forms::{has_keys, under};
 use irp_types::{Known, Row};
 use serde_json::Value;
 use std::alloc::Global;
@@ -50,7 +50,7 @@ enum FormKey {
 fn form_at(value: &Value) -> Result<FormKey, ScriptFault>
     ensures { Tells result (form_at (view value.now)) }
 {
-    match u32_under("form", value) {
+    match under::<u32>("form", value) {
         Some(1) => Ok(FormKey::One),
         Some(2) => Ok(FormKey::Two),
         _ => Err(ScriptFault::Refused(ScriptRefusal::BadForm)),
@@ -127,7 +127,7 @@ fn keys_at(given: FormKey, value: &Value) -> Result<(), ScriptFault>
 fn count_at(section: Section, least: u32, key: &str, value: &Value) -> Result<u32, ScriptFault>
     ensures { Tells result (count_at section least key.now (view value.now)) }
 {
-    match u32_under(key, value) {
+    match under::<u32>(key, value) {
         Some(count) => {
             if count >= least && count <= 64 {
                 Ok(count)

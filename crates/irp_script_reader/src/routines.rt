@@ -18,7 +18,7 @@ ghost use Rattle.irp_script_reader.specs.Routines.{
 };
 
 use crate::script::{Behaviour, CompletionRoutine};
-use irp_forms::{has_items, rule_at, status_at, u64_at};
+use irp_forms::{has_items, nth};
 use irp_types::limits::MOST_ROUTINES;
 use irp_types::{Known, Replacement, Rule};
 use serde_json::Value;
@@ -45,8 +45,8 @@ fn replace_named(name: &str, value: &Value) -> Option<Behaviour>
     if name != "replace" {
         return None;
     }
-    let status = status_at(value.get(1)?)?;
-    let information = u64_at(value.get(2)?)?;
+    let status = nth(1, value)?;
+    let information = nth(2, value)?;
     Some(Behaviour::Replace(Replacement {
         status,
         information,
@@ -83,7 +83,7 @@ pub fn completion_at(value: &Value) -> Option<CompletionRoutine>
     if !has_items(value, 3) {
         return None;
     }
-    let rule = rule_at(value.get(0)?)?;
+    let rule = nth(0, value)?;
     let on_ok = behaviour_at(value.get(1)?)?;
     let on_err = behaviour_at(value.get(2)?)?;
     Some(CompletionRoutine {

@@ -13,7 +13,7 @@ ghost use Rattle.irp_script_reader.specs.SlotActs.{
 
 use crate::act::StepAct;
 use crate::fields::packet_in;
-use irp_forms::{has_keys, lock_under, status_under, u32_under, u64_under};
+use irp_forms::{has_keys, under};
 use irp_types::Call;
 use serde_json::Value;
 
@@ -25,9 +25,9 @@ fn hand_at(value: &Value) -> Option<StepAct>
     if !has_keys(value, &["do", "lock", "seat", "tag", "to"]) {
         return None;
     }
-    let lock = lock_under("lock", value)?;
-    let tag = u32_under("tag", value)?;
-    let to = u32_under("to", value)?;
+    let lock = under("lock", value)?;
+    let tag = under("tag", value)?;
+    let to = under("to", value)?;
     Some(StepAct::Hand { lock, tag, to })
 }
 
@@ -39,7 +39,7 @@ fn publish_at(place: usize, value: &Value) -> Option<StepAct>
     if !has_keys(value, &["do", "irp", "seat", "slot"]) {
         return None;
     }
-    let slot = u32_under("slot", value)?;
+    let slot = under("slot", value)?;
     let irp = packet_in(place, value)?;
     Some(StepAct::Publish { slot, irp })
 }
@@ -52,7 +52,7 @@ fn slot_alone_at(value: &Value) -> Option<u32>
     if !has_keys(value, &["do", "seat", "slot"]) {
         return None;
     }
-    u32_under("slot", value)
+    under("slot", value)
 }
 
 /// A taken packet finished.
@@ -67,9 +67,9 @@ fn finish_taken_at(place: usize, value: &Value) -> Option<StepAct>
         return None;
     }
     let irp = packet_in(place, value)?;
-    let token = u32_under("slot", value)?;
-    let status = status_under("status", value)?;
-    let information = u64_under("information", value)?;
+    let token = under("slot", value)?;
+    let status = under("status", value)?;
+    let information = under("information", value)?;
     Some(StepAct::Call(Call::FinishTaken {
         irp,
         token,

@@ -3,8 +3,8 @@ use Rattle.std.specs.Prelude.{ℕ, List, [], ◌∷◌, codes, false, Option, So
 use Rattle.std.proofs.Common.{bytes_eq}
 use Rattle.serde_json.specs.Data.{Data}
 use Rattle.serde_json.specs.Find.{get, as_bool, as_str}
-use Rattle.irp_forms.specs.Parts.{◌>>=◌, has_keys, u8_at, u64_at}
-use Rattle.irp_forms.specs.Values.{device_at, irp_at, lock_or_null_at, status_at}
+use Rattle.irp_forms.specs.Parts.{◌>>=◌, or_null_at, has_keys, u8_at, u64_at}
+use Rattle.irp_forms.specs.Values.{device_at, irp_at, lock_at, status_at}
 use Rattle.irp_forms.specs.Calls.{call_named}
 use Rattle.irp_types.specs.Calls.{Call}
 use Rattle.irp_types.specs.declared.call.Call.TheVariants as calls
@@ -32,7 +32,7 @@ unfoldable pub delete_at : Data → Option EntryCall
 delete_at form = if has_keys (codes "device" ∷ codes "do" ∷ codes "drained" ∷ codes "lock" ∷ []) form then (do
   device ← get (codes "device") form >>= device_at
   drained ← get (codes "drained") form >>= as_bool
-  lock ← get (codes "lock") form >>= lock_or_null_at
+  lock ← get (codes "lock") form >>= or_null_at lock_at
   Some (record { call = calls.Delete device; lock = lock; drained = drained })) else None
 
 -- a call by its name, but for a delete: with no keys beside its own, and its packet is a reference

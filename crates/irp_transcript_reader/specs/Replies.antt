@@ -3,8 +3,8 @@ use Rattle.std.specs.Prelude.{ℕ, List, [], ◌∷◌, codes, Option, Some, Non
 use Rattle.std.proofs.Common.{bytes_eq}
 use Rattle.serde_json.specs.Data.{Data, string}
 use Rattle.serde_json.specs.Find.{at, get, as_bool, as_str}
-use Rattle.irp_forms.specs.Parts.{◌>>=◌, or_else, has_items, has_keys, u32_at, u64_at}
-use Rattle.irp_forms.specs.Values.{cancel_or_null_at, device_at, irp_at, status_at}
+use Rattle.irp_forms.specs.Parts.{◌>>=◌, or_null_at, or_else, has_items, has_keys, u32_at, u64_at}
+use Rattle.irp_forms.specs.Values.{cancel_at, device_at, irp_at, status_at}
 use Rattle.irp_types.specs.declared.location.Owner.{Owner}
 use Rattle.irp_types.specs.declared.location.Owner.TheVariants as owners
 use Rattle.irp_types.specs.declared.refusal.Refusal.{Refusal}
@@ -85,7 +85,7 @@ unfoldable pub seen_at : Data → Option Seen
 seen_at form = if has_items 8 form then (do
   holder ← holder_at form
   cancel ← at 4 form >>= as_bool
-  cancel_routine ← at 5 form >>= cancel_or_null_at
+  cancel_routine ← at 5 form >>= or_null_at cancel_at
   pending_returned ← at 6 form >>= as_bool
   marked ← at 7 form >>= as_bool
   Some (record {
@@ -104,7 +104,7 @@ unfoldable pub naming_reply_at : Data → Option Reply
 naming_reply_at form =
     if has_keys (codes "device" ∷ []) form then (get (codes "device") form >>= device_at >>= λ device. Some (replies.Device device)) else
     (if has_keys (codes "irp" ∷ []) form then (get (codes "irp") form >>= irp_at >>= λ irp. Some (replies.Irp irp)) else
-    (if has_keys (codes "previous" ∷ []) form then (get (codes "previous") form >>= cancel_or_null_at >>= λ cancel. Some (replies.Previous cancel)) else None))
+    (if has_keys (codes "previous" ∷ []) form then (get (codes "previous") form >>= or_null_at cancel_at >>= λ cancel. Some (replies.Previous cancel)) else None))
 
 -- a reply that tells a state, by its one key
 unfoldable pub telling_reply_at : Data → Option Reply

@@ -13,10 +13,7 @@ ghost use Rattle.irp_transcript_reader.specs.Calls.{
   other_call_named,
 };
 
-use irp_forms::{
-    call_named, device_under, has_keys, irp_under, lock_or_null_at, status_under, u8_under,
-    u64_under,
-};
+use irp_forms::{call_named, has_keys, under};
 use irp_types::{Call, LockNo};
 use serde_json::Value;
 
@@ -36,7 +33,7 @@ fn allocate_at(value: &Value) -> Option<Call>
     if !has_keys(value, &["do", "size"]) {
         return None;
     }
-    let size = u8_under("size", value)?;
+    let size = under("size", value)?;
     Some(Call::Allocate { size })
 }
 
@@ -56,10 +53,10 @@ fn finish_taken_at(value: &Value) -> Option<Call>
     if !has_finish_taken_keys(value) {
         return None;
     }
-    let irp = irp_under("irp", value)?;
-    let token = u64_under("token", value)?;
-    let status = status_under("status", value)?;
-    let information = u64_under("information", value)?;
+    let irp = under("irp", value)?;
+    let token = under("token", value)?;
+    let status = under("status", value)?;
+    let information = under("information", value)?;
     Some(Call::FinishTaken {
         irp,
         token,
@@ -78,7 +75,7 @@ fn other_call_named(name: &str, value: &Value) -> Option<Call>
     } else if name == "finish_taken" {
         finish_taken_at(value)
     } else {
-        call_named(name, &[], irp_under("irp", value), value)
+        call_named(name, &[], under("irp", value), value)
     }
 }
 
@@ -90,9 +87,9 @@ fn delete_at(value: &Value) -> Option<EntryCall>
     if !has_keys(value, &["device", "do", "drained", "lock"]) {
         return None;
     }
-    let device = device_under("device", value)?;
+    let device = under("device", value)?;
     let drained = value.get("drained").and_then(Value::as_bool)?;
-    let lock = lock_or_null_at(value.get("lock")?)?;
+    let lock = under("lock", value)?;
     Some(EntryCall {
         call: Call::Delete { device },
         lock,

@@ -7,7 +7,7 @@ ghost use Rattle.irp_transcript_reader.specs.Lines.{entry_at, recorded_at};
 
 use crate::calls::{EntryCall, entry_call_at};
 use crate::replies::reply_at;
-use irp_forms::{Unread, form_of, has_keys, list_at, u32_under, u64_under};
+use irp_forms::{Unread, form_of, has_keys, list_at, under};
 use irp_types::{Asked, Entry, Questions, Reply, Row};
 use serde_json::Value;
 use std::alloc::Global;
@@ -27,9 +27,9 @@ fn recorded_at(value: &Value) -> Option<Recorded>
     ensures { result ≡ recorded_at (view value.now) }
 {
     let called = entry_call_at(value.get("call")?)?;
-    let number = u64_under("n", value)?;
+    let number = under("n", value)?;
     let reply = reply_at(value.get("reply")?)?;
-    let seat = u32_under("seat", value)?;
+    let seat = under("seat", value)?;
     Some(Recorded {
         called,
         number,

@@ -13,7 +13,7 @@ ghost use Rattle.irp_transcript_reader.specs.Lines.{
   list_under,
 };
 
-use irp_forms::{FromJson, Unread, completions_at, form_of, has_keys, list_at, u32_under};
+use irp_forms::{FromJson, Unread, completions_at, form_of, has_keys, list_at, under};
 use irp_shared::{Form, Header};
 use irp_types::limits::MOST_ROUTINES;
 use irp_types::{Known, Row};
@@ -34,8 +34,8 @@ fn counts_at(value: &Value) -> Option<Counts>
     ensures { result ≡ counts_at (view value.now) }
 {
     let completions = completions_at(value.get("completions")?)?;
-    let locks = u32_under("locks", value)?;
-    let seats = u32_under("seats", value)?;
+    let locks = under("locks", value)?;
+    let seats = under("seats", value)?;
     Some(Counts {
         completions,
         locks,
@@ -97,7 +97,7 @@ fn has_two_header_keys(value: &Value) -> bool
 fn form_one_at(value: &Value) -> Option<Form>
     ensures { result ≡ form_one_at (view value.now) }
 {
-    let number = u32_under("form", value)?;
+    let number: u32 = under("form", value)?;
     if number == 1 { Some(Form::One) } else { None }
 }
 
@@ -106,8 +106,8 @@ fn form_one_at(value: &Value) -> Option<Form>
 fn form_two_at(value: &Value) -> Option<Form>
     ensures { result ≡ form_two_at (view value.now) }
 {
-    let number = u32_under("form", value)?;
-    let slots = u32_under("slots", value)?;
+    let number: u32 = under("form", value)?;
+    let slots = under("slots", value)?;
     if number == 2 {
         Some(Form::Two { slots })
     } else {

@@ -12,10 +12,7 @@ ghost use Rattle.irp_transcript_reader.specs.Replies.{
 };
 
 use crate::refusals::refusal_named;
-use irp_forms::{
-    cancel_or_null_at, cancel_or_null_under, device_at, device_under, has_items, has_keys,
-    irp_under, status_at, status_under, u32_at, u64_at,
-};
+use irp_forms::{FromValue, has_items, has_keys, nth, under};
 use irp_types::{Owner, Reply, Seen, Status};
 use serde_json::Value;
 
@@ -43,7 +40,7 @@ fn owner_at(value: &Value) -> Option<Owner>
                 None
             }
         }
-        _ => Some(Owner::Device(device_at(value)?)),
+        _ => Some(Owner::Device(FromValue::from_value(value)?)),
     }
 }
 
@@ -53,9 +50,9 @@ fn holder_at(value: &Value) -> Option<Holder>
     ensures { result ≡ holder_at (view value.now) }
 {
     let owner = owner_at(value.get(0)?)?;
-    let current = u32_at(value.get(1)?)?;
-    let status = status_at(value.get(2)?)?;
-    let information = u64_at(value.get(3)?)?;
+    let current = nth(1, value)?;
+    let status = nth(2, value)?;
+    let information = nth(3, value)?;
     Some(Holder {
         owner,
         current,
@@ -73,10 +70,10 @@ fn seen_at(value: &Value) -> Option<Seen>
         return None;
     }
     let holder = holder_at(value)?;
-    let cancel = value.get(4).and_then(Value::as_bool)?;
-    let cancel_routine = cancel_or_null_at(value.get(5)?)?;
-    let pending_returned = value.get(6).and_then(Value::as_bool)?;
-    let marked = value.get(7).and_then(Value::as_bool)?;
+    let cancel = nth(4, value)?;
+    let cancel_routine = nth(5, value)?;
+    let pending_returned = nth(6, value)?;
+    let marked = nth(7, value)?;
     Some(Seen {
         owner: holder.owner,
         current: holder.current,
@@ -95,13 +92,13 @@ fn naming_reply_at(value: &Value) -> Option<Reply>
     ensures { result ≡ naming_reply_at (view value.now) }
 {
     if has_keys(value, &["device"]) {
-        let device = device_under("device", value)?;
+        let device = under("device", value)?;
         Some(Reply::Device(device))
     } else if has_keys(value, &["irp"]) {
-        let irp = irp_under("irp", value)?;
+        let irp = under("irp", value)?;
         Some(Reply::Irp(irp))
     } else if has_keys(value, &["previous"]) {
-        let cancel = cancel_or_null_under("previous", value)?;
+        let cancel = under("previous", value)?;
         Some(Reply::Previous(cancel))
     } else {
         None
@@ -114,10 +111,10 @@ fn telling_reply_at(value: &Value) -> Option<Reply>
     ensures { result ≡ telling_reply_at (view value.now) }
 {
     if has_keys(value, &["status"]) {
-        let status = status_under("status", value)?;
+        let status = under("status", value)?;
         Some(Reply::Status(status))
     } else if has_keys(value, &["cancelled"]) {
-        let cancelled = value.get("cancelled").and_then(Value::as_bool)?;
+        let cancelled = under("cancelled", value)?;
         Some(Reply::Cancelled(cancelled))
     } else if has_keys(value, &["seen"]) {
         let seen = seen_at(value.get("seen")?)?;

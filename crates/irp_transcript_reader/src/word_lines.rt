@@ -21,7 +21,7 @@ ghost use Rattle.irp_transcript_reader.specs.WordLines.{
   word_status,
 };
 
-use irp_forms::{has_keys, lock_under, u32_under, u64_under};
+use irp_forms::{has_keys, under};
 use irp_shared::{Act, WordLine, WordReply};
 use irp_types::LockNo;
 use serde_json::Value;
@@ -103,12 +103,12 @@ fn valued_reply_at(value: &Value) -> Option<WordReply>
     ensures { result ≡ valued_reply_at (view value.now) }
 {
     if has_keys(value, &["status"]) {
-        word_status(u32_under("status", value)?)
+        word_status(under("status", value)?)
     } else if has_keys(value, &["busy"]) {
-        let word = u64_under("busy", value)?;
+        let word = under("busy", value)?;
         Some(WordReply::Busy { word })
     } else if has_keys(value, &["taken"]) {
-        let use_no = u64_under("taken", value)?;
+        let use_no = under("taken", value)?;
         Some(WordReply::Taken { use_no })
     } else {
         None
@@ -150,8 +150,8 @@ fn tagged_act_at(name: &str, value: &Value) -> Option<Act>
     if !has_keys(value, &["do", "lock", "reply", "seat", "step", "tag"]) {
         return None;
     }
-    let lock = lock_under("lock", value)?;
-    let tag = u32_under("tag", value)?;
+    let lock = under("lock", value)?;
+    let tag = under("tag", value)?;
     tagged_act(name, lock, tag)
 }
 
@@ -163,7 +163,7 @@ fn drained_at(value: &Value) -> Option<Act>
     if !has_keys(value, &["do", "lock", "reply", "seat", "step"]) {
         return None;
     }
-    let lock = lock_under("lock", value)?;
+    let lock = under("lock", value)?;
     Some(Act::Drained { lock })
 }
 
@@ -183,9 +183,9 @@ fn hand_at(value: &Value) -> Option<Act>
     if !has_hand_keys(value) {
         return None;
     }
-    let lock = lock_under("lock", value)?;
-    let tag = u32_under("tag", value)?;
-    let to = u32_under("to", value)?;
+    let lock = under("lock", value)?;
+    let tag = under("tag", value)?;
+    let to = under("to", value)?;
     Some(Act::Hand { lock, tag, to })
 }
 
@@ -215,7 +215,7 @@ fn slot_act_at(name: &str, value: &Value) -> Option<Act>
     if !has_keys(value, &["do", "reply", "seat", "slot", "step"]) {
         return None;
     }
-    let slot = u32_under("slot", value)?;
+    let slot = under("slot", value)?;
     slot_act(name, slot)
 }
 
@@ -244,8 +244,8 @@ pub fn word_line_at(value: &Value) -> Option<WordLine>
 {
     let act = act_at(value)?;
     let reply = word_reply_at(value.get("reply")?)?;
-    let seat = u32_under("seat", value)?;
-    let step = u32_under("step", value)?;
+    let seat = under("seat", value)?;
+    let step = under("step", value)?;
     Some(WordLine {
         seat,
         step,
