@@ -1,11 +1,11 @@
 //! Small values, and where they stand.
 
-ghost use Rattle.std.specs.Prelude.{◌≡◌, ℕ, Bool, Option};
+ghost use Rattle.std.specs.Prelude.{◌≡◌, Option};
 ghost use Rattle.serde_json.specs.Data.{Data};
 ghost use Rattle.serde_json.specs.Find.{as_bool};
 ghost use Rattle.serde_json.specs.View.{view};
 ghost use Rattle.irp_forms.specs.Fields.{field, nth};
-ghost use Rattle.irp_forms.specs.Parts.{number_at, or_null_at, u32_at, u64_at, u8_at};
+ghost use Rattle.irp_forms.specs.Parts.{or_null_at, u32_at, u64_at, u8_at};
 
 use serde_json::Value;
 
@@ -35,25 +35,12 @@ pub fn nth<T: FromValue>(place: usize, value: &Value) -> Option<T>
     T::from_value(value.get(place)?)
 }
 
-/// A whole number up to the greatest one.
-#[tactic(auto, unfolding(crate::specs::Parts::number_at))]
-fn number_at(value: &Value, greatest: u64) -> Option<u64>
-    ensures { result ≡ number_at greatest (view value.now) }
-{
-    let number = value.as_u64()?;
-    if number <= greatest {
-        Some(number)
-    } else {
-        None
-    }
-}
-
 /// The whole number from 0 to 255. None for anything else, also a number with a fraction or an exponent.
 impl FromValue for u8 {
     ghost form = { u8_at };
 
     #[tactic(auto, unfolding(crate::specs::Parts::u8_at, crate::specs::Parts::number_at))]
-    fn from_value(value: &Value) -> Option<u8> {
+    fn from_value(value: &Value) -> Option<Self> {
         u8::try_from(value.as_u64()?).ok()
     }
 }
@@ -63,7 +50,7 @@ impl FromValue for u32 {
     ghost form = { u32_at };
 
     #[tactic(auto, unfolding(crate::specs::Parts::u32_at, crate::specs::Parts::number_at))]
-    fn from_value(value: &Value) -> Option<u32> {
+    fn from_value(value: &Value) -> Option<Self> {
         u32::try_from(value.as_u64()?).ok()
     }
 }
@@ -73,7 +60,7 @@ impl FromValue for u64 {
     ghost form = { u64_at };
 
     #[tactic(auto, unfolding(crate::specs::Parts::u64_at, crate::specs::Parts::number_at))]
-    fn from_value(value: &Value) -> Option<u64> {
+    fn from_value(value: &Value) -> Option<Self> {
         value.as_u64()
     }
 }
@@ -81,7 +68,7 @@ impl FromValue for u64 {
 impl FromValue for bool {
     ghost form = { as_bool };
 
-    fn from_value(value: &Value) -> Option<bool> {
+    fn from_value(value: &Value) -> Option<Self> {
         value.as_bool()
     }
 }
