@@ -16,7 +16,7 @@ pub use fields::{
     setting_under, status_under, u8_under, u32_under, u64_under,
 };
 pub use list::{FromJson, list_at};
-pub use names::{Flags, flags_named, rule_at, rule_named};
+pub use names::{Flags, HasName, flags_named, named, rule_at};
 pub use parts::{has_items, has_keys, u8_at, u32_at, u64_at};
 pub use questions::keep_named;
 pub use unread::{Unread, form_of};

@@ -11,10 +11,9 @@ ghost use Rattle.irp_transcript_reader.specs.Replies.{
   telling_reply_at,
 };
 
-use crate::refusals::refusal_named;
 use irp_forms::{
     cancel_or_null_at, cancel_or_null_under, device_at, device_under, has_items, has_keys,
-    irp_under, status_at, status_under, u32_at, u64_at,
+    irp_under, named, status_at, status_under, u32_at, u64_at,
 };
 use irp_types::{Owner, Reply, Seen, Status};
 use serde_json::Value;
@@ -123,7 +122,7 @@ fn telling_reply_at(value: &Value) -> Option<Reply>
         let seen = seen_at(value.get("seen")?)?;
         Some(Reply::Seen(seen))
     } else if has_keys(value, &["refused"]) {
-        let refusal = refusal_named(value.get("refused").and_then(Value::as_str)?)?;
+        let refusal = named(value.get("refused").and_then(Value::as_str)?)?;
         Some(Reply::Refused(refusal))
     } else {
         None
