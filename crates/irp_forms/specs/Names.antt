@@ -1,55 +1,122 @@
--- Rules and flags by their names.
-use Rattle.std.specs.Prelude.{ℕ, List, codes, Bool, true, false, Option, Some, None, if◌then◌else◌}
+-- Values that texts have by their names: rules, flags and refusals. None where the name is no value's.
+use Rattle.std.specs.Prelude.{ℕ, List, [], ◌∷◌, ◌++◌, codes, Bool, true, false, Option}
+use Rattle.std.specs.List.{find}
 use Rattle.std.proofs.Common.{bytes_eq}
 use Rattle.serde_json.specs.Data.{Data}
 use Rattle.serde_json.specs.Find.{as_str}
 use Rattle.irp_forms.specs.Parts.{◌>>=◌}
 use Rattle.irp_forms.specs.declared.names.Flags.{Flags}
+use Rattle.irp_types.specs.declared.refusal.Refusal.{Refusal}
+use Rattle.irp_types.specs.declared.refusal.Refusal.TheVariants as refusal
 use Rattle.irp_types.specs.declared.routine.CancelRule.{CancelRule}
 use Rattle.irp_types.specs.declared.routine.CancelRule.TheVariants as cancel_rule
 use Rattle.irp_types.specs.declared.routine.Rule.{Rule}
 use Rattle.irp_types.specs.declared.routine.Rule.TheVariants as rule
 
--- the rule of a completion routine that has this name
-unfoldable pub rule_named : List ℕ → Option Rule
-rule_named name =
-    if bytes_eq name (codes "watch") then Some rule.Watch else
-    (if bytes_eq name (codes "change") then Some rule.Change else
-    (if bytes_eq name (codes "keeper") then Some rule.Keeper else
-    (if bytes_eq name (codes "keep_on_error") then Some rule.KeepOnError else
-    (if bytes_eq name (codes "free") then Some rule.Free else None))))
+-- the first of these values that has the given name
+abbrev pub first_named : {T : Type 0} → (T → List ℕ) → List T → List ℕ → Option T
+first_named name values given = find (λ value. bytes_eq given (name value)) values
+
+-- the name of a completion routine's rule
+abbrev pub rule_name : Rule → List ℕ
+rule_name rule.Watch = codes "watch"
+rule_name rule.Change = codes "change"
+rule_name rule.Keeper = codes "keeper"
+rule_name rule.KeepOnError = codes "keep_on_error"
+rule_name rule.Free = codes "free"
+
+-- every rule of a completion routine
+unfoldable pub rules : List Rule
+rules = rule.Watch ∷ rule.Change ∷ rule.Keeper ∷ rule.KeepOnError ∷ rule.Free ∷ []
 
 -- a completion routine's rule by its name
 unfoldable pub rule_at : Data → Option Rule
-rule_at form = as_str form >>= rule_named
+rule_at form = as_str form >>= first_named rule_name rules
 
--- the rule of a cancel routine that has this name
-unfoldable pub cancel_rule_named : List ℕ → Option CancelRule
-cancel_rule_named name =
-    if bytes_eq name (codes "must_finish") then Some cancel_rule.MustFinish else
-    (if bytes_eq name (codes "must_leave") then Some cancel_rule.MustLeave else
-    (if bytes_eq name (codes "either") then Some cancel_rule.Either else None))
+-- the name of a cancel routine's rule
+abbrev pub cancel_rule_name : CancelRule → List ℕ
+cancel_rule_name cancel_rule.MustFinish = codes "must_finish"
+cancel_rule_name cancel_rule.MustLeave = codes "must_leave"
+cancel_rule_name cancel_rule.Either = codes "either"
+
+-- every rule of a cancel routine
+unfoldable pub cancel_rules : List CancelRule
+cancel_rules = cancel_rule.MustFinish ∷ cancel_rule.MustLeave ∷ cancel_rule.Either ∷ []
 
 -- a cancel routine's rule by its name
 unfoldable pub cancel_rule_at : Data → Option CancelRule
-cancel_rule_at form = as_str form >>= cancel_rule_named
+cancel_rule_at form = as_str form >>= first_named cancel_rule_name cancel_rules
 
 -- flags: on success, on error, on cancel
 abbrev pub flagged : Bool → Bool → Bool → Flags
 flagged on_success on_error on_cancel = record { on_success = on_success; on_error = on_error; on_cancel = on_cancel }
 
--- the flags that have these letters
-unfoldable pub flags_named : List ℕ → Option Flags
-flags_named letters =
-    if bytes_eq letters (codes "") then Some (flagged false false false) else
-    (if bytes_eq letters (codes "c") then Some (flagged false false true) else
-    (if bytes_eq letters (codes "e") then Some (flagged false true false) else
-    (if bytes_eq letters (codes "ec") then Some (flagged false true true) else
-    (if bytes_eq letters (codes "s") then Some (flagged true false false) else
-    (if bytes_eq letters (codes "sc") then Some (flagged true false true) else
-    (if bytes_eq letters (codes "se") then Some (flagged true true false) else
-    (if bytes_eq letters (codes "sec") then Some (flagged true true true) else None)))))))
+-- the text where the flag is set
+abbrev pub text_if : Bool → List ℕ → List ℕ
+text_if true text = text
+text_if false text = []
+
+-- the letters of the flags that are set, in this order
+abbrev pub flags_name : Flags → List ℕ
+flags_name flags = text_if flags.on_success (codes "s") ++ (text_if flags.on_error (codes "e") ++ text_if flags.on_cancel (codes "c"))
+
+-- every choice of flags
+unfoldable pub every_flags : List Flags
+every_flags =
+    flagged false false false ∷ flagged false false true ∷ flagged false true false ∷ flagged false true true ∷ flagged true false false
+    ∷ flagged true false true ∷ flagged true true false ∷ flagged true true true ∷ []
 
 -- flags by their letters
 unfoldable pub flags_at : Data → Option Flags
-flags_at form = as_str form >>= flags_named
+flags_at form = as_str form >>= first_named flags_name every_flags
+
+-- the name of an answer of a completion routine that keeps the packet or continues
+abbrev pub answer_name : Bool → List ℕ
+answer_name true = codes "keep"
+answer_name false = codes "continue"
+
+-- the name of a refusal
+abbrev pub refusal_name : Refusal → List ℕ
+refusal_name refusal.NoIrp = codes "NoIrp"
+refusal_name refusal.Stale = codes "Stale"
+refusal_name refusal.NoDevice = codes "NoDevice"
+refusal_name refusal.DeviceGone = codes "DeviceGone"
+refusal_name refusal.NotOwner = codes "NotOwner"
+refusal_name refusal.NoLocation = codes "NoLocation"
+refusal_name refusal.NotPrepared = codes "NotPrepared"
+refusal_name refusal.AfterSkip = codes "AfterSkip"
+refusal_name refusal.TooShort = codes "TooShort"
+refusal_name refusal.WrongTarget = codes "WrongTarget"
+refusal_name refusal.NoRoutine = codes "NoRoutine"
+refusal_name refusal.BadStatus = codes "BadStatus"
+refusal_name refusal.CancelRoutineSet = codes "CancelRoutineSet"
+refusal_name refusal.AlreadyCancelled = codes "AlreadyCancelled"
+refusal_name refusal.InFlight = codes "InFlight"
+refusal_name refusal.StillAttached = codes "StillAttached"
+refusal_name refusal.SameStack = codes "SameStack"
+refusal_name refusal.TooDeep = codes "TooDeep"
+refusal_name refusal.Full = codes "Full"
+refusal_name refusal.NothingAttached = codes "NothingAttached"
+refusal_name refusal.NotDrained = codes "NotDrained"
+refusal_name refusal.BadSize = codes "BadSize"
+refusal_name refusal.BadMajor = codes "BadMajor"
+refusal_name refusal.NoDriver = codes "NoDriver"
+refusal_name refusal.Ended = codes "Ended"
+refusal_name refusal.HistoryFull = codes "HistoryFull"
+refusal_name refusal.NoLock = codes "NoLock"
+refusal_name refusal.SlotHeld = codes "SlotHeld"
+refusal_name refusal.NotSlotHeld = codes "NotSlotHeld"
+
+-- every refusal
+unfoldable pub refusals : List Refusal
+refusals =
+    refusal.NoIrp ∷ refusal.Stale ∷ refusal.NoDevice ∷ refusal.DeviceGone ∷ refusal.NotOwner ∷
+    refusal.NoLocation ∷ refusal.NotPrepared ∷ refusal.AfterSkip ∷ refusal.TooShort ∷ refusal.WrongTarget ∷
+    refusal.NoRoutine ∷ refusal.BadStatus ∷ refusal.CancelRoutineSet ∷ refusal.AlreadyCancelled ∷
+    refusal.InFlight ∷ refusal.StillAttached ∷ refusal.SameStack ∷ refusal.TooDeep ∷ refusal.Full ∷
+    refusal.NothingAttached ∷ refusal.NotDrained ∷ refusal.BadSize ∷ refusal.BadMajor ∷ refusal.NoDriver ∷
+    refusal.Ended ∷ refusal.HistoryFull ∷ refusal.NoLock ∷ refusal.SlotHeld ∷ refusal.NotSlotHeld ∷ []
+
+-- the refusal that has this name
+abbrev pub refusal_named : List ℕ → Option Refusal
+refusal_named = first_named refusal_name refusals

@@ -1,8 +1,8 @@
 -- What a JSON value reads as: what a closure was asked, was shown and answered. None where the value has another form.
 use Rattle.std.specs.Prelude.{ℕ, List, [], ◌∷◌, codes, Bool, true, false, Option, Some, None, if◌then◌else◌}
-use Rattle.std.proofs.Common.{bytes_eq}
 use Rattle.serde_json.specs.Data.{Data}
 use Rattle.serde_json.specs.Find.{at, get, as_bool, as_str}
+use Rattle.irp_forms.specs.Names.{answer_name, first_named}
 use Rattle.irp_forms.specs.Parts.{◌>>=◌, has_items, has_keys, or_null_at, u8_at, u32_at, u64_at}
 use Rattle.irp_forms.specs.Values.{cancel_answer_at, cancel_at, device_at, dispatch_at, plan_at, replacement_at, routine_at, status_at}
 use Rattle.irp_types.specs.declared.answer.Answer.{Answer}
@@ -13,9 +13,7 @@ use Rattle.irp_forms.specs.declared.questions.Place.{Place}
 
 -- whether a completion routine keeps the packet or continues
 unfoldable pub keep_named : List ℕ → Option Bool
-keep_named name =
-    if bytes_eq name (codes "keep") then Some true else
-    (if bytes_eq name (codes "continue") then Some false else None)
+keep_named = first_named answer_name (true ∷ false ∷ [])
 
 -- a completion routine's answer: its name, the mark, and the replacement or null
 unfoldable pub answer_at : Data → Option Answer

@@ -13,7 +13,7 @@ mod values;
 pub use calls::call_named;
 pub use from_value::{FromValue, nth, under};
 pub use list::{FromJson, list_at};
-pub use names::{Flags, flags_named, rule_named};
+pub use names::{Flags, HasName, flags_named, named};
 pub use parts::{has_items, has_keys};
 pub use questions::keep_named;
 pub use unread::{Unread, form_of};

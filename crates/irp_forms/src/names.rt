@@ -1,11 +1,122 @@
-//! Rules and flags by their names.
+//! Values that texts have by their names: rules, flags and refusals.
+#![tactic(auto, unfolding(json::specs::Print::escape_byte))]
 
-ghost use Rattle.std.specs.Prelude.{◌≡◌};
+ghost use Rattle.std.specs.Prelude.{◌≡◌, ℕ, List, ◌++◌, codes};
+ghost use Rattle.json.specs.Print.{quoted};
 ghost use Rattle.serde_json.specs.View.{view};
-ghost use Rattle.irp_forms.specs.Names.{cancel_rule_at, cancel_rule_named, flags_at, flags_named, rule_at, rule_named};
+ghost use Rattle.irp_forms.specs.Names.{
+  cancel_rule_at,
+  cancel_rule_name,
+  cancel_rules,
+  every_flags,
+  flags_at,
+  flags_name,
+  first_named,
+  refusal_name,
+  refusals,
+  rule_at,
+  rule_name,
+  rules,
+};
 
-use irp_types::{CancelRule, Rule};
+use irp_types::{CancelRule, Refusal, Rule};
 use serde_json::Value;
+
+/// A value that a text has by its name (this project's own format, docs/FORMATS.md).
+pub trait HasName: Copy + 'static {
+    /// Its name.
+    ghost name: { Self → List ℕ };
+
+    /// Every value, once.
+    ghost all: { List Self };
+
+    /// Every value, once, in the order in which a reader compares their names.
+    fn all() -> &'static [Self]
+        ensures { result.now ≡ all };
+
+    /// Its name, which JSON writes as it stands between quotation marks.
+    fn name(self) -> &'static str
+        ensures name { result.now ≡ name self }
+        ensures as_it_stands { quoted result.now ≡ codes "\"" ++ (result.now ++ codes "\"") };
+}
+
+/// The value that has this name, or none (this project's own format, docs/FORMATS.md).
+pub fn named<T: HasName>(given: &str) -> Option<T>
+    ensures { result ≡ first_named T.name T.all given.now }
+{
+    for one in T::all() {
+        if given == one.name() {
+            return Some(*one);
+        }
+    }
+    None
+}
+
+impl HasName for Rule {
+    ghost name = { rule_name };
+
+    ghost all = { rules };
+
+    #[tactic(auto, unfolding(crate::specs::Names::rules))]
+    fn all() -> &'static [Self] {
+        &[
+            Rule::Watch,
+            Rule::Change,
+            Rule::Keeper,
+            Rule::KeepOnError,
+            Rule::Free,
+        ]
+    }
+
+    fn name(self) -> &'static str {
+        match self {
+            Rule::Watch => "watch",
+            Rule::Change => "change",
+            Rule::Keeper => "keeper",
+            Rule::KeepOnError => "keep_on_error",
+            Rule::Free => "free",
+        }
+    }
+}
+
+/// The rule of a completion routine by its name (this project's own format, docs/FORMATS.md).
+#[tactic(auto, unfolding(crate::specs::Names::rule_at))]
+pub fn rule_at(value: &Value) -> Option<Rule>
+    ensures { result ≡ rule_at (view value.now) }
+{
+    named(value.as_str()?)
+}
+
+impl HasName for CancelRule {
+    ghost name = { cancel_rule_name };
+
+    ghost all = { cancel_rules };
+
+    #[tactic(auto, unfolding(crate::specs::Names::cancel_rules))]
+    fn all() -> &'static [Self] {
+        &[
+            CancelRule::MustFinish,
+            CancelRule::MustLeave,
+            CancelRule::Either,
+        ]
+    }
+
+    fn name(self) -> &'static str {
+        match self {
+            CancelRule::MustFinish => "must_finish",
+            CancelRule::MustLeave => "must_leave",
+            CancelRule::Either => "either",
+        }
+    }
+}
+
+/// The rule of a cancel routine by its name (this project's own format, docs/FORMATS.md).
+#[tactic(auto, unfolding(crate::specs::Names::cancel_rule_at))]
+pub fn cancel_rule_at(value: &Value) -> Option<CancelRule>
+    ensures { result ≡ cancel_rule_at (view value.now) }
+{
+    named(value.as_str()?)
+}
 
 /// When a completion routine is called, as a setting's letters say (this project's own format, docs/FORMATS.md).
 #[derive(Clone, Copy, Debug, PartialEq, Eq)]
@@ -16,58 +127,6 @@ pub struct Flags {
     pub on_error: bool,
     /// Where it was cancelled: the letter c.
     pub on_cancel: bool,
-}
-
-/// The rule of a completion routine that has this name (this project's own format, docs/FORMATS.md).
-#[tactic(auto, unfolding(crate::specs::Names::rule_named))]
-pub fn rule_named(name: &str) -> Option<Rule>
-    ensures { result ≡ rule_named name.now }
-{
-    if name == "watch" {
-        Some(Rule::Watch)
-    } else if name == "change" {
-        Some(Rule::Change)
-    } else if name == "keeper" {
-        Some(Rule::Keeper)
-    } else if name == "keep_on_error" {
-        Some(Rule::KeepOnError)
-    } else if name == "free" {
-        Some(Rule::Free)
-    } else {
-        None
-    }
-}
-
-/// The rule of a completion routine by its name (this project's own format, docs/FORMATS.md).
-#[tactic(auto, unfolding(crate::specs::Names::rule_at))]
-pub fn rule_at(value: &Value) -> Option<Rule>
-    ensures { result ≡ rule_at (view value.now) }
-{
-    rule_named(value.as_str()?)
-}
-
-/// The rule of a cancel routine that has this name.
-#[tactic(auto, unfolding(crate::specs::Names::cancel_rule_named))]
-fn cancel_rule_named(name: &str) -> Option<CancelRule>
-    ensures { result ≡ cancel_rule_named name.now }
-{
-    if name == "must_finish" {
-        Some(CancelRule::MustFinish)
-    } else if name == "must_leave" {
-        Some(CancelRule::MustLeave)
-    } else if name == "either" {
-        Some(CancelRule::Either)
-    } else {
-        None
-    }
-}
-
-/// The rule of a cancel routine by its name (this project's own format, docs/FORMATS.md).
-#[tactic(auto, unfolding(crate::specs::Names::cancel_rule_at))]
-pub fn cancel_rule_at(value: &Value) -> Option<CancelRule>
-    ensures { result ≡ cancel_rule_at (view value.now) }
-{
-    cancel_rule_named(value.as_str()?)
 }
 
 /// These flags.
@@ -86,9 +145,9 @@ fn flagged(on_success: bool, on_error: bool, on_cancel: bool) -> Flags
 }
 
 /// The flags that have these letters: some of s, e, c in this order (this project's own format, docs/FORMATS.md).
-#[tactic(auto, unfolding(crate::specs::Names::flags_named))]
+#[tactic(auto, unfolding(crate::specs::Names::every_flags))]
 pub fn flags_named(letters: &str) -> Option<Flags>
-    ensures { result ≡ flags_named letters.now }
+    ensures { result ≡ first_named flags_name every_flags letters.now }
 {
     if letters == "" {
         Some(flagged(false, false, false))
@@ -117,4 +176,79 @@ pub fn flags_at(value: &Value) -> Option<Flags>
     ensures { result ≡ flags_at (view value.now) }
 {
     flags_named(value.as_str()?)
+}
+
+impl HasName for Refusal {
+    ghost name = { refusal_name };
+
+    ghost all = { refusals };
+
+    #[tactic(auto, unfolding(crate::specs::Names::refusals))]
+    fn all() -> &'static [Self] {
+        &[
+            Refusal::NoIrp,
+            Refusal::Stale,
+            Refusal::NoDevice,
+            Refusal::DeviceGone,
+            Refusal::NotOwner,
+            Refusal::NoLocation,
+            Refusal::NotPrepared,
+            Refusal::AfterSkip,
+            Refusal::TooShort,
+            Refusal::WrongTarget,
+            Refusal::NoRoutine,
+            Refusal::BadStatus,
+            Refusal::CancelRoutineSet,
+            Refusal::AlreadyCancelled,
+            Refusal::InFlight,
+            Refusal::StillAttached,
+            Refusal::SameStack,
+            Refusal::TooDeep,
+            Refusal::Full,
+            Refusal::NothingAttached,
+            Refusal::NotDrained,
+            Refusal::BadSize,
+            Refusal::BadMajor,
+            Refusal::NoDriver,
+            Refusal::Ended,
+            Refusal::HistoryFull,
+            Refusal::NoLock,
+            Refusal::SlotHeld,
+            Refusal::NotSlotHeld,
+        ]
+    }
+
+    fn name(self) -> &'static str {
+        match self {
+            Refusal::NoIrp => "NoIrp",
+            Refusal::Stale => "Stale",
+            Refusal::NoDevice => "NoDevice",
+            Refusal::DeviceGone => "DeviceGone",
+            Refusal::NotOwner => "NotOwner",
+            Refusal::NoLocation => "NoLocation",
+            Refusal::NotPrepared => "NotPrepared",
+            Refusal::AfterSkip => "AfterSkip",
+            Refusal::TooShort => "TooShort",
+            Refusal::WrongTarget => "WrongTarget",
+            Refusal::NoRoutine => "NoRoutine",
+            Refusal::BadStatus => "BadStatus",
+            Refusal::CancelRoutineSet => "CancelRoutineSet",
+            Refusal::AlreadyCancelled => "AlreadyCancelled",
+            Refusal::InFlight => "InFlight",
+            Refusal::StillAttached => "StillAttached",
+            Refusal::SameStack => "SameStack",
+            Refusal::TooDeep => "TooDeep",
+            Refusal::Full => "Full",
+            Refusal::NothingAttached => "NothingAttached",
+            Refusal::NotDrained => "NotDrained",
+            Refusal::BadSize => "BadSize",
+            Refusal::BadMajor => "BadMajor",
+            Refusal::NoDriver => "NoDriver",
+            Refusal::Ended => "Ended",
+            Refusal::HistoryFull => "HistoryFull",
+            Refusal::NoLock => "NoLock",
+            Refusal::SlotHeld => "SlotHeld",
+            Refusal::NotSlotHeld => "NotSlotHeld",
+        }
+    }
 }

@@ -1,7 +1,7 @@
 //! Guesses of the parts of calls, questions and replies.
 
 use crate::scan::Scan;
-use irp_forms::{flags_named, rule_named};
+use irp_forms::{flags_named, named};
 use irp_types::{CancelId, DeviceId, IrpRef, Owner, Party, RoutineId, Setting, Status};
 
 /// The packet behind as many bytes as the text has.
@@ -54,7 +54,7 @@ pub fn guess_party(scan: &mut Scan) -> Option<Party> {
 
 /// The completion routine whose rule is next, behind the quotation mark of its name.
 pub fn guess_routine(scan: &mut Scan) -> Option<RoutineId> {
-    let rule = rule_named(scan.word()?)?;
+    let rule = named(scan.word()?)?;
     let no = scan.number_after(",")?;
     Some(RoutineId { rule, no })
 }

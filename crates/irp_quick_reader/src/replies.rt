@@ -4,7 +4,7 @@ use crate::parts::{
     guess_cancel_after, guess_device_after, guess_irp_after, guess_owner, guess_status_after,
 };
 use crate::scan::Scan;
-use irp_transcript_reader::refusal_named;
+use irp_forms::named;
 use irp_types::{Reply, Seen};
 
 /// What Look shows of a packet.
@@ -46,7 +46,7 @@ fn guess_valued_reply(scan: &mut Scan, name: &str) -> Option<Reply> {
     } else if name == "seen" {
         Some(Reply::Seen(guess_seen(scan)?))
     } else {
-        Some(Reply::Refused(refusal_named(scan.word_after("\"")?)?))
+        Some(Reply::Refused(named(scan.word_after("\"")?)?))
     }
 }
 

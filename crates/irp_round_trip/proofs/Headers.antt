@@ -1,10 +1,8 @@
 -- A header is read as it was written, and its form stands.
-use Rattle.std.proofs.Common.{◌≡◌, ℕ, suc, ◌<◌, ◌≤◌, ◌^◌, List, [], ◌∷◌, length, map, true, Some, refl, sym, ap, ◌∙◌, arith, le-leb}
+use Rattle.std.proofs.Common.{◌≡◌, ℕ, suc, ◌<◌, ◌≤◌, ◌^◌, List, length, map, Some, refl, sym, ap, ◌∙◌, arith, le-leb}
 use Rattle.std.specs.Prelude.{⊤}
 use Rattle.std.specs.List.{All}
-use Rattle.serde_json.specs.Data.{Data, string}
-use Rattle.serde_json.specs.View.{items_of}
-use Rattle.irp_forms.specs.Names.{cancel_rule_at, cancel_rule_named}
+use Rattle.irp_forms.specs.Names.{cancel_rule_at, cancel_rules}
 use Rattle.irp_forms.specs.Parts.{has_keys, list_at}
 use Rattle.irp_forms.specs.Values.{completions_at, dispatch_at, first_counts_at, handler_at, known_at}
 use Rattle.irp_types.specs.Limits.{last_major, most_dispatches}
@@ -19,14 +17,14 @@ use Rattle.irp_shared.specs.declared.header.Form.TheVariants as form
 use Rattle.irp_shared.specs.declared.header.Header.{Header}
 use Rattle.irp_transcript_reader.specs.Lines.{counts_at, form_one_at, form_two_at, header_at, header_form_at, header_keys}
 use Rattle.irp_transcript_writer.specs.Json.{list}
-use Rattle.irp_transcript_writer.specs.Lines.{cancel_rule_json, cancel_rule_name, completions_json, driver_json, handler_json, header_json, known_json, line_of_form}
+use Rattle.irp_transcript_writer.specs.Lines.{cancel_rule_json, completions_json, driver_json, handler_json, header_json, known_json, line_of_form}
 use Rattle.irp_round_trip.proofs.Numbers.{items_stand, list_back, u8_back, u32_back, wide}
-use Rattle.irp_round_trip.proofs.Stands.{are_plain, Stands}
+use Rattle.irp_round_trip.proofs.Stands.{Stands}
 
 -- ---- the parts
 
 rule_back : (kind : CancelRule) → cancel_rule_at (cancel_rule_json kind) ≡ Some kind
-unfolding cancel_rule_at cancel_rule_named
+unfolding cancel_rule_at cancel_rules
 rule_back cancel_rule.MustFinish = refl
 rule_back cancel_rule.MustLeave = refl
 rule_back cancel_rule.Either = refl

@@ -1,5 +1,6 @@
 -- Replies are read as they were written, and their forms stand.
 use Rattle.std.proofs.Common.{◌≡◌, ℕ, suc, true, Some, refl}
+use Rattle.irp_forms.specs.Names.{refusal_name, refusal_named, refusals}
 use Rattle.irp_forms.specs.Parts.{has_keys}
 use Rattle.irp_types.specs.declared.location.Owner.{Owner}
 use Rattle.irp_types.specs.declared.location.Owner.TheVariants as owner
@@ -8,75 +9,45 @@ use Rattle.irp_types.specs.declared.refusal.Refusal.TheVariants as refusal
 use Rattle.irp_types.specs.declared.reply.Reply.{Reply}
 use Rattle.irp_types.specs.declared.reply.Reply.TheVariants as reply
 use Rattle.irp_types.specs.declared.reply.Seen.{Seen}
-use Rattle.irp_transcript_reader.specs.Replies.{holder_at, naming_reply_at, owner_at, refusal_named, refusal_of_devices, refusal_of_locations, refusal_of_names, refusal_of_packets, reply_at, seen_at, telling_reply_at}
-use Rattle.irp_transcript_writer.specs.Lines.{owner_json, refusal_name, reply_json, seen_json}
+use Rattle.irp_transcript_reader.specs.Replies.{holder_at, naming_reply_at, owner_at, reply_at, seen_at, telling_reply_at}
+use Rattle.irp_transcript_writer.specs.Lines.{owner_json, reply_json, seen_json}
 use Rattle.irp_round_trip.proofs.Numbers.{u32_back, u64_back, wide}
 use Rattle.irp_round_trip.proofs.Stands.{are_plain, Stands}
 use Rattle.irp_round_trip.proofs.Values.{cancel_or_null_back, cancel_or_null_stands, device_back, irp_back, irp_stands, status_back}
 use Rattle.irp_round_trip.specs.Fits.{OwnerFits, ReplyFits, SeenFits}
 
-refusal_back : (reason : Refusal) → refusal_named (refusal_name reason) ≡ Some reason
-unfolding refusal_named refusal_of_names refusal_of_locations refusal_of_packets refusal_of_devices
-refusal_back refusal.NoIrp = refl
-refusal_back refusal.Stale = refl
-refusal_back refusal.NoDevice = refl
-refusal_back refusal.DeviceGone = refl
-refusal_back refusal.NotOwner = refl
-refusal_back refusal.NoLocation = refl
-refusal_back refusal.NotPrepared = refl
-refusal_back refusal.AfterSkip = refl
-refusal_back refusal.TooShort = refl
-refusal_back refusal.WrongTarget = refl
-refusal_back refusal.NoRoutine = refl
-refusal_back refusal.BadStatus = refl
-refusal_back refusal.CancelRoutineSet = refl
-refusal_back refusal.AlreadyCancelled = refl
-refusal_back refusal.InFlight = refl
-refusal_back refusal.StillAttached = refl
-refusal_back refusal.SameStack = refl
-refusal_back refusal.TooDeep = refl
-refusal_back refusal.Full = refl
-refusal_back refusal.NothingAttached = refl
-refusal_back refusal.NotDrained = refl
-refusal_back refusal.BadSize = refl
-refusal_back refusal.BadMajor = refl
-refusal_back refusal.NoDriver = refl
-refusal_back refusal.Ended = refl
-refusal_back refusal.HistoryFull = refl
-refusal_back refusal.NoLock = refl
-refusal_back refusal.SlotHeld = refl
-refusal_back refusal.NotSlotHeld = refl
-
-refusal_plain : (reason : Refusal) → are_plain (refusal_name reason) ≡ true
-refusal_plain refusal.NoIrp = refl
-refusal_plain refusal.Stale = refl
-refusal_plain refusal.NoDevice = refl
-refusal_plain refusal.DeviceGone = refl
-refusal_plain refusal.NotOwner = refl
-refusal_plain refusal.NoLocation = refl
-refusal_plain refusal.NotPrepared = refl
-refusal_plain refusal.AfterSkip = refl
-refusal_plain refusal.TooShort = refl
-refusal_plain refusal.WrongTarget = refl
-refusal_plain refusal.NoRoutine = refl
-refusal_plain refusal.BadStatus = refl
-refusal_plain refusal.CancelRoutineSet = refl
-refusal_plain refusal.AlreadyCancelled = refl
-refusal_plain refusal.InFlight = refl
-refusal_plain refusal.StillAttached = refl
-refusal_plain refusal.SameStack = refl
-refusal_plain refusal.TooDeep = refl
-refusal_plain refusal.Full = refl
-refusal_plain refusal.NothingAttached = refl
-refusal_plain refusal.NotDrained = refl
-refusal_plain refusal.BadSize = refl
-refusal_plain refusal.BadMajor = refl
-refusal_plain refusal.NoDriver = refl
-refusal_plain refusal.Ended = refl
-refusal_plain refusal.HistoryFull = refl
-refusal_plain refusal.NoLock = refl
-refusal_plain refusal.SlotHeld = refl
-refusal_plain refusal.NotSlotHeld = refl
+-- a refusal is read by its name, which is plain
+refusal_back : (reason : Refusal) → (refusal_named (refusal_name reason) ≡ Some reason) × (are_plain (refusal_name reason) ≡ true)
+unfolding refusals
+refusal_back refusal.NoIrp = (refl, refl)
+refusal_back refusal.Stale = (refl, refl)
+refusal_back refusal.NoDevice = (refl, refl)
+refusal_back refusal.DeviceGone = (refl, refl)
+refusal_back refusal.NotOwner = (refl, refl)
+refusal_back refusal.NoLocation = (refl, refl)
+refusal_back refusal.NotPrepared = (refl, refl)
+refusal_back refusal.AfterSkip = (refl, refl)
+refusal_back refusal.TooShort = (refl, refl)
+refusal_back refusal.WrongTarget = (refl, refl)
+refusal_back refusal.NoRoutine = (refl, refl)
+refusal_back refusal.BadStatus = (refl, refl)
+refusal_back refusal.CancelRoutineSet = (refl, refl)
+refusal_back refusal.AlreadyCancelled = (refl, refl)
+refusal_back refusal.InFlight = (refl, refl)
+refusal_back refusal.StillAttached = (refl, refl)
+refusal_back refusal.SameStack = (refl, refl)
+refusal_back refusal.TooDeep = (refl, refl)
+refusal_back refusal.Full = (refl, refl)
+refusal_back refusal.NothingAttached = (refl, refl)
+refusal_back refusal.NotDrained = (refl, refl)
+refusal_back refusal.BadSize = (refl, refl)
+refusal_back refusal.BadMajor = (refl, refl)
+refusal_back refusal.NoDriver = (refl, refl)
+refusal_back refusal.Ended = (refl, refl)
+refusal_back refusal.HistoryFull = (refl, refl)
+refusal_back refusal.NoLock = (refl, refl)
+refusal_back refusal.SlotHeld = (refl, refl)
+refusal_back refusal.NotSlotHeld = (refl, refl)
 
 owner_back : (holder : Owner) → OwnerFits holder → owner_at (owner_json holder) ≡ Some holder
 unfolding owner_at
@@ -125,7 +96,7 @@ reply_back (reply.Status status) h = rw (status_back status h)
 reply_back (reply.Previous cancel) h = rw (cancel_or_null_back cancel h)
 reply_back (reply.Cancelled cancelled) h = refl
 reply_back (reply.Seen seen) h = rw (seen_back seen h)
-reply_back (reply.Refused reason) h = rw (refusal_back reason)
+reply_back (reply.Refused reason) h = rw (refusal_back reason).0
 
 pub reply_stands : (levels : ℕ) (given : Reply) → ReplyFits given → Stands (reply_json given) (suc (suc levels))
 reply_stands levels reply.Done h = refl
@@ -135,4 +106,4 @@ reply_stands levels (reply.Status status) h = (wide status.0 h, refl, refl, tt)
 reply_stands levels (reply.Previous cancel) h = (cancel_or_null_stands (suc levels) cancel h, refl, refl, tt)
 reply_stands levels (reply.Cancelled cancelled) h = (tt, refl, refl, tt)
 reply_stands levels (reply.Seen seen) h = (seen_stands levels seen h, refl, refl, tt)
-reply_stands levels (reply.Refused reason) h = (refusal_plain reason, refl, refl, tt)
+reply_stands levels (reply.Refused reason) h = ((refusal_back reason).1, refl, refl, tt)

@@ -1,9 +1,9 @@
 -- References, settings, plans and answers are read as they were written, and their forms stand.
-use Rattle.std.proofs.Common.{◌≡◌, ℕ, suc, ◌^◌, ◌<◌, Bool, true, false, Option, Some, None, refl, arith}
+use Rattle.std.proofs.Common.{◌≡◌, ℕ, suc, ◌^◌, ◌<◌, Bool, true, false, Option, Some, None, refl}
 use Rattle.std.specs.Prelude.{IfSome}
 use Rattle.serde_json.specs.Data.{string}
+use Rattle.irp_forms.specs.Names.{every_flags, flags_at, rule_at, rule_name, rules}
 use Rattle.irp_forms.specs.Parts.{or_null_at}
-use Rattle.irp_forms.specs.Names.{rule_at, rule_named, flags_at, flags_named}
 use Rattle.irp_forms.specs.Questions.{answer_at, keep_named}
 use Rattle.irp_forms.specs.Values.{cancel_answer_at, cancel_answer_named, cancel_at, cancel_finish_at, device_at, finish_at, forward_at, forward_pend_at, hold_at, irp_at, lock_at, party_at, plan_at, plan_named, replacement_at, routine_at, setting_at, status_at}
 use Rattle.irp_types.specs.declared.answer.Answer.{Answer}
@@ -24,7 +24,7 @@ use Rattle.irp_types.specs.declared.routine.Rule.TheVariants as rule
 use Rattle.irp_types.specs.declared.routine.Setting.{Setting}
 use Rattle.irp_types.specs.declared.status.Status.{Status}
 use Rattle.irp_transcript_writer.specs.Json.{or_null}
-use Rattle.irp_transcript_writer.specs.Lines.{answer_json, cancel_answer_json, cancel_json, device_json, irp_json, lock_json, party_json, plan_json, replacement_json, routine_json, rule_name, setting_json, status_json}
+use Rattle.irp_transcript_writer.specs.Lines.{answer_json, cancel_answer_json, cancel_json, device_json, irp_json, lock_json, party_json, plan_json, replacement_json, routine_json, setting_json, status_json}
 use Rattle.irp_round_trip.proofs.Numbers.{u32_back, u64_back, wide, or_null_stands}
 use Rattle.irp_round_trip.proofs.Stands.{are_plain, Stands}
 use Rattle.irp_round_trip.specs.Fits.{AnswerFits, CancelAnswerFits, CancelFits, DeviceFits, IrpFits, LockFits, PartyFits, PlanFits, ReplacementFits, SettingFits, StatusFits}
@@ -69,7 +69,7 @@ lock_or_null_back None h = refl
 lock_or_null_back (Some lock) h = rw (lock_back lock h)
 
 rule_back : (kind : Rule) → rule_at (string (rule_name kind)) ≡ Some kind
-unfolding rule_at rule_named
+unfolding rule_at rules
 rule_back rule.Watch = refl
 rule_back rule.Change = refl
 rule_back rule.Keeper = refl
@@ -86,7 +86,7 @@ setting_of kind place context on_success on_error on_cancel =
 
 flags_back : (kind : Rule) (place context : ℕ) (s e c : Bool) → place < 2 ^ 32 → context < 2 ^ 64
     → setting_at (setting_json (setting_of kind place context s e c)) ≡ Some (setting_of kind place context s e c)
-unfolding setting_at flags_at flags_named
+unfolding setting_at flags_at every_flags
 flags_back kind place context true true true h k = rw (rule_back kind, u32_back place h, u64_back context k)
 flags_back kind place context true true false h k = rw (rule_back kind, u32_back place h, u64_back context k)
 flags_back kind place context true false true h k = rw (rule_back kind, u32_back place h, u64_back context k)

@@ -1,24 +1,23 @@
 -- A transcript that fits: its text's lines are taken one after another, and nothing else is read from them.
-use Rattle.std.proofs.Common.{◌≡◌, ℕ, zero, suc, ◌+◌, ◌<◌, ◌≤◌, ◌==◌, ◌&&◌, nat_lt, List, [], ◌∷◌, ◌++◌, length, map, Bool, true, false, Option, Some, None, Result, Ok, Err, refl, sym, subst, ap, ap₂, ◌∙◌, arith, append_assoc, append-nil, length-append}
+use Rattle.std.proofs.Common.{◌≡◌, ℕ, zero, suc, ◌+◌, ◌<◌, ◌≤◌, List, [], ◌∷◌, ◌++◌, length, map, Option, Some, None, Result, Ok, Err, refl, sym, subst, ap, ◌∙◌, arith, append_assoc, append-nil, length-append}
 use Rattle.std.specs.Prelude.{⊤}
-use Rattle.std.specs.List.{All, flat_map}
+use Rattle.std.specs.List.{All}
 use Rattle.std.proofs.lemmas.Bool.{lt-ltb, ne_eqb}
 use Rattle.std.proofs.lemmas.List.Elements.{All-head, All-tail}
-use Rattle.std.proofs.lemmas.Option.{none-some, same_Some}
+use Rattle.std.proofs.lemmas.Option.{same_Some}
 use Rattle.serde_json.specs.Data.{Data}
-use Rattle.serde_json.specs.Read.{read, max_depth}
+use Rattle.serde_json.specs.Read.{max_depth}
 use Rattle.serde_json.specs.Written.{compact_text}
 use Rattle.irp_types.specs.declared.entry.Entry.{Entry}
 use Rattle.irp_shared.specs.Headers.{IsHeader}
 use Rattle.irp_shared.specs.Transcripts.{TranscriptValue, IsTranscript, no_lines}
 use Rattle.irp_shared.specs.declared.header.Header.{Header}
 use Rattle.irp_shared.specs.declared.word_line.WordLine.{WordLine}
-use Rattle.irp_transcript_reader.specs.Lines.{entry_at, header_at}
-use Rattle.irp_transcript_reader.specs.Reading.{IsLine, IsNext, IsNextUnder, ReadsFrom, RefusedAt, Takes, TakesAll, cut, most_bytes, most_entries, onto, seated_word_at, with_entry, with_entry_at, with_line, with_word}
+use Rattle.irp_transcript_reader.specs.Reading.{IsLine, IsNext, IsNextUnder, ReadsFrom, RefusedAt, Takes, TakesAll, cut, most_entries, onto, seated_word_at, with_entry, with_entry_at, with_line, with_word}
 use Rattle.irp_transcript_reader.specs.declared.read_fault.ReadFault.{ReadFault}
 use Rattle.irp_transcript_reader.specs.declared.read_fault.ReadFault.TheVariants.{Line, NoMemory}
 use Rattle.irp_transcript_writer.specs.Json.{line_text}
-use Rattle.irp_transcript_writer.specs.Lines.{entry_json, header_json, header_lines, lines, text_of, word_json}
+use Rattle.irp_transcript_writer.specs.Lines.{entry_json, header_json, lines, text_of, word_json}
 use Rattle.irp_round_trip.proofs.Entries.{entry_back, entry_stands}
 use Rattle.irp_round_trip.proofs.Headers.{header_back, header_stands}
 use Rattle.irp_round_trip.proofs.Plain.{IsPlain, plain, utf8_plain}

@@ -13,30 +13,22 @@ use Rattle.irp_shared.specs.declared.word_line.WordLine.{WordLine}
 use Rattle.irp_shared.specs.declared.word_line.WordReply.{WordReply}
 use Rattle.irp_shared.specs.declared.word_line.WordReply.TheVariants as word_replies
 
--- the answer of a step on a remove lock by its name
-unfoldable pub lock_reply_named : List ℕ → Option WordReply
-lock_reply_named name =
+-- a step's answer by its name: those of remove locks, then those of cancel slots
+unfoldable pub word_reply_named : List ℕ → Option WordReply
+word_reply_named name =
     if bytes_eq name (codes "ok") then Some word_replies.Done else
     (if bytes_eq name (codes "seat_full") then Some word_replies.SeatFull else
     (if bytes_eq name (codes "not_held") then Some word_replies.NotHeld else
     (if bytes_eq name (codes "already_removing") then Some word_replies.AlreadyRemoving else
     (if bytes_eq name (codes "no_lock") then Some word_replies.NoLock else
-    (if bytes_eq name (codes "yes") then Some word_replies.Yes else None)))))
-
--- the answer of a step on a cancel slot by its name
-unfoldable pub slot_reply_named : List ℕ → Option WordReply
-slot_reply_named name =
-    if bytes_eq name (codes "standing") then Some word_replies.Standing else
+    (if bytes_eq name (codes "yes") then Some word_replies.Yes else
+    (if bytes_eq name (codes "standing") then Some word_replies.Standing else
     (if bytes_eq name (codes "lost") then Some word_replies.Lost else
     (if bytes_eq name (codes "nothing") then Some word_replies.Nothing else
     (if bytes_eq name (codes "used") then Some word_replies.Used else
     (if bytes_eq name (codes "not_standing") then Some word_replies.NotStanding else
     (if bytes_eq name (codes "no_slot") then Some word_replies.NoSlot else
-    (if bytes_eq name (codes "no_token") then Some word_replies.NoToken else None))))))
-
--- a step's answer by its name
-unfoldable pub word_reply_named : List ℕ → Option WordReply
-word_reply_named name = or_else (lock_reply_named name) (slot_reply_named name)
+    (if bytes_eq name (codes "no_token") then Some word_replies.NoToken else None))))))))))))
 
 -- the status of an acquire: success, or that removal has begun
 unfoldable pub word_status : ℕ → Option WordReply

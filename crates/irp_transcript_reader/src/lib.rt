@@ -8,7 +8,6 @@ mod headers;
 mod read;
 mod read_fault;
 mod reading;
-mod refusals;
 mod replies;
 mod word_lines;
 
@@ -16,4 +15,3 @@ pub use calls::EntryCall;
 pub use read::{ByValue, TakeLine, read_lines, read_transcript};
 pub use read_fault::ReadFault;
 pub use reading::{MOST_BYTES, Reading};
-pub use refusals::refusal_named;

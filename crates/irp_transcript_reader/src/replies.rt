@@ -11,8 +11,7 @@ ghost use Rattle.irp_transcript_reader.specs.Replies.{
   telling_reply_at,
 };
 
-use crate::refusals::refusal_named;
-use irp_forms::{FromValue, has_items, has_keys, nth, under};
+use irp_forms::{FromValue, has_items, has_keys, named, nth, under};
 use irp_types::{Owner, Reply, Seen, Status};
 use serde_json::Value;
 
@@ -120,7 +119,7 @@ fn telling_reply_at(value: &Value) -> Option<Reply>
         let seen = seen_at(value.get("seen")?)?;
         Some(Reply::Seen(seen))
     } else if has_keys(value, &["refused"]) {
-        let refusal = refusal_named(value.get("refused").and_then(Value::as_str)?)?;
+        let refusal = named(value.get("refused").and_then(Value::as_str)?)?;
         Some(Reply::Refused(refusal))
     } else {
         None

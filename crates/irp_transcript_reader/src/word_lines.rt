@@ -8,10 +8,8 @@ ghost use Rattle.irp_transcript_reader.specs.WordLines.{
   drained_at,
   hand_at,
   hand_keys,
-  lock_reply_named,
   slot_act,
   slot_act_at,
-  slot_reply_named,
   tagged_act,
   tagged_act_at,
   valued_reply_at,
@@ -26,10 +24,10 @@ use irp_shared::{Act, WordLine, WordReply};
 use irp_types::LockNo;
 use serde_json::Value;
 
-/// The answer of a step on a remove lock by its name.
-#[tactic(auto, unfolding(crate::specs::WordLines::lock_reply_named))]
-fn lock_reply_named(name: &str) -> Option<WordReply>
-    ensures { result ≡ lock_reply_named name.now }
+/// A step's answer by its name: those of remove locks, then those of cancel slots.
+#[tactic(auto, unfolding(crate::specs::WordLines::word_reply_named))]
+fn word_reply_named(name: &str) -> Option<WordReply>
+    ensures { result ≡ word_reply_named name.now }
 {
     if name == "ok" {
         Some(WordReply::Done)
@@ -43,17 +41,7 @@ fn lock_reply_named(name: &str) -> Option<WordReply>
         Some(WordReply::NoLock)
     } else if name == "yes" {
         Some(WordReply::Yes)
-    } else {
-        None
-    }
-}
-
-/// The answer of a step on a cancel slot by its name.
-#[tactic(auto, unfolding(crate::specs::WordLines::slot_reply_named))]
-fn slot_reply_named(name: &str) -> Option<WordReply>
-    ensures { result ≡ slot_reply_named name.now }
-{
-    if name == "standing" {
+    } else if name == "standing" {
         Some(WordReply::Standing)
     } else if name == "lost" {
         Some(WordReply::Lost)
@@ -69,17 +57,6 @@ fn slot_reply_named(name: &str) -> Option<WordReply>
         Some(WordReply::NoToken)
     } else {
         None
-    }
-}
-
-/// A step's answer by its name.
-#[tactic(auto, unfolding(crate::specs::WordLines::word_reply_named))]
-fn word_reply_named(name: &str) -> Option<WordReply>
-    ensures { result ≡ word_reply_named name.now }
-{
-    match lock_reply_named(name) {
-        Some(reply) => Some(reply),
-        None => slot_reply_named(name),
     }
 }
 

@@ -1,7 +1,8 @@
 -- The forms that a transcript's lines are made of, and the lines.
-use Rattle.std.specs.Prelude.{ℕ, List, [], ◌∷◌, ◌++◌, Bool, true, false, map, codes, Option, Some, None}
+use Rattle.std.specs.Prelude.{ℕ, List, [], ◌∷◌, ◌++◌, Bool, map, codes, Option, Some, None}
 use Rattle.std.specs.List.{flat_map}
 use Rattle.serde_json.specs.Data.{Data, boolean, string}
+use Rattle.irp_forms.specs.Names.{answer_name, cancel_rule_name, flagged, flags_name, refusal_name, rule_name}
 use Rattle.irp_transcript_writer.specs.Json.{natural, list, fields, or_null, line_text}
 use Rattle.irp_types.specs.declared.answer.Answer.{Answer}
 use Rattle.irp_types.specs.declared.answer.CancelAnswer.{CancelAnswer}
@@ -23,17 +24,12 @@ use Rattle.irp_types.specs.declared.names.DeviceId.{DeviceId}
 use Rattle.irp_types.specs.declared.names.DispatchId.{DispatchId}
 use Rattle.irp_types.specs.declared.names.IrpRef.{IrpRef}
 use Rattle.irp_types.specs.declared.names.LockNo.{LockNo}
-use Rattle.irp_types.specs.declared.refusal.Refusal.{Refusal}
-use Rattle.irp_types.specs.declared.refusal.Refusal.TheVariants as refusal
 use Rattle.irp_types.specs.declared.reply.Reply.{Reply}
 use Rattle.irp_types.specs.declared.reply.Reply.TheVariants as reply
 use Rattle.irp_types.specs.declared.reply.Seen.{Seen}
 use Rattle.irp_types.specs.declared.routine.CancelRule.{CancelRule}
-use Rattle.irp_types.specs.declared.routine.CancelRule.TheVariants as cancel_rule
 use Rattle.irp_types.specs.declared.routine.Known.{Known}
 use Rattle.irp_types.specs.declared.routine.RoutineId.{RoutineId}
-use Rattle.irp_types.specs.declared.routine.Rule.{Rule}
-use Rattle.irp_types.specs.declared.routine.Rule.TheVariants as rule
 use Rattle.irp_types.specs.declared.routine.Setting.{Setting}
 use Rattle.irp_types.specs.declared.shown.Shown.{Shown}
 use Rattle.irp_types.specs.declared.status.Status.{Status}
@@ -82,20 +78,6 @@ owner_json owner.Originator = string (codes "o")
 owner_json (owner.Device device) = device_json device
 owner_json owner.Ended = string (codes "ended")
 
--- the name of a completion routine's rule
-abbrev pub rule_name : Rule → List ℕ
-rule_name rule.Watch = codes "watch"
-rule_name rule.Change = codes "change"
-rule_name rule.Keeper = codes "keeper"
-rule_name rule.KeepOnError = codes "keep_on_error"
-rule_name rule.Free = codes "free"
-
--- the name of a cancel routine's rule
-abbrev pub cancel_rule_name : CancelRule → List ℕ
-cancel_rule_name cancel_rule.MustFinish = codes "must_finish"
-cancel_rule_name cancel_rule.MustLeave = codes "must_leave"
-cancel_rule_name cancel_rule.Either = codes "either"
-
 -- a cancel routine's rule by its name
 abbrev pub cancel_rule_json : CancelRule → Data
 cancel_rule_json rule = string (cancel_rule_name rule)
@@ -104,15 +86,9 @@ cancel_rule_json rule = string (cancel_rule_name rule)
 abbrev pub routine_json : RoutineId → Data
 routine_json routine = list (string (rule_name routine.rule) ∷ natural routine.no ∷ [])
 
--- the text where the flag is set
-abbrev pub text_if : Bool → List ℕ → List ℕ
-text_if true text = text
-text_if false text = []
-
 -- the letters of the flags that are set, in this order
 abbrev pub flags_text : Setting → List ℕ
-flags_text setting =
-    text_if setting.on_success (codes "s") ++ (text_if setting.on_error (codes "e") ++ text_if setting.on_cancel (codes "c"))
+flags_text setting = flags_name (flagged setting.on_success setting.on_error setting.on_cancel)
 
 -- a setting: rule, number, context and flags
 abbrev pub setting_json : Setting → Data
@@ -131,11 +107,6 @@ plan_json (plan.ForwardPend setting) = list (string (codes "forward_pend") ∷ o
 -- a replacement: status and information
 abbrev pub replacement_json : Replacement → Data
 replacement_json replacement = list (status_json replacement.status ∷ natural replacement.information ∷ [])
-
--- whether a completion routine keeps the packet or continues
-abbrev pub answer_name : Bool → List ℕ
-answer_name true = codes "keep"
-answer_name false = codes "continue"
 
 -- a completion routine's answer: its name, the mark, and the replacement or null
 abbrev pub answer_json : Answer → Data
@@ -210,38 +181,6 @@ call_json (call.SetCancelRoutine party irp cancel) _ _ =
     ∷ (codes "do", string (codes "set_cancel_routine")) ∷ (codes "irp", irp_json irp) ∷ [])
 call_json (call.Cancel irp) _ _ = irp_call_json (codes "cancel") irp
 call_json (call.Look irp) _ _ = irp_call_json (codes "look") irp
-
--- the name of a refusal
-abbrev pub refusal_name : Refusal → List ℕ
-refusal_name refusal.NoIrp = codes "NoIrp"
-refusal_name refusal.Stale = codes "Stale"
-refusal_name refusal.NoDevice = codes "NoDevice"
-refusal_name refusal.DeviceGone = codes "DeviceGone"
-refusal_name refusal.NotOwner = codes "NotOwner"
-refusal_name refusal.NoLocation = codes "NoLocation"
-refusal_name refusal.NotPrepared = codes "NotPrepared"
-refusal_name refusal.AfterSkip = codes "AfterSkip"
-refusal_name refusal.TooShort = codes "TooShort"
-refusal_name refusal.WrongTarget = codes "WrongTarget"
-refusal_name refusal.NoRoutine = codes "NoRoutine"
-refusal_name refusal.BadStatus = codes "BadStatus"
-refusal_name refusal.CancelRoutineSet = codes "CancelRoutineSet"
-refusal_name refusal.AlreadyCancelled = codes "AlreadyCancelled"
-refusal_name refusal.InFlight = codes "InFlight"
-refusal_name refusal.StillAttached = codes "StillAttached"
-refusal_name refusal.SameStack = codes "SameStack"
-refusal_name refusal.TooDeep = codes "TooDeep"
-refusal_name refusal.Full = codes "Full"
-refusal_name refusal.NothingAttached = codes "NothingAttached"
-refusal_name refusal.NotDrained = codes "NotDrained"
-refusal_name refusal.BadSize = codes "BadSize"
-refusal_name refusal.BadMajor = codes "BadMajor"
-refusal_name refusal.NoDriver = codes "NoDriver"
-refusal_name refusal.Ended = codes "Ended"
-refusal_name refusal.HistoryFull = codes "HistoryFull"
-refusal_name refusal.NoLock = codes "NoLock"
-refusal_name refusal.SlotHeld = codes "SlotHeld"
-refusal_name refusal.NotSlotHeld = codes "NotSlotHeld"
 
 -- what Look shows of a packet
 abbrev pub seen_json : Seen → Data

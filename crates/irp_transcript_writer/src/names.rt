@@ -1,51 +1,32 @@
-//! The names that forms write for rules, flags and refusals, as JSON texts.
+//! Names, letters and answers, as JSON texts.
 #![tactic(auto, unfolding(json::specs::Print::escape_byte))]
 
-ghost use Rattle.std.specs.Prelude.{◌≡◌};
+ghost use Rattle.std.specs.Prelude.{◌≡◌, ◌++◌, OnOk};
 ghost use Rattle.serde_json.specs.Data.{string};
 ghost use Rattle.serde_json.specs.Written.{compact_text};
-ghost use Rattle.irp_transcript_writer.specs.Lines.{
-  answer_name,
-  cancel_rule_json,
-  cancel_rule_name,
-  flags_text,
-  refusal_name,
-  rule_name,
-};
+ghost use Rattle.irp_forms.specs.Names.{answer_name, refusal_name, rule_name};
+ghost use Rattle.irp_transcript_writer.specs.Lines.{cancel_rule_json, flags_text};
 
 use crate::form::{Written, put_text};
+use irp_forms::HasName;
 use irp_types::{CancelRule, Refusal, Rule, Setting};
 use std::alloc::AllocError;
 
-/// The name of a completion routine's rule, in quotes (this project's own format, docs/FORMATS.md).
-fn name_of_rule(rule: Rule) -> &'static str
-    ensures { result.now ≡ compact_text (string (rule_name rule)) }
+/// Writes the value's name, in quotes. The one error is want of memory.
+fn put_name<T: HasName>(out: &mut Vec<u8>, value: T) -> Result<(), AllocError>
+    ensures { OnOk result (out.new.items ≡ out.old.items
+        ++ compact_text (string (T.name value))) }
 {
-    match rule {
-        Rule::Watch => "\"watch\"",
-        Rule::Change => "\"change\"",
-        Rule::Keeper => "\"keeper\"",
-        Rule::KeepOnError => "\"keep_on_error\"",
-        Rule::Free => "\"free\"",
-    }
+    put_text(out, "\"")?;
+    put_text(out, value.name())?;
+    put_text(out, "\"")
 }
 
 impl Written for Rule {
     ghost json = { λ rule. string (rule_name rule) };
 
     fn write(&self, out: &mut Vec<u8>) -> Result<(), AllocError> {
-        put_text(out, name_of_rule(*self))
-    }
-}
-
-/// The name of a cancel routine's rule, in quotes (this project's own format, docs/FORMATS.md).
-fn name_of_cancel_rule(rule: CancelRule) -> &'static str
-    ensures { result.now ≡ compact_text (string (cancel_rule_name rule)) }
-{
-    match rule {
-        CancelRule::MustFinish => "\"must_finish\"",
-        CancelRule::MustLeave => "\"must_leave\"",
-        CancelRule::Either => "\"either\"",
+        put_name(out, *self)
     }
 }
 
@@ -53,7 +34,15 @@ impl Written for CancelRule {
     ghost json = { cancel_rule_json };
 
     fn write(&self, out: &mut Vec<u8>) -> Result<(), AllocError> {
-        put_text(out, name_of_cancel_rule(*self))
+        put_name(out, *self)
+    }
+}
+
+impl Written for Refusal {
+    ghost json = { λ refusal. string (refusal_name refusal) };
+
+    fn write(&self, out: &mut Vec<u8>) -> Result<(), AllocError> {
+        put_name(out, *self)
     }
 }
 
@@ -79,49 +68,4 @@ pub fn name_of_answer(keep: bool) -> &'static str
     ensures { result.now ≡ compact_text (string (answer_name keep)) }
 {
     if keep { "\"keep\"" } else { "\"continue\"" }
-}
-
-/// The name of a refusal, in quotes (this project's own format, docs/FORMATS.md).
-fn name_of_refusal(refusal: Refusal) -> &'static str
-    ensures { result.now ≡ compact_text (string (refusal_name refusal)) }
-{
-    match refusal {
-        Refusal::NoIrp => "\"NoIrp\"",
-        Refusal::Stale => "\"Stale\"",
-        Refusal::NoDevice => "\"NoDevice\"",
-        Refusal::DeviceGone => "\"DeviceGone\"",
-        Refusal::NotOwner => "\"NotOwner\"",
-        Refusal::NoLocation => "\"NoLocation\"",
-        Refusal::NotPrepared => "\"NotPrepared\"",
-        Refusal::AfterSkip => "\"AfterSkip\"",
-        Refusal::TooShort => "\"TooShort\"",
-        Refusal::WrongTarget => "\"WrongTarget\"",
-        Refusal::NoRoutine => "\"NoRoutine\"",
-        Refusal::BadStatus => "\"BadStatus\"",
-        Refusal::CancelRoutineSet => "\"CancelRoutineSet\"",
-        Refusal::AlreadyCancelled => "\"AlreadyCancelled\"",
-        Refusal::InFlight => "\"InFlight\"",
-        Refusal::StillAttached => "\"StillAttached\"",
-        Refusal::SameStack => "\"SameStack\"",
-        Refusal::TooDeep => "\"TooDeep\"",
-        Refusal::Full => "\"Full\"",
-        Refusal::NothingAttached => "\"NothingAttached\"",
-        Refusal::NotDrained => "\"NotDrained\"",
-        Refusal::BadSize => "\"BadSize\"",
-        Refusal::BadMajor => "\"BadMajor\"",
-        Refusal::NoDriver => "\"NoDriver\"",
-        Refusal::Ended => "\"Ended\"",
-        Refusal::HistoryFull => "\"HistoryFull\"",
-        Refusal::NoLock => "\"NoLock\"",
-        Refusal::SlotHeld => "\"SlotHeld\"",
-        Refusal::NotSlotHeld => "\"NotSlotHeld\"",
-    }
-}
-
-impl Written for Refusal {
-    ghost json = { λ refusal. string (refusal_name refusal) };
-
-    fn write(&self, out: &mut Vec<u8>) -> Result<(), AllocError> {
-        put_text(out, name_of_refusal(*self))
-    }
 }
