@@ -129,45 +129,27 @@ pub struct Flags {
     pub on_cancel: bool,
 }
 
-/// These flags.
-fn flagged(on_success: bool, on_error: bool, on_cancel: bool) -> Flags
-    ensures { result ≡ record {
-      on_success = on_success;
-      on_error = on_error;
-      on_cancel = on_cancel;
-    } }
-{
-    Flags {
-        on_success,
-        on_error,
-        on_cancel,
-    }
-}
-
 /// The flags that have these letters: some of s, e, c in this order (this project's own format, docs/FORMATS.md).
 #[tactic(auto, unfolding(crate::specs::Names::every_flags))]
 pub fn flags_named(letters: &str) -> Option<Flags>
     ensures { result ≡ first_named flags_name every_flags letters.now }
 {
-    if letters == "" {
-        Some(flagged(false, false, false))
-    } else if letters == "c" {
-        Some(flagged(false, false, true))
-    } else if letters == "e" {
-        Some(flagged(false, true, false))
-    } else if letters == "ec" {
-        Some(flagged(false, true, true))
-    } else if letters == "s" {
-        Some(flagged(true, false, false))
-    } else if letters == "sc" {
-        Some(flagged(true, false, true))
-    } else if letters == "se" {
-        Some(flagged(true, true, false))
-    } else if letters == "sec" {
-        Some(flagged(true, true, true))
-    } else {
-        None
-    }
+    let (on_success, on_error, on_cancel) = match letters {
+        "" => (false, false, false),
+        "c" => (false, false, true),
+        "e" => (false, true, false),
+        "ec" => (false, true, true),
+        "s" => (true, false, false),
+        "sc" => (true, false, true),
+        "se" => (true, true, false),
+        "sec" => (true, true, true),
+        _ => return None,
+    };
+    Some(Flags {
+        on_success,
+        on_error,
+        on_cancel,
+    })
 }
 
 /// The flags by their letters: some of s, e, c in this order (this project's own format, docs/FORMATS.md).

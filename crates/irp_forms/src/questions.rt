@@ -37,12 +37,10 @@ pub struct Place {
 pub fn keep_named(name: &str) -> Option<bool>
     ensures { result ≡ keep_named name.now }
 {
-    if name == "keep" {
-        Some(true)
-    } else if name == "continue" {
-        Some(false)
-    } else {
-        None
+    match name {
+        "keep" => Some(true),
+        "continue" => Some(false),
+        _ => None,
     }
 }
 

@@ -29,34 +29,21 @@ use serde_json::Value;
 fn word_reply_named(name: &str) -> Option<WordReply>
     ensures { result ≡ word_reply_named name.now }
 {
-    if name == "ok" {
-        Some(WordReply::Done)
-    } else if name == "seat_full" {
-        Some(WordReply::SeatFull)
-    } else if name == "not_held" {
-        Some(WordReply::NotHeld)
-    } else if name == "already_removing" {
-        Some(WordReply::AlreadyRemoving)
-    } else if name == "no_lock" {
-        Some(WordReply::NoLock)
-    } else if name == "yes" {
-        Some(WordReply::Yes)
-    } else if name == "standing" {
-        Some(WordReply::Standing)
-    } else if name == "lost" {
-        Some(WordReply::Lost)
-    } else if name == "nothing" {
-        Some(WordReply::Nothing)
-    } else if name == "used" {
-        Some(WordReply::Used)
-    } else if name == "not_standing" {
-        Some(WordReply::NotStanding)
-    } else if name == "no_slot" {
-        Some(WordReply::NoSlot)
-    } else if name == "no_token" {
-        Some(WordReply::NoToken)
-    } else {
-        None
+    match name {
+        "ok" => Some(WordReply::Done),
+        "seat_full" => Some(WordReply::SeatFull),
+        "not_held" => Some(WordReply::NotHeld),
+        "already_removing" => Some(WordReply::AlreadyRemoving),
+        "no_lock" => Some(WordReply::NoLock),
+        "yes" => Some(WordReply::Yes),
+        "standing" => Some(WordReply::Standing),
+        "lost" => Some(WordReply::Lost),
+        "nothing" => Some(WordReply::Nothing),
+        "used" => Some(WordReply::Used),
+        "not_standing" => Some(WordReply::NotStanding),
+        "no_slot" => Some(WordReply::NoSlot),
+        "no_token" => Some(WordReply::NoToken),
+        _ => None,
     }
 }
 
@@ -108,14 +95,11 @@ fn word_reply_at(value: &Value) -> Option<WordReply>
 fn tagged_act(name: &str, lock: LockNo, tag: u32) -> Option<Act>
     ensures { result ≡ tagged_act name.now lock tag }
 {
-    if name == "acquire" {
-        Some(Act::Acquire { lock, tag })
-    } else if name == "release" {
-        Some(Act::Release { lock, tag })
-    } else if name == "begin_remove" {
-        Some(Act::BeginRemove { lock, tag })
-    } else {
-        None
+    match name {
+        "acquire" => Some(Act::Acquire { lock, tag }),
+        "release" => Some(Act::Release { lock, tag }),
+        "begin_remove" => Some(Act::BeginRemove { lock, tag }),
+        _ => None,
     }
 }
 
@@ -171,16 +155,12 @@ fn hand_at(value: &Value) -> Option<Act>
 fn slot_act(name: &str, slot: u32) -> Option<Act>
     ensures { result ≡ slot_act name.now slot }
 {
-    if name == "publish" {
-        Some(Act::Publish { slot })
-    } else if name == "withdraw" {
-        Some(Act::Withdraw { slot })
-    } else if name == "request" {
-        Some(Act::Request { slot })
-    } else if name == "finish_taken" {
-        Some(Act::FinishTaken { slot })
-    } else {
-        None
+    match name {
+        "publish" => Some(Act::Publish { slot }),
+        "withdraw" => Some(Act::Withdraw { slot }),
+        "request" => Some(Act::Request { slot }),
+        "finish_taken" => Some(Act::FinishTaken { slot }),
+        _ => None,
     }
 }
 
