@@ -75,14 +75,11 @@ fn device_call_named<P: Copy, T: Copy>(
 ) -> Option<Call<P, T>>
     ensures { result ≡ device_call_named name.now (keys_in beside.now) (view value.now) }
 {
-    if name == "create_device" {
-        create_device_at(beside, value)
-    } else if name == "attach" {
-        attach_at(beside, value)
-    } else if name == "detach" {
-        detach_at(beside, value)
-    } else {
-        None
+    match name {
+        "create_device" => create_device_at(beside, value),
+        "attach" => attach_at(beside, value),
+        "detach" => detach_at(beside, value),
+        _ => None,
     }
 }
 
@@ -125,19 +122,21 @@ fn packet_call_named<P: Copy, T: Copy>(
 ) -> Option<Call<P, T>>
     ensures { result ≡ packet_call_named name.now (keys_in beside.now) packet (view value.now) }
 {
-    if name == "free" {
-        let irp = packet_alone_at(beside, packet, value)?;
-        Some(Call::Free { irp })
-    } else if name == "reuse" {
-        reuse_at(beside, packet, value)
-    } else if name == "cancel" {
-        let irp = packet_alone_at(beside, packet, value)?;
-        Some(Call::Cancel { irp })
-    } else if name == "look" {
-        let irp = packet_alone_at(beside, packet, value)?;
-        Some(Call::Look { irp })
-    } else {
-        None
+    match name {
+        "free" => {
+            let irp = packet_alone_at(beside, packet, value)?;
+            Some(Call::Free { irp })
+        }
+        "reuse" => reuse_at(beside, packet, value),
+        "cancel" => {
+            let irp = packet_alone_at(beside, packet, value)?;
+            Some(Call::Cancel { irp })
+        }
+        "look" => {
+            let irp = packet_alone_at(beside, packet, value)?;
+            Some(Call::Look { irp })
+        }
+        _ => None,
     }
 }
 
@@ -173,17 +172,20 @@ fn plain_call_named<P: Copy, T: Copy>(
 ) -> Option<Call<P, T>>
     ensures { result ≡ plain_call_named name.now (keys_in beside.now) packet (view value.now) }
 {
-    if name == "copy_to_next" {
-        let (party, irp) = party_alone_at(beside, packet, value)?;
-        Some(Call::CopyToNext { party, irp })
-    } else if name == "skip" {
-        let (party, irp) = party_alone_at(beside, packet, value)?;
-        Some(Call::Skip { party, irp })
-    } else if name == "mark_pending" {
-        let (party, irp) = party_alone_at(beside, packet, value)?;
-        Some(Call::MarkPending { party, irp })
-    } else {
-        None
+    match name {
+        "copy_to_next" => {
+            let (party, irp) = party_alone_at(beside, packet, value)?;
+            Some(Call::CopyToNext { party, irp })
+        }
+        "skip" => {
+            let (party, irp) = party_alone_at(beside, packet, value)?;
+            Some(Call::Skip { party, irp })
+        }
+        "mark_pending" => {
+            let (party, irp) = party_alone_at(beside, packet, value)?;
+            Some(Call::MarkPending { party, irp })
+        }
+        _ => None,
     }
 }
 
@@ -298,18 +300,13 @@ fn party_call_named<P: Copy, T: Copy>(
 ) -> Option<Call<P, T>>
     ensures { result ≡ party_call_named name.now (keys_in beside.now) packet (view value.now) }
 {
-    if name == "set_next" {
-        set_next_at(beside, packet, value)
-    } else if name == "set_routine" {
-        set_routine_at(beside, packet, value)
-    } else if name == "call_driver" {
-        call_driver_at(beside, packet, value)
-    } else if name == "complete" {
-        complete_at(beside, packet, value)
-    } else if name == "set_cancel_routine" {
-        set_cancel_routine_at(beside, packet, value)
-    } else {
-        None
+    match name {
+        "set_next" => set_next_at(beside, packet, value),
+        "set_routine" => set_routine_at(beside, packet, value),
+        "call_driver" => call_driver_at(beside, packet, value),
+        "complete" => complete_at(beside, packet, value),
+        "set_cancel_routine" => set_cancel_routine_at(beside, packet, value),
+        _ => None,
     }
 }
 

@@ -128,10 +128,9 @@ impl FromValue for Party {
     fn from_value(value: &Value) -> Option<Self> {
         match value {
             Value::String(name) => {
-                if name.as_str() == "o" {
-                    Some(Party::Originator)
-                } else {
-                    None
+                match name.as_str() {
+                    "o" => Some(Party::Originator),
+                    _ => None,
                 }
             }
             _ => Some(Party::Device(DeviceId::from_value(value)?)),
@@ -280,28 +279,26 @@ fn forward_pend_at(value: &Value) -> Option<Plan>
 fn plan_named(name: &str, value: &Value) -> Option<Plan>
     ensures { result ≡ plan_named name.now (view value.now) }
 {
-    if name == "finish" {
-        finish_at(value)
-    } else if name == "hold" {
-        hold_at(value)
-    } else if name == "hold_slot" {
-        if has_items(value, 1) {
-            Some(Plan::HoldSlot)
-        } else {
-            None
+    match name {
+        "finish" => finish_at(value),
+        "hold" => hold_at(value),
+        "hold_slot" => {
+            if has_items(value, 1) {
+                Some(Plan::HoldSlot)
+            } else {
+                None
+            }
         }
-    } else if name == "skip" {
-        if has_items(value, 1) {
-            Some(Plan::Skip)
-        } else {
-            None
+        "skip" => {
+            if has_items(value, 1) {
+                Some(Plan::Skip)
+            } else {
+                None
+            }
         }
-    } else if name == "forward" {
-        forward_at(value)
-    } else if name == "forward_pend" {
-        forward_pend_at(value)
-    } else {
-        None
+        "forward" => forward_at(value),
+        "forward_pend" => forward_pend_at(value),
+        _ => None,
     }
 }
 
@@ -333,16 +330,16 @@ fn cancel_finish_at(value: &Value) -> Option<CancelAnswer>
 fn cancel_answer_named(name: &str, value: &Value) -> Option<CancelAnswer>
     ensures { result ≡ cancel_answer_named name.now (view value.now) }
 {
-    if name == "finish" {
-        cancel_finish_at(value)
-    } else if name == "leave" {
-        if has_items(value, 1) {
-            Some(CancelAnswer::Leave)
-        } else {
-            None
+    match name {
+        "finish" => cancel_finish_at(value),
+        "leave" => {
+            if has_items(value, 1) {
+                Some(CancelAnswer::Leave)
+            } else {
+                None
+            }
         }
-    } else {
-        None
+        _ => None,
     }
 }
 

@@ -30,32 +30,33 @@ fn guess_complete(scan: &mut Scan, party: Party) -> Option<Call> {
 
 /// The call of a party on its packet, from behind the packet on.
 fn guess_call_on(scan: &mut Scan, name: &str, party: Party, irp: IrpRef) -> Option<Call> {
-    if name == "set_next" {
-        let major = u8::try_from(scan.number_after(",\"major\":")?).ok()?;
-        let word = scan.wide_after(",\"word\":")?;
-        Some(Call::SetNext {
-            party,
-            irp,
-            major,
-            word,
-        })
-    } else if name == "set_routine" {
-        scan.pass(",\"set\":")?;
-        let setting = guess_setting(scan)?;
-        Some(Call::SetRoutine {
-            party,
-            irp,
-            setting,
-        })
-    } else if name == "call_driver" {
-        let target = guess_device_after(scan, ",\"target\":")?;
-        Some(Call::CallDriver { party, irp, target })
-    } else if name == "copy_to_next" {
-        Some(Call::CopyToNext { party, irp })
-    } else if name == "skip" {
-        Some(Call::Skip { party, irp })
-    } else {
-        Some(Call::MarkPending { party, irp })
+    match name {
+        "set_next" => {
+            let major = u8::try_from(scan.number_after(",\"major\":")?).ok()?;
+            let word = scan.wide_after(",\"word\":")?;
+            Some(Call::SetNext {
+                party,
+                irp,
+                major,
+                word,
+            })
+        }
+        "set_routine" => {
+            scan.pass(",\"set\":")?;
+            let setting = guess_setting(scan)?;
+            Some(Call::SetRoutine {
+                party,
+                irp,
+                setting,
+            })
+        }
+        "call_driver" => {
+            let target = guess_device_after(scan, ",\"target\":")?;
+            Some(Call::CallDriver { party, irp, target })
+        }
+        "copy_to_next" => Some(Call::CopyToNext { party, irp }),
+        "skip" => Some(Call::Skip { party, irp }),
+        _ => Some(Call::MarkPending { party, irp }),
     }
 }
 
@@ -90,35 +91,36 @@ fn guess_finish_taken(scan: &mut Scan) -> Option<Call> {
 /// The call on a packet that no party makes, from behind its name on.
 fn guess_packet_call(scan: &mut Scan, name: &str) -> Option<Call> {
     let irp = guess_irp_after(scan, ",\"irp\":")?;
-    if name == "free" {
-        Some(Call::Free { irp })
-    } else if name == "cancel" {
-        Some(Call::Cancel { irp })
-    } else if name == "look" {
-        Some(Call::Look { irp })
-    } else {
-        let status = guess_status_after(scan, ",\"status\":")?;
-        Some(Call::Reuse { irp, status })
+    match name {
+        "free" => Some(Call::Free { irp }),
+        "cancel" => Some(Call::Cancel { irp }),
+        "look" => Some(Call::Look { irp }),
+        _ => {
+            let status = guess_status_after(scan, ",\"status\":")?;
+            Some(Call::Reuse { irp, status })
+        }
     }
 }
 
 /// The call whose name comes first, from the name on.
 fn guess_plain_call(scan: &mut Scan) -> Option<Call> {
     let name = scan.word_after("\"")?;
-    if name == "allocate" {
-        let size = u8::try_from(scan.number_after(",\"size\":")?).ok()?;
-        Some(Call::Allocate { size })
-    } else if name == "create_device" {
-        let driver = DriverId(scan.number_after(",\"driver\":")?);
-        let lock = LockNo(scan.number_after(",\"lock\":")?);
-        Some(Call::CreateDevice { driver, lock })
-    } else if name == "detach" {
-        let lower = guess_device_after(scan, ",\"lower\":")?;
-        Some(Call::Detach { lower })
-    } else if name == "finish_taken" {
-        guess_finish_taken(scan)
-    } else {
-        guess_packet_call(scan, name)
+    match name {
+        "allocate" => {
+            let size = u8::try_from(scan.number_after(",\"size\":")?).ok()?;
+            Some(Call::Allocate { size })
+        }
+        "create_device" => {
+            let driver = DriverId(scan.number_after(",\"driver\":")?);
+            let lock = LockNo(scan.number_after(",\"lock\":")?);
+            Some(Call::CreateDevice { driver, lock })
+        }
+        "detach" => {
+            let lower = guess_device_after(scan, ",\"lower\":")?;
+            Some(Call::Detach { lower })
+        }
+        "finish_taken" => guess_finish_taken(scan),
+        _ => guess_packet_call(scan, name),
     }
 }
 

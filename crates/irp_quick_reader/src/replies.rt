@@ -33,20 +33,14 @@ fn guess_seen(scan: &mut Scan) -> Option<Seen> {
 
 /// The reply that has a value, by its name.
 fn guess_valued_reply(scan: &mut Scan, name: &str) -> Option<Reply> {
-    if name == "status" {
-        Some(Reply::Status(guess_status_after(scan, "")?))
-    } else if name == "device" {
-        Some(Reply::Device(guess_device_after(scan, "")?))
-    } else if name == "irp" {
-        Some(Reply::Irp(guess_irp_after(scan, "")?))
-    } else if name == "previous" {
-        Some(Reply::Previous(guess_cancel_after(scan, "")?))
-    } else if name == "cancelled" {
-        Some(Reply::Cancelled(scan.flag_after("")?))
-    } else if name == "seen" {
-        Some(Reply::Seen(guess_seen(scan)?))
-    } else {
-        Some(Reply::Refused(named(scan.word_after("\"")?)?))
+    match name {
+        "status" => Some(Reply::Status(guess_status_after(scan, "")?)),
+        "device" => Some(Reply::Device(guess_device_after(scan, "")?)),
+        "irp" => Some(Reply::Irp(guess_irp_after(scan, "")?)),
+        "previous" => Some(Reply::Previous(guess_cancel_after(scan, "")?)),
+        "cancelled" => Some(Reply::Cancelled(scan.flag_after("")?)),
+        "seen" => Some(Reply::Seen(guess_seen(scan)?)),
+        _ => Some(Reply::Refused(named(scan.word_after("\"")?)?)),
     }
 }
 

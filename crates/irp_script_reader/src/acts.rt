@@ -57,13 +57,13 @@ fn allocate_at(place: usize, value: &Value) -> Option<StepAct>
 fn call_act_named(place: usize, name: &str, value: &Value) -> Option<StepAct>
     ensures { result ≡ call_act_named place name.now (view value.now) }
 {
-    if name == "delete" {
-        delete_at(value)
-    } else if name == "allocate" {
-        allocate_at(place, value)
-    } else {
-        let call = call_named(name, &["seat"], packet_in(place, value), value)?;
-        Some(StepAct::Call(call))
+    match name {
+        "delete" => delete_at(value),
+        "allocate" => allocate_at(place, value),
+        _ => {
+            let call = call_named(name, &["seat"], packet_in(place, value), value)?;
+            Some(StepAct::Call(call))
+        }
     }
 }
 
@@ -98,14 +98,11 @@ fn tagged_act(name: &str, tagged: (LockNo, u32)) -> Option<StepAct>
     ensures { result ≡ tagged_act name.now tagged }
 {
     let (lock, tag) = tagged;
-    if name == "acquire" {
-        Some(StepAct::Acquire { lock, tag })
-    } else if name == "release" {
-        Some(StepAct::Release { lock, tag })
-    } else if name == "begin_remove" {
-        Some(StepAct::BeginRemove { lock, tag })
-    } else {
-        None
+    match name {
+        "acquire" => Some(StepAct::Acquire { lock, tag }),
+        "release" => Some(StepAct::Release { lock, tag }),
+        "begin_remove" => Some(StepAct::BeginRemove { lock, tag }),
+        _ => None,
     }
 }
 

@@ -28,12 +28,10 @@ use serde_json::Value;
 fn behaviour_named(name: &str) -> Option<Behaviour>
     ensures { result ≡ behaviour_named name.now }
 {
-    if name == "continue" {
-        Some(Behaviour::Continue)
-    } else if name == "keep" {
-        Some(Behaviour::Keep)
-    } else {
-        None
+    match name {
+        "continue" => Some(Behaviour::Continue),
+        "keep" => Some(Behaviour::Keep),
+        _ => None,
     }
 }
 

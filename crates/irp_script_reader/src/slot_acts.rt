@@ -83,12 +83,10 @@ fn finish_taken_at(place: usize, value: &Value) -> Option<StepAct>
 fn slot_alone_act(name: &str, slot: u32) -> Option<StepAct>
     ensures { result ≡ slot_alone_act name.now slot }
 {
-    if name == "withdraw" {
-        Some(StepAct::Withdraw { slot })
-    } else if name == "request" {
-        Some(StepAct::Request { slot })
-    } else {
-        None
+    match name {
+        "withdraw" => Some(StepAct::Withdraw { slot }),
+        "request" => Some(StepAct::Request { slot }),
+        _ => None,
     }
 }
 
@@ -97,13 +95,10 @@ fn slot_alone_act(name: &str, slot: u32) -> Option<StepAct>
 pub fn slot_act_named(place: usize, name: &str, value: &Value) -> Option<StepAct>
     ensures { result ≡ slot_act_named place name.now (view value.now) }
 {
-    if name == "hand" {
-        hand_at(value)
-    } else if name == "publish" {
-        publish_at(place, value)
-    } else if name == "finish_taken" {
-        finish_taken_at(place, value)
-    } else {
-        slot_alone_act(name, slot_alone_at(value)?)
+    match name {
+        "hand" => hand_at(value),
+        "publish" => publish_at(place, value),
+        "finish_taken" => finish_taken_at(place, value),
+        _ => slot_alone_act(name, slot_alone_at(value)?),
     }
 }

@@ -70,12 +70,10 @@ fn finish_taken_at(value: &Value) -> Option<Call>
 fn other_call_named(name: &str, value: &Value) -> Option<Call>
     ensures { result ≡ other_call_named name.now (view value.now) }
 {
-    if name == "allocate" {
-        allocate_at(value)
-    } else if name == "finish_taken" {
-        finish_taken_at(value)
-    } else {
-        call_named(name, &[], under("irp", value), value)
+    match name {
+        "allocate" => allocate_at(value),
+        "finish_taken" => finish_taken_at(value),
+        _ => call_named(name, &[], under("irp", value), value),
     }
 }
 

@@ -31,12 +31,10 @@ fn owner_at(value: &Value) -> Option<Owner>
 {
     match value {
         Value::String(name) => {
-            if name.as_str() == "o" {
-                Some(Owner::Originator)
-            } else if name.as_str() == "ended" {
-                Some(Owner::Ended)
-            } else {
-                None
+            match name.as_str() {
+                "o" => Some(Owner::Originator),
+                "ended" => Some(Owner::Ended),
+                _ => None,
             }
         }
         _ => Some(Owner::Device(FromValue::from_value(value)?)),

@@ -103,14 +103,11 @@ fn order_of(matches: &ArgMatches<'_>) -> Result<Order, Unread>
     let Some((name, inner)) = matches.subcommand() else {
         return Err(Unread::Usage);
     };
-    if name == "demo" {
-        Ok(Order::Demo)
-    } else if name == "run" {
-        run_of(inner)
-    } else if name == "check" {
-        Ok(Order::Check)
-    } else {
-        Err(Unread::Usage)
+    match name {
+        "demo" => Ok(Order::Demo),
+        "run" => run_of(inner),
+        "check" => Ok(Order::Check),
+        _ => Err(Unread::Usage),
     }
 }
 
