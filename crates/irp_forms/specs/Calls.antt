@@ -5,7 +5,7 @@ use Rattle.std.specs.Prelude.{ℕ, List, ◌∷◌, codes, Option, Some, None, i
 use Rattle.std.proofs.Common.{bytes_eq}
 use Rattle.serde_json.specs.Data.{Data}
 use Rattle.serde_json.specs.Find.{get}
-use Rattle.irp_forms.specs.Parts.{◌>>=◌, or_null_at, or_else, has_keys, u8_at, u64_at}
+use Rattle.irp_forms.specs.Parts.{◌>>=◌, or_null_at, has_keys, u8_at, u64_at}
 use Rattle.irp_forms.specs.Values.{cancel_at, device_at, driver_at, lock_at, party_at, setting_at, status_at}
 use Rattle.irp_types.specs.declared.call.Call.{Call as CallOf}
 use Rattle.irp_types.specs.declared.call.Call.TheVariants as calls
@@ -34,12 +34,6 @@ detach_at beside form = if has_keys (codes "do" ∷ codes "lower" ∷ beside) fo
   lower ← get (codes "lower") form >>= device_at
   Some (calls.Detach lower)) else None
 
-unfoldable pub device_call_named : {P T : Type 0} → List ℕ → Keys → Data → Option (CallOf P T)
-device_call_named name beside form =
-    if bytes_eq name (codes "create_device") then create_device_at beside form else
-    (if bytes_eq name (codes "attach") then attach_at beside form else
-    (if bytes_eq name (codes "detach") then detach_at beside form else None))
-
 -- ---- calls on a packet that no party makes
 
 -- the packet of a call that names nothing else
@@ -51,13 +45,6 @@ reuse_at beside packet form = if has_keys (codes "do" ∷ codes "irp" ∷ codes 
   irp ← packet
   status ← get (codes "status") form >>= status_at
   Some (calls.Reuse irp status)) else None
-
-unfoldable pub packet_call_named : {P T : Type 0} → List ℕ → Keys → Option P → Data → Option (CallOf P T)
-packet_call_named name beside packet form =
-    if bytes_eq name (codes "free") then (packet_alone_at beside packet form >>= λ irp. Some (calls.Free irp)) else
-    (if bytes_eq name (codes "reuse") then reuse_at beside packet form else
-    (if bytes_eq name (codes "cancel") then (packet_alone_at beside packet form >>= λ irp. Some (calls.Cancel irp)) else
-    (if bytes_eq name (codes "look") then (packet_alone_at beside packet form >>= λ irp. Some (calls.Look irp)) else None)))
 
 -- ---- calls of a party on its packet
 
@@ -71,13 +58,6 @@ by_party_at packet form = do
 -- the party and its packet of a call that names nothing else
 unfoldable pub party_alone_at : {P : Type 0} → Keys → Option P → Data → Option (Party × P)
 party_alone_at beside packet form = if has_keys (codes "by" ∷ codes "do" ∷ codes "irp" ∷ beside) form then by_party_at packet form else None
-
--- a call of a party that names nothing but its packet
-unfoldable pub plain_call_named : {P T : Type 0} → List ℕ → Keys → Option P → Data → Option (CallOf P T)
-plain_call_named name beside packet form =
-    if bytes_eq name (codes "copy_to_next") then (party_alone_at beside packet form >>= λ caller. Some (calls.CopyToNext caller.0 caller.1)) else
-    (if bytes_eq name (codes "skip") then (party_alone_at beside packet form >>= λ caller. Some (calls.Skip caller.0 caller.1)) else
-    (if bytes_eq name (codes "mark_pending") then (party_alone_at beside packet form >>= λ caller. Some (calls.MarkPending caller.0 caller.1)) else None))
 
 unfoldable pub set_next_at : {P T : Type 0} → Keys → Option P → Data → Option (CallOf P T)
 set_next_at beside packet form =
@@ -114,20 +94,24 @@ set_cancel_routine_at beside packet form =
       cancel ← get (codes "cancel") form >>= or_null_at cancel_at
       Some (calls.SetCancelRoutine caller.0 caller.1 cancel)) else None
 
--- a call of a party that names more than its packet
-unfoldable pub party_call_named : {P T : Type 0} → List ℕ → Keys → Option P → Data → Option (CallOf P T)
-party_call_named name beside packet form =
-    if bytes_eq name (codes "set_next") then set_next_at beside packet form else
-    (if bytes_eq name (codes "set_routine") then set_routine_at beside packet form else
-    (if bytes_eq name (codes "call_driver") then call_driver_at beside packet form else
-    (if bytes_eq name (codes "complete") then complete_at beside packet form else
-    (if bytes_eq name (codes "set_cancel_routine") then set_cancel_routine_at beside packet form else None))))
-
 -- ---- all of them
 
 -- a call by its name; none for an allocation, a deletion of a device, and a finish of a taken packet, which entries and
 -- steps tell in different ways
 unfoldable pub call_named : {P T : Type 0} → List ℕ → Keys → Option P → Data → Option (CallOf P T)
 call_named name beside packet form =
-    or_else (device_call_named name beside form) (or_else (packet_call_named name beside packet form)
-    (or_else (plain_call_named name beside packet form) (party_call_named name beside packet form)))
+    if bytes_eq name (codes "create_device") then create_device_at beside form else
+    (if bytes_eq name (codes "attach") then attach_at beside form else
+    (if bytes_eq name (codes "detach") then detach_at beside form else
+    (if bytes_eq name (codes "free") then (packet_alone_at beside packet form >>= λ irp. Some (calls.Free irp)) else
+    (if bytes_eq name (codes "reuse") then reuse_at beside packet form else
+    (if bytes_eq name (codes "cancel") then (packet_alone_at beside packet form >>= λ irp. Some (calls.Cancel irp)) else
+    (if bytes_eq name (codes "look") then (packet_alone_at beside packet form >>= λ irp. Some (calls.Look irp)) else
+    (if bytes_eq name (codes "copy_to_next") then (party_alone_at beside packet form >>= λ caller. Some (calls.CopyToNext caller.0 caller.1)) else
+    (if bytes_eq name (codes "skip") then (party_alone_at beside packet form >>= λ caller. Some (calls.Skip caller.0 caller.1)) else
+    (if bytes_eq name (codes "mark_pending") then (party_alone_at beside packet form >>= λ caller. Some (calls.MarkPending caller.0 caller.1)) else
+    (if bytes_eq name (codes "set_next") then set_next_at beside packet form else
+    (if bytes_eq name (codes "set_routine") then set_routine_at beside packet form else
+    (if bytes_eq name (codes "call_driver") then call_driver_at beside packet form else
+    (if bytes_eq name (codes "complete") then complete_at beside packet form else
+    (if bytes_eq name (codes "set_cancel_routine") then set_cancel_routine_at beside packet form else None))))))))))))))

@@ -11,12 +11,8 @@ ghost use Rattle.irp_forms.specs.Calls.{
   complete_at,
   create_device_at,
   detach_at,
-  device_call_named,
   packet_alone_at,
-  packet_call_named,
   party_alone_at,
-  party_call_named,
-  plain_call_named,
   reuse_at,
   set_cancel_routine_at,
   set_next_at,
@@ -66,23 +62,6 @@ fn detach_at<P: Copy, T: Copy>(beside: &[&str], value: &Value) -> Option<Call<P,
     Some(Call::Detach { lower })
 }
 
-/// A call on devices, by its name.
-#[tactic(auto, unfolding(crate::specs::Calls::device_call_named))]
-fn device_call_named<P: Copy, T: Copy>(
-    name: &str,
-    beside: &[&str],
-    value: &Value,
-) -> Option<Call<P, T>>
-    ensures { result ≡ device_call_named name.now (keys_in beside.now) (view value.now) }
-{
-    match name {
-        "create_device" => create_device_at(beside, value),
-        "attach" => attach_at(beside, value),
-        "detach" => detach_at(beside, value),
-        _ => None,
-    }
-}
-
 /// The packet of a call that names nothing else.
 #[tactic(auto, unfolding(crate::specs::Calls::packet_alone_at))]
 fn packet_alone_at<P: Copy>(beside: &[&str], packet: Option<P>, value: &Value) -> Option<P>
@@ -112,34 +91,6 @@ fn reuse_at<P: Copy, T: Copy>(
     Some(Call::Reuse { irp, status })
 }
 
-/// A call on a packet that no party makes, by its name.
-#[tactic(auto, unfolding(crate::specs::Calls::packet_call_named))]
-fn packet_call_named<P: Copy, T: Copy>(
-    name: &str,
-    beside: &[&str],
-    packet: Option<P>,
-    value: &Value,
-) -> Option<Call<P, T>>
-    ensures { result ≡ packet_call_named name.now (keys_in beside.now) packet (view value.now) }
-{
-    match name {
-        "free" => {
-            let irp = packet_alone_at(beside, packet, value)?;
-            Some(Call::Free { irp })
-        }
-        "reuse" => reuse_at(beside, packet, value),
-        "cancel" => {
-            let irp = packet_alone_at(beside, packet, value)?;
-            Some(Call::Cancel { irp })
-        }
-        "look" => {
-            let irp = packet_alone_at(beside, packet, value)?;
-            Some(Call::Look { irp })
-        }
-        _ => None,
-    }
-}
-
 /// The party and its packet.
 #[tactic(auto, unfolding(crate::specs::Calls::by_party_at))]
 fn by_party_at<P: Copy>(packet: Option<P>, value: &Value) -> Option<(Party, P)>
@@ -159,33 +110,6 @@ fn party_alone_at<P: Copy>(beside: &[&str], packet: Option<P>, value: &Value) ->
         by_party_at(packet, value)
     } else {
         None
-    }
-}
-
-/// A call of a party that names nothing but its packet, by its name.
-#[tactic(auto, unfolding(crate::specs::Calls::plain_call_named))]
-fn plain_call_named<P: Copy, T: Copy>(
-    name: &str,
-    beside: &[&str],
-    packet: Option<P>,
-    value: &Value,
-) -> Option<Call<P, T>>
-    ensures { result ≡ plain_call_named name.now (keys_in beside.now) packet (view value.now) }
-{
-    match name {
-        "copy_to_next" => {
-            let (party, irp) = party_alone_at(beside, packet, value)?;
-            Some(Call::CopyToNext { party, irp })
-        }
-        "skip" => {
-            let (party, irp) = party_alone_at(beside, packet, value)?;
-            Some(Call::Skip { party, irp })
-        }
-        "mark_pending" => {
-            let (party, irp) = party_alone_at(beside, packet, value)?;
-            Some(Call::MarkPending { party, irp })
-        }
-        _ => None,
     }
 }
 
@@ -290,26 +214,6 @@ fn set_cancel_routine_at<P: Copy, T: Copy>(
     Some(Call::SetCancelRoutine { party, irp, cancel })
 }
 
-/// A call of a party that names more than its packet, by its name.
-#[tactic(auto, unfolding(crate::specs::Calls::party_call_named))]
-fn party_call_named<P: Copy, T: Copy>(
-    name: &str,
-    beside: &[&str],
-    packet: Option<P>,
-    value: &Value,
-) -> Option<Call<P, T>>
-    ensures { result ≡ party_call_named name.now (keys_in beside.now) packet (view value.now) }
-{
-    match name {
-        "set_next" => set_next_at(beside, packet, value),
-        "set_routine" => set_routine_at(beside, packet, value),
-        "call_driver" => call_driver_at(beside, packet, value),
-        "complete" => complete_at(beside, packet, value),
-        "set_cancel_routine" => set_cancel_routine_at(beside, packet, value),
-        _ => None,
-    }
-}
-
 /// The call of this name that an object tells with its own keys and those beside them, where this is what its packet reads
 /// as. None for an allocation, a deletion of a device and a finish of a taken packet, which entries and steps tell in
 /// different ways; none for another name or another form (this project's own format, docs/FORMATS.md).
@@ -322,14 +226,40 @@ pub fn call_named<P: Copy, T: Copy>(
 ) -> Option<Call<P, T>>
     ensures { result ≡ call_named name.now (keys_in beside.now) packet (view value.now) }
 {
-    if let Some(call) = device_call_named(name, beside, value) {
-        return Some(call);
-    }
-    if let Some(call) = packet_call_named(name, beside, packet, value) {
-        return Some(call);
-    }
-    match plain_call_named(name, beside, packet, value) {
-        Some(call) => Some(call),
-        None => party_call_named(name, beside, packet, value),
+    match name {
+        "create_device" => create_device_at(beside, value),
+        "attach" => attach_at(beside, value),
+        "detach" => detach_at(beside, value),
+        "free" => {
+            let irp = packet_alone_at(beside, packet, value)?;
+            Some(Call::Free { irp })
+        }
+        "reuse" => reuse_at(beside, packet, value),
+        "cancel" => {
+            let irp = packet_alone_at(beside, packet, value)?;
+            Some(Call::Cancel { irp })
+        }
+        "look" => {
+            let irp = packet_alone_at(beside, packet, value)?;
+            Some(Call::Look { irp })
+        }
+        "copy_to_next" => {
+            let (party, irp) = party_alone_at(beside, packet, value)?;
+            Some(Call::CopyToNext { party, irp })
+        }
+        "skip" => {
+            let (party, irp) = party_alone_at(beside, packet, value)?;
+            Some(Call::Skip { party, irp })
+        }
+        "mark_pending" => {
+            let (party, irp) = party_alone_at(beside, packet, value)?;
+            Some(Call::MarkPending { party, irp })
+        }
+        "set_next" => set_next_at(beside, packet, value),
+        "set_routine" => set_routine_at(beside, packet, value),
+        "call_driver" => call_driver_at(beside, packet, value),
+        "complete" => complete_at(beside, packet, value),
+        "set_cancel_routine" => set_cancel_routine_at(beside, packet, value),
+        _ => None,
     }
 }

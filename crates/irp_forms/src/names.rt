@@ -19,6 +19,7 @@ ghost use Rattle.irp_forms.specs.Names.{
   rules,
 };
 
+use crate::from_value::FromValue;
 use irp_types::{CancelRule, Refusal, Rule};
 use serde_json::Value;
 
@@ -80,11 +81,13 @@ impl HasName for Rule {
 }
 
 /// The rule of a completion routine by its name (this project's own format, docs/FORMATS.md).
-#[tactic(auto, unfolding(crate::specs::Names::rule_at))]
-pub fn rule_at(value: &Value) -> Option<Rule>
-    ensures { result ≡ rule_at (view value.now) }
-{
-    named(value.as_str()?)
+impl FromValue for Rule {
+    ghost form = { rule_at };
+
+    #[tactic(auto, unfolding(crate::specs::Names::rule_at))]
+    fn from_value(value: &Value) -> Option<Self> {
+        named(value.as_str()?)
+    }
 }
 
 impl HasName for CancelRule {
@@ -111,11 +114,13 @@ impl HasName for CancelRule {
 }
 
 /// The rule of a cancel routine by its name (this project's own format, docs/FORMATS.md).
-#[tactic(auto, unfolding(crate::specs::Names::cancel_rule_at))]
-pub fn cancel_rule_at(value: &Value) -> Option<CancelRule>
-    ensures { result ≡ cancel_rule_at (view value.now) }
-{
-    named(value.as_str()?)
+impl FromValue for CancelRule {
+    ghost form = { cancel_rule_at };
+
+    #[tactic(auto, unfolding(crate::specs::Names::cancel_rule_at))]
+    fn from_value(value: &Value) -> Option<Self> {
+        named(value.as_str()?)
+    }
 }
 
 /// When a completion routine is called, as a setting's letters say (this project's own format, docs/FORMATS.md).
@@ -153,11 +158,13 @@ pub fn flags_named(letters: &str) -> Option<Flags>
 }
 
 /// The flags by their letters: some of s, e, c in this order (this project's own format, docs/FORMATS.md).
-#[tactic(auto, unfolding(crate::specs::Names::flags_at))]
-pub fn flags_at(value: &Value) -> Option<Flags>
-    ensures { result ≡ flags_at (view value.now) }
-{
-    flags_named(value.as_str()?)
+impl FromValue for Flags {
+    ghost form = { flags_at };
+
+    #[tactic(auto, unfolding(crate::specs::Names::flags_at))]
+    fn from_value(value: &Value) -> Option<Self> {
+        flags_named(value.as_str()?)
+    }
 }
 
 impl HasName for Refusal {

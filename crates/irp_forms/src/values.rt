@@ -2,7 +2,7 @@
 
 ghost use Rattle.std.specs.Prelude.{◌≡◌};
 ghost use Rattle.serde_json.specs.View.{view};
-ghost use Rattle.irp_forms.specs.Names.{cancel_rule_at, flags_at, rule_at};
+ghost use Rattle.irp_forms.specs.Names.{cancel_rule_at};
 ghost use Rattle.irp_forms.specs.Values.{
   cancel_answer_at,
   cancel_answer_named,
@@ -32,12 +32,12 @@ ghost use Rattle.irp_forms.specs.Values.{
 
 use crate::from_value::{FromValue, nth};
 use crate::list::FromJson;
-use crate::names::{Flags, cancel_rule_at, flags_at, rule_at};
+use crate::names::Flags;
 use crate::parts::has_items;
 use crate::unread::{Unread, form_of};
 use irp_types::{
     CancelAnswer, CancelId, CancelRule, DeviceId, DispatchId, DriverId, IrpRef, Known, LockNo,
-    Party, Plan, Replacement, RoutineId, Rule, Setting, Status,
+    Party, Plan, Replacement, RoutineId, Setting, Status,
 };
 use serde_json::Value;
 use std::alloc::Global;
@@ -135,30 +135,6 @@ impl FromValue for Party {
             }
             _ => Some(Party::Device(DeviceId::from_value(value)?)),
         }
-    }
-}
-
-impl FromValue for Rule {
-    ghost form = { rule_at };
-
-    fn from_value(value: &Value) -> Option<Self> {
-        rule_at(value)
-    }
-}
-
-impl FromValue for Flags {
-    ghost form = { flags_at };
-
-    fn from_value(value: &Value) -> Option<Self> {
-        flags_at(value)
-    }
-}
-
-impl FromValue for CancelRule {
-    ghost form = { cancel_rule_at };
-
-    fn from_value(value: &Value) -> Option<Self> {
-        cancel_rule_at(value)
     }
 }
 
