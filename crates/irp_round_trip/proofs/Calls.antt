@@ -5,7 +5,7 @@ use Rattle.irp_forms.specs.Values.{driver_at}
 use Rattle.irp_types.specs.Calls.{Call}
 use Rattle.irp_types.specs.declared.call.Call.TheVariants as call
 use Rattle.irp_types.specs.declared.names.LockNo.{LockNo}
-use Rattle.irp_forms.specs.Calls.{attach_at, by_party_at, call_driver_at, call_named, complete_at, create_device_at, detach_at, packet_alone_at, party_alone_at,, reuse_at, set_cancel_routine_at, set_next_at, set_routine_at}
+use Rattle.irp_forms.specs.Calls.{attach_at, by_party_at, call_driver_at, call_named, complete_at, create_device_at, detach_at, packet_alone_at, party_alone_at, reuse_at, set_cancel_routine_at, set_next_at, set_routine_at}
 use Rattle.irp_transcript_reader.specs.Calls.{allocate_at, delete_at, entry_call_at, entry_call_named, finish_taken_at, finish_taken_keys, other_call_named}
 use Rattle.irp_transcript_writer.specs.Lines.{call_json, lock_json}
 use Rattle.irp_round_trip.proofs.Numbers.{u8_back, u32_back, u64_back, byte_wide, wide, or_null_stands}

@@ -7,7 +7,7 @@ use Rattle.irp_shared.specs.declared.word_line.WordLine.{WordLine}
 use Rattle.irp_shared.specs.declared.word_line.WordReply.{WordReply}
 use Rattle.irp_shared.specs.declared.word_line.WordReply.TheVariants as word_reply
 use Rattle.irp_transcript_reader.specs.Reading.{is_entry}
-use Rattle.irp_transcript_reader.specs.WordLines.{act_at, drained_at, hand_at, hand_keys, slot_act, slot_act_at, tagged_act, tagged_act_at, valued_reply_at, word_line_at, word_reply_at, word_reply_named, word_status}
+use Rattle.irp_transcript_reader.specs.WordLines.{act_at, drained_at, hand_at, hand_keys, slot_at, tagged_at, valued_reply_at, word_line_at, word_reply_at, word_reply_named, word_status}
 use Rattle.irp_transcript_writer.specs.Lines.{line_of_act, word_json, word_reply_json}
 use Rattle.irp_round_trip.proofs.Numbers.{u32_back, u64_back, wide}
 use Rattle.irp_round_trip.proofs.Stands.{Stands}
@@ -54,7 +54,7 @@ word_reply_stands levels word_reply.NoSlot h = refl
 word_reply_stands levels word_reply.NoToken h = refl
 
 act_back : (done : Act) (line : WordLine) → ActFits done → act_at (line_of_act done line) ≡ Some done
-unfolding act_at drained_at hand_at hand_keys tagged_act_at tagged_act slot_act_at slot_act has_keys
+unfolding act_at drained_at hand_at hand_keys tagged_at slot_at has_keys
 act_back (act.Acquire lock tag) line h = rw (lock_back lock h.0, u32_back tag h.1)
 act_back (act.Release lock tag) line h = rw (lock_back lock h.0, u32_back tag h.1)
 act_back (act.BeginRemove lock tag) line h = rw (lock_back lock h.0, u32_back tag h.1)

@@ -3,13 +3,13 @@ use Rattle.std.specs.Prelude.{ℕ, List, [], ◌∷◌, codes, Option, Some, Non
 use Rattle.std.proofs.Common.{bytes_eq}
 use Rattle.serde_json.specs.Data.{Data}
 use Rattle.serde_json.specs.Find.{get, as_str}
-use Rattle.irp_forms.specs.Parts.{◌>>=◌, or_else, has_keys, u8_at, u32_at}
+use Rattle.irp_forms.specs.Parts.{◌>>=◌, has_keys, u8_at, u32_at}
 use Rattle.irp_forms.specs.Values.{device_at, lock_at}
 use Rattle.irp_forms.specs.Calls.{Keys, call_named}
 use Rattle.irp_types.specs.declared.call.Call.TheVariants.{Delete}
 use Rattle.irp_types.specs.declared.names.LockNo.{LockNo}
 use Rattle.irp_script_reader.specs.Labels.{is_label, named_at}
-use Rattle.irp_script_reader.specs.SlotActs.{slot_act_named}
+use Rattle.irp_script_reader.specs.SlotActs.{finish_taken_at, hand_at, publish_at, slot_alone_at}
 use Rattle.irp_script_reader.specs.declared.act.Step.{Step}
 use Rattle.irp_script_reader.specs.declared.act.StepAct.{StepAct}
 use Rattle.irp_script_reader.specs.declared.act.StepAct.TheVariants as act
@@ -32,13 +32,6 @@ allocate_at place form = if has_keys (codes "as" ∷ codes "do" ∷ codes "seat"
   label ← get (codes "as") form >>= as_str
   if is_label label then Some (act.Allocate size place) else None) else None
 
--- a call by its name, where a label that it names has this place
-unfoldable pub call_act_named : ℕ → List ℕ → Data → Option StepAct
-call_act_named place name form =
-    if bytes_eq name (codes "delete") then delete_at form else
-    (if bytes_eq name (codes "allocate") then allocate_at place form else
-    (call_named name beside (get (codes "irp") form >>= named_at place) form >>= λ call. Some (act.Call call)))
-
 -- ---- remove locks
 
 -- the lock and the tag of a step that names nothing else
@@ -53,23 +46,23 @@ drained_at form = if has_keys (codes "do" ∷ codes "lock" ∷ codes "seat" ∷ 
   lock ← get (codes "lock") form >>= lock_at
   Some (act.Drained lock)) else None
 
--- what is done with a lock under a tag, by its name
-unfoldable pub tagged_act : List ℕ → LockNo × ℕ → Option StepAct
-tagged_act name tagged =
-    if bytes_eq name (codes "acquire") then Some (act.Acquire tagged.0 tagged.1) else
-    (if bytes_eq name (codes "release") then Some (act.Release tagged.0 tagged.1) else
-    (if bytes_eq name (codes "begin_remove") then Some (act.BeginRemove tagged.0 tagged.1) else None))
-
-unfoldable pub lock_act_named : List ℕ → Data → Option StepAct
-lock_act_named name form =
-    if bytes_eq name (codes "drained") then drained_at form else (tagged_at form >>= tagged_act name)
-
 -- ---- all of them
 
--- by its name
+-- by its name, where a label that it names has this place
 unfoldable pub act_named : ℕ → List ℕ → Data → Option StepAct
 act_named place name form =
-    or_else (call_act_named place name form) (or_else (lock_act_named name form) (slot_act_named place name form))
+    if bytes_eq name (codes "delete") then delete_at form else
+    (if bytes_eq name (codes "allocate") then allocate_at place form else
+    (if bytes_eq name (codes "acquire") then (tagged_at form >>= λ tagged. Some (act.Acquire tagged.0 tagged.1)) else
+    (if bytes_eq name (codes "release") then (tagged_at form >>= λ tagged. Some (act.Release tagged.0 tagged.1)) else
+    (if bytes_eq name (codes "begin_remove") then (tagged_at form >>= λ tagged. Some (act.BeginRemove tagged.0 tagged.1)) else
+    (if bytes_eq name (codes "drained") then drained_at form else
+    (if bytes_eq name (codes "hand") then hand_at form else
+    (if bytes_eq name (codes "publish") then publish_at place form else
+    (if bytes_eq name (codes "finish_taken") then finish_taken_at place form else
+    (if bytes_eq name (codes "withdraw") then (slot_alone_at form >>= λ slot. Some (act.Withdraw slot)) else
+    (if bytes_eq name (codes "request") then (slot_alone_at form >>= λ slot. Some (act.Request slot)) else
+    (call_named name beside (get (codes "irp") form >>= named_at place) form >>= λ call. Some (act.Call call))))))))))))
 
 -- by the name under `do`, where a label that it names has this place
 unfoldable pub act_at : ℕ → Data → Option StepAct

@@ -36,16 +36,3 @@ finish_taken_at place form =
       status ← get (codes "status") form >>= status_at
       information ← get (codes "information") form >>= u64_at
       Some (act.Call (FinishTaken irp slot status information))) else None
-
--- what is done with a slot that the step names alone, by its name
-unfoldable pub slot_alone_act : List ℕ → ℕ → Option StepAct
-slot_alone_act name slot =
-    if bytes_eq name (codes "withdraw") then Some (act.Withdraw slot) else
-    (if bytes_eq name (codes "request") then Some (act.Request slot) else None)
-
--- by its name
-unfoldable pub slot_act_named : ℕ → List ℕ → Data → Option StepAct
-slot_act_named place name form =
-    if bytes_eq name (codes "hand") then hand_at form else
-    (if bytes_eq name (codes "publish") then publish_at place form else
-    (if bytes_eq name (codes "finish_taken") then finish_taken_at place form else (slot_alone_at form >>= slot_alone_act name)))

@@ -6,19 +6,16 @@ ghost use Rattle.irp_script_reader.specs.Acts.{
   act_at,
   act_named,
   allocate_at,
-  call_act_named,
   delete_at,
   drained_at,
-  lock_act_named,
   step_at,
-  tagged_act,
   tagged_at,
 };
 
 use crate::act::{Step, StepAct};
 use crate::fields::packet_in;
 use crate::labels::is_label;
-use crate::slot_acts::slot_act_named;
+use crate::slot_acts::{finish_taken_at, hand_at, publish_at, slot_alone_at};
 use irp_forms::{call_named, has_keys, under};
 use irp_types::{Call, LockNo};
 use serde_json::Value;
@@ -52,21 +49,6 @@ fn allocate_at(place: usize, value: &Value) -> Option<StepAct>
     }
 }
 
-/// A call by its name, where a label that it names has this place.
-#[tactic(auto, unfolding(crate::specs::Acts::call_act_named))]
-fn call_act_named(place: usize, name: &str, value: &Value) -> Option<StepAct>
-    ensures { result ≡ call_act_named place name.now (view value.now) }
-{
-    match name {
-        "delete" => delete_at(value),
-        "allocate" => allocate_at(place, value),
-        _ => {
-            let call = call_named(name, &["seat"], packet_in(place, value), value)?;
-            Some(StepAct::Call(call))
-        }
-    }
-}
-
 /// The lock and the tag of a step that names nothing else.
 #[tactic(auto, unfolding(crate::specs::Acts::tagged_at))]
 fn tagged_at(value: &Value) -> Option<(LockNo, u32)>
@@ -92,44 +74,43 @@ fn drained_at(value: &Value) -> Option<StepAct>
     Some(StepAct::Drained { lock })
 }
 
-/// What is done with a remove lock under a tag, by its name.
-#[tactic(auto, unfolding(crate::specs::Acts::tagged_act))]
-fn tagged_act(name: &str, tagged: (LockNo, u32)) -> Option<StepAct>
-    ensures { result ≡ tagged_act name.now tagged }
-{
-    let (lock, tag) = tagged;
-    match name {
-        "acquire" => Some(StepAct::Acquire { lock, tag }),
-        "release" => Some(StepAct::Release { lock, tag }),
-        "begin_remove" => Some(StepAct::BeginRemove { lock, tag }),
-        _ => None,
-    }
-}
-
-/// What is done with a remove lock, by its name.
-#[tactic(auto, unfolding(crate::specs::Acts::lock_act_named))]
-fn lock_act_named(name: &str, value: &Value) -> Option<StepAct>
-    ensures { result ≡ lock_act_named name.now (view value.now) }
-{
-    if name == "drained" {
-        drained_at(value)
-    } else {
-        tagged_act(name, tagged_at(value)?)
-    }
-}
-
-/// What is done, by its name.
+/// What is done, by its name, where a label that it names has this place.
 #[tactic(auto, unfolding(crate::specs::Acts::act_named))]
 fn act_named(place: usize, name: &str, value: &Value) -> Option<StepAct>
     ensures { result ≡ act_named place name.now (view value.now) }
 {
-    if let Some(act) = call_act_named(place, name, value) {
-        return Some(act);
+    match name {
+        "delete" => delete_at(value),
+        "allocate" => allocate_at(place, value),
+        "acquire" => {
+            let (lock, tag) = tagged_at(value)?;
+            Some(StepAct::Acquire { lock, tag })
+        }
+        "release" => {
+            let (lock, tag) = tagged_at(value)?;
+            Some(StepAct::Release { lock, tag })
+        }
+        "begin_remove" => {
+            let (lock, tag) = tagged_at(value)?;
+            Some(StepAct::BeginRemove { lock, tag })
+        }
+        "drained" => drained_at(value),
+        "hand" => hand_at(value),
+        "publish" => publish_at(place, value),
+        "finish_taken" => finish_taken_at(place, value),
+        "withdraw" => {
+            let slot = slot_alone_at(value)?;
+            Some(StepAct::Withdraw { slot })
+        }
+        "request" => {
+            let slot = slot_alone_at(value)?;
+            Some(StepAct::Request { slot })
+        }
+        _ => {
+            let call = call_named(name, &["seat"], packet_in(place, value), value)?;
+            Some(StepAct::Call(call))
+        }
     }
-    if let Some(act) = lock_act_named(name, value) {
-        return Some(act);
-    }
-    slot_act_named(place, name, value)
 }
 
 /// What a step does, where a label that it names has this place.

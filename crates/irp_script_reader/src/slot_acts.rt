@@ -6,8 +6,6 @@ ghost use Rattle.irp_script_reader.specs.SlotActs.{
   finish_taken_at,
   hand_at,
   publish_at,
-  slot_act_named,
-  slot_alone_act,
   slot_alone_at,
 };
 
@@ -19,7 +17,7 @@ use serde_json::Value;
 
 /// A reference handed over.
 #[tactic(auto, unfolding(crate::specs::SlotActs::hand_at))]
-fn hand_at(value: &Value) -> Option<StepAct>
+pub fn hand_at(value: &Value) -> Option<StepAct>
     ensures { result ≡ hand_at (view value.now) }
 {
     if !has_keys(value, &["do", "lock", "seat", "tag", "to"]) {
@@ -33,7 +31,7 @@ fn hand_at(value: &Value) -> Option<StepAct>
 
 /// A use put into a slot.
 #[tactic(auto, unfolding(crate::specs::SlotActs::publish_at))]
-fn publish_at(place: usize, value: &Value) -> Option<StepAct>
+pub fn publish_at(place: usize, value: &Value) -> Option<StepAct>
     ensures { result ≡ publish_at place (view value.now) }
 {
     if !has_keys(value, &["do", "irp", "seat", "slot"]) {
@@ -46,7 +44,7 @@ fn publish_at(place: usize, value: &Value) -> Option<StepAct>
 
 /// The slot of a step that names nothing else.
 #[tactic(auto, unfolding(crate::specs::SlotActs::slot_alone_at))]
-fn slot_alone_at(value: &Value) -> Option<u32>
+pub fn slot_alone_at(value: &Value) -> Option<u32>
     ensures { result ≡ slot_alone_at (view value.now) }
 {
     if !has_keys(value, &["do", "seat", "slot"]) {
@@ -57,7 +55,7 @@ fn slot_alone_at(value: &Value) -> Option<u32>
 
 /// A taken packet finished.
 #[tactic(auto, unfolding(crate::specs::SlotActs::finish_taken_at))]
-fn finish_taken_at(place: usize, value: &Value) -> Option<StepAct>
+pub fn finish_taken_at(place: usize, value: &Value) -> Option<StepAct>
     ensures { result ≡ finish_taken_at place (view value.now) }
 {
     if !has_keys(
@@ -76,29 +74,4 @@ fn finish_taken_at(place: usize, value: &Value) -> Option<StepAct>
         status,
         information,
     }))
-}
-
-/// What is done with a slot that the step names alone, by its name.
-#[tactic(auto, unfolding(crate::specs::SlotActs::slot_alone_act))]
-fn slot_alone_act(name: &str, slot: u32) -> Option<StepAct>
-    ensures { result ≡ slot_alone_act name.now slot }
-{
-    match name {
-        "withdraw" => Some(StepAct::Withdraw { slot }),
-        "request" => Some(StepAct::Request { slot }),
-        _ => None,
-    }
-}
-
-/// What only form 2 has, by its name.
-#[tactic(auto, unfolding(crate::specs::SlotActs::slot_act_named))]
-pub fn slot_act_named(place: usize, name: &str, value: &Value) -> Option<StepAct>
-    ensures { result ≡ slot_act_named place name.now (view value.now) }
-{
-    match name {
-        "hand" => hand_at(value),
-        "publish" => publish_at(place, value),
-        "finish_taken" => finish_taken_at(place, value),
-        _ => slot_alone_act(name, slot_alone_at(value)?),
-    }
 }

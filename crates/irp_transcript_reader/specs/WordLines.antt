@@ -4,7 +4,7 @@ use Rattle.std.specs.Prelude.{ℕ, List, [], ◌∷◌, ◌==◌, codes, Option,
 use Rattle.std.proofs.Common.{bytes_eq}
 use Rattle.serde_json.specs.Data.{Data, string}
 use Rattle.serde_json.specs.Find.{get, as_str}
-use Rattle.irp_forms.specs.Parts.{◌>>=◌, or_else, has_keys, u32_at, u64_at}
+use Rattle.irp_forms.specs.Parts.{◌>>=◌, has_keys, u32_at, u64_at}
 use Rattle.irp_forms.specs.Values.{lock_at}
 use Rattle.irp_types.specs.declared.names.LockNo.{LockNo}
 use Rattle.irp_shared.specs.declared.word_line.Act.{Act}
@@ -48,19 +48,12 @@ unfoldable pub word_reply_at : Data → Option WordReply
 word_reply_at (string name) = word_reply_named name
 word_reply_at form = valued_reply_at form
 
--- a step that has a tag, by its name
-unfoldable pub tagged_act : List ℕ → LockNo → ℕ → Option Act
-tagged_act name lock tag =
-    if bytes_eq name (codes "acquire") then Some (acts.Acquire lock tag) else
-    (if bytes_eq name (codes "release") then Some (acts.Release lock tag) else
-    (if bytes_eq name (codes "begin_remove") then Some (acts.BeginRemove lock tag) else None))
-
--- what a step that has a tag did
-unfoldable pub tagged_act_at : List ℕ → Data → Option Act
-tagged_act_at name form = if has_keys (codes "do" ∷ codes "lock" ∷ codes "reply" ∷ codes "seat" ∷ codes "step" ∷ codes "tag" ∷ []) form then (do
+-- the lock and the tag of a step that names nothing else
+unfoldable pub tagged_at : Data → Option (LockNo × ℕ)
+tagged_at form = if has_keys (codes "do" ∷ codes "lock" ∷ codes "reply" ∷ codes "seat" ∷ codes "step" ∷ codes "tag" ∷ []) form then (do
   lock ← get (codes "lock") form >>= lock_at
   tag ← get (codes "tag") form >>= u32_at
-  tagged_act name lock tag) else None
+  Some (lock, tag)) else None
 
 -- what a step that has no tag did, which asked whether a lock is drained
 unfoldable pub drained_at : Data → Option Act
@@ -80,26 +73,24 @@ hand_at form = if has_keys hand_keys form then (do
   receiver ← get (codes "to") form >>= u32_at
   Some (acts.Hand lock tag receiver)) else None
 
--- a step on a cancel slot, by its name
-unfoldable pub slot_act : List ℕ → ℕ → Option Act
-slot_act name slot =
-    if bytes_eq name (codes "publish") then Some (acts.Publish slot) else
-    (if bytes_eq name (codes "withdraw") then Some (acts.Withdraw slot) else
-    (if bytes_eq name (codes "request") then Some (acts.Request slot) else
-    (if bytes_eq name (codes "finish_taken") then Some (acts.FinishTaken slot) else None)))
-
--- what a step on a cancel slot did
-unfoldable pub slot_act_at : List ℕ → Data → Option Act
-slot_act_at name form = if has_keys (codes "do" ∷ codes "reply" ∷ codes "seat" ∷ codes "slot" ∷ codes "step" ∷ []) form then (do
-  slot ← get (codes "slot") form >>= u32_at
-  slot_act name slot) else None
+-- the slot of a step on a cancel slot
+unfoldable pub slot_at : Data → Option ℕ
+slot_at form =
+    if has_keys (codes "do" ∷ codes "reply" ∷ codes "seat" ∷ codes "slot" ∷ codes "step" ∷ []) form then (get (codes "slot") form >>= u32_at) else None
 
 -- what a step did, by the name under `do`
 unfoldable pub act_at : Data → Option Act
 act_at form = do
   name ← get (codes "do") form >>= as_str
-  if bytes_eq name (codes "drained") then drained_at form else
-      (if bytes_eq name (codes "hand") then hand_at form else or_else (tagged_act_at name form) (slot_act_at name form))
+  if bytes_eq name (codes "acquire") then (tagged_at form >>= λ tagged. Some (acts.Acquire tagged.0 tagged.1)) else
+      (if bytes_eq name (codes "release") then (tagged_at form >>= λ tagged. Some (acts.Release tagged.0 tagged.1)) else
+      (if bytes_eq name (codes "begin_remove") then (tagged_at form >>= λ tagged. Some (acts.BeginRemove tagged.0 tagged.1)) else
+      (if bytes_eq name (codes "drained") then drained_at form else
+      (if bytes_eq name (codes "hand") then hand_at form else
+      (if bytes_eq name (codes "publish") then (slot_at form >>= λ slot. Some (acts.Publish slot)) else
+      (if bytes_eq name (codes "withdraw") then (slot_at form >>= λ slot. Some (acts.Withdraw slot)) else
+      (if bytes_eq name (codes "request") then (slot_at form >>= λ slot. Some (acts.Request slot)) else
+      (if bytes_eq name (codes "finish_taken") then (slot_at form >>= λ slot. Some (acts.FinishTaken slot)) else None))))))))
 
 -- a word line: what the step did, what it was answered, its seat and its place
 unfoldable pub word_line_at : Data → Option WordLine

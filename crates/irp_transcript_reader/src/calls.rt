@@ -86,7 +86,7 @@ fn delete_at(value: &Value) -> Option<EntryCall>
         return None;
     }
     let device = under("device", value)?;
-    let drained = value.get("drained").and_then(Value::as_bool)?;
+    let drained = under("drained", value)?;
     let lock = under("lock", value)?;
     Some(EntryCall {
         call: Call::Delete { device },

@@ -8,10 +8,8 @@ ghost use Rattle.irp_transcript_reader.specs.WordLines.{
   drained_at,
   hand_at,
   hand_keys,
-  slot_act,
-  slot_act_at,
-  tagged_act,
-  tagged_act_at,
+  slot_at,
+  tagged_at,
   valued_reply_at,
   word_line_at,
   word_reply_at,
@@ -90,30 +88,17 @@ fn word_reply_at(value: &Value) -> Option<WordReply>
     }
 }
 
-/// A step that has a tag, by its name.
-#[tactic(auto, unfolding(crate::specs::WordLines::tagged_act))]
-fn tagged_act(name: &str, lock: LockNo, tag: u32) -> Option<Act>
-    ensures { result ≡ tagged_act name.now lock tag }
-{
-    match name {
-        "acquire" => Some(Act::Acquire { lock, tag }),
-        "release" => Some(Act::Release { lock, tag }),
-        "begin_remove" => Some(Act::BeginRemove { lock, tag }),
-        _ => None,
-    }
-}
-
-/// What a step that has a tag did.
-#[tactic(auto, unfolding(crate::specs::WordLines::tagged_act_at))]
-fn tagged_act_at(name: &str, value: &Value) -> Option<Act>
-    ensures { result ≡ tagged_act_at name.now (view value.now) }
+/// The lock and the tag of a step that names nothing else.
+#[tactic(auto, unfolding(crate::specs::WordLines::tagged_at))]
+fn tagged_at(value: &Value) -> Option<(LockNo, u32)>
+    ensures { result ≡ tagged_at (view value.now) }
 {
     if !has_keys(value, &["do", "lock", "reply", "seat", "step", "tag"]) {
         return None;
     }
     let lock = under("lock", value)?;
     let tag = under("tag", value)?;
-    tagged_act(name, lock, tag)
+    Some((lock, tag))
 }
 
 /// What a step that has no tag did, which asked whether a lock is drained.
@@ -150,30 +135,15 @@ fn hand_at(value: &Value) -> Option<Act>
     Some(Act::Hand { lock, tag, to })
 }
 
-/// A step on a cancel slot, by its name.
-#[tactic(auto, unfolding(crate::specs::WordLines::slot_act))]
-fn slot_act(name: &str, slot: u32) -> Option<Act>
-    ensures { result ≡ slot_act name.now slot }
-{
-    match name {
-        "publish" => Some(Act::Publish { slot }),
-        "withdraw" => Some(Act::Withdraw { slot }),
-        "request" => Some(Act::Request { slot }),
-        "finish_taken" => Some(Act::FinishTaken { slot }),
-        _ => None,
-    }
-}
-
-/// What a step on a cancel slot did.
-#[tactic(auto, unfolding(crate::specs::WordLines::slot_act_at))]
-fn slot_act_at(name: &str, value: &Value) -> Option<Act>
-    ensures { result ≡ slot_act_at name.now (view value.now) }
+/// The slot of a step on a cancel slot.
+#[tactic(auto, unfolding(crate::specs::WordLines::slot_at))]
+fn slot_at(value: &Value) -> Option<u32>
+    ensures { result ≡ slot_at (view value.now) }
 {
     if !has_keys(value, &["do", "reply", "seat", "slot", "step"]) {
         return None;
     }
-    let slot = under("slot", value)?;
-    slot_act(name, slot)
+    under("slot", value)
 }
 
 /// What a step did, by the name under `do`.
@@ -181,16 +151,38 @@ fn slot_act_at(name: &str, value: &Value) -> Option<Act>
 fn act_at(value: &Value) -> Option<Act>
     ensures { result ≡ act_at (view value.now) }
 {
-    let name = value.get("do").and_then(Value::as_str)?;
-    if name == "drained" {
-        return drained_at(value);
-    }
-    if name == "hand" {
-        return hand_at(value);
-    }
-    match tagged_act_at(name, value) {
-        Some(act) => Some(act),
-        None => slot_act_at(name, value),
+    match value.get("do").and_then(Value::as_str)? {
+        "acquire" => {
+            let (lock, tag) = tagged_at(value)?;
+            Some(Act::Acquire { lock, tag })
+        }
+        "release" => {
+            let (lock, tag) = tagged_at(value)?;
+            Some(Act::Release { lock, tag })
+        }
+        "begin_remove" => {
+            let (lock, tag) = tagged_at(value)?;
+            Some(Act::BeginRemove { lock, tag })
+        }
+        "drained" => drained_at(value),
+        "hand" => hand_at(value),
+        "publish" => {
+            let slot = slot_at(value)?;
+            Some(Act::Publish { slot })
+        }
+        "withdraw" => {
+            let slot = slot_at(value)?;
+            Some(Act::Withdraw { slot })
+        }
+        "request" => {
+            let slot = slot_at(value)?;
+            Some(Act::Request { slot })
+        }
+        "finish_taken" => {
+            let slot = slot_at(value)?;
+            Some(Act::FinishTaken { slot })
+        }
+        _ => None,
     }
 }
 
