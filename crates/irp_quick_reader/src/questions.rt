@@ -39,31 +39,35 @@ fn guess_shown(scan: &mut Scan) -> Option<Shown> {
     })
 }
 
+/// The plan that forwards and has this name, from behind the name on.
+fn guess_forward(scan: &mut Scan, name: &str) -> Option<Plan> {
+    scan.pass(",")?;
+    let set = guess_setting_or_null(scan)?;
+    match name {
+        "forward" => Some(Plan::Forward { set }),
+        _ => Some(Plan::ForwardPend { set }),
+    }
+}
+
 /// The plan that is next.
 fn guess_plan(scan: &mut Scan) -> Option<Plan> {
     let name = scan.word_after("[\"")?;
-    let plan = if name == "finish" {
-        let status = guess_status_after(scan, ",")?;
-        let information = scan.wide_after(",")?;
-        Plan::Finish {
-            status,
-            information,
+    let plan = match name {
+        "finish" => {
+            let status = guess_status_after(scan, ",")?;
+            let information = scan.wide_after(",")?;
+            Plan::Finish {
+                status,
+                information,
+            }
         }
-    } else if name == "hold" {
-        let cancel = guess_cancel_after(scan, ",")?;
-        Plan::Hold { cancel }
-    } else if name == "hold_slot" {
-        Plan::HoldSlot
-    } else if name == "skip" {
-        Plan::Skip
-    } else {
-        scan.pass(",")?;
-        let set = guess_setting_or_null(scan)?;
-        if name == "forward" {
-            Plan::Forward { set }
-        } else {
-            Plan::ForwardPend { set }
+        "hold" => {
+            let cancel = guess_cancel_after(scan, ",")?;
+            Plan::Hold { cancel }
         }
+        "hold_slot" => Plan::HoldSlot,
+        "skip" => Plan::Skip,
+        _ => guess_forward(scan, name)?,
     };
     scan.pass("]")?;
     Some(plan)
