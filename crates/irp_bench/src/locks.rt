@@ -1,5 +1,5 @@
-//! Pairs of calls on one remove lock, and pairs of bare atomic steps on one word, in threads. Where the system starts no
-//! thread, they run one after another.
+//! Pairs of calls on one remove lock, and pairs of bare atomic steps on one word, in threads. Where the system starts
+//! no thread, they run one after another.
 
 ghost use Rattle.std.specs.Prelude.{◌≡◌, []};
 ghost use Rattle.irp_remove.specs.Pairing.{IsSeatOf};

@@ -1,5 +1,5 @@
-//! The program: times what the calls of remove locks, of cancel slots and of the manager cost, the texts of transcripts,
-//! and their judging.
+//! The program: times what the calls of remove locks, of cancel slots and of the manager cost, the texts of
+//! transcripts, and their judging.
 #![tactic(auto)]
 
 mod caller;

@@ -33,7 +33,8 @@ pub const WATCH: Setting = Setting {
 /// What is done with a packet that is allocated for it. `MakesPacket` lists the calls.
 #[derive(Clone, Copy)]
 pub enum Packet {
-    /// It is allocated with one location, a completion is refused, it is given back, and giving it back again is refused.
+    /// It is allocated with one location, a completion is refused, it is given back, and giving it back again is
+    /// refused.
     Round,
     /// It is allocated with 16 locations, and given back.
     Unused,

@@ -54,8 +54,8 @@ impl Work {
 /// How long the batches took, and the transcript where they were recorded.
 #[derive(Drop)]
 pub struct Outcome {
-    /// How long the batches took, without what came before each. Where there is more than one seat: how long it took from
-    /// the first thread's start to the last thread's end.
+    /// How long the batches took, without what came before each. Where there is more than one seat: how long it took
+    /// from the first thread's start to the last thread's end.
     pub taken: Duration,
     /// The transcript of the session.
     pub transcript: Option<Transcript>,
@@ -87,8 +87,8 @@ fn watches(shown: Shown) -> Answer
     }
 }
 
-/// Does the work with this caller and these packets. Answers how long the batches took. Before each batch the packets are
-/// made ready to be sent, which is not in the time.
+/// Does the work with this caller and these packets. Answers how long the batches took. Before each batch the packets
+/// are made ready to be sent, which is not in the time.
 fn time_batches<C: Caller, R: Clock>(
     rt: &R,
     caller: &mut C,

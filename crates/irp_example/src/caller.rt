@@ -77,8 +77,8 @@ impl<'a, L: Session> Caller<'a, L> {
         self.seat
     }
 
-    /// Makes a call, with what it knows of the lock. The reply, or none where the call wasn't recorded. A call that needs a
-    /// token isn't made: that is for `Shared::finish_taken`.
+    /// Makes a call, with what it knows of the lock. The reply, or none where the call wasn't recorded. A call that
+    /// needs a token isn't made: that is for `Shared::finish_taken`.
     fn call<A: Ask>(&mut self, rt: &impl Wait, shared: &Shared<A, L>, call: Call) -> Option<Reply> {
         if needs_token(call) {
             return None;
@@ -135,7 +135,8 @@ impl<'a, L: Session> Caller<'a, L> {
         self.make(rt, shared, &BUILD)
     }
 
-    /// Begins the removal of the lock, and finds it drained, since nobody holds it any more. Then it deletes both devices.
+    /// Begins the removal of the lock, and finds it drained, since nobody holds it any more. Then it deletes both
+    /// devices.
     pub fn take_away<A: Ask>(&mut self, rt: &impl Wait, shared: &Shared<A, L>) {
         let _ = self.locks.acquire(&mut self.remove, LOCK, TAG);
         let _ = self.locks.begin_remove(&mut self.remove, LOCK, TAG);

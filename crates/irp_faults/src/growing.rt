@@ -8,8 +8,8 @@ use irp_stack::{NotCreated, Stacks};
 use irp_types::{DeviceId, DriverId, Known, LockNo};
 use std::alloc::Global;
 
-/// Creates as many devices as there may be, and one more, which is refused. Where memory was missing, a device is created
-/// once more. The numbers have to be in turn.
+/// Creates as many devices as there may be, and one more, which is refused. Where memory was missing, a device is
+/// created once more. The numbers have to be in turn.
 pub fn create_devices(alloc: Global, tried: &mut Tried) -> Result<(), Halt> {
     create_in(&mut Stacks::new(alloc), tried)
 }

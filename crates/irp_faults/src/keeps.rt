@@ -9,8 +9,8 @@ use irp_types::{Call, Entry, Questions, Reply};
 use std::alloc::Global;
 use std::sync::ledger::{Blank, Ledger};
 
-/// Puts the packet of this number into a keep, from 0, and once more where memory was missing. The keep has to have as many
-/// packets then.
+/// Puts the packet of this number into a keep, from 0, and once more where memory was missing. The keep has to have as
+/// many packets then.
 fn insert_one<K: Keep>(
     keep: &mut K,
     number: usize,

@@ -1,5 +1,5 @@
-//! The program: plays scenarios of library calls, while one request for memory may be refused, and tells where that fell and
-//! whether all was as it has to be.
+//! The program: plays scenarios of library calls, while one request for memory may be refused, and tells where that
+//! fell and whether all was as it has to be.
 #![tactic(auto)]
 
 mod counting;
@@ -87,8 +87,8 @@ fn tell_cut_writes<W: Write>(alloc: Global, writer: &mut W) -> Result<(), Halt> 
     Ok(writer.write_all(out.as_slice())?)
 }
 
-/// Plays those of the scenarios that have this name, or each where the name is `every`, and writes their results. The writes
-/// whose output fails are no scenario of a refused request: they have a name of their own.
+/// Plays those of the scenarios that have this name, or each where the name is `every`, and writes their results. The
+/// writes whose output fails are no scenario of a refused request: they have a name of their own.
 fn play_named<R: Wait, W: Write>(
     rt: &R,
     alloc: Global,

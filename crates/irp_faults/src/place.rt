@@ -14,7 +14,8 @@ use std::alloc::Global;
 /// Why a call had no reply.
 #[derive(Clone, Copy)]
 pub enum Lack {
-    /// Memory was missing in the call of the library's of this name, and what can be seen of history and seat is as it was.
+    /// Memory was missing in the call of the library's of this name, and what can be seen of history and seat is as it
+    /// was.
     Memory(&'static str),
     /// Something isn't as it has to be.
     Wrong(&'static str),
@@ -51,7 +52,8 @@ pub trait Place {
 #[derive(Drop)]
 pub struct Alone {
     manager: Manager<Asker>,
-    ghost stands: { StandingFacts manager.ask.ask.tables.counts (state_of slabbed manager.state) } by { Prim.hlevel props },
+    ghost stands: { StandingFacts manager.ask.ask.tables.counts
+        (state_of slabbed manager.state) } by { Prim.hlevel props },
 }
 
 impl Alone {
@@ -78,7 +80,8 @@ impl Place for Alone {
 pub struct Bare {
     state: ManagerState<MapKeep>,
     ask: Asker,
-    ghost stands: { StandingFacts ask.ask.tables.counts (state_of mapped state) } by { Prim.hlevel props },
+    ghost stands: { StandingFacts ask.ask.tables.counts
+        (state_of mapped state) } by { Prim.hlevel props },
 }
 
 impl Bare {

@@ -18,8 +18,8 @@ fn granted(made: Result<Reply, Lack>) -> Result<Reply, Halt> {
     }
 }
 
-/// Looks around, in the seat that looks on: what the first packet looks like, and how many questions were asked. A look that
-/// finds no memory is tried again.
+/// Looks around, in the seat that looks on: what the first packet looks like, and how many questions were asked. A look
+/// that finds no memory is tried again.
 fn look_around<P: Place>(
     place: &mut P,
     asked: &AtomicU32,
@@ -36,8 +36,8 @@ fn look_around<P: Place>(
     Ok((look, asked.load(Ordering::SeqCst)))
 }
 
-/// Makes a call after a look. What it is answered, and how many questions it asks. A call that finds no memory has to leave
-/// everything as it was, and is made again.
+/// Makes a call after a look. What it is answered, and how many questions it asks. A call that finds no memory has to
+/// leave everything as it was, and is made again.
 fn outcome<P: Place>(
     place: &mut P,
     asked: &AtomicU32,
@@ -61,9 +61,9 @@ fn outcome<P: Place>(
     Ok((reply, asked.load(Ordering::SeqCst).wrapping_sub(before.1)))
 }
 
-/// Makes the steps of an example, one after the other, each call after a look, and has a last look: each answer has to be
-/// the example's. The looks are in the seat behind the example's own. One look more comes first, so that a history, which
-/// grows at even numbers, grows in the steps. The place is gone afterwards.
+/// Makes the steps of an example, one after the other, each call after a look, and has a last look: each answer has to
+/// be the example's. The looks are in the seat behind the example's own. One look more comes first, so that a history,
+/// which grows at even numbers, grows in the steps. The place is gone afterwards.
 pub fn play<P: Place + Drop>(
     mut place: P,
     asked: &AtomicU32,

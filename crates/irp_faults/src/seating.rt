@@ -10,8 +10,8 @@ use irp_shared::{Session, open};
 use std::alloc::Global;
 use std::sync::ledger::Blank;
 
-/// Opens a session, remove locks, and as many cancel slots as seats. Puts their seats side by side. Where memory is missing
-/// for that, the seats are gone.
+/// Opens a session, remove locks, and as many cancel slots as seats. Puts their seats side by side. Where memory is
+/// missing for that, the seats are gone.
 pub fn seat_pairs<L: Session>(
     alloc: Global,
     blank: Blank,

@@ -18,8 +18,8 @@ use std::sync::Wait;
 use std::sync::atomic::AtomicU32;
 use std::sync::ledger::Blank;
 
-/// The seats of a session, the last of which looks on; their remove lock; the token of the first packet's use, until it is
-/// spent; and how many entries the history has.
+/// The seats of a session, the last of which looks on; their remove lock; the token of the first packet's use, until it
+/// is spent; and how many entries the history has.
 #[derive(Drop)]
 struct Room<'a, R, L: Session> {
     rt: &'a R,

@@ -1,5 +1,5 @@
-//! Stores that grow. Each closure adds its own number, from 1, to a count when it is asked. So the count tells before the
-//! end that nobody was asked, and at the end that each closure stands where it was put.
+//! Stores that grow. Each closure adds its own number, from 1, to a count when it is asked. So the count tells before
+//! the end that nobody was asked, and at the end that each closure stands where it was put.
 
 ghost use Rattle.std.specs.Prelude.{◌≡◌, true};
 ghost use Rattle.irp_types.specs.Rules.{is_allowed, is_plan_allowed, is_cancel_allowed};
@@ -104,8 +104,8 @@ enum Kind {
     Driver,
 }
 
-/// Asks the closure that was added at this place, and answers whether it was that one: the count rises by its number. Of a
-/// driver, whether it has the one dispatch, for reads.
+/// Asks the closure that was added at this place, and answers whether it was that one: the count rises by its number.
+/// Of a driver, whether it has the one dispatch, for reads.
 fn is_there(store: &Store, kind: Kind, place: u32, count: &AtomicU32) -> bool {
     let before = count.load(Ordering::SeqCst);
     match kind {

@@ -111,8 +111,8 @@ impl Tables for FixedTables {
     }
 }
 
-/// Adds those who are asked, each dispatch so that it may name all routines that there are. A call that finds no memory has
-/// to leave the tables as they were, and to hand a driver's pairs back. It is made again, with what came back.
+/// Adds those who are asked, each dispatch so that it may name all routines that there are. A call that finds no memory
+/// has to leave the tables as they were, and to hand a driver's pairs back. It is made again, with what came back.
 pub fn add_all<T: Tables>(
     alloc: Global,
     tables: &mut T,

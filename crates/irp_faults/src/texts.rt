@@ -90,8 +90,8 @@ fn judge(alloc: Global, transcript: &Transcript, tried: &mut Tried) -> Result<()
     )
 }
 
-/// Judges a transcript, which has to be legal. Puts its lines as if it were one of so many seats: what further ones did is
-/// left out.
+/// Judges a transcript, which has to be legal. Puts its lines as if it were one of so many seats: what further ones did
+/// is left out.
 pub fn put_transcript(
     alloc: Global,
     out: &mut Vec<u8>,
@@ -189,8 +189,8 @@ impl Write for Cut<'_> {
     }
 }
 
-/// Writes a transcript to an output that takes so many bytes a write at most, and so many in all. What went out, and the
-/// fault.
+/// Writes a transcript to an output that takes so many bytes a write at most, and so many in all. What went out, and
+/// the fault.
 fn written(
     alloc: Global,
     transcript: &Transcript,
@@ -264,8 +264,8 @@ fn is_cut(alloc: Global, transcript: &Transcript, room: usize) -> Result<bool, H
     Ok(bytes.len() == room && is_beginning(bytes.as_slice(), fault, Cause::Io))
 }
 
-/// Whether an output that fails after as many bytes as the header's line has got that line, and one that takes one byte a
-/// write the whole text.
+/// Whether an output that fails after as many bytes as the header's line has got that line, and one that takes one byte
+/// a write the whole text.
 fn are_header_and_whole(alloc: Global, transcript: &Transcript) -> Result<bool, Halt> {
     let Some(header) = transcript.header() else {
         return Ok(false);
@@ -277,8 +277,8 @@ fn are_header_and_whole(alloc: Global, transcript: &Transcript) -> Result<bool, 
     Ok(is_header && fault.is_none() && whole.as_slice() == text)
 }
 
-/// Writes the transcript to an output that fails after each number of bytes, and to one that takes one byte a write. Puts a
-/// line for each number that was wrong, and how many were tried and were wrong.
+/// Writes the transcript to an output that fails after each number of bytes, and to one that takes one byte a write.
+/// Puts a line for each number that was wrong, and how many were tried and were wrong.
 fn put_cut_writes(alloc: Global, out: &mut Vec<u8>, transcript: &Transcript) -> Result<(), Halt> {
     let length = transcript_text().len();
     let mut wrong: u32 = 0;

@@ -85,8 +85,8 @@ pub struct Tried {
 }
 
 impl Tried {
-    /// Notes that a call of this name was refused. It is wrong where that isn't the first time, or not for want of memory, or
-    /// something isn't as it was before the call.
+    /// Notes that a call of this name was refused. It is wrong where that isn't the first time, or not for want of
+    /// memory, or something isn't as it was before the call.
     pub fn refused(&mut self, name: &'static str, is_same: bool) -> Result<(), Halt> {
         if !is_same {
             return Err(Halt::Wrong(

@@ -214,9 +214,9 @@ fn set_cancel_routine_at<P: Copy, T: Copy>(
     Some(Call::SetCancelRoutine { party, irp, cancel })
 }
 
-/// The call of this name that an object tells with its own keys and those beside them, where this is what its packet reads
-/// as. None for an allocation, a deletion of a device and a finish of a taken packet, which entries and steps tell in
-/// different ways; none for another name or another form (this project's own format, docs/FORMATS.md).
+/// The call of this name that an object tells with its own keys and those beside them, where this is what its packet
+/// reads as. None for an allocation, a deletion of a device and a finish of a taken packet, which entries and steps
+/// tell in different ways; none for another name or another form (this project's own format, docs/FORMATS.md).
 #[tactic(auto, unfolding(crate::specs::Calls::call_named))]
 pub fn call_named<P: Copy, T: Copy>(
     name: &str,

@@ -319,7 +319,8 @@ fn cancel_answer_named(name: &str, value: &Value) -> Option<CancelAnswer>
     }
 }
 
-/// A cancel routine's answer: its name, which stands first, and what it names (this project's own format, docs/FORMATS.md).
+/// A cancel routine's answer: its name, which stands first, and what it names (this project's own format,
+/// docs/FORMATS.md).
 impl FromValue for CancelAnswer {
     ghost form = { cancel_answer_at };
 
@@ -361,7 +362,8 @@ pub fn completions_at(value: &Value) -> Option<Known>
     }
 }
 
-/// How many completion routines of each rule, and how many cancel routines (this project's own format, docs/FORMATS.md).
+/// How many completion routines of each rule, and how many cancel routines (this project's own format,
+/// docs/FORMATS.md).
 impl FromValue for Known {
     ghost form = { known_at };
 

@@ -66,8 +66,8 @@ impl<A: Ask> Manager<A> {
         }
     }
 
-    /// Makes one call, in one step of the sequential manager, on condition that the standing facts hold; they hold after
-    /// it too. A new packet gets the slot that was given back last, or else the first that was never given out.
+    /// Makes one call, in one step of the sequential manager, on condition that the standing facts hold; they hold
+    /// after it too. A new packet gets the slot that was given back last, or else the first that was never given out.
     ///
     /// # Errors
     ///

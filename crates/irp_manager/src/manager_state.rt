@@ -54,8 +54,8 @@ pub fn most_asked(call: Call) -> usize
     }
 }
 
-/// What a call did: the lock of the device that it deletes, where that one was created; whether the note knew that lock to
-/// be drained; what was asked, in order; and the reply.
+/// What a call did: the lock of the device that it deletes, where that one was created; whether the note knew that lock
+/// to be drained; what was asked, in order; and the reply.
 #[derive(Drop)]
 pub struct Applied {
     pub lock: Option<LockNo>,
@@ -64,8 +64,8 @@ pub struct Applied {
     pub reply: Reply,
 }
 
-/// The state of the sequential manager: its live packets, its devices, the next use number, and how many remove locks there
-/// are (this project's own rule). Each call borrows the asker that answers for the closures.
+/// The state of the sequential manager: its live packets, its devices, the next use number, and how many remove locks
+/// there are (this project's own rule). Each call borrows the asker that answers for the closures.
 #[derive(Drop)]
 pub struct ManagerState<K> {
     alloc: Global,
@@ -87,8 +87,8 @@ impl<K: Keep> ManagerState<K> {
         ManagerState::with_limit(alloc, keep, locks, Limit::ThirtyTwo)
     }
 
-    /// A manager without packets and devices, with so many remove locks and this limit, on condition that nothing is kept
-    /// yet. It takes no memory.
+    /// A manager without packets and devices, with so many remove locks and this limit, on condition that nothing is
+    /// kept yet. It takes no memory.
     pub fn with_limit(alloc: Global, keep: K, locks: u32, limit: Limit) -> ManagerState<K>
         requires empty { K.live keep ≡ fin.empty }
         ensures state { state_of K.live result ≡ opening_state }
@@ -413,10 +413,10 @@ impl<K: Keep> ManagerState<K> {
         }
     }
 
-    /// Makes one call, in one step of the sequential manager, on condition that the standing facts hold with the routines of
-    /// the asker; they hold after it too. Room for what it can ask is made before anything changes, and the
-    /// call asks into that; where more than half stays unused, the rest is given back. A new packet gets a slot as the keep
-    /// promises for the wish.
+    /// Makes one call, in one step of the sequential manager, on condition that the standing facts hold with the
+    /// routines of the asker; they hold after it too. Room for what it can ask is made before anything changes, and the
+    /// call asks into that; where more than half stays unused, the rest is given back. A new packet gets a slot as the
+    /// keep promises for the wish.
     ///
     /// # Errors
     ///

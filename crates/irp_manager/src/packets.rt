@@ -366,8 +366,8 @@ fn is_wrong_target(stacks: &Stacks, party: Party, target: DeviceId) -> bool
     }
 }
 
-/// Sends the packet to a device, where the party may. The room is for a question to each device from there down, and to each
-/// location that the packet may come to.
+/// Sends the packet to a device, where the party may. The room is for a question to each device from there down, and to
+/// each location that the packet may come to.
 #[inline]
 pub fn send<A: Ask>(
     live: &mut Live,
@@ -479,8 +479,8 @@ fn take_check(packet: &Packet, use_no: u64, token: u64, status: Status) -> Optio
     None
 }
 
-/// Completes the packet, which stands in a cancel slot, for who has the token that was taken from there. The room is for
-/// a question to each location from the current one up.
+/// Completes the packet, which stands in a cancel slot, for who has the token that was taken from there. The room is
+/// for a question to each location from the current one up.
 pub fn finish_taken<A: Ask>(
     live: &mut Live,
     irp: IrpRef,

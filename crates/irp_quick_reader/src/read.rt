@@ -38,7 +38,8 @@ impl ByGuess {
         }
     }
 
-    /// An entry that the line is read as. None where the guess is wrong, where no more is guessed, and where memory ran out.
+    /// An entry that the line is read as. None where the guess is wrong, where no more is guessed, and where memory ran
+    /// out.
     fn known_entry(&mut self, alloc: Global, line: &[u8]) -> Option<Entry>
         ensures { IfSome result (IsEntryLine line.now) }
     {
@@ -74,13 +75,13 @@ impl TakeLine for ByGuess {
     }
 }
 
-/// Reads a transcript, and answers as `irp_transcript_reader::read_transcript` does. A line that this project wrote of an
-/// entry that fits is read without its JSON value (this project's own format, docs/FORMATS.md).
+/// Reads a transcript, and answers as `irp_transcript_reader::read_transcript` does. A line that this project wrote of
+/// an entry that fits is read without its JSON value (this project's own format, docs/FORMATS.md).
 ///
 /// # Errors
 ///
-/// `ReadFault::Line` with the number, from 1, of the first line that is refused; `ReadFault::NoMemory` where memory ran out
-/// at a line behind lines that are all taken.
+/// `ReadFault::Line` with the number, from 1, of the first line that is refused; `ReadFault::NoMemory` where memory ran
+/// out at a line behind lines that are all taken.
 pub fn read_transcript(alloc: Global, bytes: &[u8]) -> Result<Transcript, ReadFault>
     ensures { ReadsFrom no_lines 0 result (cut bytes.now) }
 {

@@ -31,8 +31,8 @@ impl<'a> Scan<'a> {
         Some(())
     }
 
-    /// The number whose digits are next. None where there are none, where it has more than 64 bits, and where the line ends
-    /// with it.
+    /// The number whose digits are next. None where there are none, where it has more than 64 bits, and where the line
+    /// ends with it.
     pub fn wide(&mut self) -> Option<u64> {
         let digits = self.rest;
         let mut number = 0u64;
@@ -77,7 +77,8 @@ impl<'a> Scan<'a> {
         self.is_next(b'n') && self.pass("null").is_some()
     }
 
-    /// Whether a t is next, as in `true`, behind as many bytes as the text has. It passes over `true`, or else over `false`.
+    /// Whether a t is next, as in `true`, behind as many bytes as the text has. It passes over `true`, or else over
+    /// `false`.
     pub fn flag_after(&mut self, text: &str) -> Option<bool> {
         self.pass(text)?;
         let is_true = self.is_next(b't');

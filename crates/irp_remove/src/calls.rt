@@ -22,11 +22,11 @@ use std::marker::Brand;
 impl Locks {
     /// Takes a reference to a lock under a tag (WDK: "IoAcquireRemoveLock"). A seat may hold a tag several times.
     ///
-    /// It is refused with the first of these that holds: `NoLock` if there is no such lock; `SeatFull` if the seat holds
-    /// 64 references; `DeletePending` if the removal of the lock has begun. The first two leave the seat as it was. After
-    /// `DeletePending` the references are unchanged, and the seat knows the lock removed; where its own `begin_remove` of
-    /// the lock had answered Ok or `AlreadyRemoving`, the seat is as it was. (The word, the seat, the limit and all
-    /// refusals but `DeletePending` are this project's own rule.) It takes constant time.
+    /// It is refused with the first of these that holds: `NoLock` if there is no such lock; `SeatFull` if the seat
+    /// holds 64 references; `DeletePending` if the removal of the lock has begun. The first two leave the seat as it
+    /// was. After `DeletePending` the references are unchanged, and the seat knows the lock removed; where its own
+    /// `begin_remove` of the lock had answered Ok or `AlreadyRemoving`, the seat is as it was. (The word, the seat, the
+    /// limit and all refusals but `DeletePending` are this project's own rule.) It takes constant time.
     pub fn acquire(
         &self,
         seat: &mut RemoveSeat,
@@ -98,12 +98,14 @@ impl Locks {
         Ok(())
     }
 
-    /// Begins the removal of a lock, and gives the caller's reference under the tag back: nobody acquires any more (WDK:
-    /// "IoReleaseRemoveLockAndWait"; that it doesn't wait is this project's own rule: `drained` tells when it is over).
+    /// Begins the removal of a lock, and gives the caller's reference under the tag back: nobody acquires any more
+    /// (WDK: "IoReleaseRemoveLockAndWait"; that it doesn't wait is this project's own rule: `drained` tells when it is
+    /// over).
     ///
     /// It is refused with the first of these that holds (this project's own rule): `NoLock` if there is no such lock;
     /// `NotHeld` if the seat holds no reference to the lock under the tag; `AlreadyRemoving` if the removal had begun.
-    /// The first two leave the seat as it was. After `AlreadyRemoving` it keeps the reference, and knows the lock removed.
+    /// The first two leave the seat as it was. After `AlreadyRemoving` it keeps the reference, and knows the lock
+    /// removed.
     pub fn begin_remove(
         &self,
         seat: &mut RemoveSeat,
@@ -166,8 +168,8 @@ impl Locks {
         Ok(())
     }
 
-    /// Makes one reference of the giver to a lock under a tag the taker's, also after removal has begun. No view changes
-    /// (this project's own rule).
+    /// Makes one reference of the giver to a lock under a tag the taker's, also after removal has begun. No view
+    /// changes (this project's own rule).
     ///
     /// It is refused, and leaves both seats as they were, with the first of these that holds: `NoLock` if there is no
     /// such lock; `NotHeld` if the giver holds no reference to the lock under the tag; `SeatFull` if the taker holds 64

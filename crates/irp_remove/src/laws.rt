@@ -5,9 +5,9 @@ use crate::plays::Counted;
 use crate::views::{Parties, View};
 use atomic_table::TableRule;
 
-/// The rule of `Counted`, which is the rule of the table that `Locks` has, says at least what `Kept` of this crate says,
-/// and the other two laws speak of `Kept`. A table begins with one party, which has all the others yet to make. (This
-/// project's own rule.)
+/// The rule of `Counted`, which is the rule of the table that `Locks` has, says at least what `Kept` of this crate
+/// says, and the other two laws speak of `Kept`. A table begins with one party, which has all the others yet to make.
+/// (This project's own rule.)
 pub fn table_keeps_rule()
     ensures rule { Keeps ⟦<Counted as TableRule<(), View, Parties>>⟧.holds }
     ensures first { BeginsAsFirst ⟦<Counted as TableRule<(), View, Parties>>⟧.first }
@@ -20,9 +20,9 @@ pub fn word_counts_references()
     ensures { WordLaw }
 {}
 
-/// Where an observer knows a lock drained, its removal has begun and no stake holds it; what an observer knows drained, it
-/// knows after each further step of its own, and a step of another party leaves its view as it was. (This project's own
-/// rule; WDK: "IoReleaseRemoveLockAndWait".)
+/// Where an observer knows a lock drained, its removal has begun and no stake holds it; what an observer knows drained,
+/// it knows after each further step of its own, and a step of another party leaves its view as it was. (This project's
+/// own rule; WDK: "IoReleaseRemoveLockAndWait".)
 pub fn drained_for_good()
     ensures { DrainedLaw }
 {}

@@ -21,8 +21,8 @@ use std::alloc::{AllocError, Global};
 
 /// Makes 1 to 64 locks, numbered from 0, and 1 to 64 seats that use them, numbered from 0 in the order of the answer
 /// (WDK: "IoInitializeRemoveLock"; counts, seats and refusals are this project's own rule). Nobody holds a lock, and no
-/// removal has begun: the table has no other observers and stakes than those of these seats, and where these are as they
-/// were made every word is 0.
+/// removal has begun: the table has no other observers and stakes than those of these seats, and where these are as
+/// they were made every word is 0.
 ///
 /// The error is `BadCount` exactly where none or more than 64 of either were asked for. It is `Memory` only where the
 /// counts are good.

@@ -57,8 +57,8 @@ impl RemoveSeat {
     }
 
     /// Tells that the views of its stakes say what it holds: each of its references is a stake that holds that lock
-    /// under that tag, its other stakes are idle, and there are 64 of them together. (That each is a party of the seat's
-    /// own table is kept by this type.) It answers nothing (this project's own rule).
+    /// under that tag, its other stakes are idle, and there are 64 of them together. (That each is a party of the
+    /// seat's own table is kept by this type.) It answers nothing (this project's own rule).
     pub fn holds_what_it_lists(&self)
         ensures { IsWhole self.now }
     {

@@ -9,9 +9,9 @@ use std::alloc::Global;
 /// 1 to 64 remove locks, one word each, which any number of threads may share (WDK: "Using Remove Locks"; that many
 /// locks are opened at once, with their seats, is this project's own rule).
 ///
-/// The type keeps the rule `Kept` of this crate between any two atomic steps of any threads: a word is the removed bit and
-/// twice the number of stakes that hold the lock or try it, and where an observer knows the lock drained, no stake holds
-/// it.
+/// The type keeps the rule `Kept` of this crate between any two atomic steps of any threads: a word is the removed bit
+/// and twice the number of stakes that hold the lock or try it, and where an observer knows the lock drained, no stake
+/// holds it.
 #[derive(Drop)]
 pub struct Locks {
     pub(crate) table: Table<(), View, Parties, Counted, Global>,

@@ -12,8 +12,8 @@ use std::alloc::Global;
 ///
 /// # Errors
 ///
-/// `ReadFault::Line` with the number, from 1, of the first line that is refused: never for the text of a transcript that
-/// fits. `ReadFault::NoMemory` where memory ran out.
+/// `ReadFault::Line` with the number, from 1, of the first line that is refused: never for the text of a transcript
+/// that fits. `ReadFault::NoMemory` where memory ran out.
 pub fn read_again(
     alloc: Global,
     transcript: &Transcript,

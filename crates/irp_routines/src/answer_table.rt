@@ -182,8 +182,8 @@ impl AnswerTable {
     ///
     /// # Errors
     ///
-    /// `NoRoutine` exactly where it may name more routines of a kind than there are, else `Full` exactly where there are
-    /// 256 dispatches; else `Memory`, where a growth was refused. The table stays as it was.
+    /// `NoRoutine` exactly where it may name more routines of a kind than there are, else `Full` exactly where there
+    /// are 256 dispatches; else `Memory`, where a growth was refused. The table stays as it was.
     pub fn add_dispatch(&mut self, known: Known, plan: Plan) -> Result<DispatchId, Reason>
         ensures refused { (reason : Reason) → dispatch_refusal self.old.tables known ≡ Some reason
             → result ≡ Err reason }

@@ -121,8 +121,8 @@ impl FixedTables {
         })
     }
 
-    /// A copy of the tables of whoever is asked, as its answers tell them. The asker stays as it was (this project's own
-    /// rule).
+    /// A copy of the tables of whoever is asked, as its answers tell them. The asker stays as it was (this project's
+    /// own rule).
     ///
     /// # Errors
     ///
@@ -241,8 +241,8 @@ impl FixedTables {
         None
     }
 
-    /// Adds a completion routine of this rule, on condition that there is room for it, and answers its number within the
-    /// rule: how many there were. It takes no memory.
+    /// Adds a completion routine of this rule, on condition that there is room for it, and answers its number within
+    /// the rule: how many there were. It takes no memory.
     pub(crate) fn add_counted(&mut self, rule: Rule) -> RoutineId
         requires { routine_refusal self.old rule ≡ None }
         ensures answer { result ≡ record { rule = rule; no = count_of_rule self.old.counts rule } }

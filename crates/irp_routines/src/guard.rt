@@ -16,8 +16,8 @@ fn fixed_keep(rule: Rule, shown: Shown) -> bool
     }
 }
 
-/// An answer that the rule of a completion routine always allows: it replaces nothing, and keeps only where the rule asks
-/// for it.
+/// An answer that the rule of a completion routine always allows: it replaces nothing, and keeps only where the rule
+/// asks for it.
 pub(crate) fn fixed_answer(rule: Rule, shown: Shown) -> Answer
     ensures { result ≡ fixed_answer rule shown }
 {

@@ -209,9 +209,9 @@ impl Store {
     ///
     /// # Errors
     ///
-    /// `NoRoutine` exactly where it may name more routines of a kind than there are, else `Full` exactly where there are
-    /// 256 dispatches; else `Memory`, where a growth was refused. The dispatch is handed back, and the store stays as it
-    /// was.
+    /// `NoRoutine` exactly where it may name more routines of a kind than there are, else `Full` exactly where there
+    /// are 256 dispatches; else `Memory`, where a growth was refused. The dispatch is handed back, and the store stays
+    /// as it was.
     pub fn add_dispatch(&mut self, dispatch: Dispatch) -> Result<DispatchId, NotAdded<Dispatch>>
         ensures refused { (reason : Reason)
             → dispatch_refusal self.old.tables dispatch.known ≡ Some reason

@@ -37,8 +37,8 @@ fn slot_named(reply: Reply) -> Option<usize>
     }
 }
 
-/// Makes an entry's call, answered as the entry says, and answers whether it makes the same entry at this place. Where it
-/// doesn't, no step of the manager does.
+/// Makes an entry's call, answered as the entry says, and answers whether it makes the same entry at this place. Where
+/// it doesn't, no step of the manager does.
 ///
 /// # Errors
 ///

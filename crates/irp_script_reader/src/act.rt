@@ -16,12 +16,12 @@ pub enum Named {
 /// docs/FORMATS.md).
 #[derive(Clone, Copy, PartialEq, Eq, Debug)]
 pub enum StepAct {
-    /// A call of the manager. It names its packet as a step does, and a token by the cancel slot from which the seat took
-    /// it. What a call allocates is known by no label. Any size, any number of a routine and any status is read. Only form
-    /// 2 has the finish of a taken packet.
+    /// A call of the manager. It names its packet as a step does, and a token by the cancel slot from which the seat
+    /// took it. What a call allocates is known by no label. Any size, any number of a routine and any status is read.
+    /// Only form 2 has the finish of a taken packet.
     Call(Call<Named, u32>),
-    /// A new packet with so many locations, known from then on by the label that has this place among the script's labels
-    /// (WDK: "IoAllocateIrp"). Any size is read.
+    /// A new packet with so many locations, known from then on by the label that has this place among the script's
+    /// labels (WDK: "IoAllocateIrp"). Any size is read.
     Allocate { size: u8, label: usize },
     /// Acquires the lock with this tag (WDK: "IoAcquireRemoveLock").
     Acquire { lock: LockNo, tag: u32 },

@@ -172,7 +172,8 @@ impl Steps {
 impl Taking for Steps {
     ghost takes = { takes_step };
 
-    /// `BadField` where it is no step or one that the list may not have, `TooMany` where it names the first label too many.
+    /// `BadField` where it is no step or one that the list may not have, `TooMany` where it names the first label too
+    /// many.
     #[tactic(auto, unfolding(crate::specs::Members::takes_step))]
     fn take(self, alloc: Global, value: &Value) -> Result<Self, Stop> {
         let step = formed(step_at(self.labels.place_in(value), value))?;

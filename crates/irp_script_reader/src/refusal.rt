@@ -5,9 +5,9 @@ use thiserror::Error;
 /// What is wrong with a part of a script, with its number in the formats (this project's own format, docs/FORMATS.md).
 #[derive(Clone, Copy, PartialEq, Eq, Debug, Error)]
 pub enum Fault {
-    /// A key is missing, unknown or of a wrong shape or range; a seat is not below `seats`; a step on a remove lock or on
-    /// a cancel slot stands in `setup`; or what only form 2 has stands in form 1. In form 2 also a hand to the step's own
-    /// seat, and a publish in a slot, or a withdraw from one, that isn't there or isn't the seat's own.
+    /// A key is missing, unknown or of a wrong shape or range; a seat is not below `seats`; a step on a remove lock or
+    /// on a cancel slot stands in `setup`; or what only form 2 has stands in form 1. In form 2 also a hand to the
+    /// step's own seat, and a publish in a slot, or a withdraw from one, that isn't there or isn't the seat's own.
     #[error("S4")]
     BadField,
     /// A behaviour, the status of a finish or the setting of a forward is against its rule.
@@ -59,7 +59,8 @@ pub enum Section {
     Steps,
 }
 
-/// Why a script is refused: its first fault (this project's own format, docs/FORMATS.md). It is displayed as `S4 steps 3`.
+/// Why a script is refused: its first fault (this project's own format, docs/FORMATS.md). It is displayed as `S4 steps
+/// 3`.
 #[derive(Clone, Copy, PartialEq, Eq, Debug, Error)]
 pub enum ScriptRefusal {
     /// The text has more than 1,048,576 bytes.

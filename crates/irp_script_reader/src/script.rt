@@ -35,8 +35,8 @@ pub struct CompletionRoutine {
 pub enum ScriptForm {
     /// Calls of the manager, and acts on remove locks. Packets have 16 locations at most, and stacks 16 devices.
     One,
-    /// The same, with packets in cancel slots and acts on slots, and with references that are handed over. Packets have 32
-    /// locations at most, and stacks 32 devices.
+    /// The same, with packets in cancel slots and acts on slots, and with references that are handed over. Packets have
+    /// 32 locations at most, and stacks 32 devices.
     Two {
         /// How many cancel slots there are, at most 64 in a script that was read.
         slots: u32,

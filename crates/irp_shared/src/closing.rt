@@ -103,8 +103,8 @@ fn compare<L: Ledger>(all: &mut Share<L>, seat: Seat<L>, history: &[Entry]) -> O
     })
 }
 
-/// Merges the shares of the seats into the spare one, and compares their entries with the history. Answers all shares in
-/// one, and a difference, if there is one: of the first seat in the list that has one.
+/// Merges the shares of the seats into the spare one, and compares their entries with the history. Answers all shares
+/// in one, and a difference, if there is one: of the first seat in the list that has one.
 pub fn gather<L: Ledger>(
     spare: Share<L>,
     seats: Vec<Seat<L>>,

@@ -29,8 +29,8 @@ pub enum Form {
     /// Entries of the manager's calls, and word lines of steps on remove locks. Packets have 16 locations at most, and
     /// stacks 16 devices.
     One,
-    /// The same, with packets in cancel slots and steps on slots, and with references that are handed over. Packets have 32
-    /// locations at most, and stacks 32 devices.
+    /// The same, with packets in cancel slots and steps on slots, and with references that are handed over. Packets
+    /// have 32 locations at most, and stacks 32 devices.
     Two {
         /// How many cancel slots there are, at most 64.
         slots: u32,

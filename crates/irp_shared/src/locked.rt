@@ -11,8 +11,9 @@ use irp_routines::Ask;
 use irp_types::Call;
 use std::sync::ledger::{Book as Total, Ledger, Share};
 
-/// What lies under the lock: the book; the total of what all seats count, which by this type is the length of the history;
-/// and what is left of the ledger's shares, which counts nothing. The book was made with what its session fixes.
+/// What lies under the lock: the book; the total of what all seats count, which by this type is the length of the
+/// history; and what is left of the ledger's shares, which counts nothing. The book was made with what its session
+/// fixes.
 #[derive(Drop)]
 pub struct Locked<A, L: Session> {
     pub book: Book<A>,
@@ -25,8 +26,8 @@ pub struct Locked<A, L: Session> {
 }
 
 impl<A: Ask, L: Session> Locked<A, L> {
-    /// Makes a call of a seat, records it, and gives the seat a copy of its entry, on condition that the seat has room for
-    /// one more entry.
+    /// Makes a call of a seat, records it, and gives the seat a copy of its entry, on condition that the seat has room
+    /// for one more entry.
     ///
     /// # Errors
     ///

@@ -12,8 +12,8 @@ pub enum Mismatch<L: Ledger> {
         expected: u32,
         given: Vec<Seat<L>>,
     },
-    /// A seat's entry and the history's own differ: the seat's number, the place among its entries from 0, the entry that
-    /// the seat kept there, and the one that the history has of it there. One of the two may be none.
+    /// A seat's entry and the history's own differ: the seat's number, the place among its entries from 0, the entry
+    /// that the seat kept there, and the one that the history has of it there. One of the two may be none.
     Entry {
         seat: u32,
         index: usize,

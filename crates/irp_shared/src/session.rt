@@ -8,14 +8,14 @@ ghost use Rattle.irp_routines.specs.Tables.{no_tables};
 use std::marker::Brand;
 use std::sync::ledger::Ledger;
 
-/// What a type says of one session of a shared book, for contracts alone: the ledger in which its seats count (its name and
-/// its parts, as [`Ledger`] has them), how many seats it has, and what is fixed while it lasts. A `Shared` and the seats
-/// that were opened with it have the same such type, so a seat of another session can't be handed in (this project's
-/// own rule).
+/// What a type says of one session of a shared book, for contracts alone: the ledger in which its seats count (its name
+/// and its parts, as [`Ledger`] has them), how many seats it has, and what is fixed while it lasts. A `Shared` and the
+/// seats that were opened with it have the same such type, so a seat of another session can't be handed in (this
+/// project's own rule).
 ///
 /// A caller writes a function that is generic in `L: Session` for all that it does with a session, and calls it once at
-/// [`Brand`]. The proof of that call says what `L` stands for, in the `Invariants.antt` of the function that makes it (as
-/// in `crates/irp_example/proofs/bench/run`).
+/// [`Brand`]. The proof of that call says what `L` stands for, in the `Invariants.antt` of the function that makes it
+/// (as in `crates/irp_example/proofs/bench/run`).
 pub trait Session: Ledger {
     /// How many seats there are.
     ghost seats: { ℕ };

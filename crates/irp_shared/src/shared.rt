@@ -58,15 +58,15 @@ fn seats_of<L: Ledger>(alloc: Global, share: &mut Share<L>, count: u32) -> Optio
     Some(seats)
 }
 
-/// Opens a session: a book over a manager in its opening state, with packets of 32 locations and stacks of 32 devices at
-/// most. It has 1 to 64 remove locks and 1 to 64 seats, numbered from 0 in the order of the answer, that have seen
+/// Opens a session: a book over a manager in its opening state, with packets of 32 locations and stacks of 32 devices
+/// at most. It has 1 to 64 remove locks and 1 to 64 seats, numbered from 0 in the order of the answer, that have seen
 /// nothing and have no entries. The blank names the ledger in which the seats count, and has a part for each seat; what
 /// `L` says of the session is so (this project's own rule).
 ///
 /// # Errors
 ///
-/// `BadCount` exactly where none or more than 64 of either were asked for; else `Memory` where a growth was refused. Who
-/// would have been asked is gone then.
+/// `BadCount` exactly where none or more than 64 of either were asked for; else `Memory` where a growth was refused.
+/// Who would have been asked is gone then.
 pub fn open<A: Ask + Drop, L: Session>(
     alloc: Global,
     blank: Blank,
@@ -119,21 +119,21 @@ pub fn open_with_limit<A: Ask + Drop, L: Session>(
 }
 
 impl<A: Ask, L: Session> Shared<A, L> {
-    /// Makes a call in a seat that was opened with this book, and records it, on condition that the call needs no token: a
-    /// packet that was taken from a cancel slot is finished by `finish_taken`.
+    /// Makes a call in a seat that was opened with this book, and records it, on condition that the call needs no
+    /// token: a packet that was taken from a cancel slot is finished by `finish_taken`.
     ///
-    /// The seat keeps a copy of the entry, which the receipt tells of, and has seen up to it. The entry's number is at least
-    /// what the seat had seen. Its `drained` is what the note knows of the entry's lock, and true where a deletion is
-    /// answered Done.
+    /// The seat keeps a copy of the entry, which the receipt tells of, and has seen up to it. The entry's number is at
+    /// least what the seat had seen. Its `drained` is what the note knows of the entry's lock, and true where a
+    /// deletion is answered Done.
     ///
-    /// It waits for its turn. All growths come before anything is asked; room for the seat's entry comes before its turn, and
-    /// room for the questions in it comes in its turn, when it is known how many can be asked.
+    /// It waits for its turn. All growths come before anything is asked; room for the seat's entry comes before its
+    /// turn, and room for the questions in it comes in its turn, when it is known how many can be asked.
     ///
     /// # Errors
     ///
-    /// `Memory` where a growth was refused, which may come first; else `Behind` and `HistoryFull` as `Book::record` answers
-    /// them. The clause says of `Behind` only that the length that it gives is below what the seat had seen, since it can't name
-    /// the history. The seat stays as it was, and nothing is recorded.
+    /// `Memory` where a growth was refused, which may come first; else `Behind` and `HistoryFull` as `Book::record`
+    /// answers them. The clause says of `Behind` only that the length that it gives is below what the seat had seen,
+    /// since it can't name the history. The seat stays as it was, and nothing is recorded.
     pub fn call<N: DrainNote>(
         &self,
         rt: &impl Wait,
@@ -150,9 +150,9 @@ impl<A: Ask, L: Session> Shared<A, L> {
         self.record(rt, seat, call, note)
     }
 
-    /// Completes a packet that was taken from a cancel slot, with the token that was taken there, in a seat that was opened
-    /// with this book, and records it, as `call` does. A packet that is finished spends the token; with every other reply
-    /// the token comes back (this project's own call).
+    /// Completes a packet that was taken from a cancel slot, with the token that was taken there, in a seat that was
+    /// opened with this book, and records it, as `call` does. A packet that is finished spends the token; with every
+    /// other reply the token comes back (this project's own call).
     ///
     /// It waits for its turn. All growths come before anything is asked, as in `call`.
     ///
@@ -212,8 +212,8 @@ impl<A: Ask, L: Session> Shared<A, L> {
     }
 }
 
-/// Whether a call needs a token: true of a `FinishTaken` alone, which finishes a packet that was taken from a cancel slot
-/// (this project's own rule).
+/// Whether a call needs a token: true of a `FinishTaken` alone, which finishes a packet that was taken from a cancel
+/// slot (this project's own rule).
 pub fn needs_token(call: Call) -> bool
     ensures { result ≡ needs_token call }
 {
@@ -286,15 +286,15 @@ fn mismatch_of<L: Ledger>(difference: Difference, history: Vec<Entry>) -> Mismat
 
 impl<A: Drop, L: Session> Shared<A, L> {
     /// Ends a session, with the seats that were opened with it: compares what they kept with the history, and gives the
-    /// transcript, without word lines. Its header has the tables of the `ask` that `open` was given. Each entry is of one
-    /// of the seats; each seat's entries are the history's entries with its number, in order; and their counts add up to
-    /// the history's length. It takes no memory (this project's own rule).
+    /// transcript, without word lines. Its header has the tables of the `ask` that `open` was given. Each entry is of
+    /// one of the seats; each seat's entries are the history's entries with its number, in order; and their counts add
+    /// up to the history's length. It takes no memory (this project's own rule).
     ///
     /// # Errors
     ///
     /// `Mismatch::Seats` exactly where the seats handed in are not all seats, each once; else `Mismatch::Entry` with a
-    /// seat's entry and another value, where a seat's entries are not the history's own (that it comes only there, and that
-    /// the other value is the history's, no clause says). The book is gone then.
+    /// seat's entry and another value, where a seat's entries are not the history's own (that it comes only there, and
+    /// that the other value is the history's, no clause says). The book is gone then.
     pub fn close(self, seats: Vec<Seat<L>>) -> Result<Transcript, Mismatch<L>>
         requires { L.seats ≡ L.parts }
         ensures closes { IfOk result (Closes L.fixed L.seats seats.items) }

@@ -9,8 +9,8 @@ const TRIES: u32 = 24;
 /// How many pauses a thread makes after the first try that fails.
 const FIRST_PAUSES: u32 = 4;
 
-/// How many pauses at most a thread makes between two tries. While it makes them, others take several turns each, one after
-/// another, and what a turn reads and writes stays with one processor meanwhile.
+/// How many pauses at most a thread makes between two tries. While it makes them, others take several turns each, one
+/// after another, and what a turn reads and writes stays with one processor meanwhile.
 const MOST_PAUSES: u32 = 4096;
 
 /// Makes so many pauses of the processor.
@@ -20,8 +20,8 @@ fn pause(count: u32) {
     }
 }
 
-/// Takes a lock, as `Mutex::lock` does. Where another thread has it, it tries again after pauses that grow, since a turn is
-/// short beside a sleep; after the last try it waits in the system until it is woken (this project's own rule).
+/// Takes a lock, as `Mutex::lock` does. Where another thread has it, it tries again after pauses that grow, since a
+/// turn is short beside a sleep; after the last try it waits in the system until it is woken (this project's own rule).
 pub fn take_turn<'a, T>(lock: &'a Mutex<T>, rt: &impl Wait) -> MutexGuard<'a, T> {
     let mut pauses = FIRST_PAUSES;
     for _ in 0..TRIES {

@@ -1,4 +1,5 @@
-//! What a seat of a script has at the cancel slots: its canceller, the owners of its slots, and the tokens that came out.
+//! What a seat of a script has at the cancel slots: its canceller, the owners of its slots, and the tokens that came
+//! out.
 #![tactic(auto)]
 
 mod parties;

@@ -97,8 +97,8 @@ const SEND_SECOND: Call = Call::CallDriver {
 
 const CANCEL_SECOND: Call = Call::Cancel { irp: SECOND };
 
-/// A packet is sent, and cancelled; both are tried again and refused. A second packet, whose Watch is for a success alone,
-/// is sent and cancelled.
+/// A packet is sent, and cancelled; both are tried again and refused. A second packet, whose Watch is for a success
+/// alone, is sent and cancelled.
 const STEPS: [Step; 13] = [
     (CREATE, Reply::Device(DeviceId(0))),
     (ALLOCATE, Reply::Irp(FIRST)),

@@ -1,5 +1,5 @@
-//! Seats of one remove lock: one that is dropped, and nine in threads of their own. Each test ends by itself, and answers the
-//! same whatever the schedule.
+//! Seats of one remove lock: one that is dropped, and nine in threads of their own. Each test ends by itself, and
+//! answers the same whatever the schedule.
 
 ghost use Rattle.irp_remove.specs.Pairing.{IsSeatOf};
 
@@ -73,8 +73,8 @@ impl Holder<'_> {
         false
     }
 
-    /// Takes turns first, and then begins the removal, and waits. Whether it begins, finds the lock drained, and is refused
-    /// a reference afterwards.
+    /// Takes turns first, and then begins the removal, and waits. Whether it begins, finds the lock drained, and is
+    /// refused a reference afterwards.
     fn removes(&mut self) -> bool {
         !self.is_refused_within(10_000)
             && self.acquires(1).is_ok()
@@ -92,8 +92,8 @@ impl Holder<'_> {
     }
 }
 
-/// Whether the first seat finds the lock busy, again and again, when it has begun the removal and the second is gone, which
-/// holds a reference.
+/// Whether the first seat finds the lock busy, again and again, when it has begun the removal and the second is gone,
+/// which holds a reference.
 fn stays_busy(mut first: Holder<'_>, mut second: Holder<'_>) -> bool {
     let is_held = first.acquires(1).is_ok() && second.acquires(2).is_ok();
     drop(second);

@@ -128,8 +128,8 @@ impl Takers {
     }
 }
 
-/// Has the taker take over the giver's reference once the dispatch runs, acquire the lock itself, and release both, and tells
-/// that it did. Whether the dispatch ran, and all were answered Ok.
+/// Has the taker take over the giver's reference once the dispatch runs, acquire the lock itself, and release both, and
+/// tells that it did. Whether the dispatch ran, and all were answered Ok.
 fn takes(takers: &mut Takers, meeting: &Meeting) -> bool {
     let is_asked = waits(&meeting.asked);
     let is_handed = takers.hands();
@@ -138,8 +138,8 @@ fn takes(takers: &mut Takers, meeting: &Meeting) -> bool {
     is_asked && is_handed && is_taken
 }
 
-/// The seat makes the calls. Whether the last of them sees the packet ended with information 1: the other thread was answered
-/// while the dispatch ran.
+/// The seat makes the calls. Whether the last of them sees the packet ended with information 1: the other thread was
+/// answered while the dispatch ran.
 fn sends<A: Ask, L: Session>(rt: &impl Wait, shared: &Shared<A, L>, mut seat: Seat<L>) -> bool {
     let mut is_met = false;
     for call in CALLS.iter() {

@@ -1,4 +1,5 @@
-//! An owner and a canceller in threads of their own. The test ends by itself, and answers the same whatever the schedule.
+//! An owner and a canceller in threads of their own. The test ends by itself, and answers the same whatever the
+//! schedule.
 
 ghost use Rattle.irp_slots.specs.Pairing.{IsOwnerOf, IsCancellerOf};
 
@@ -50,8 +51,8 @@ impl Requester<'_> {
     }
 }
 
-/// How many of the owner's publication, the canceller's request at the same time and the owner's withdrawal after both took
-/// the use.
+/// How many of the owner's publication, the canceller's request at the same time and the owner's withdrawal after both
+/// took the use.
 fn takers<R: Threads + Sync>(rt: &R, publisher: Publisher<'_>, requester: Requester<'_>) -> u32 {
     let publishing = move || publisher.publishes();
     let requesting = move || requester.requests();

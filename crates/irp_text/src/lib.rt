@@ -1,5 +1,5 @@
-//! The texts of scripts and transcripts, read and written, and that they are read again: one door to the crates that have
-//! a form each.
+//! The texts of scripts and transcripts, read and written, and that they are read again: one door to the crates that
+//! have a form each.
 #![tactic(auto)]
 
 pub use irp_quick_reader::read_transcript;

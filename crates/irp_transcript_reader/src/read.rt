@@ -102,8 +102,8 @@ pub fn read_lines<T: TakeLine>(
     Ok(transcript_of(alloc, reading))
 }
 
-/// Reads a transcript as `read_lines` does, each line by its JSON value: one at a time is held (this project's own format,
-/// docs/FORMATS.md).
+/// Reads a transcript as `read_lines` does, each line by its JSON value: one at a time is held (this project's own
+/// format, docs/FORMATS.md).
 ///
 /// # Errors
 ///

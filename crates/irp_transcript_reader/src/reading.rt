@@ -176,13 +176,13 @@ impl Reading {
         }
     }
 
-    /// Takes the next line, without its newline, by its JSON value (this project's own format, docs/FORMATS.md). After an
-    /// error the reading is of no use.
+    /// Takes the next line, without its newline, by its JSON value (this project's own format, docs/FORMATS.md). After
+    /// an error the reading is of no use.
     ///
     /// # Errors
     ///
-    /// `Unread::Form` where the line is refused; `Unread::NoMemory` where memory ran out, for a line that isn't empty and
-    /// isn't too long.
+    /// `Unread::Form` where the line is refused; `Unread::NoMemory` where memory ran out, for a line that isn't empty
+    /// and isn't too long.
     #[tactic(auto, using(crate::proofs::Cuts::line_gives))]
     pub fn take_line(&mut self, alloc: Global, line: &[u8]) -> Result<(), Unread>
         ensures { TakesLine result (so_far self.old) line.now (so_far self.new) }
@@ -202,8 +202,8 @@ impl Reading {
         }
     }
 
-    /// Takes the next line, without its newline, of which the caller knows that it is read as this entry. Where the header
-    /// is there it makes no JSON value. The answer is that of `take_line` (this project's own rule).
+    /// Takes the next line, without its newline, of which the caller knows that it is read as this entry. Where the
+    /// header is there it makes no JSON value. The answer is that of `take_line` (this project's own rule).
     ///
     /// # Errors
     ///

@@ -109,7 +109,8 @@ pub enum Call<P = IrpRef, T = u64> {
         irp: P,
         cancel: Option<CancelId>,
     },
-    /// Sets the packet's cancel flag, and takes its cancel routine and asks it, where there is one (WDK: "IoCancelIrp").
+    /// Sets the packet's cancel flag, and takes its cancel routine and asks it, where there is one (WDK:
+    /// "IoCancelIrp").
     Cancel {
         irp: P,
     },
@@ -120,8 +121,8 @@ pub enum Call<P = IrpRef, T = u64> {
 }
 
 impl<P: Copy, T: Copy> Call<P, T> {
-    /// The packet that the call names. None where it names none: where it creates, attaches, detaches or deletes a device,
-    /// or allocates a packet (this project's own rule).
+    /// The packet that the call names. None where it names none: where it creates, attaches, detaches or deletes a
+    /// device, or allocates a packet (this project's own rule).
     pub fn packet(self) -> Option<P>
         ensures { result ≡ packet_named self }
     {

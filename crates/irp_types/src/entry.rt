@@ -67,8 +67,8 @@ impl Entry {
     }
 
     /// An equal entry, which shares its questions with this one where it may. Else they lie in the room given: an empty
-    /// vector with room for as many as this entry has, and then an empty one without. It takes no memory, and can't fail
-    /// (this project's own rule).
+    /// vector with room for as many as this entry has, and then an empty one without. It takes no memory, and can't
+    /// fail (this project's own rule).
     #[inline]
     pub fn shared_copy(&self, room: &mut Vec<Asked>) -> Entry
         requires empty { room.old.items ≡ [] }

@@ -1,4 +1,5 @@
-//! How many there may be (this project's own rule, but for the last major function code: WDK, "IRP Major Function Codes").
+//! How many there may be (this project's own rule, but for the last major function code: WDK, "IRP Major Function
+//! Codes").
 
 /// The greatest major function code, that of Plug and Play.
 pub const LAST_MAJOR: u8 = 0x1b;

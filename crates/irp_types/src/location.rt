@@ -18,7 +18,8 @@ pub enum Owner {
 #[derive(Clone, Copy, PartialEq, Eq, Debug)]
 pub enum Preparation {
     Nothing,
-    /// The next lower location has its content (WDK: "IoGetNextIrpStackLocation", "IoCopyCurrentIrpStackLocationToNext").
+    /// The next lower location has its content (WDK: "IoGetNextIrpStackLocation",
+    /// "IoCopyCurrentIrpStackLocationToNext").
     Filled,
     /// The next lower device is to use the owner's own location (WDK: "IoSkipCurrentIrpStackLocation").
     Skipped,

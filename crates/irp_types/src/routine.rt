@@ -160,9 +160,9 @@ impl Known {
     }
 
     /// Whether a dispatch that may name these routines may plan so when it is shown this (this project's own rule): it
-    /// finishes with a status that can complete a packet; holds a packet for a cancel slot always; passes down only where a device stands below; names a cancel
-    /// routine only for a packet that isn't cancelled; sets only a routine of rule Watch where it doesn't mark its
-    /// location; and names only routines within these counts.
+    /// finishes with a status that can complete a packet; holds a packet for a cancel slot always; passes down only
+    /// where a device stands below; names a cancel routine only for a packet that isn't cancelled; sets only a routine
+    /// of rule Watch where it doesn't mark its location; and names only routines within these counts.
     pub fn allows(self, shown: Shown, plan: Plan) -> bool
         ensures { result ≡ is_plan_allowed self shown plan }
     {

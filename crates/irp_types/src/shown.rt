@@ -6,8 +6,8 @@ ghost use Rattle.irp_types.specs.Rules.{CanShow};
 use crate::names::{DeviceId, IrpRef};
 use crate::status::Status;
 
-/// What a dispatch, a completion routine or a cancel routine is shown of a packet. Large fields come first, since fields
-/// lie in this order.
+/// What a dispatch, a completion routine or a cancel routine is shown of a packet. Large fields come first, since
+/// fields lie in this order.
 #[derive(Clone, Copy, PartialEq, Eq, Debug)]
 pub struct Shown {
     /// The packet's own reference.

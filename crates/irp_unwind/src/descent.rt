@@ -32,8 +32,8 @@ fn reply_above(is_marked: bool, sent: Sent) -> Sent
     sent
 }
 
-/// Sends a packet to a device, in stacks that are in order: to this device, and then to those below, until one keeps it or
-/// finishes it.
+/// Sends a packet to a device, in stacks that are in order: to this device, and then to those below, until one keeps it
+/// or finishes it.
 fn descend_from<A: Ask>(
     packet: &mut Packet,
     irp: IrpRef,
@@ -73,16 +73,17 @@ fn descend_from<A: Ask>(
 
 /// Sends a packet to a device, and answers the status that the sender gets, and how it ended.
 ///
-/// The device is entered in the next lower location, and the dispatch of its driver for the major function code there is
-/// asked what it plans. Finish: the packet gets the status and information, and is unwound. Hold: the device marks its
-/// location pending and owns the packet, with the cancel routine if one is given. HoldSlot: the same without one, and the packet
-/// stands in a cancel slot. Skip: the next lower device is entered in the same location. Forward: the location is copied to the next lower one, which gets the completion routine if one
-/// is given, and the next lower device is entered there. ForwardPend: the same, after the device marked its own location.
-/// A driver without a dispatch for the major function code finishes the packet with INVALID_DEVICE_REQUEST and
-/// information 0. The sender gets PENDING where one of these plans is Hold, HoldSlot or ForwardPend, else the status of
-/// the finish. A packet whose sender gets another status stands no lower than before (WDK: "IoCallDriver",
-/// "IoSkipCurrentIrpStackLocation", "IoCopyCurrentIrpStackLocationToNext", "IoMarkIrpPending"; the plans, and the
-/// information 0 of an unhandled major function code, are this project's own rules).
+/// The device is entered in the next lower location, and the dispatch of its driver for the major function code there
+/// is asked what it plans. Finish: the packet gets the status and information, and is unwound. Hold: the device marks
+/// its location pending and owns the packet, with the cancel routine if one is given. HoldSlot: the same without one,
+/// and the packet stands in a cancel slot. Skip: the next lower device is entered in the same location. Forward: the
+/// location is copied to the next lower one, which gets the completion routine if one is given, and the next lower
+/// device is entered there. ForwardPend: the same, after the device marked its own location. A driver without a
+/// dispatch for the major function code finishes the packet with INVALID_DEVICE_REQUEST and information 0. The sender
+/// gets PENDING where one of these plans is Hold, HoldSlot or ForwardPend, else the status of the finish. A packet
+/// whose sender gets another status stands no lower than before (WDK: "IoCallDriver", "IoSkipCurrentIrpStackLocation",
+/// "IoCopyCurrentIrpStackLocationToNext", "IoMarkIrpPending"; the plans, and the information 0 of an unhandled major
+/// function code, are this project's own rules).
 ///
 /// `irp` is the packet's own reference, which the closures are shown. What is asked goes behind the other questions in
 /// `asked`, into room that is there: it takes no memory. The conditions are those of `can_descend`, and room for one

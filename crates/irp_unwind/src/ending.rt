@@ -7,8 +7,8 @@ use irp_types::{DeviceId, Owner, Status};
 pub enum Ending {
     /// A device that was sent the packet holds it. An unwinding never ends so.
     Held(DeviceId),
-    /// A completion routine kept the packet (WDK: STATUS_MORE_PROCESSING_REQUIRED), and this is its owner: the device that
-    /// set the routine, or the originator.
+    /// A completion routine kept the packet (WDK: STATUS_MORE_PROCESSING_REQUIRED), and this is its owner: the device
+    /// that set the routine, or the originator.
     Kept(Owner),
     /// No routine kept it: the packet was completed.
     Ended,

@@ -8,8 +8,8 @@ pub fn unwinding_is_settled()
     ensures { UnwindingIsSettled }
 {}
 
-/// Where each closure has one answer to what it is shown, a packet and the device that it is sent to settle which devices
-/// it reaches, what is asked, what is left of it and what the sender gets.
+/// Where each closure has one answer to what it is shown, a packet and the device that it is sent to settle which
+/// devices it reaches, what is asked, what is left of it and what the sender gets.
 pub fn descent_is_settled()
     ensures { DescentIsSettled }
 {}

@@ -37,8 +37,8 @@ fn owner_from(above: Option<DeviceId>) -> Owner
     }
 }
 
-/// Unwinds a packet, below whose current location all is cleared: one location after another, until a routine keeps it or
-/// it stands above the highest.
+/// Unwinds a packet, below whose current location all is cleared: one location after another, until a routine keeps it
+/// or it stands above the highest.
 fn unwind_from<A: Ask>(packet: &mut Packet, irp: IrpRef, ask: &A, asked: &mut Vec<Asked>) -> Ending
     requires bare { IsBare packet.old }
     requires placed { packet.old.current ≤ size_of packet.old }
@@ -74,10 +74,10 @@ fn unwind_from<A: Ask>(packet: &mut Packet, irp: IrpRef, ask: &A, asked: &mut Ve
 /// the next higher location, none at the top. Its answer may replace the status and information, which the locations
 /// above see then, and may keep the packet: the packet stands in the next higher location then, and belongs to that
 /// location's device, or to the originator at the top. Where nobody keeps it, it has ended and stands above its highest
-/// location. Where the packet is not kept, a pending bit goes on to the next higher location, also if nobody was asked. Each
-/// location that is left, and each below the current one, is cleared, and the packet is not prepared then (WDK: "IoCompleteRequest", "Implementing an IoCompletion Routine"; the
-/// clearing, the passing on of a pending bit where nobody is asked, and the test of flags against a replaced status are
-/// this project's own rules).
+/// location. Where the packet is not kept, a pending bit goes on to the next higher location, also if nobody was asked.
+/// Each location that is left, and each below the current one, is cleared, and the packet is not prepared then (WDK:
+/// "IoCompleteRequest", "Implementing an IoCompletion Routine"; the clearing, the passing on of a pending bit where
+/// nobody is asked, and the test of flags against a replaced status are this project's own rules).
 ///
 /// `irp` is the packet's own reference, which the routines are shown. What is asked goes behind the other questions in
 /// `asked`, into room that is there: it takes no memory. The conditions are those of `can_unwind`, and room for one

@@ -27,8 +27,8 @@ fn behaves_so(behaviour: Behaviour, shown: Shown) -> Answer
 }
 
 /// What a completion routine of a script answers to what it is shown: it behaves by `on_ok` where the shown status is a
-/// success, else by `on_err`, and makes the one mark that any answer may have. A routine whose behaviours are those of its
-/// rule answers what its rule allows (this project's own format, docs/FORMATS.md). It takes no memory.
+/// success, else by `on_err`, and makes the one mark that any answer may have. A routine whose behaviours are those of
+/// its rule answers what its rule allows (this project's own format, docs/FORMATS.md). It takes no memory.
 pub fn table_answer(routine: CompletionRoutine, shown: Shown) -> Answer
     ensures answer { result ≡ answer_of routine shown }
     ensures allowed { obeys_its_rule routine ≡ true → is_allowed routine.rule shown result ≡ true }
@@ -43,9 +43,9 @@ pub fn table_answer(routine: CompletionRoutine, shown: Shown) -> Answer
 
 /// What a dispatch of a script with this plan answers to what it is shown: its plan, but a finish with
 /// INVALID_DEVICE_REQUEST and information 0 where the plan passes down and no device stands below, and a finish with
-/// CANCELLED and information 0 where the plan holds with a cancel routine a packet that is cancelled. A sound plan whose
-/// routine is among those that the dispatch may name is answered by what is allowed to it (this project's own format,
-/// docs/FORMATS.md). It takes no memory.
+/// CANCELLED and information 0 where the plan holds with a cancel routine a packet that is cancelled. A sound plan
+/// whose routine is among those that the dispatch may name is answered by what is allowed to it (this project's own
+/// format, docs/FORMATS.md). It takes no memory.
 pub fn table_plan(plan: Plan, shown: Shown) -> Plan
     ensures plan { result ≡ plan_of plan shown }
     ensures allowed { (known : Known) → is_plan_sound plan ≡ true → names_known known plan ≡ true

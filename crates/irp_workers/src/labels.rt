@@ -12,7 +12,8 @@ use irp_types::{Call, IrpRef, Reply};
 use std::alloc::{AllocError, Global};
 use std::sync::{Mutex, Wait};
 
-/// What a label stands for that isn't bound: a reference that is never live (this project's own format, docs/FORMATS.md).
+/// What a label stands for that isn't bound: a reference that is never live (this project's own format,
+/// docs/FORMATS.md).
 const UNBOUND: IrpRef = IrpRef {
     slot: 0xFFFF_FFFF,
     use_no: 0,
@@ -67,8 +68,8 @@ impl Labels {
         }
     }
 
-    /// The packet that an act names. One that it names by a reference is that packet, and an act that names none has a packet
-    /// that is never live.
+    /// The packet that an act names. One that it names by a reference is that packet, and an act that names none has a
+    /// packet that is never live.
     pub fn packet_of(&self, rt: &impl Wait, act: StepAct) -> IrpRef
         ensures { IsNamed act result }
     {

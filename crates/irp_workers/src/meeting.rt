@@ -6,8 +6,8 @@ use std::thread;
 /// Before how many of its steps each worker meets the others, at most.
 const ROUNDS: u32 = 32;
 
-/// How many turns of a loop all workers together wait, at most, in all rounds. A worker gives its processor away in each
-/// turn, which takes about a microsecond where nobody else wants it.
+/// How many turns of a loop all workers together wait, at most, in all rounds. A worker gives its processor away in
+/// each turn, which takes about a microsecond where nobody else wants it.
 const TURNS: u32 = 20_000;
 
 /// Where workers meet before each of their first steps, so that the calls of a short script mix. Else the first worker

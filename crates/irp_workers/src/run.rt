@@ -230,9 +230,9 @@ fn gather<'a, L: Session>(
 ///
 /// Labels are shared by all seats: one that isn't bound yet stands for a packet that is never live. A step whose seat
 /// isn't there, one whose call isn't recorded, a hand to a seat that its worker doesn't have, and a publish or a
-/// withdraw in a slot of another seat stops its worker; in the setup, nothing more is run. The gate is called
-/// before and after each of the script's `steps`, with its seat and its place, outside the session's lock. A step of the
-/// setup on a lock or a slot, which no script that was read has, has no word line (this project's own format,
+/// withdraw in a slot of another seat stops its worker; in the setup, nothing more is run. The gate is called before
+/// and after each of the script's `steps`, with its seat and its place, outside the session's lock. A step of the setup
+/// on a lock or a slot, which no script that was read has, has no word line (this project's own format,
 /// docs/FORMATS.md).
 ///
 /// All remove seats were opened with these locks, and all that the seats have at slots with these slots, which are the

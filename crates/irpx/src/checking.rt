@@ -142,17 +142,18 @@ fn tell<O: Out>(alloc: Global, output: &mut O, verdict: Verdict) -> Result<(), U
 }
 
 /// Reads a transcript from the input, up to its end, and puts a line into the output: `legal K` where the sequential
-/// manager could have made its history, of K entries, and else `illegal I`, where entry I, from 0, is the first that isn't
-/// legal (this project's own command line, README.md). The verdict that was written.
+/// manager could have made its history, of K entries, and else `illegal I`, where entry I, from 0, is the first that
+/// isn't legal (this project's own command line, README.md). The verdict that was written.
 ///
 /// All that is left of the input is taken, and at most 1,073,741,825 bytes of it: one more than the text may have.
 ///
 /// # Errors
 ///
-/// `Unjudged` where there is no verdict, and then nothing goes out: `RefusedLine` with the number of the first line that is
-/// refused, where the input isn't the text of a transcript; `Input` where the input failed, has more than 1,073,741,824
-/// bytes, or memory ran out for it; `NoMemory` where memory ran out later. `Untold` where there is one: `Failed` where the
-/// output failed, which its count of failures tells, after a beginning of the line; `NoMemory` before anything goes out.
+/// `Unjudged` where there is no verdict, and then nothing goes out: `RefusedLine` with the number of the first line
+/// that is refused, where the input isn't the text of a transcript; `Input` where the input failed, has more than
+/// 1,073,741,824 bytes, or memory ran out for it; `NoMemory` where memory ran out later. `Untold` where there is one:
+/// `Failed` where the output failed, which its count of failures tells, after a beginning of the line; `NoMemory`
+/// before anything goes out.
 pub fn check<R: Read, O: Out>(
     alloc: Global,
     input: &mut R,

@@ -19,8 +19,8 @@ pub enum InputFault {
     Memory,
 }
 
-/// The first bytes of the input, at most so many; no more are taken from it. Each turn takes a byte or is the last, and an
-/// interrupted read is a failed one (this project's own rule).
+/// The first bytes of the input, at most so many; no more are taken from it. Each turn takes a byte or is the last, and
+/// an interrupted read is a failed one (this project's own rule).
 ///
 /// # Errors
 ///

@@ -24,7 +24,8 @@ use std::process::ExitCode;
 use std::sync::Wait;
 use std::thread::Threads;
 
-/// The words that the program was given. `Usage` where they can't be had, and `Memory` where memory was missing for them.
+/// The words that the program was given. `Usage` where they can't be had, and `Memory` where memory was missing for
+/// them.
 fn words_of(rt: &HostRuntime) -> Result<Vec<String>, Unread> {
     let words = match env::args(rt) {
         Ok(words) => words,

@@ -240,8 +240,8 @@ fn form_of(form: ScriptForm) -> Form
     }
 }
 
-/// The transcript of a session with the form of the script that was run, and with these word lines, on condition that the
-/// form has at most 64 slots. `ReceiptsDiffer` where it has no header.
+/// The transcript of a session with the form of the script that was run, and with these word lines, on condition that
+/// the form has at most 64 slots. `ReceiptsDiffer` where it has no header.
 fn run_transcript(
     transcript: Transcript,
     form: ScriptForm,
@@ -266,8 +266,8 @@ fn run_transcript(
     Ok(transcript)
 }
 
-/// Ends a session whose seats have worked, and gives its transcript, in the form of the script and with the word lines. The
-/// form has at most 64 slots.
+/// Ends a session whose seats have worked, and gives its transcript, in the form of the script and with the word lines.
+/// The form has at most 64 slots.
 fn finish<L: Session>(
     alloc: Global,
     shared: Shared<Store, L>,
@@ -392,8 +392,8 @@ fn with_dispatches<O: Out, T: Threads + Wait + Sync>(
     with_store(rt, alloc, output, script, workers, store)
 }
 
-/// Has so many workers run the script with a store that behaves as it says, and writes the transcript. All closures are made
-/// here, since no function hands out what it makes of them.
+/// Has so many workers run the script with a store that behaves as it says, and writes the transcript. All closures are
+/// made here, since no function hands out what it makes of them.
 fn run_script<O: Out, T: Threads + Wait + Sync>(
     rt: &T,
     alloc: Global,
@@ -467,19 +467,21 @@ fn run_read<O: Out, T: Threads + Wait + Sync>(
 }
 
 /// Reads a script from the input, up to its end or to one byte more than a script may have, has so many workers run its
-/// steps, and writes the transcript (this project's own command line, README.md). The closures behave as the script says.
+/// steps, and writes the transcript (this project's own command line, README.md). The closures behave as the script
+/// says.
 ///
-/// The text of the script is what was left of the input, or its first 1,048,577 bytes; this is taken of it, and no more. At
-/// most so much is taken where reading fails.
+/// The text of the script is what was left of the input, or its first 1,048,577 bytes; this is taken of it, and no
+/// more. At most so much is taken where reading fails.
 ///
 /// # Errors
 ///
-/// `Unread` where there is no script, and then nothing goes out: `Input` where the input failed or memory ran out for it,
-/// `Refused` where its text is no script, `NoMemory` where memory ran out later. `HandsBetween` where there is one that
-/// hands a reference between seats of different workers: the first such step, and nothing goes out. Else `Unfinished`: `NoTranscript` where
-/// memory ran out, or the seats kept other entries than the history has, and then nothing goes out; `Stopped` where a step
-/// found no memory or wasn't recorded, and then what was recorded is written; `Unwritten` where the output failed, which its
-/// count of failures tells, or memory ran out, after a beginning of the transcript.
+/// `Unread` where there is no script, and then nothing goes out: `Input` where the input failed or memory ran out for
+/// it, `Refused` where its text is no script, `NoMemory` where memory ran out later. `HandsBetween` where there is one
+/// that hands a reference between seats of different workers: the first such step, and nothing goes out. Else
+/// `Unfinished`: `NoTranscript` where memory ran out, or the seats kept other entries than the history has, and then
+/// nothing goes out; `Stopped` where a step found no memory or wasn't recorded, and then what was recorded is written;
+/// `Unwritten` where the output failed, which its count of failures tells, or memory ran out, after a beginning of the
+/// transcript.
 pub fn run<R: Read, O: Out, T: Threads + Wait + Sync>(
     rt: &T,
     alloc: Global,

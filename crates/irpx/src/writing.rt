@@ -21,8 +21,8 @@ pub enum Unwritten {
 ///
 /// # Errors
 ///
-/// `Failed` where the output failed, and exactly then its count of failures rose; `NoMemory` where memory ran out. After
-/// either, a beginning of the text went out, and not the whole.
+/// `Failed` where the output failed, and exactly then its count of failures rose; `NoMemory` where memory ran out.
+/// After either, a beginning of the text went out, and not the whole.
 pub fn write<O: Out>(
     alloc: Global,
     output: &mut O,

@@ -1,5 +1,5 @@
-//! Two calls at once: a gate that holds each seat's step until the other seat's step of the same place among its own has
-//! entered. It ends by itself: who waits does so for a number of turns.
+//! Two calls at once: a gate that holds each seat's step until the other seat's step of the same place among its own
+//! has entered. It ends by itself: who waits does so for a number of turns.
 
 use super::{ALLOCATE, CREATE, by, worked};
 use irp_script::Gate;
