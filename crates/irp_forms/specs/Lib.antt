@@ -1,5 +1,6 @@
 pub mod Parts
 pub mod Names
+pub mod Found
 pub mod Values
 pub mod Questions
 pub mod Fields

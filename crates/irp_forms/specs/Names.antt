@@ -117,6 +117,6 @@ refusals =
     refusal.NothingAttached ∷ refusal.NotDrained ∷ refusal.BadSize ∷ refusal.BadMajor ∷ refusal.NoDriver ∷
     refusal.Ended ∷ refusal.HistoryFull ∷ refusal.NoLock ∷ refusal.SlotHeld ∷ refusal.NotSlotHeld ∷ []
 
--- the refusal that has this name
-abbrev pub refusal_named : List ℕ → Option Refusal
-refusal_named = first_named refusal_name refusals
+-- a refusal by its name
+unfoldable pub refusal_at : Data → Option Refusal
+refusal_at form = as_str form >>= first_named refusal_name refusals

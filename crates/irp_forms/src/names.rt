@@ -1,7 +1,8 @@
 //! Values that texts have by their names: rules, flags and refusals.
 #![tactic(auto, unfolding(json::specs::Print::escape_byte))]
 
-ghost use Rattle.std.specs.Prelude.{◌≡◌, ℕ, List, ◌++◌, codes};
+ghost use Rattle.std.specs.Prelude.{◌≡◌, ℕ, List, ◌++◌, Some, codes};
+ghost use mathlib.Core.Logic.{◌↔◌};
 ghost use Rattle.json.specs.Print.{quoted};
 ghost use Rattle.serde_json.specs.View.{view};
 ghost use Rattle.irp_forms.specs.Names.{
@@ -12,12 +13,14 @@ ghost use Rattle.irp_forms.specs.Names.{
   flags_at,
   flags_name,
   first_named,
+  refusal_at,
   refusal_name,
   refusals,
   rule_at,
   rule_name,
   rules,
 };
+ghost use Rattle.irp_forms.specs.Found.{cancel_rule_found, refusal_found, rule_found};
 
 use crate::from_value::FromValue;
 use irp_types::{CancelRule, Refusal, Rule};
@@ -39,11 +42,15 @@ pub trait HasName: Copy + 'static {
     fn name(self) -> &'static str
         ensures name { result.now ≡ name self }
         ensures as_it_stands { quoted result.now ≡ codes "\"" ++ (result.now ++ codes "\"") };
+
+    /// Each value is the first of all that has its name. So all values are there, and no two have the same name.
+    ghost found: { (one : Self) → first_named name all (name one) ≡ Some one };
 }
 
 /// The value that has this name, or none (this project's own format, docs/FORMATS.md).
 pub fn named<T: HasName>(given: &str) -> Option<T>
-    ensures { result ≡ first_named T.name T.all given.now }
+    ensures first { result ≡ first_named T.name T.all given.now }
+    ensures found { (one : T) → (result ≡ Some one) ↔ (given.now ≡ T.name one) }
 {
     for one in T::all() {
         if given == one.name() {
@@ -57,6 +64,8 @@ impl HasName for Rule {
     ghost name = { rule_name };
 
     ghost all = { rules };
+
+    ghost found = { rule_found };
 
     #[tactic(auto, unfolding(crate::specs::Names::rules))]
     fn all() -> &'static [Self] {
@@ -94,6 +103,8 @@ impl HasName for CancelRule {
     ghost name = { cancel_rule_name };
 
     ghost all = { cancel_rules };
+
+    ghost found = { cancel_rule_found };
 
     #[tactic(auto, unfolding(crate::specs::Names::cancel_rules))]
     fn all() -> &'static [Self] {
@@ -172,6 +183,8 @@ impl HasName for Refusal {
 
     ghost all = { refusals };
 
+    ghost found = { refusal_found };
+
     #[tactic(auto, unfolding(crate::specs::Names::refusals))]
     fn all() -> &'static [Self] {
         &[
@@ -239,5 +252,15 @@ impl HasName for Refusal {
             Refusal::SlotHeld => "SlotHeld",
             Refusal::NotSlotHeld => "NotSlotHeld",
         }
+    }
+}
+
+/// A refusal by its name (this project's own format, docs/FORMATS.md).
+impl FromValue for Refusal {
+    ghost form = { refusal_at };
+
+    #[tactic(auto, unfolding(crate::specs::Names::refusal_at))]
+    fn from_value(value: &Value) -> Option<Self> {
+        named(value.as_str()?)
     }
 }

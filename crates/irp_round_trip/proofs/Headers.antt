@@ -2,14 +2,14 @@
 use Rattle.std.proofs.Common.{◌≡◌, ℕ, suc, ◌<◌, ◌≤◌, ◌^◌, List, length, map, Some, refl, sym, ap, ◌∙◌, arith, le-leb}
 use Rattle.std.specs.Prelude.{⊤}
 use Rattle.std.specs.List.{All}
-use Rattle.irp_forms.specs.Names.{cancel_rule_at, cancel_rules}
+use Rattle.irp_forms.specs.Found.{cancel_rule_found}
+use Rattle.irp_forms.specs.Names.{cancel_rule_at, cancel_rule_name, cancel_rules}
 use Rattle.irp_forms.specs.Parts.{has_keys, list_at}
 use Rattle.irp_forms.specs.Values.{completions_at, dispatch_at, first_counts_at, handler_at, known_at}
 use Rattle.irp_types.specs.Limits.{last_major, most_dispatches}
 use Rattle.irp_types.specs.Rules.{IsWithin}
 use Rattle.irp_types.specs.State.{Entrance, IsDriver, Tables, most_known}
 use Rattle.irp_types.specs.declared.routine.CancelRule.{CancelRule}
-use Rattle.irp_types.specs.declared.routine.CancelRule.TheVariants as cancel_rule
 use Rattle.irp_types.specs.declared.routine.Known.{Known}
 use Rattle.irp_shared.specs.Headers.{IsHeader, fixed_of, slots_of}
 use Rattle.irp_shared.specs.declared.header.Form.{Form}
@@ -18,21 +18,19 @@ use Rattle.irp_shared.specs.declared.header.Header.{Header}
 use Rattle.irp_transcript_reader.specs.Lines.{counts_at, form_one_at, form_two_at, header_at, header_form_at, header_keys}
 use Rattle.irp_transcript_writer.specs.Json.{list}
 use Rattle.irp_transcript_writer.specs.Lines.{cancel_rule_json, completions_json, driver_json, handler_json, header_json, known_json, line_of_form}
+use Rattle.irp_round_trip.proofs.Names.{found_plain}
 use Rattle.irp_round_trip.proofs.Numbers.{items_stand, list_back, u8_back, u32_back, wide}
 use Rattle.irp_round_trip.proofs.Stands.{Stands}
 
 -- ---- the parts
 
 rule_back : (kind : CancelRule) → cancel_rule_at (cancel_rule_json kind) ≡ Some kind
-unfolding cancel_rule_at cancel_rules
-rule_back cancel_rule.MustFinish = refl
-rule_back cancel_rule.MustLeave = refl
-rule_back cancel_rule.Either = refl
+unfolding cancel_rule_at
+rule_back kind = cancel_rule_found kind
 
 rule_stands : (levels : ℕ) (kind : CancelRule) → Stands (cancel_rule_json kind) levels
-rule_stands levels cancel_rule.MustFinish = refl
-rule_stands levels cancel_rule.MustLeave = refl
-rule_stands levels cancel_rule.Either = refl
+unfolding cancel_rules
+rule_stands levels kind = found_plain cancel_rule_name cancel_rules kind refl (cancel_rule_found kind)
 
 any_rule : (rules : List CancelRule) → All (λ (kind : CancelRule). ⊤) rules
 any_rule rules k d within = tt

@@ -1,4 +1,5 @@
 pub mod Stands
+pub mod Names
 pub mod ReadBack
 pub mod Plain
 pub mod Numbers

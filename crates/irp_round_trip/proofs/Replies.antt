@@ -1,53 +1,31 @@
 -- Replies are read as they were written, and their forms stand.
 use Rattle.std.proofs.Common.{◌≡◌, ℕ, suc, true, Some, refl}
-use Rattle.irp_forms.specs.Names.{refusal_name, refusal_named, refusals}
+use Rattle.serde_json.specs.Data.{string}
+use Rattle.irp_forms.specs.Found.{refusal_found}
+use Rattle.irp_forms.specs.Names.{refusal_at, refusal_name, refusals}
 use Rattle.irp_forms.specs.Parts.{has_keys}
 use Rattle.irp_types.specs.declared.location.Owner.{Owner}
 use Rattle.irp_types.specs.declared.location.Owner.TheVariants as owner
 use Rattle.irp_types.specs.declared.refusal.Refusal.{Refusal}
-use Rattle.irp_types.specs.declared.refusal.Refusal.TheVariants as refusal
 use Rattle.irp_types.specs.declared.reply.Reply.{Reply}
 use Rattle.irp_types.specs.declared.reply.Reply.TheVariants as reply
 use Rattle.irp_types.specs.declared.reply.Seen.{Seen}
 use Rattle.irp_transcript_reader.specs.Replies.{holder_at, naming_reply_at, owner_at, reply_at, seen_at, telling_reply_at}
 use Rattle.irp_transcript_writer.specs.Lines.{owner_json, reply_json, seen_json}
+use Rattle.irp_round_trip.proofs.Names.{found_plain}
 use Rattle.irp_round_trip.proofs.Numbers.{u32_back, u64_back, wide}
 use Rattle.irp_round_trip.proofs.Stands.{are_plain, Stands}
 use Rattle.irp_round_trip.proofs.Values.{cancel_or_null_back, cancel_or_null_stands, device_back, irp_back, irp_stands, status_back}
 use Rattle.irp_round_trip.specs.Fits.{OwnerFits, ReplyFits, SeenFits}
 
--- a refusal is read by its name, which is plain
-refusal_back : (reason : Refusal) → (refusal_named (refusal_name reason) ≡ Some reason) × (are_plain (refusal_name reason) ≡ true)
+-- a refusal is read by its name
+refusal_back : (reason : Refusal) → refusal_at (string (refusal_name reason)) ≡ Some reason
+unfolding refusal_at
+refusal_back reason = refusal_found reason
+
+refusal_plain : (reason : Refusal) → are_plain (refusal_name reason) ≡ true
 unfolding refusals
-refusal_back refusal.NoIrp = (refl, refl)
-refusal_back refusal.Stale = (refl, refl)
-refusal_back refusal.NoDevice = (refl, refl)
-refusal_back refusal.DeviceGone = (refl, refl)
-refusal_back refusal.NotOwner = (refl, refl)
-refusal_back refusal.NoLocation = (refl, refl)
-refusal_back refusal.NotPrepared = (refl, refl)
-refusal_back refusal.AfterSkip = (refl, refl)
-refusal_back refusal.TooShort = (refl, refl)
-refusal_back refusal.WrongTarget = (refl, refl)
-refusal_back refusal.NoRoutine = (refl, refl)
-refusal_back refusal.BadStatus = (refl, refl)
-refusal_back refusal.CancelRoutineSet = (refl, refl)
-refusal_back refusal.AlreadyCancelled = (refl, refl)
-refusal_back refusal.InFlight = (refl, refl)
-refusal_back refusal.StillAttached = (refl, refl)
-refusal_back refusal.SameStack = (refl, refl)
-refusal_back refusal.TooDeep = (refl, refl)
-refusal_back refusal.Full = (refl, refl)
-refusal_back refusal.NothingAttached = (refl, refl)
-refusal_back refusal.NotDrained = (refl, refl)
-refusal_back refusal.BadSize = (refl, refl)
-refusal_back refusal.BadMajor = (refl, refl)
-refusal_back refusal.NoDriver = (refl, refl)
-refusal_back refusal.Ended = (refl, refl)
-refusal_back refusal.HistoryFull = (refl, refl)
-refusal_back refusal.NoLock = (refl, refl)
-refusal_back refusal.SlotHeld = (refl, refl)
-refusal_back refusal.NotSlotHeld = (refl, refl)
+refusal_plain reason = found_plain refusal_name refusals reason refl (refusal_found reason)
 
 owner_back : (holder : Owner) → OwnerFits holder → owner_at (owner_json holder) ≡ Some holder
 unfolding owner_at
@@ -96,7 +74,7 @@ reply_back (reply.Status status) h = rw (status_back status h)
 reply_back (reply.Previous cancel) h = rw (cancel_or_null_back cancel h)
 reply_back (reply.Cancelled cancelled) h = refl
 reply_back (reply.Seen seen) h = rw (seen_back seen h)
-reply_back (reply.Refused reason) h = rw (refusal_back reason).0
+reply_back (reply.Refused reason) h = rw (refusal_back reason)
 
 pub reply_stands : (levels : ℕ) (given : Reply) → ReplyFits given → Stands (reply_json given) (suc (suc levels))
 reply_stands levels reply.Done h = refl
@@ -106,4 +84,4 @@ reply_stands levels (reply.Status status) h = (wide status.0 h, refl, refl, tt)
 reply_stands levels (reply.Previous cancel) h = (cancel_or_null_stands (suc levels) cancel h, refl, refl, tt)
 reply_stands levels (reply.Cancelled cancelled) h = (tt, refl, refl, tt)
 reply_stands levels (reply.Seen seen) h = (seen_stands levels seen h, refl, refl, tt)
-reply_stands levels (reply.Refused reason) h = ((refusal_back reason).1, refl, refl, tt)
+reply_stands levels (reply.Refused reason) h = (refusal_plain reason, refl, refl, tt)

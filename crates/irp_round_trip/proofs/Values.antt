@@ -2,6 +2,7 @@
 use Rattle.std.proofs.Common.{◌≡◌, ℕ, suc, ◌^◌, ◌<◌, Bool, true, false, Option, Some, None, refl}
 use Rattle.std.specs.Prelude.{IfSome}
 use Rattle.serde_json.specs.Data.{string}
+use Rattle.irp_forms.specs.Found.{rule_found}
 use Rattle.irp_forms.specs.Names.{every_flags, flags_at, rule_at, rule_name, rules}
 use Rattle.irp_forms.specs.Parts.{or_null_at}
 use Rattle.irp_forms.specs.Questions.{answer_at, keep_named}
@@ -20,11 +21,11 @@ use Rattle.irp_types.specs.declared.names.IrpRef.{IrpRef}
 use Rattle.irp_types.specs.declared.names.LockNo.{LockNo}
 use Rattle.irp_types.specs.declared.routine.RoutineId.{RoutineId}
 use Rattle.irp_types.specs.declared.routine.Rule.{Rule}
-use Rattle.irp_types.specs.declared.routine.Rule.TheVariants as rule
 use Rattle.irp_types.specs.declared.routine.Setting.{Setting}
 use Rattle.irp_types.specs.declared.status.Status.{Status}
 use Rattle.irp_transcript_writer.specs.Json.{or_null}
 use Rattle.irp_transcript_writer.specs.Lines.{answer_json, cancel_answer_json, cancel_json, device_json, irp_json, lock_json, party_json, plan_json, replacement_json, routine_json, setting_json, status_json}
+use Rattle.irp_round_trip.proofs.Names.{found_plain}
 use Rattle.irp_round_trip.proofs.Numbers.{u32_back, u64_back, wide, or_null_stands}
 use Rattle.irp_round_trip.proofs.Stands.{are_plain, Stands}
 use Rattle.irp_round_trip.specs.Fits.{AnswerFits, CancelAnswerFits, CancelFits, DeviceFits, IrpFits, LockFits, PartyFits, PlanFits, ReplacementFits, SettingFits, StatusFits}
@@ -69,12 +70,8 @@ lock_or_null_back None h = refl
 lock_or_null_back (Some lock) h = rw (lock_back lock h)
 
 rule_back : (kind : Rule) → rule_at (string (rule_name kind)) ≡ Some kind
-unfolding rule_at rules
-rule_back rule.Watch = refl
-rule_back rule.Change = refl
-rule_back rule.Keeper = refl
-rule_back rule.KeepOnError = refl
-rule_back rule.Free = refl
+unfolding rule_at
+rule_back kind = rule_found kind
 
 pub routine_back : (routine : RoutineId) → routine.no < 2 ^ 32 → routine_at (routine_json routine) ≡ Some routine
 unfolding routine_at
@@ -150,11 +147,8 @@ pub cancel_or_null_stands : (levels : ℕ) (option : Option CancelId) → IfSome
 cancel_or_null_stands levels option h = or_null_stands cancel_json CancelFits levels (λ cancel k. wide cancel.0 k) option h
 
 rule_plain : (kind : Rule) → are_plain (rule_name kind) ≡ true
-rule_plain rule.Watch = refl
-rule_plain rule.Change = refl
-rule_plain rule.Keeper = refl
-rule_plain rule.KeepOnError = refl
-rule_plain rule.Free = refl
+unfolding rules
+rule_plain kind = found_plain rule_name rules kind refl (rule_found kind)
 
 pub routine_stands : (levels : ℕ) (routine : RoutineId) → routine.no < 2 ^ 32 → Stands (routine_json routine) (suc levels)
 routine_stands levels routine h = (rule_plain routine.rule, (wide routine.no h, tt))

@@ -3,7 +3,7 @@ use Rattle.std.specs.Prelude.{[], ◌∷◌, codes, Option, Some, None, if◌the
 use Rattle.std.proofs.Common.{bytes_eq}
 use Rattle.serde_json.specs.Data.{Data, string}
 use Rattle.serde_json.specs.Find.{at, get, as_bool, as_str}
-use Rattle.irp_forms.specs.Names.{refusal_named}
+use Rattle.irp_forms.specs.Names.{refusal_at}
 use Rattle.irp_forms.specs.Parts.{◌>>=◌, or_null_at, or_else, has_items, has_keys, u32_at, u64_at}
 use Rattle.irp_forms.specs.Values.{cancel_at, device_at, irp_at, status_at}
 use Rattle.irp_types.specs.declared.location.Owner.{Owner}
@@ -61,7 +61,7 @@ telling_reply_at form =
     if has_keys (codes "status" ∷ []) form then (get (codes "status") form >>= status_at >>= λ status. Some (replies.Status status)) else
     (if has_keys (codes "cancelled" ∷ []) form then (get (codes "cancelled") form >>= as_bool >>= λ cancelled. Some (replies.Cancelled cancelled)) else
     (if has_keys (codes "seen" ∷ []) form then (get (codes "seen") form >>= seen_at >>= λ seen. Some (replies.Seen seen)) else
-    (if has_keys (codes "refused" ∷ []) form then (get (codes "refused") form >>= as_str >>= refusal_named >>= λ refusal. Some (replies.Refused refusal)) else None)))
+    (if has_keys (codes "refused" ∷ []) form then (get (codes "refused") form >>= refusal_at >>= λ refusal. Some (replies.Refused refusal)) else None)))
 
 -- a reply: its name, or its one value under its name
 unfoldable pub reply_at : Data → Option Reply

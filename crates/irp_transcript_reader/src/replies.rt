@@ -117,7 +117,7 @@ fn telling_reply_at(value: &Value) -> Option<Reply>
         let seen = seen_at(value.get("seen")?)?;
         Some(Reply::Seen(seen))
     } else if has_keys(value, &["refused"]) {
-        let refusal = named(value.get("refused").and_then(Value::as_str)?)?;
+        let refusal = under("refused", value)?;
         Some(Reply::Refused(refusal))
     } else {
         None
