@@ -3,14 +3,13 @@ use Rattle.std.proofs.Common.{◌≡◌, ℕ, List, [], ◌∷◌, Bool, true, f
 use Rattle.std.specs.List.{find, list_all}
 use Rattle.std.proofs.Common.{bytes_eq}
 use Rattle.std.proofs.lemmas.Bool.{and_parts}
-use Rattle.std.proofs.lemmas.Option.{none-some}
-use mathlib.Core.Option.{some-injective}
+use Rattle.std.proofs.lemmas.Option.{none-some, same_Some}
 use Rattle.irp_forms.specs.Names.{first_named}
 use Rattle.irp_round_trip.proofs.Stands.{are_plain}
 
 found_next : {T : Type 0} (fits : T → Bool) (here : Bool) (x y : T) (rest : Option T) → fits x ≡ true → (rest ≡ Some y → fits y ≡ true)
     → cond here (Some x) rest ≡ Some y → fits y ≡ true
-found_next fits true x y rest one more found = sym (ap fits (some-injective x y found)) ∙ one
+found_next fits true x y rest one more found = sym (ap fits (same_Some x y found)) ∙ one
 found_next fits false x y rest one more found = more found
 
 found_among : {T : Type 0} (test fits : T → Bool) (xs : List T) (y : T) → list_all fits xs ≡ true → find test xs ≡ Some y → fits y ≡ true

@@ -2,7 +2,7 @@
 use Rattle.std.specs.Prelude.{[], ◌∷◌, codes, Option, Some, None, if◌then◌else◌}
 use Rattle.std.proofs.Common.{bytes_eq}
 use Rattle.serde_json.specs.Data.{Data, string}
-use Rattle.serde_json.specs.Find.{at, get, as_bool, as_str}
+use Rattle.serde_json.specs.Find.{at, get, as_bool}
 use Rattle.irp_forms.specs.Names.{refusal_at}
 use Rattle.irp_forms.specs.Parts.{◌>>=◌, or_null_at, or_else, has_items, has_keys, u32_at, u64_at}
 use Rattle.irp_forms.specs.Values.{cancel_at, device_at, irp_at, status_at}
