@@ -15,7 +15,6 @@ use Rattle.irp_slots.specs.declared.views.View.{View}
 use Rattle.irp_slots.specs.declared.views.View.TheVariants.{Owner, Canceller}
 use Rattle.irp_slots.specs.declared.views.Parties.{Parties}
 use Rattle.irp_slots.specs.Core.{total, one_if, flag, times, times_of, is_begun, is_resting, owns, published, taken, resting, standing, flagged, ended, canceller_count, Kept, out_of, publishes, owner_published, checks, owning_checked, owner_checked, takes_back, owner_done, flags, slot_flagged, takes_out, slot_ended, owning_of}
-use Rattle.atomic_table.proofs.Lists.{set_again}
 use Rattle.irp_slots.proofs.Totals.{one_if_le, total_set, same_total, part_of_total, rest_or_stand, published_view, alone}
 
 abbrev pub St : Type 0
@@ -34,7 +33,7 @@ publish_finds_nothing key s r id o idle at inside =
 -- an idle owner puts its number into the content
 module _ (key : Parties) (s : St) (r : Kept key s) (id : ℕ) (o : Owning) (idle : o.stage ≡ Idle) (at : get_elem? s.views id ≡ some (Owner o)) (inside : o.slot < key.slots) (use_no : ℕ) where
   abbrev after_publish : Owning
-  after_publish = record o { stage = Published; published = use_no; stood = false }
+  after_publish = record o { stage = Published; published = use_no; stood = false; found_set = false }
 
   abbrev v1 : View
   v1 = Owner o
@@ -151,6 +150,39 @@ module _ (key : Parties) (s : St) (r : Kept key s) (id : ℕ) (o : Owning) (post
 
   pub check_keeps : Kept key (record { words = set s.words (2 * o.slot) (get_or s.words (2 * o.slot) 0); homes = s.homes; views = set s.views id w2 })
   check_keeps = subst (λ (ws : List ℕ). Kept key (record { words = ws; homes = s.homes; views = set s.views id w2 })) (sym (set-get_or s.words (2 * o.slot) 0)) check_kept
+
+-- an owner that has published finds the flag set
+module _ (key : Parties) (s : St) (r : Kept key s) (id : ℕ) (o : Owning) (at : get_elem? s.views id ≡ some (Owner o)) where
+  abbrev v_set : View
+  v_set = Owner o
+
+  abbrev w_set : View
+  w_set = Owner (record o { found_set = true })
+
+  found_kept : Kept key (record { words = s.words; homes = s.homes; views = set s.views id w_set })
+  found_kept = record {
+    wide = r.wide;
+    one_owner = λ k less. let t = same_total (owns k) s.views id v_set w_set at refl in let u = r.one_owner k less in omega arith;
+    places = λ k number less some_use.
+        let was = r.places k number less some_use in
+        let t = same_total (taken k number) s.views id v_set w_set at refl in
+        let p = same_total (published k number) s.views id v_set w_set at refl in
+        omega arith;
+    rests = λ k less some_rests. let t = same_total (resting k) s.views id v_set w_set at refl in r.rests k less (omega arith);
+    flag_set = λ k less some_flag. let t = same_total (flagged k) s.views id v_set w_set at refl in r.flag_set k less (omega arith);
+    flag_only = λ k less odd. let t = same_total (flagged k) s.views id v_set w_set at refl in let was = r.flag_only k less odd in omega arith;
+    flag_first = λ k less some_end. let t = same_total (ended k) s.views id v_set w_set at refl in let u = same_total (flagged k) s.views id v_set w_set at refl in let was = r.flag_first k less (omega arith) in omega arith;
+    stands = λ k less some_stand some_end.
+        let t = same_total (standing k) s.views id v_set w_set at refl in
+        let u = same_total (ended k) s.views id v_set w_set at refl in
+        r.stands k less (omega arith) (omega arith);
+    all_cancellers = same_total canceller_count s.views id v_set w_set at refl ∙ r.all_cancellers;
+    few_slots = r.few_slots;
+    few_cancellers = r.few_cancellers;
+  }
+
+  pub found_keeps : Kept key (record { words = set s.words (2 * o.slot) (get_or s.words (2 * o.slot) 0); homes = s.homes; views = set s.views id w_set })
+  found_keeps = subst (λ (ws : List ℕ). Kept key (record { words = ws; homes = s.homes; views = set s.views id w_set })) (sym (set-get_or s.words (2 * o.slot) 0)) found_kept
 
 out_times : (found number : ℕ) (xs : List ℕ) → 0 < number → times number (out_of found xs) ≡ times number xs + one_if (eqb found number)
 out_times found number xs some_use = dite (ℕ_discrete found 0)
@@ -369,7 +401,7 @@ pub publish_allowed : (key : Parties) (slots id number : ℕ) (o : Owning) (m : 
 publish_allowed key slots id number o m is idle inside s r _ at _ =
     let at' = subst (λ (z : View). get_elem? s.views id ≡ some z) is at in
     let kept = publish_keeps key s r id o idle at' inside number in (
-      Owner (record o { stage = Published; published = number; stood = false }),
+      Owner (record o { stage = Published; published = number; stood = false; found_set = false }),
       keeps,
       tt,
       kept,
@@ -412,11 +444,8 @@ check_allowed key slots id o m is posted inside s r _ at _ =
         (key, s, id, r, omega arith, at, refl, kept),
       ),
     ))
-    (λ set_already.
-    let kept : Kept key (record { words = set s.words (2 * o.slot) x; homes = s.homes; views = set s.views id (Owner o) }) =
-    subst (λ (z : List ℕ × List View). Kept key (record { words = z.0; homes = s.homes; views = z.1 }))
-    (λ i. (sym (set-get_or s.words (2 * o.slot) 0) i, sym (set_again s.views id (Owner o) at') i)) r in (
-      Owner o,
+    (λ set_already. let kept = found_keeps key s r id o at' in (
+      Owner (record o { found_set = true }),
       keeps,
       tt,
       kept,

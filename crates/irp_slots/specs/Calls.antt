@@ -14,7 +14,7 @@ use Rattle.irp_slots.specs.declared.answers.Withdrawal.{Withdrawal}
 use Rattle.irp_slots.specs.declared.answers.Withdrawal.TheVariants as withdrawal
 use Rattle.irp_slots.specs.declared.answers.Request.{Request}
 use Rattle.irp_slots.specs.declared.answers.Request.TheVariants as request
-use Rattle.irp_slots.specs.Core.{is_begun, is_standing, flag_word, content_word, owning_published, asking_flagged, IsEvent}
+use Rattle.irp_slots.specs.Core.{is_begun, is_standing, flag_word, content_word, owning_published, owning_found_set, asking_flagged, IsEvent}
 use Rattle.irp_slots.specs.Models.{Publisher, Asker}
 
 -- What publish does. The use is the owner's publication unless it is answered Used. Taken and Lost come only where
@@ -28,6 +28,7 @@ Publishes number before after publication.Standing =
       stage = Standing;
       published = number;
       stood = true;
+      found_set = false;
       taken = [];
     })
 Publishes number before after (publication.Taken token) =
@@ -37,6 +38,7 @@ Publishes number before after (publication.Taken token) =
       stage = Done;
       published = number;
       stood = false;
+      found_set = true;
       taken = number ∷ [];
     })
 Publishes number before after publication.Lost =
@@ -46,6 +48,7 @@ Publishes number before after publication.Lost =
       stage = Done;
       published = number;
       stood = false;
+      found_set = true;
       taken = [];
     })
 
@@ -106,12 +109,12 @@ PublishSteps number before after publication.Standing =
     × ReadFlag 0 (owning_published number before) after
 PublishSteps number before after (publication.Taken token) =
     SwappedIn number before (owning_published number before)
-    × ReadFlag 1 (owning_published number before) (owning_published number before)
-    × SwappedOut token.use_no (owning_published number before) after
+    × ReadFlag 1 (owning_published number before) (owning_found_set number before)
+    × SwappedOut token.use_no (owning_found_set number before) after
 PublishSteps number before after publication.Lost =
     SwappedIn number before (owning_published number before)
-    × ReadFlag 1 (owning_published number before) (owning_published number before)
-    × SwappedOut 0 (owning_published number before) after
+    × ReadFlag 1 (owning_published number before) (owning_found_set number before)
+    × SwappedOut 0 (owning_found_set number before) after
 
 -- the one step of withdraw
 abbrev pub WithdrawSteps : Owning → Owning → Withdrawal → Type 0

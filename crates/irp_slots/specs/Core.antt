@@ -171,7 +171,7 @@ no_owner_left before = First [] (canceller_count before)
 
 -- an owner knows nothing when it is made
 abbrev pub new_owning : ℕ → Owning
-new_owning slot = record { slot = slot; stage = Idle; published = 0; stood = false; taken = [] }
+new_owning slot = record { slot = slot; stage = Idle; published = 0; stood = false; found_set = false; taken = [] }
 
 -- what an owner with this view knows
 abbrev pub owning_of : View → Owning
@@ -219,7 +219,7 @@ out_of found taken = if nat_eq found 0 then taken else found ∷ taken
 
 -- an owner has swapped its use into the content
 abbrev pub owning_published : ℕ → Owning → Owning
-owning_published number owning = record owning { stage = Published; published = number; stood = false }
+owning_published number owning = record owning { stage = Published; published = number; stood = false; found_set = false }
 
 -- the same, of a view
 abbrev pub owner_published : ℕ → View → View
@@ -227,11 +227,16 @@ owner_published number (First owners_left cancellers_left) = First owners_left c
 owner_published number (Owner owning) = Owner (owning_published number owning)
 owner_published number (Canceller asking) = Canceller asking
 
--- an owner has read the flag: it stands where the flag is clear
+-- an owner has read the flag: it stands where the flag is clear, and knows it where the flag is set
 abbrev pub owning_checked : Bool → Owning → Owning
-owning_checked clear owning = if clear then record owning { stage = Standing; stood = true } else owning
+owning_checked clear owning =
+    if clear then record owning { stage = Standing; stood = true } else record owning { found_set = true }
 
--- the same, of a view
+-- an owner has swapped its use in, and has found the flag set then
+abbrev pub owning_found_set : ℕ → Owning → Owning
+owning_found_set number owning = owning_checked false (owning_published number owning)
+
+-- the same as a check, of a view
 abbrev pub owner_checked : ℕ → View → View
 owner_checked found (First owners_left cancellers_left) = First owners_left cancellers_left
 owner_checked found (Owner owning) = Owner (owning_checked (nat_eq (found % 2) 0) owning)

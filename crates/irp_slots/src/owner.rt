@@ -1,5 +1,5 @@
 //! The owner of a slot.
-ghost use Rattle.std.specs.Prelude.{◌≡◌};
+ghost use Rattle.std.specs.Prelude.{◌≡◌, ◌<◌};
 
 use crate::views::View;
 use atomic_table::Seat;
@@ -35,7 +35,8 @@ impl Model for SlotOwner {
 impl SlotOwner {
     /// The number of its slot among those that were opened together, from 0 to 63 (this project's own rule).
     pub fn slot(&self) -> u32
-        ensures { result ≡ self.now.owning.slot }
+        ensures slot { result ≡ self.now.owning.slot }
+        ensures few { result < 64 }
     {
         self.slot as u32
     }

@@ -20,6 +20,8 @@ pub struct Owning {
     pub published: u64,
     /// Whether it found the flag clear after it had published.
     pub stood: bool,
+    /// Whether it found the flag set after it had published.
+    pub found_set: bool,
     /// The uses that it took out of its slot.
     pub taken: [u64; 0],
 }
