@@ -61,8 +61,8 @@ pub struct Outcome {
     pub transcript: Option<Transcript>,
 }
 
-/// What the dispatch plans: it passes the packet down with this completion routine, on condition that it is the one that
-/// the dispatch may name, where a device stands below, and else finishes it with success.
+/// What the dispatch plans: it passes the packet down with this completion routine, on condition that it is the one
+/// that the dispatch may name, where a device stands below, and else finishes it with success.
 fn forwards(setting: Setting, shown: Shown) -> Plan
     requires named { (setting.routine.rule ≡ Watch) × (setting.routine.no ≡ 0) }
     ensures { is_plan_allowed (record no_routines { watch = 1 }) shown result ≡ true }

@@ -1,5 +1,7 @@
 //! Transcripts read again.
 
+ghost use Rattle.irp_shared.specs.Transcripts.{no_lines};
+ghost use Rattle.irp_transcript_reader.specs.Reading.{ReadsFrom, cut};
 ghost use Rattle.irp_round_trip.specs.Laws.{ReadsOwnText};
 
 use crate::laws::written_is_read;
@@ -19,7 +21,8 @@ pub fn read_again(
     transcript: &Transcript,
     text: &[u8],
 ) -> Result<Transcript, ReadFault>
-    ensures { ReadsOwnText transcript.now text.now result }
+    ensures reads { ReadsFrom no_lines 0 result (cut text.now) }
+    ensures own { ReadsOwnText transcript.now text.now result }
 {
     transcript.is_one();
     written_is_read();

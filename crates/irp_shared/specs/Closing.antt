@@ -6,7 +6,7 @@ use Rattle.irp_types.specs.State.{Fixed}
 use Rattle.irp_types.specs.Histories.{IsLegal, CompletesOnce, own_entries}
 use Rattle.irp_types.specs.declared.entry.Entry.{Entry}
 use Rattle.irp_manager.specs.Seats.{Seated}
-use Rattle.irp_shared.specs.Headers.{fixed_of}
+use Rattle.irp_shared.specs.Headers.{fixed_of, slots_of}
 use Rattle.irp_shared.specs.Transcripts.{TranscriptValue}
 use Rattle.irp_shared.specs.declared.closing.Difference.{Difference}
 use Rattle.irp_shared.specs.declared.closing.Parting.{Parting}
@@ -75,14 +75,15 @@ Differs seats history difference =
 abbrev pub AreSeated : ℕ → List Entry → Type 0
 AreSeated seats history = All (λ (entry : Entry). entry.seat < seats) history
 
--- closing gives a transcript: its header tells what the session had fixed and how many seats it had, its history is legal
--- and completes each use at most once, each entry is of one of the seats, each seat kept the history's entries of its own,
--- and the counts add up
+-- closing gives a transcript: its header tells what the session had fixed, how many seats it had, and no cancel slots;
+-- its history is legal and completes each use at most once, each entry is of one of the seats, each seat kept the history's
+-- entries of its own, and the counts add up
 pub record Closes (fixed : Fixed) (expected : ℕ) (seats : List Seated) (transcript : TranscriptValue) : Type 0 where
   pub header : Header
   pub told : transcript.header ≡ Some header
   pub tables : fixed_of header ≡ fixed
   pub seats_told : header.seats ≡ expected
+  pub no_slots : slots_of header.form ≡ 0
   pub no_words : transcript.words ≡ []
   pub legal : IsLegal fixed transcript.entries
   pub once : CompletesOnce fixed transcript.entries

@@ -29,6 +29,7 @@ returns-clause-closes g c =
       told = refl;
       tables = c.header_of-header.ensures.fixed ∙ sym c.end-locks.ensures.fixed ∙ locked.fixed;
       seats_told = c.header_of-header.ensures.seats ∙ c.args.self.all;
+      no_slots = c.header_of-header.ensures.slots;
       no_words = c.from_vec-words.ensures ∙ c.new.ensures.items;
       legal = legal;
       once = c.history_completes_once.ensures.legal fixed history legal;
