@@ -7,13 +7,13 @@ use Rattle.irp_types.specs.Steps.{Step}
 use Rattle.irp_types.specs.Standing.{StandingFacts}
 use Rattle.irp_types.specs.declared.asked.Asked.{Asked}
 use Rattle.irp_types.specs.Calls.{Call}
-use Rattle.irp_types.specs.declared.call.Call.TheVariants.{Allocate, CallDriver, Complete, FinishTaken, Cancel}
+use Rattle.irp_types.specs.declared.call.Call.TheVariants.{Allocate, Free, CallDriver, Complete, FinishTaken, Cancel}
 use Rattle.irp_types.specs.declared.call.Party.{Party}
 use Rattle.irp_types.specs.declared.names.IrpRef.{IrpRef}
 use Rattle.irp_types.specs.declared.names.DeviceId.{DeviceId}
 use Rattle.irp_types.specs.declared.status.Status.{Status}
 use Rattle.irp_types.specs.declared.reply.Reply.{Reply}
-use Rattle.irp_types.specs.declared.reply.Reply.TheVariants.{Irp, Status as StatusIs}
+use Rattle.irp_types.specs.declared.reply.Reply.TheVariants.{Done, Irp, Status as StatusIs}
 use Rattle.irp_manager.specs.Slots.{Slots}
 use Rattle.irp_manager.specs.declared.manager_state.ManagerState.{ManagerState}
 
@@ -54,6 +54,10 @@ SenderStays live old call reply new = (party : Party) (irp : IrpRef) (target : D
 -- where the call allocates a packet, its slot is as the keep promises for the wish
 abbrev pub SlotGranted : {K : Type 0} → (K → Option ℕ → ℕ → Type 0) → ManagerState K → Option ℕ → Call → Reply → Type 0
 SlotGranted grants old wish call reply = (size : ℕ) (irp : IrpRef) → call ≡ Allocate size → reply ≡ Irp irp → grants old.keep wish irp.slot
+
+-- where the call gives a packet back, the keep is then as it promises
+abbrev pub SlotGivenBack : {K : Type 0} → (K → ℕ → K → Type 0) → ManagerState K → Call → Reply → ManagerState K → Type 0
+SlotGivenBack gave_back old call reply new = (irp : IrpRef) → call ≡ Free irp → reply ≡ Done → gave_back old.keep irp.slot new.keep
 
 -- how many questions a call may ask: one to each device and one to each location where it sends, completes or cancels
 abbrev pub most_asked : Call → ℕ

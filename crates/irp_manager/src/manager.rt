@@ -7,8 +7,8 @@ ghost use Rattle.irp_types.specs.State.{opening_state};
 ghost use Rattle.irp_types.specs.Standing.{StandingFacts};
 ghost use Rattle.irp_routines.specs.Answers.{AreAnswered};
 ghost use Rattle.irp_manager.specs.Notes.{known_by};
-ghost use Rattle.irp_manager.specs.Keeps.{slabbed, IsNext};
-ghost use Rattle.irp_manager.specs.ManagerStates.{state_of, most_asked, KeepsFixed, Stepped, SenderStays, SlotGranted};
+ghost use Rattle.irp_manager.specs.Keeps.{slabbed, IsNext, IsLast};
+ghost use Rattle.irp_manager.specs.ManagerStates.{state_of, most_asked, KeepsFixed, Stepped, SenderStays, SlotGranted, SlotGivenBack};
 
 use crate::manager_state::{Applied, ManagerState};
 use crate::note::DrainNote;
@@ -67,7 +67,8 @@ impl<A: Ask> Manager<A> {
     }
 
     /// Makes one call, in one step of the sequential manager, on condition that the standing facts hold; they hold
-    /// after it too. A new packet gets the slot that was given back last, or else the first that was never given out.
+    /// after it too. A new packet gets the slot that was given back last, where its packet lies there still, or else the
+    /// slab's own next one.
     ///
     /// # Errors
     ///
@@ -90,6 +91,9 @@ impl<A: Ask> Manager<A> {
         ensures next { IfOk result
             (λ applied. SlotGranted (λ keep wish slot. IsNext keep slot) self.old.state None call
             applied.reply) }
+        ensures gave { IfOk result
+            (λ applied. SlotGivenBack (λ keep slot left. IsLast slot left) self.old.state call
+            applied.reply self.new.state) }
         ensures lock { IfOk result
             (λ applied. applied.lock ≡ lock_of (state_of slabbed self.old.state) call) }
         ensures drained { IfOk result

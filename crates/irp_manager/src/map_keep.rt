@@ -65,6 +65,8 @@ impl Keep for MapKeep {
 
     ghost grants = { λ keep wish slot. IsGranted (mapped keep) wish slot };
 
+    ghost gave_back = { λ old slot new. mapped new ≡ fin.remove (mapped old) slot };
+
     fn len(&self) -> usize {
         self.places.len()
     }

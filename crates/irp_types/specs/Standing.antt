@@ -43,7 +43,7 @@ pub record IsInSlot (packet : PacketValue) : Type 0 where
 
 -- the standing facts of one packet
 pub record IsSound (counts : Known) (packet : PacketValue) : Type 0 where
-  -- it has 1 to 16 locations, stands in one of them or above the top, and has a lower one where something is prepared
+  -- it has 1 to 32 locations, stands in one of them or above the top, and has a lower one where something is prepared
   pub some : 1 ≤ size_of packet
   pub few : size_of packet ≤ most_locations
   pub placed : 1 ≤ packet.current

@@ -1,6 +1,6 @@
 //! The questions of an entry.
 
-ghost use Rattle.std.specs.Prelude.{◌≡◌, IfSome};
+ghost use Rattle.std.specs.Prelude.{◌≡◌, IfSome, OnErr};
 
 use crate::asked::Asked;
 use std::alloc::{AllocError, Global};
@@ -85,7 +85,9 @@ impl SharedPlace {
     ///
     /// `AllocError` where the growth was refused.
     #[inline]
-    pub fn new(alloc: Global, count: usize) -> Result<SharedPlace, AllocError> {
+    pub fn new(alloc: Global, count: usize) -> Result<SharedPlace, AllocError>
+        ensures { count ≡ 0 → OnErr result ⊥ }
+    {
         if count == 0 {
             return Ok(SharedPlace { place: None });
         }

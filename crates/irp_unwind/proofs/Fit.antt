@@ -10,7 +10,7 @@ use Rattle.irp_types.specs.declared.routine.Setting.{Setting}
 use Rattle.irp_unwind.specs.Conditions.{HasDevices}
 
 pub record IsFit (counts : Known) (packet : PacketValue) : Type 0 where
-  -- it has 1 to 16 locations, and stands in one of them
+  -- it has 1 to 32 locations, and stands in one of them
   pub few : size_of packet ≤ most_locations
   pub placed : 1 ≤ packet.current
   pub within : packet.current ≤ size_of packet

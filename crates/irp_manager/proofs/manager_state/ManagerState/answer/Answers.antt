@@ -50,7 +50,7 @@ returns-in-Free-clause-stepped g c =
     let drained = c.args.drained in
     let tables = g.A.Ask.tables c.args.ask.now in
     let call : Call = Free c.in-Free.irp in
-    handed g.K.Keep.live tables drained c.args.self.now c.args.call call c.args.asked.now.items c.free.result c.free.new.self c.in-Free.is c.requires.empty (c.free.ensures tables drained c.requires.stands)
+    handed g.K.Keep.live tables drained c.args.self.now c.args.call call c.args.asked.now.items c.free.result c.free.new.self c.in-Free.is c.requires.empty (c.free.ensures.stepped tables drained c.requires.stands)
 
 pub returns-in-Reuse-clause-stepped : goal.returns-in-Reuse-clause-stepped
 returns-in-Reuse-clause-stepped g c =

@@ -9,12 +9,12 @@ use Rattle.irp_manager.specs.ManagerStates.{state_of}
 use Rattle.irp_manager.proofs.Fresh.{stands_without}
 use Rattle.irp_manager.proofs.manager_state.ManagerState.free.Goals as goal
 
-pub returns : goal.returns
-returns g c tables drained stands =
+pub returns-clause-stepped : goal.returns-clause-stepped
+returns-clause-stepped g c tables drained stands =
     let state : StateValue = state_of g.K.Keep.live c.args.self.now in
     let irp = c.args.irp in
     let new : StateValue = record state { live = g.K.Keep.live c.give_back.new.self } in
-    let left : new ≡ record state { live = fin.remove state.live irp.slot } = λ i. record state { live = c.give_back.ensures i } in
+    let left : new ≡ record state { live = fin.remove state.live irp.slot } = λ i. record state { live = c.give_back.ensures.gone i } in
     record {
       step = λ fixed same agrees.
           subst (λ (given : Option Refusal). MatchOption given (Unasked [] Done new Done (record state { live = fin.remove state.live irp.slot })) (λ refusal. Unasked [] Done new (Refused refusal) state))
