@@ -67,8 +67,8 @@ impl<A: Ask> Manager<A> {
     }
 
     /// Makes one call, in one step of the sequential manager, on condition that the standing facts hold; they hold
-    /// after it too. A new packet gets the slot that was given back last, where its packet lies there still, or else the
-    /// slab's own next one.
+    /// after it too. A new packet gets the slot that was given back last, where its packet lies there still, or else
+    /// the slab's own next one.
     ///
     /// # Errors
     ///

@@ -27,8 +27,8 @@ pub enum Act {
     FinishTaken { slot: u32 },
 }
 
-/// What a step on a remove lock or on a cancel slot was answered. Which act may have which answer is a matter of the
-/// word lines' forms (this project's own format, docs/FORMATS.md).
+/// What a step on a remove lock or on a cancel slot was answered. A line may have any act with any answer; which go
+/// together is up to whoever makes it (this project's own format, docs/FORMATS.md).
 #[derive(Clone, Copy, PartialEq, Eq, Debug)]
 pub enum WordReply {
     /// The lock was acquired: STATUS_SUCCESS, 0.

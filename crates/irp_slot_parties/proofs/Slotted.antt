@@ -17,17 +17,18 @@ there_at owners place owner lt is = slice_get-get_or owners place owner lt ∙ a
 
 pub publishing : (slot use_no : ℕ) (before after : AtSlots) (reply : WordReply) (place : ℕ) (owner owner_after : Publisher) (answer : Publication) (token : Option Token)
     → place < length before.owners → owner ≡ get_or before.owners place owner → slice_get (map (λ (owner : Publisher). owner.owning.slot) before.owners) place ≡ Some slot
-    → Publishes use_no owner owner_after answer → PublishSteps use_no owner.owning owner_after.owning answer
+    → owner_after.table ≡ owner.table → Publishes use_no owner owner_after answer → PublishSteps use_no owner.owning owner_after.owning answer
     → reply ≡ published_reply answer → token ≡ published_token answer
     → after ≡ record before { owners = slice_set before.owners place owner_after; taken = kept slot token before.taken }
     → Publishing slot use_no before after reply
-publishing slot use_no before after reply place owner owner_after answer token lt is found did steps told same left = record {
+publishing slot use_no before after reply place owner owner_after answer token lt is found table did steps told same left = record {
   place = place;
   owner = owner;
   owner_after = owner_after;
   answer = answer;
   there = there_at before.owners place owner lt is;
   of_slot = told_at (λ (owner : Publisher). owner.owning.slot) before.owners place slot owner found is lt;
+  same_table = table;
   did = did;
   steps = steps;
   told = told;
@@ -36,17 +37,18 @@ publishing slot use_no before after reply place owner owner_after answer token l
 
 pub withdrawing : (slot : ℕ) (before after : AtSlots) (reply : WordReply) (place : ℕ) (owner owner_after : Publisher) (answer : Withdrawal) (token : Option Token)
     → place < length before.owners → owner ≡ get_or before.owners place owner → slice_get (map (λ (owner : Publisher). owner.owning.slot) before.owners) place ≡ Some slot
-    → Withdraws owner owner_after answer → WithdrawSteps owner.owning owner_after.owning answer
+    → owner_after.table ≡ owner.table → Withdraws owner owner_after answer → WithdrawSteps owner.owning owner_after.owning answer
     → reply ≡ withdrawn_reply answer → token ≡ withdrawn_token answer
     → after ≡ record before { owners = slice_set before.owners place owner_after; taken = kept slot token before.taken }
     → Withdrawing slot before after reply
-withdrawing slot before after reply place owner owner_after answer token lt is found did steps told same left = record {
+withdrawing slot before after reply place owner owner_after answer token lt is found table did steps told same left = record {
   place = place;
   owner = owner;
   owner_after = owner_after;
   answer = answer;
   there = there_at before.owners place owner lt is;
   of_slot = told_at (λ (owner : Publisher). owner.owning.slot) before.owners place slot owner found is lt;
+  same_table = table;
   did = did;
   steps = steps;
   told = told;
@@ -54,13 +56,15 @@ withdrawing slot before after reply place owner owner_after answer token lt is f
 }
 
 pub requesting : (slot : ℕ) (before after : AtSlots) (reply : WordReply) (canceller_after : Asker) (answer : Request) (token : Option Token)
+    → canceller_after.table ≡ before.canceller.table
     → Requests before.slots slot before.canceller canceller_after answer → RequestSteps slot before.canceller.asking canceller_after.asking answer
     → reply ≡ requested_reply answer → token ≡ requested_token answer
     → after ≡ record before { canceller = canceller_after; taken = kept slot token before.taken }
     → Requesting slot before after reply
-requesting slot before after reply canceller_after answer token did steps told same left = record {
+requesting slot before after reply canceller_after answer token table did steps told same left = record {
   canceller_after = canceller_after;
   answer = answer;
+  same_table = table;
   did = did;
   steps = steps;
   told = told;

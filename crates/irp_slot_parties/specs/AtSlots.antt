@@ -84,6 +84,7 @@ pub record Publishing (slot use_no : ℕ) (before after : AtSlots) (reply : Word
   pub answer : Publication
   pub there : slice_get before.owners place ≡ Some owner
   pub of_slot : owner.owning.slot ≡ slot
+  pub same_table : owner_after.table ≡ owner.table
   pub did : Publishes use_no owner owner_after answer
   pub steps : PublishSteps use_no owner.owning owner_after.owning answer
   pub told : reply ≡ published_reply answer
@@ -100,6 +101,7 @@ pub record Withdrawing (slot : ℕ) (before after : AtSlots) (reply : WordReply)
   pub answer : Withdrawal
   pub there : slice_get before.owners place ≡ Some owner
   pub of_slot : owner.owning.slot ≡ slot
+  pub same_table : owner_after.table ≡ owner.table
   pub did : Withdraws owner owner_after answer
   pub steps : WithdrawSteps owner.owning owner_after.owning answer
   pub told : reply ≡ withdrawn_reply answer
@@ -112,6 +114,7 @@ pub record Withdrawing (slot : ℕ) (before after : AtSlots) (reply : WordReply)
 pub record Requesting (slot : ℕ) (before after : AtSlots) (reply : WordReply) : Type 0 where
   pub canceller_after : Asker
   pub answer : Requested
+  pub same_table : canceller_after.table ≡ before.canceller.table
   pub did : Requests before.slots slot before.canceller canceller_after answer
   pub steps : RequestSteps slot before.canceller.asking canceller_after.asking answer
   pub told : reply ≡ requested_reply answer

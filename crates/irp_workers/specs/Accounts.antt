@@ -19,10 +19,11 @@ calls_at own = seat_calls own.seat own.remove
 abbrev pub called_once : List Outcome → AtWork → SeatCalls
 called_once outs own = once_made outs (calls_at own)
 
--- some finishes of taken packets found no token, in the setup and among the steps. Each word line tells of one of
--- these, or of another act on a lock or a slot, and no step has two. Where nothing stopped, each has its line. Then,
--- too, where no two seats have the same number, each seat has made, after the calls that it had made, those of its own
--- steps, in order, and no other: calls of the manager, and the finishes of taken packets that have no line
+-- Some finishes of taken packets found no token, in the setup and among the steps. Each word line tells of one of these
+-- among the steps, or of another of the steps on a lock or a slot, and no step has two. Where nothing stopped, each has
+-- its line. Then, too, where no two seats have the same number, each seat has made, after the calls that it had made,
+-- those of its own steps, of the setup and then of the others, in order, and no other: calls of the manager, and the
+-- finishes of taken packets that found a token
 pub record Accounts (setup steps : List Step) (before after : List AtWork) (lines : List WordLine)
     (stopped : Bool) : Type 0 where
   pub tokenless_first : Test

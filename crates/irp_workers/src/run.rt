@@ -52,7 +52,8 @@ pub struct Worked<'a, L: Session> {
     pub seats: Vec<ScriptSeat<'a, L>>,
     /// The word lines of the steps on locks and slots, by rising seat and then by rising step.
     pub words: Vec<WordLine>,
-    /// Whether a step found no memory or wasn't recorded.
+    /// Whether a worker stopped: a step found no memory or wasn't recorded, or named a seat or a slot that the worker
+    /// can't act for, as `run_workers` tells.
     pub stopped: bool,
 }
 
@@ -85,7 +86,8 @@ fn pair_up<'a, L: Session>(
 
 /// The seats of a script: each seat with the remove seat and the canceller of the same place, and with the owners of
 /// its slots, in the order of the seats. Slot k is of the seat at place k modulo how many seats there are: since a
-/// session numbers its seats by their places, of the seat with that number. No seat has taken anything out of a slot.
+/// session numbers its seats by their places, of the seat with that number. Where there is no seat, the owners are
+/// gone. No seat has taken anything out of a slot.
 ///
 /// The conditions: the remove seats were opened with these locks, and the cancellers and the owners with these slots;
 /// there are as many remove seats and as many cancellers as seats; and there are as many locks as the session has.
@@ -253,8 +255,8 @@ fn gather<'a, L: Session>(
 ///
 /// Where nothing stopped, and no two seats have the same number, each seat has made, after the calls that it had
 /// made, those of its own steps of `setup` and then those of its own `steps`, in the order of the script, and no
-/// other. A finish of a taken packet is among them where it has no line. The clause compares calls but for the
-/// packets and the tokens that they name.
+/// other. A finish of a taken packet is among them where it found a token: among `steps`, where it has no line. The
+/// clause compares calls but for the packets and the tokens that they name.
 ///
 /// # Errors
 ///

@@ -1,6 +1,6 @@
 //! A seat of a script.
 
-ghost use Rattle.std.specs.Prelude.{◌≡◌, ◌++◌, ◌∷◌, [], IfOk};
+ghost use Rattle.std.specs.Prelude.{◌≡◌, ◌++◌, ◌∷◌, [], IfOk, OnErr};
 ghost use Rattle.irp_remove.specs.Pairing.{IsSeatOf, lock_count};
 
 use irp_remove::{Locks, RemoveSeat};
@@ -56,6 +56,7 @@ impl<'a, L: Session> ScriptSeat<'a, L> {
         ensures remove { self.new.remove ≡ self.old.remove }
         ensures owns { IfOk result (λ _. self.new.parties ≡
             record self.old.parties { owners = self.old.parties.owners ++ owner ∷ [] }) }
+        ensures err { OnErr result (self.new.parties ≡ self.old.parties) }
     {
         self.parties.own(owner)
     }

@@ -68,7 +68,7 @@ IsRefused text line = ReadsFrom no_lines 0 (Err (fault.Line line)) (cut text)
 -- why a text has no verdict: its first line that is refused, or want of memory
 abbrev pub Unjudgeable : List ℕ → Unjudged → Type 0
 Unjudgeable text (RefusedLine line) = IsRefused text line
-Unjudgeable text (Input fault) = Unit {0}
+Unjudgeable text (Input fault) = ⊥
 Unjudgeable text NoMemory = Unit {0}
 
 -- why the input has no verdict: the first line that is refused of the text that it holds; or it wasn't read, or want of

@@ -12,6 +12,9 @@ use Rattle.irp_types.specs.declared.call.Call.TheVariants.{
 }
 use Rattle.irp_types.specs.declared.call.Party.TheVariants.{Originator}
 use Rattle.irp_types.specs.declared.names.IrpRef.{IrpRef}
+use Rattle.irp_types.specs.declared.reply.Reply.{Reply}
+use Rattle.irp_types.specs.declared.reply.Reply.TheVariants.{Device, Irp, Done, Status as StatusIs}
+use Rattle.irp_types.specs.Status.{success}
 use Rattle.irp_types.specs.declared.names.DeviceId.{DeviceId}
 use Rattle.irp_shared.specs.Headers.{fixed_of, IsHeader}
 use Rattle.irp_shared.specs.Transcripts.{TranscriptValue}
@@ -19,17 +22,17 @@ use Rattle.irp_shared.specs.declared.header.Header.{Header}
 use Rattle.irp_transcript_writer.specs.Lines.{lines, text_of}
 use Rattle.irpx.specs.Bytes.{Bytes}
 
--- the calls of a history, in order, each with the seat that made it
-abbrev pub calls_of : List Entry → List (ℕ × Call)
-calls_of history = map (λ (entry : Entry). (entry.seat, entry.call)) history
+-- the calls of a history, in order, each with the seat that made it and with its reply
+abbrev pub calls_of : List Entry → List (ℕ × Call × Reply)
+calls_of history = map (λ (entry : Entry). (entry.seat, entry.call, entry.reply)) history
 
--- the calls of the demonstration, all of seat 0: a device of driver 0 under lock 0, a packet of one location, a read
--- with word 7
-abbrev pub AreDemoCalls : List (ℕ × Call) → Type 0
+-- the calls of the demonstration, all of seat 0: a device of driver 0 under lock 0 and a packet of one location are
+-- made; this packet is filled with a read with word 7, and is sent to this device, and comes back with success
+abbrev pub AreDemoCalls : List (ℕ × Call × Reply) → Type 0
 AreDemoCalls calls =
     (target : DeviceId) × (irp : IrpRef)
-    × (calls ≡ (0, CreateDevice (record { 0 = 0 }) (record { 0 = 0 })) ∷ (0, Allocate 1)
-    ∷ (0, SetNext Originator irp 0x03 7) ∷ (0, CallDriver Originator irp target) ∷ [])
+    × (calls ≡ (0, CreateDevice (record { 0 = 0 }) (record { 0 = 0 }), Device target) ∷ (0, Allocate 1, Irp irp)
+    ∷ (0, SetNext Originator irp 0x03 7, Done) ∷ (0, CallDriver Originator irp target, StatusIs success) ∷ [])
 
 -- the transcript of a legal history with the calls of the demonstration, under a header that the formats accept
 pub record IsDemoTranscript (transcript : TranscriptValue) : Type 0 where

@@ -175,8 +175,8 @@ RunsScript script tables old new before after =
     (transcript : TranscriptValue) × IsRun script tables transcript × ShowsEach script transcript
     × Written (text_with transcript) old new before after
 
--- the same where it wasn't: there is no transcript, and nothing went out; or the transcript of a run was written, but
--- not of all steps; or a beginning of one went out
+-- the same where it wasn't: there is no transcript, and nothing went out; or the transcript of a run was written, and
+-- steps may be missing in it; or a beginning of one went out
 abbrev pub BreaksOffRun : Script → Tables → Bytes → Bytes → ℕ → ℕ → Unfinished → Type 0
 BreaksOffRun script tables old new before after (NoTranscript fault) = IsQuiet old new before after
 BreaksOffRun script tables old new before after Stopped =

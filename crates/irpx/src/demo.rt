@@ -43,7 +43,7 @@ fn call<A: Ask, L: Session>(
     requires { needs_token call ≡ false }
     ensures seat { seat.new.number ≡ seat.old.number }
     ensures calls { IfSome result (λ reply. calls_of seat.new.entries
-        ≡ calls_of seat.old.entries ++ (seat.old.number, call) ∷ []) }
+        ≡ calls_of seat.old.entries ++ (seat.old.number, call, reply) ∷ []) }
 {
     let receipt = shared.call(rt, seat, call, &KnowsNothing).ok()?;
     Some(receipt.reply())
@@ -76,8 +76,13 @@ fn make_calls<A: Ask, L: Session>(
         major: READ,
         word: 7,
     };
-    call(rt, shared, seat, fill)?;
-    call(rt, shared, seat, Call::CallDriver { party, irp, target })?;
+    let Reply::Done = call(rt, shared, seat, fill)? else {
+        return None;
+    };
+    let send = Call::CallDriver { party, irp, target };
+    let Reply::Status(Status::SUCCESS) = call(rt, shared, seat, send)? else {
+        return None;
+    };
     Some(())
 }
 
