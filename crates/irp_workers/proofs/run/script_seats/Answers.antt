@@ -58,7 +58,7 @@ loop-owner-preserved g c =
       own =
           let was = subst (λ own. All (λ (owner : Publisher). owner.owning.slot % c.len-count.result ≡ c.slot.result % c.len-count.result) own.parties.owners) (sym value) (c.loop-owner.invariant.own (c.slot.result % c.len-count.result) c.index_mut-own.result.now below) in
           each_set (λ place own. All (λ (owner : Publisher). owner.owning.slot % c.len-count.result ≡ place) own.parties.owners) c.len-count.result c.loop-owner.pairs.items (c.slot.result % c.len-count.result) c.own.new.self within c.loop-owner.invariant.own
-          (all_push (λ (owner : Publisher). owner.owning.slot % c.len-count.result ≡ c.slot.result % c.len-count.result) c.own.new.self.parties.owners c.index_mut-own.result.now.parties.owners c.in-Some.owner pushed was (ap (λ n. n % c.len-count.result) (sym c.slot.ensures)));
+          (all_push (λ (owner : Publisher). owner.owning.slot % c.len-count.result ≡ c.slot.result % c.len-count.result) c.own.new.self.parties.owners c.index_mut-own.result.now.parties.owners c.in-Some.owner pushed was (ap (λ n. n % c.len-count.result) (sym c.slot.ensures.slot)));
       all = λ test.
           let taken = count_last test c.loop-owner.owners.items c.pop.new.self.items c.in-Some.owner c.in-Some.ensures.items in
           let more = count_last test c.own.new.self.parties.owners c.index_mut-own.result.now.parties.owners c.in-Some.owner pushed in
