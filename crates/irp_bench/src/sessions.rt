@@ -11,7 +11,7 @@ use crate::fault::Fault;
 use crate::packets::{Batch, READ, Scene, WATCH, make_batch, make_ready, set_up};
 use irp_routines::{Ask, Dispatch, Routine, Store};
 use irp_shared::{Seat, Session, Shared, Transcript, open};
-use irp_types::{Answer, IrpRef, Known, Plan, Rule, Setting, Shown, Status};
+use irp_types::{Answer, IrpRef, Known, Plan, Rule, Shown, Status};
 use std::alloc::Global;
 use std::marker::Brand;
 use std::rt::Clock;
@@ -61,14 +61,13 @@ pub struct Outcome {
     pub transcript: Option<Transcript>,
 }
 
-/// What the dispatch plans: it passes the packet down with this completion routine, on condition that it is the one
-/// that the dispatch may name, where a device stands below, and else finishes it with success.
-fn forwards(setting: Setting, shown: Shown) -> Plan
-    requires named { (setting.routine.rule ≡ Watch) × (setting.routine.no ≡ 0) }
+/// What the dispatch plans: it passes the packet down with the completion routine where a device stands below, and else
+/// finishes it with success.
+fn forwards(shown: Shown) -> Plan
     ensures { is_plan_allowed (record no_routines { watch = 1 }) shown result ≡ true }
 {
     if shown.has_lower {
-        Plan::Forward { set: Some(setting) }
+        Plan::Forward { set: Some(WATCH) }
     } else {
         Plan::Finish {
             status: Status::SUCCESS,
@@ -209,9 +208,7 @@ pub fn do_work<R: Threads + Wait + Sync + Clock + AllocGlobal>(
 ) -> Result<Outcome, Fault> {
     let alloc = rt.alloc();
     let watch = Routine::new(Rule::Watch, Box::new(alloc, watches)?);
-    let setting = WATCH;
-    let plan = move |shown: Shown| forwards(setting, shown);
-    let forward = Dispatch::new(KNOWN, Box::new(alloc, plan)?);
+    let forward = Dispatch::new(KNOWN, Box::new(alloc, forwards)?);
     let mut store = Store::new(alloc);
     if store.add(watch).is_err() {
         return Err(Fault::Memory);
