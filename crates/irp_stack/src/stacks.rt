@@ -21,8 +21,8 @@ const MOST_DEVICES: usize = 64;
 /// Every device that was ever created, and the stacks in which they stand (WDK: "WDM Device Stacks").
 ///
 /// Devices are numbered from 0 in the order of their creation, and no number comes again. Each stands in exactly one
-/// stack, alone until it is attached; a stack has 1 device at least, and as many as the limit allows at most; the
-/// members of a longer one are live.
+/// stack, alone until it is attached; a stack has 1 to 32 devices, and the members of one with 2 or more are live.
+/// `attach` keeps it within the limit.
 ///
 /// Contracts see it as the record `StacksValue`: the facts of each device, beside it its whole stack, bottom first, and
 /// the limit.

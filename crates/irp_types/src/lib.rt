@@ -16,6 +16,7 @@ mod refusal;
 mod reply;
 mod routine;
 mod row;
+mod seat_act;
 mod shown;
 mod status;
 
@@ -35,5 +36,6 @@ pub use refusal::Refusal;
 pub use reply::{Reply, Seen};
 pub use routine::{CancelRule, Known, RoutineId, Rule, Setting};
 pub use row::Row;
+pub use seat_act::{Hand, LockAct, SlotAct};
 pub use shown::Shown;
 pub use status::Status;

@@ -85,18 +85,7 @@ fn ask_routine<A: Ask>(ask: &A, setting: Setting, shown: Shown, asked: &mut Vec<
     ensures capacity { vec_capacity asked.new ≡ vec_capacity asked.old }
 {
     let id = setting.routine;
-    // field by field: what is copied whole is read in wider pieces than the closure wrote, and waits for each of its
-    // writes
-    let Answer {
-        keep,
-        mark,
-        replacement,
-    } = ask.answer(id, shown);
-    let answer = Answer {
-        keep,
-        mark,
-        replacement,
-    };
+    let answer = ask.answer(id, shown);
     asked.push_reserved(Asked::Completion { id, shown, answer });
     answer
 }

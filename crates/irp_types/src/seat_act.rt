@@ -1,0 +1,37 @@
+//! What a seat does on a remove lock or on a cancel slot, as scripts and transcripts tell it.
+
+use crate::names::LockNo;
+
+/// What a seat does on a remove lock, alone (WDK: "Using Remove Locks").
+#[derive(Clone, Copy, PartialEq, Eq, Debug)]
+pub enum LockAct {
+    /// Acquires the lock with this tag (WDK: "IoAcquireRemoveLock").
+    Acquire { lock: LockNo, tag: u32 },
+    /// Gives back one acquisition with this tag (WDK: "IoReleaseRemoveLock").
+    Release { lock: LockNo, tag: u32 },
+    /// Begins the removal, and gives back one acquisition with this tag; it doesn't wait
+    /// (WDK: "IoReleaseRemoveLockAndWait").
+    BeginRemove { lock: LockNo, tag: u32 },
+    /// Asks whether removal has begun and nobody holds the lock (this project's own call).
+    Drained { lock: LockNo },
+}
+
+/// One acquisition of a remove lock with this tag, handed to another seat (this project's own call).
+#[derive(Clone, Copy, PartialEq, Eq, Debug)]
+pub struct Hand {
+    pub lock: LockNo,
+    pub tag: u32,
+    /// The seat that takes it, from 0.
+    pub to: u32,
+}
+
+/// What a seat does on a cancel slot (this project's own call).
+#[derive(Clone, Copy, PartialEq, Eq, Debug)]
+pub enum SlotAct {
+    /// Puts a use of a packet into the slot.
+    Publish { slot: u32 },
+    /// Takes the seat's own use out of the slot again.
+    Withdraw { slot: u32 },
+    /// Takes what stands in the slot, to cancel it.
+    Request { slot: u32 },
+}
