@@ -28,7 +28,8 @@ impl CancelRoutine {
         requires callable { (shown : Shown) → CanShow shown → CancelClosure.pre run shown }
         requires keeps_rule { (shown : Shown) (answer : CancelAnswer) → CanShow shown
             → CancelClosure.post run shown answer → is_cancel_allowed rule answer ≡ true }
-        ensures { result.rule ≡ rule }
+        ensures rule { result.rule ≡ rule }
+        ensures run { result.run ≡ run }
     {
         CancelRoutine { rule, run }
     }

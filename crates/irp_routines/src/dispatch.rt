@@ -28,7 +28,8 @@ impl Dispatch {
         requires callable { (shown : Shown) → CanShow shown → DispatchClosure.pre run shown }
         requires keeps_rule { (shown : Shown) (plan : Plan) → CanShow shown
             → DispatchClosure.post run shown plan → is_plan_allowed known shown plan ≡ true }
-        ensures { result.known ≡ known }
+        ensures known { result.known ≡ known }
+        ensures run { result.run ≡ run }
     {
         Dispatch { known, run }
     }

@@ -28,7 +28,8 @@ impl Routine {
         requires callable { (shown : Shown) → CanShow shown → CompletionClosure.pre run shown }
         requires keeps_rule { (shown : Shown) (answer : Answer) → CanShow shown
             → CompletionClosure.post run shown answer → is_allowed rule shown answer ≡ true }
-        ensures { result.rule ≡ rule }
+        ensures rule { result.rule ≡ rule }
+        ensures run { result.run ≡ run }
     {
         Routine { rule, run }
     }

@@ -1,23 +1,23 @@
 //! The store of closures.
 
-ghost use Rattle.std.specs.Prelude.{◌≡◌, ◌++◌, ◌∷◌, [], OnOk, length, map, replicate, Some, None, Err, IfOk, IfErr, OnErr};
+ghost use Rattle.std.specs.Prelude.{◌≡◌, ◌++◌, ◌∷◌, [], OnOk, length, map, replicate, Some, None, Err, IfOk, IfErr, IfSome, OnErr, slice_get};
 ghost use Rattle.std.proofs.Props.{props};
 ghost use Rattle.irp_types.specs.State.{AreTables};
 ghost use Rattle.irp_types.specs.Rules.{count_of_rule};
 ghost use Rattle.irp_types.specs.Allowed.{IsAnswerAllowed, IsPlanAllowed, IsCancelAllowed};
 ghost use Rattle.irp_types.specs.declared.routine.Rule.TheVariants.{Watch, Change, Keeper, KeepOnError, Free};
 ghost use Rattle.irp_routines.specs.Closures.{rules_set, cancel_rules_set, known_set};
-ghost use Rattle.irp_routines.specs.Shelves.{put_under};
+ghost use Rattle.irp_routines.specs.Shelves.{of_rule, put_under};
 ghost use Rattle.irp_routines.specs.Tables.{no_tables, with_routine, with_cancel, with_dispatch, with_driver, by_major, routine_refusal, cancel_refusal, dispatch_refusal, driver_refusal};
 ghost use Rattle.irp_routines.specs.declared.not_added.Reason.{Reason};
 ghost use Rattle.irp_routines.specs.declared.not_added.Reason.TheVariants.{Memory};
 
 use crate::ask::Ask;
-use crate::cancel_routine::CancelRoutine;
-use crate::dispatch::Dispatch;
+use crate::cancel_routine::{CancelClosure, CancelRoutine};
+use crate::dispatch::{Dispatch, DispatchClosure};
 use crate::fixed_tables::FixedTables;
 use crate::not_added::{NotAdded, Reason};
-use crate::routine::Routine;
+use crate::routine::{CompletionClosure, Routine};
 use irp_types::{
     Answer, CancelAnswer, CancelId, CancelRule, DispatchId, DriverId, Known, Plan, RoutineId, Rule,
     Shown,
@@ -99,8 +99,10 @@ impl Store {
 
     /// The completion routines of a rule, by number.
     fn shelf(&self, rule: Rule) -> &[Routine]
-        ensures { map (λ routine. routine.rule) result.now
+        ensures told { map (λ routine. routine.rule) result.now
             ≡ replicate (count_of_rule self.now.tables.counts rule) rule }
+        ensures own { result.now ≡ of_rule rule self.now.watch.items self.now.change.items
+            self.now.keeper.items self.now.keep_on_error.items self.now.free.items }
     {
         match rule {
             Rule::Watch => self.watch.as_slice(),
@@ -282,11 +284,18 @@ impl Store {
 impl Ask for Store {
     ghost tables = { λ store. store.tables };
 
-    ghost may_answer = { λ store id shown answer. IsAnswerAllowed store.tables id shown answer };
+    ghost may_answer = { λ store id shown answer. IsAnswerAllowed store.tables id shown answer
+        × IfSome (slice_get (of_rule id.rule store.watch.items store.change.items
+        store.keeper.items store.keep_on_error.items store.free.items) id.no)
+        (λ own. CompletionClosure.post own.run shown answer) };
 
-    ghost may_plan = { λ store id shown plan. IsPlanAllowed store.tables id shown plan };
+    ghost may_plan = { λ store id shown plan. IsPlanAllowed store.tables id shown plan
+        × IfSome (slice_get store.dispatches.items id.0)
+        (λ own. DispatchClosure.post own.run shown plan) };
 
-    ghost may_cancel = { λ store id shown answer. IsCancelAllowed store.tables id answer };
+    ghost may_cancel = { λ store id shown answer. IsCancelAllowed store.tables id answer
+        × IfSome (slice_get store.cancels.items id.0)
+        (λ own. CancelClosure.post own.run shown answer) };
 
     fn counts(&self) -> Known {
         self.tables.counts()
@@ -324,11 +333,11 @@ impl Ask for Store {
         self.cancels[id.0 as usize].ask(shown)
     }
 
-    ghost answers_allowed = { λ store id shown answer may. may };
+    ghost answers_allowed = { λ store id shown answer may. may.0 };
 
-    ghost plans_allowed = { λ store id shown plan may. may };
+    ghost plans_allowed = { λ store id shown plan may. may.0 };
 
-    ghost cancels_allowed = { λ store id shown answer may. may };
+    ghost cancels_allowed = { λ store id shown answer may. may.0 };
 
     ghost tables_agree = { λ store. store.agree };
 }
