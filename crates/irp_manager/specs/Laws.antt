@@ -1,4 +1,4 @@
--- Where each closure has one answer to what it is shown, a state and a call settle the step.
+-- Where each closure has one answer to what it is shown, a state, a call and what is known of the lock settle the step.
 use Rattle.std.specs.Prelude.{ℕ, ◌≡◌, Bool, List}
 use Rattle.std.specs.List.{AllByRecursion}
 use Rattle.irp_types.specs.State.{StateValue, Fixed}
@@ -23,8 +23,8 @@ use Rattle.irp_unwind.specs.Laws.{IsReplyOf}
 abbrev pub IsSameSlot : Call → Reply → Reply → Type 0
 IsSameSlot call reply other = (size : ℕ) (irp another : IrpRef) → call ≡ Allocate size → reply ≡ Irp irp → other ≡ Irp another → irp.slot ≡ another.slot
 
--- where each closure has one answer to what it is shown, a state, a call and the slot of a new packet settle what is
--- asked, the reply and the next state
+-- where each closure has one answer to what it is shown, a state, a call, whether the lock is known to be drained, and
+-- the slot of a new packet settle what is asked, the reply and the next state
 abbrev pub StepIsSettled : Type 0
 StepIsSettled =
     (plan_of : DispatchId → Shown → Plan) (reply_of : RoutineId → Shown → Answer) (cancel_reply_of : CancelId → Shown → CancelAnswer)

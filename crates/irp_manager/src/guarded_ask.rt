@@ -11,9 +11,9 @@ use irp_types::{
     Shown, Status,
 };
 
-/// An asker, and the tables that a history is judged by. Each answer is passed on where these tables allow it; else a
-/// fixed one that they do is given in its place. Where the tables are the asker's own, as they are of a book that was
-/// made with them, each answer is one that the asker may give (this project's own rule).
+/// An asker, and the tables that a history is judged by. Each answer that it gives is allowed by these tables. Where they
+/// are the asker's own, as they are of a book that was made with them, each is one that the asker may give (this
+/// project's own rule).
 #[derive(Drop)]
 pub struct GuardedAsk<A> {
     ask: A,

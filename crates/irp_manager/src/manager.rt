@@ -7,7 +7,7 @@ ghost use Rattle.irp_types.specs.State.{opening_state};
 ghost use Rattle.irp_types.specs.Standing.{StandingFacts};
 ghost use Rattle.irp_routines.specs.Answers.{AreAnswered};
 ghost use Rattle.irp_manager.specs.Notes.{known_by};
-ghost use Rattle.irp_manager.specs.Keeps.{slabbed, IsNext, IsLast};
+ghost use Rattle.irp_manager.specs.Keeps.{slabbed, IsNext};
 ghost use Rattle.irp_manager.specs.ManagerStates.{state_of, most_asked, KeepsFixed, Stepped, SenderStays, SlotGranted, SlotGivenBack};
 
 use crate::manager_state::{Applied, ManagerState};
@@ -47,6 +47,7 @@ impl<A: Ask> Manager<A> {
     pub fn new(alloc: Global, ask: A, locks: u32) -> Manager<A>
         ensures ask { result.ask ≡ ask }
         ensures state { state_of slabbed result.state ≡ opening_state }
+        ensures first { IsNext result.state.keep 0 }
         ensures stands { StandingFacts (A.tables ask).counts (state_of slabbed result.state) }
         ensures fixed { (result.state.locks ≡ locks) × (result.state.stacks.limit ≡ ThirtyTwo) }
     {
@@ -57,6 +58,7 @@ impl<A: Ask> Manager<A> {
     pub fn with_limit(alloc: Global, ask: A, locks: u32, limit: Limit) -> Manager<A>
         ensures ask { result.ask ≡ ask }
         ensures state { state_of slabbed result.state ≡ opening_state }
+        ensures first { IsNext result.state.keep 0 }
         ensures stands { StandingFacts (A.tables ask).counts (state_of slabbed result.state) }
         ensures fixed { (result.state.locks ≡ locks) × (result.state.stacks.limit ≡ limit) }
     {
@@ -68,7 +70,7 @@ impl<A: Ask> Manager<A> {
 
     /// Makes one call, in one step of the sequential manager, on condition that the standing facts hold; they hold
     /// after it too. A new packet gets the slot that was given back last, where its packet lies there still, or else
-    /// the slab's own next one.
+    /// the slab's own next one. Right after a packet was given back, a new one gets its slot.
     ///
     /// # Errors
     ///
@@ -92,7 +94,7 @@ impl<A: Ask> Manager<A> {
             (λ applied. SlotGranted (λ keep wish slot. IsNext keep slot) self.old.state None call
             applied.reply) }
         ensures gave { IfOk result
-            (λ applied. SlotGivenBack (λ keep slot left. IsLast slot left) self.old.state call
+            (λ applied. SlotGivenBack (λ keep slot left. IsNext left slot) self.old.state call
             applied.reply self.new.state) }
         ensures lock { IfOk result
             (λ applied. applied.lock ≡ lock_of (state_of slabbed self.old.state) call) }

@@ -82,6 +82,7 @@ impl<K: Keep> ManagerState<K> {
         requires empty { K.live keep ≡ fin.empty }
         ensures state { state_of K.live result ≡ opening_state }
         ensures stands { (counts : Known) → StandingFacts counts (state_of K.live result) }
+        ensures kept { result.keep ≡ keep }
         ensures fixed { (result.locks ≡ locks) × (result.stacks.limit ≡ ThirtyTwo) }
     {
         ManagerState::with_limit(alloc, keep, locks, Limit::ThirtyTwo)
@@ -93,6 +94,7 @@ impl<K: Keep> ManagerState<K> {
         requires empty { K.live keep ≡ fin.empty }
         ensures state { state_of K.live result ≡ opening_state }
         ensures stands { (counts : Known) → StandingFacts counts (state_of K.live result) }
+        ensures kept { result.keep ≡ keep }
         ensures fixed { (result.locks ≡ locks) × (result.stacks.limit ≡ limit) }
     {
         ManagerState {

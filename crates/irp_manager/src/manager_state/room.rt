@@ -20,6 +20,7 @@ pub(crate) fn give_back(room: &mut Vec<Asked>, used: usize)
     ensures items { room.new.items ≡ room.old.items }
     ensures len { vec_len room.new ≡ vec_len room.old }
     ensures ample { used ≤ vec_capacity room.old → used ≤ vec_capacity room.new }
+    ensures less { vec_capacity room.new ≤ vec_capacity room.old }
 {
     if room.capacity().saturating_sub(used) > used {
         room.shrink_to(used);
