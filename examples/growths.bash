@@ -40,6 +40,7 @@ irp_slots::open
 irp_script::check
 irp_shared::open
 irp_shared::open_with_limit
+read_again
 read_script
 read_transcript
 script_seats

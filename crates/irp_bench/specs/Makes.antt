@@ -1,5 +1,5 @@
--- What becomes of a caller by its calls, and of a text.
-use Rattle.std.specs.Prelude.{ℕ, ◌≡◌, zero, suc, List, [], ◌∷◌, ◌++◌, map, length, Ok}
+-- What becomes of a caller by its calls.
+use Rattle.std.specs.Prelude.{ℕ, ◌≡◌, zero, suc, List, [], ◌∷◌, ◌++◌, map}
 use Rattle.irp_types.specs.Status.{success, pending}
 use Rattle.irp_types.specs.declared.names.DeviceId.{DeviceId}
 use Rattle.irp_types.specs.declared.names.IrpRef.{IrpRef}
@@ -11,8 +11,6 @@ use Rattle.irp_types.specs.declared.reply.Reply.{Reply}
 use Rattle.irp_types.specs.declared.reply.Reply.TheVariants.{Done, Irp, Status as StatusIs, Refused}
 use Rattle.irp_types.specs.declared.entry.Entry.{Entry}
 use Rattle.irp_manager.specs.Seats.{Seated}
-use Rattle.irp_shared.specs.Transcripts.{TranscriptValue, no_lines}
-use Rattle.irp_transcript_reader.specs.Reading.{ReadsFrom, cut}
 use Rattle.irp_bench.specs.declared.packets.Packet.{Packet}
 use Rattle.irp_bench.specs.declared.packets.Packet.TheVariants.{Round, Unused}
 use Rattle.irp_bench.specs.declared.packets.Batch.{Batch}
@@ -56,9 +54,3 @@ calls_of entries = map (λ (entry : Entry). (entry.call, entry.reply)) entries
 pub record Keeps (old : Seated) (call : Call) (reply : Reply) (new : Seated) : Type 0 where
   pub number : new.number ≡ old.number
   pub calls : calls_of new.entries ≡ calls_of old.entries ++ (call, reply) ∷ []
-
--- the text is read as a transcript of so many entries
-pub record IsReadAs (text : List ℕ) (count : ℕ) : Type 0 where
-  pub transcript : TranscriptValue
-  pub read : ReadsFrom no_lines 0 (Ok transcript) (cut text)
-  pub entries : length transcript.entries ≡ count

@@ -7,7 +7,8 @@ use std::time::Duration;
 /// What a load did, and how long it took.
 #[derive(Clone, Copy)]
 pub struct Done {
-    /// How often it did what it is named for: each thread, where there are more.
+    /// How often it did what it is named for. Where there are more threads, each did so many pairs, and all together so
+    /// many calls.
     pub count: u32,
     /// How many bytes the texts have that it wrote or read.
     pub bytes: u64,

@@ -1,10 +1,11 @@
 //! Transcripts of sessions: their texts, written and read, also by `serde_json` alone, and their judging.
 
-ghost use Rattle.std.specs.Prelude.{◌≡◌, Some, IfOk};
+ghost use Rattle.std.specs.Prelude.{◌≡◌, length, Some, Ok, IfOk};
 ghost use Rattle.irp_script.specs.Checked.{IsVerdictOn};
 ghost use Rattle.irp_script.specs.declared.checker.Verdict.TheVariants.{Legal};
+ghost use Rattle.irp_shared.specs.Transcripts.{no_lines};
+ghost use Rattle.irp_transcript_reader.specs.Reading.{ReadsFrom, cut};
 ghost use Rattle.irp_transcript_writer.specs.Lines.{lines, text_of};
-ghost use Rattle.irp_bench.specs.Makes.{IsReadAs};
 
 use crate::done::Done;
 use crate::fault::Fault;
@@ -164,7 +165,8 @@ fn write_values(alloc: Global, values: &[Value]) -> Result<u64, AllocError> {
 
 /// Reads the text as a transcript, which has to have all of its entries.
 fn read(alloc: Global, sample: &Sample) -> Result<Transcript, Fault>
-    ensures { IfOk result (λ _. IsReadAs sample.now.text.items sample.now.entries) }
+    ensures { IfOk result (λ made. ReadsFrom no_lines 0 (Ok made) (cut sample.now.text.items)
+        × (length made.entries ≡ sample.now.entries)) }
 {
     let transcript = read_transcript(alloc, sample.text.as_slice())?;
     if transcript.entries().len() == sample.entries as usize {

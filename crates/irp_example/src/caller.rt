@@ -1,4 +1,5 @@
-//! What one thread does. A call that is refused changes nothing; that it was shows in the transcript.
+//! What one thread does. A call that is refused changes nothing. What the manager refuses shows in the transcript, and
+//! is counted there; what a remove lock refuses doesn't.
 
 ghost use Rattle.std.specs.Prelude.{◌≡◌};
 ghost use Rattle.irp_remove.specs.Pairing.{IsSeatOf};
@@ -135,8 +136,8 @@ impl<'a, L: Session> Caller<'a, L> {
         self.make(rt, shared, &BUILD)
     }
 
-    /// Begins the removal of the lock, and finds it drained, since nobody holds it any more. Then it deletes both
-    /// devices.
+    /// Begins the removal of the lock, and finds it drained, since nobody holds it any more. Then it detaches the filter,
+    /// and deletes both devices: each Delete would be refused had the lock not been found drained.
     pub fn take_away<A: Ask>(&mut self, rt: &impl Wait, shared: &Shared<A, L>) {
         let _ = self.locks.acquire(&mut self.remove, LOCK, TAG);
         let _ = self.locks.begin_remove(&mut self.remove, LOCK, TAG);

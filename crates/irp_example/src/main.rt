@@ -16,14 +16,24 @@ use irp_routines::{Dispatch, Routine};
 use irp_script::{Verdict, check};
 use irp_shared::Transcript;
 use irp_transcript_writer::{WriterOut, write_transcript};
-use irp_types::{Answer, Known, Plan, Rule, Shown, Status};
+use irp_types::{Answer, Known, Plan, Reply, Rule, Shown, Status};
 use std::io;
 use std::sync::Arc;
 use std::sync::atomic::{AtomicU64, Ordering};
 
-/// Prints how many reads came back and what is to be said of the history, and writes the transcript to standard error.
+/// How many calls the manager refused.
+fn count_refused(transcript: &Transcript) -> usize {
+    let entries = transcript.entries().iter();
+    entries
+        .filter(|entry| matches!(entry.reply, Reply::Refused(_)))
+        .count()
+}
+
+/// Prints how many reads came back, how many calls were refused and what is to be said of the history, and writes the
+/// transcript to standard error.
 fn tell(rt: &HostRuntime, transcript: &Transcript, watched: u64) -> io::Result<()> {
     println!(rt; "the filter saw {watched} reads come back")?;
+    println!(rt; "refused {}", count_refused(transcript))?;
     match check(rt.alloc(), transcript)? {
         Verdict::Legal { entries } => println!(rt; "legal {entries}")?,
         Verdict::Illegal { at } => println!(rt; "illegal {at}")?,

@@ -35,7 +35,7 @@ fn create_in(stacks: &mut Stacks, tried: &mut Tried) -> Result<(), Halt> {
     )
 }
 
-/// Whether two tables say the same.
+/// Whether two tables have the same counts, dispatches and cancel rules, and as many drivers.
 fn are_same(one: &FixedTables, other: &FixedTables) -> bool {
     one.counts() == other.counts()
         && one.dispatches() == other.dispatches()

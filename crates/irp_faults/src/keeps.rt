@@ -27,7 +27,7 @@ fn insert_one<K: Keep>(
     )
 }
 
-/// Puts packets into a keep. A refused call has to leave the others there. The keep is gone afterwards.
+/// Puts packets into a keep. A refused call has to leave as many there as before. The keep is gone afterwards.
 pub fn fill<K: Keep + Drop>(
     mut keep: K,
     name: &'static str,

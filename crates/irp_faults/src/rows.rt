@@ -1,5 +1,5 @@
 //! The worked examples that are played: a packet that is finished at once, one that a routine keeps, one that is
-//! cancelled, and a remove lock that is drained.
+//! cancelled, one that is taken from its cancel slot, and a remove lock that is drained.
 
 use crate::example::{Act, Asked, Deed, Example, IRP};
 use irp_remove::{AcquireRefusal, DrainRefusal};

@@ -28,7 +28,7 @@ pub fn seat_pairs<L: Session>(
         return Err(tried.lost("irp_shared::open"));
     };
     let Ok((own, removes)) = irp_remove::open(alloc, locks, seats) else {
-        return Err(Halt::Memory);
+        return Err(tried.lost("irp_remove::open"));
     };
     let Ok((slots, owners, cancellers)) = irp_slots::open(alloc, seats, seats) else {
         return Err(tried.lost("irp_slots::open"));

@@ -4,8 +4,8 @@ use crate::tried::{Fell, Halt, Tried, carried, made_or, wanted};
 use irp_script::{Verdict, check};
 use irp_shared::{Header, Transcript, TranscriptParts};
 use irp_text::{
-    Cause, ReadFault, Script, ScriptFault, WriteFault, WriterOut, read_script, read_transcript,
-    write_transcript,
+    Cause, ReadFault, Script, ScriptFault, WriteFault, WriterOut, read_again, read_script,
+    read_transcript, write_transcript,
 };
 use irp_transcript_writer::{Written, line_of};
 use irp_types::Entry;
@@ -241,7 +241,24 @@ fn write_whole(
     put_written(out, bytes.as_slice())
 }
 
-/// Reads the transcript and writes it: the text has to be the same.
+/// Reads the text of this transcript again. Where memory is missing, once more.
+fn read_once_more(
+    alloc: Global,
+    transcript: &Transcript,
+    tried: &mut Tried,
+) -> Result<Transcript, Halt> {
+    let text = transcript_text();
+    let read = match read_again(alloc, transcript, text) {
+        Err(ReadFault::NoMemory) => {
+            tried.refused("read_again", true)?;
+            read_again(alloc, transcript, text)
+        }
+        other => other,
+    };
+    made_or(read, "the transcript's own text was refused")
+}
+
+/// Reads the transcript, reads its text again, and writes what that gave: the text has to be the same.
 pub fn write_the_transcript(
     alloc: Global,
     out: &mut Vec<u8>,
@@ -249,8 +266,12 @@ pub fn write_the_transcript(
 ) -> Result<(), Halt> {
     let transcript = the_transcript(alloc, tried)?;
     tried.step = 1;
-    let done = write_whole(alloc, out, &transcript, tried);
+    let read = read_once_more(alloc, &transcript, tried);
     drop(transcript);
+    let again = read?;
+    tried.step = 2;
+    let done = write_whole(alloc, out, &again, tried);
+    drop(again);
     done
 }
 
