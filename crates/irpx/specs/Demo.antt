@@ -1,5 +1,5 @@
 -- What the demonstration writes.
-use Rattle.std.specs.Prelude.{ℕ, ◌≡◌, ◌<◌, List, [], ◌∷◌, ◌++◌, map, length, Some}
+use Rattle.std.specs.Prelude.{ℕ, ◌≡◌, ◌<◌, ◌⊎◌, List, [], ◌∷◌, ◌++◌, map, length, Some}
 use Rattle.std.specs.Io.KnownBytes.{Appends}
 use Rattle.irp_types.specs.Histories.{IsLegal}
 use Rattle.irp_types.specs.declared.entry.Entry.{Entry}
@@ -57,14 +57,19 @@ pub record WritesLegal (old new : Bytes) : Type 0 where
   pub calls : AreDemoCalls (calls_of history)
   pub written : Appends old new (text_with header history)
 
--- a beginning of the text of a header and a legal history went out, which isn't the whole text
-pub record BeginsLegal (old new : Bytes) : Type 0 where
+-- a beginning of such a text went out, which isn't the whole text
+pub record BeginsText (old new : Bytes) : Type 0 where
   pub header : Header
   pub history : List Entry
   pub fits : IsHeader header
   pub legal : IsLegal (fixed_of header) history
+  pub calls : AreDemoCalls (calls_of history)
   pub front : List ℕ
   pub rest : List ℕ
   pub whole : text_with header history ≡ front ++ rest
   pub short : 0 < length rest
   pub gone : Appends old new front
+
+-- nothing went out, or a beginning of such a text
+abbrev pub BeginsLegal : Bytes → Bytes → Type 0
+BeginsLegal old new = (new ≡ old) ⊎ BeginsText old new

@@ -139,7 +139,7 @@ fn transcript(rt: &impl Wait, alloc: Global, dispatch: Dispatch) -> Option<Trans
 /// # Errors
 ///
 /// `Failed` where the output failed, and exactly then its count of failures rises; `NoMemory` where memory ran out.
-/// After either a beginning of such a text went out, and not the whole.
+/// After either nothing went out, or a beginning of such a text, and not the whole.
 pub fn demo<O: Out>(rt: &impl Wait, alloc: Global, output: &mut O) -> Result<(), Unwritten>
     ensures done { OnOk result (WritesLegal (O.gone output.old) (O.gone output.new)) }
     ensures begins { OnErr result (BeginsLegal (O.gone output.old) (O.gone output.new)) }
