@@ -5,3 +5,4 @@ pub mod Values
 pub mod Questions
 pub mod Fields
 pub mod Calls
+pub mod SeatActs

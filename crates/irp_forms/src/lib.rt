@@ -7,6 +7,7 @@ mod list;
 mod names;
 mod parts;
 mod questions;
+mod seat_acts;
 mod unread;
 mod values;
 
@@ -16,5 +17,6 @@ pub use list::{FromJson, list_at};
 pub use names::{Flags, HasName, flags_named, named};
 pub use parts::{has_items, has_keys};
 pub use questions::keep_named;
+pub use seat_acts::{hand_at, lock_act_named, slot_alone_at};
 pub use unread::{Unread, form_of};
 pub use values::completions_at;

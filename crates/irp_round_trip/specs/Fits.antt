@@ -28,6 +28,8 @@ use Rattle.irp_types.specs.declared.reply.Reply.{Reply}
 use Rattle.irp_types.specs.declared.reply.Reply.TheVariants as reply
 use Rattle.irp_types.specs.declared.reply.Seen.{Seen}
 use Rattle.irp_types.specs.declared.routine.Setting.{Setting}
+use Rattle.irp_types.specs.declared.seat_act.LockAct.TheVariants as on_lock
+use Rattle.irp_types.specs.declared.seat_act.SlotAct.TheVariants as on_slot
 use Rattle.irp_types.specs.declared.shown.Shown.{Shown}
 use Rattle.irp_types.specs.declared.status.Status.{Status}
 use Rattle.irp_shared.specs.Transcripts.{TranscriptValue}
@@ -149,14 +151,14 @@ pub record EntryFits (entry : Entry) : Type 0 where
   pub reply : ReplyFits entry.reply
 
 abbrev pub ActFits : Act → Type 0
-ActFits (act.Acquire lock tag) = LockFits lock × (tag < 2 ^ 32)
-ActFits (act.Release lock tag) = LockFits lock × (tag < 2 ^ 32)
-ActFits (act.BeginRemove lock tag) = LockFits lock × (tag < 2 ^ 32)
-ActFits (act.Drained lock) = LockFits lock
-ActFits (act.Hand lock tag receiver) = LockFits lock × (tag < 2 ^ 32) × (receiver < 2 ^ 32)
-ActFits (act.Publish slot) = slot < 2 ^ 32
-ActFits (act.Withdraw slot) = slot < 2 ^ 32
-ActFits (act.Request slot) = slot < 2 ^ 32
+ActFits (act.OnLock (on_lock.Acquire lock tag)) = LockFits lock × (tag < 2 ^ 32)
+ActFits (act.OnLock (on_lock.Release lock tag)) = LockFits lock × (tag < 2 ^ 32)
+ActFits (act.OnLock (on_lock.BeginRemove lock tag)) = LockFits lock × (tag < 2 ^ 32)
+ActFits (act.OnLock (on_lock.Drained lock)) = LockFits lock
+ActFits (act.Hand hand) = LockFits hand.lock × (hand.tag < 2 ^ 32) × (hand.to < 2 ^ 32)
+ActFits (act.OnSlot (on_slot.Publish slot)) = slot < 2 ^ 32
+ActFits (act.OnSlot (on_slot.Withdraw slot)) = slot < 2 ^ 32
+ActFits (act.OnSlot (on_slot.Request slot)) = slot < 2 ^ 32
 ActFits (act.FinishTaken slot) = slot < 2 ^ 32
 
 abbrev pub WordReplyFits : WordReply → Type 0

@@ -3,20 +3,19 @@ use Rattle.std.specs.Prelude.{ℕ, List, [], ◌∷◌, codes, Option, Some, Non
 use Rattle.std.proofs.Common.{bytes_eq}
 use Rattle.serde_json.specs.Data.{Data}
 use Rattle.serde_json.specs.Find.{get, as_str}
-use Rattle.irp_forms.specs.Parts.{◌>>=◌, has_keys, u8_at, u32_at}
-use Rattle.irp_forms.specs.Values.{device_at, lock_at}
+use Rattle.irp_forms.specs.Parts.{◌>>=◌, has_keys, or_else, u8_at, u32_at, u64_at}
+use Rattle.irp_forms.specs.Values.{device_at, status_at}
 use Rattle.irp_forms.specs.Calls.{Keys, call_named}
-use Rattle.irp_types.specs.declared.call.Call.TheVariants.{Delete}
-use Rattle.irp_types.specs.declared.names.LockNo.{LockNo}
+use Rattle.irp_forms.specs.SeatActs.{hand_at, lock_act_named, slot_alone_at}
+use Rattle.irp_types.specs.declared.call.Call.TheVariants.{Delete, FinishTaken}
 use Rattle.irp_script_reader.specs.Labels.{is_label, named_at}
-use Rattle.irp_script_reader.specs.SlotActs.{finish_taken_at, hand_at, publish_at, slot_alone_at}
 use Rattle.irp_script_reader.specs.declared.act.Step.{Step}
 use Rattle.irp_script_reader.specs.declared.act.StepAct.{StepAct}
 use Rattle.irp_script_reader.specs.declared.act.StepAct.TheVariants as act
 
 -- ---- calls
 
--- the key that stands beside those of a call
+-- the key that stands beside those of an act
 abbrev pub beside : Keys
 beside = codes "seat" ∷ []
 
@@ -32,19 +31,22 @@ allocate_at place form = if has_keys (codes "as" ∷ codes "do" ∷ codes "seat"
   label ← get (codes "as") form >>= as_str
   if is_label label then Some (act.Allocate size place) else None) else None
 
--- ---- remove locks
+-- ---- cancel slots
 
--- the lock and the tag of a step that names nothing else
-unfoldable pub tagged_at : Data → Option (LockNo × ℕ)
-tagged_at form = if has_keys (codes "do" ∷ codes "lock" ∷ codes "seat" ∷ codes "tag" ∷ []) form then (do
-  lock ← get (codes "lock") form >>= lock_at
-  tag ← get (codes "tag") form >>= u32_at
-  Some (lock, tag)) else None
+unfoldable pub publish_at : ℕ → Data → Option StepAct
+publish_at place form = if has_keys (codes "do" ∷ codes "irp" ∷ codes "seat" ∷ codes "slot" ∷ []) form then (do
+  slot ← get (codes "slot") form >>= u32_at
+  irp ← get (codes "irp") form >>= named_at place
+  Some (act.Publish slot irp)) else None
 
-unfoldable pub drained_at : Data → Option StepAct
-drained_at form = if has_keys (codes "do" ∷ codes "lock" ∷ codes "seat" ∷ []) form then (do
-  lock ← get (codes "lock") form >>= lock_at
-  Some (act.Drained lock)) else None
+unfoldable pub finish_taken_at : ℕ → Data → Option StepAct
+finish_taken_at place form =
+    if has_keys (codes "do" ∷ codes "information" ∷ codes "irp" ∷ codes "seat" ∷ codes "slot" ∷ codes "status" ∷ []) form then (do
+      irp ← get (codes "irp") form >>= named_at place
+      slot ← get (codes "slot") form >>= u32_at
+      status ← get (codes "status") form >>= status_at
+      information ← get (codes "information") form >>= u64_at
+      Some (act.Call (FinishTaken irp slot status information))) else None
 
 -- ---- all of them
 
@@ -53,16 +55,13 @@ unfoldable pub act_named : ℕ → List ℕ → Data → Option StepAct
 act_named place name form =
     if bytes_eq name (codes "delete") then delete_at form else
     (if bytes_eq name (codes "allocate") then allocate_at place form else
-    (if bytes_eq name (codes "acquire") then (tagged_at form >>= λ tagged. Some (act.Acquire tagged.0 tagged.1)) else
-    (if bytes_eq name (codes "release") then (tagged_at form >>= λ tagged. Some (act.Release tagged.0 tagged.1)) else
-    (if bytes_eq name (codes "begin_remove") then (tagged_at form >>= λ tagged. Some (act.BeginRemove tagged.0 tagged.1)) else
-    (if bytes_eq name (codes "drained") then drained_at form else
-    (if bytes_eq name (codes "hand") then hand_at form else
+    (if bytes_eq name (codes "hand") then (hand_at beside form >>= λ hand. Some (act.Hand hand)) else
     (if bytes_eq name (codes "publish") then publish_at place form else
     (if bytes_eq name (codes "finish_taken") then finish_taken_at place form else
-    (if bytes_eq name (codes "withdraw") then (slot_alone_at form >>= λ slot. Some (act.Withdraw slot)) else
-    (if bytes_eq name (codes "request") then (slot_alone_at form >>= λ slot. Some (act.Request slot)) else
-    (call_named name beside (get (codes "irp") form >>= named_at place) form >>= λ call. Some (act.Call call))))))))))))
+    (if bytes_eq name (codes "withdraw") then (slot_alone_at beside form >>= λ slot. Some (act.Withdraw slot)) else
+    (if bytes_eq name (codes "request") then (slot_alone_at beside form >>= λ slot. Some (act.Request slot)) else
+    (or_else (lock_act_named name beside form >>= λ on. Some (act.OnLock on))
+    (call_named name beside (get (codes "irp") form >>= named_at place) form >>= λ call. Some (act.Call call)))))))))
 
 -- by the name under `do`, where a label that it names has this place
 unfoldable pub act_at : ℕ → Data → Option StepAct

@@ -25,7 +25,7 @@ owns form seats seat slot = nat_lt slot (slots_of form) && (slot % seats == seat
 -- What a seat, of so many, may do in a script of the form. References are handed over, and cancel slots used, in form 2
 -- alone. A reference goes to another seat that is there; a seat publishes in its own slots, and withdraws from these
 abbrev pub may_do : ScriptForm → ℕ → ℕ → StepAct → Bool
-may_do form seats seat (act.Hand lock tag to) = is_two form && (nat_lt to seats && not (to == seat))
+may_do form seats seat (act.Hand hand) = is_two form && (nat_lt hand.to seats && not (hand.to == seat))
 may_do form seats seat (act.Publish slot irp) = owns form seats seat slot
 may_do form seats seat (act.Withdraw slot) = owns form seats seat slot
 may_do form seats seat (act.Request slot) = is_two form
@@ -34,11 +34,8 @@ may_do form seats seat other = true
 
 -- what `setup` may have: what isn't on a remove lock or on a cancel slot
 abbrev pub suits_setup : StepAct → Bool
-suits_setup (act.Acquire lock tag) = false
-suits_setup (act.Release lock tag) = false
-suits_setup (act.BeginRemove lock tag) = false
-suits_setup (act.Drained lock) = false
-suits_setup (act.Hand lock tag to) = false
+suits_setup (act.OnLock on) = false
+suits_setup (act.Hand hand) = false
 suits_setup (act.Publish slot irp) = false
 suits_setup (act.Withdraw slot) = false
 suits_setup (act.Request slot) = false

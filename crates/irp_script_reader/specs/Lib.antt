@@ -2,7 +2,6 @@ pub mod Labels
 pub mod Taking
 pub mod Routines
 pub mod Plans
-pub mod SlotActs
 pub mod Acts
 pub mod Forms
 pub mod Members

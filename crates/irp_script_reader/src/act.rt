@@ -1,6 +1,6 @@
 //! The steps of a script.
 
-use irp_types::{Call, IrpRef, LockNo};
+use irp_types::{Call, Hand, IrpRef, LockAct};
 
 /// How a step names a packet (this project's own format, docs/FORMATS.md).
 #[derive(Clone, Copy, PartialEq, Eq, Debug)]
@@ -23,17 +23,10 @@ pub enum StepAct {
     /// A new packet with so many locations, known from then on by the label that has this place among the script's
     /// labels (WDK: "IoAllocateIrp"). Any size is read.
     Allocate { size: u8, label: usize },
-    /// Acquires the lock with this tag (WDK: "IoAcquireRemoveLock").
-    Acquire { lock: LockNo, tag: u32 },
-    /// Gives back one acquisition with this tag (WDK: "IoReleaseRemoveLock").
-    Release { lock: LockNo, tag: u32 },
-    /// Begins the removal, and gives back one acquisition with this tag; it doesn't wait
-    /// (WDK: "IoReleaseRemoveLockAndWait").
-    BeginRemove { lock: LockNo, tag: u32 },
-    /// Asks whether removal has begun and nobody holds the lock (this project's own call).
-    Drained { lock: LockNo },
-    /// Hands one acquisition with this tag to another seat (this project's own call). Only form 2 has it.
-    Hand { lock: LockNo, tag: u32, to: u32 },
+    /// An act on a remove lock, in the step's own seat alone.
+    OnLock(LockAct),
+    /// Only form 2 has it.
+    Hand(Hand),
     /// Puts the use of a packet into a cancel slot (this project's own call). Only form 2 has it.
     Publish { slot: u32, irp: Named },
     /// Takes the seat's own use out of a cancel slot again (this project's own call). Only form 2 has it.

@@ -7,17 +7,16 @@ ghost use Rattle.irp_script_reader.specs.Acts.{
   act_named,
   allocate_at,
   delete_at,
-  drained_at,
+  finish_taken_at,
+  publish_at,
   step_at,
-  tagged_at,
 };
 
 use crate::act::{Step, StepAct};
 use crate::fields::packet_in;
 use crate::labels::is_label;
-use crate::slot_acts::{finish_taken_at, hand_at, publish_at, slot_alone_at};
-use irp_forms::{call_named, has_keys, under};
-use irp_types::{Call, LockNo};
+use irp_forms::{call_named, hand_at, has_keys, lock_act_named, slot_alone_at, under};
+use irp_types::Call;
 use serde_json::Value;
 
 /// A device deleted.
@@ -49,29 +48,40 @@ fn allocate_at(place: usize, value: &Value) -> Option<StepAct>
     }
 }
 
-/// The lock and the tag of a step that names nothing else.
-#[tactic(auto, unfolding(crate::specs::Acts::tagged_at))]
-fn tagged_at(value: &Value) -> Option<(LockNo, u32)>
-    ensures { result ≡ tagged_at (view value.now) }
+/// A use put into a slot.
+#[tactic(auto, unfolding(crate::specs::Acts::publish_at))]
+fn publish_at(place: usize, value: &Value) -> Option<StepAct>
+    ensures { result ≡ publish_at place (view value.now) }
 {
-    if !has_keys(value, &["do", "lock", "seat", "tag"]) {
+    if !has_keys(value, &["do", "irp", "seat", "slot"]) {
         return None;
     }
-    let lock = under("lock", value)?;
-    let tag = under("tag", value)?;
-    Some((lock, tag))
+    let slot = under("slot", value)?;
+    let irp = packet_in(place, value)?;
+    Some(StepAct::Publish { slot, irp })
 }
 
-/// Whether a lock is drained.
-#[tactic(auto, unfolding(crate::specs::Acts::drained_at))]
-fn drained_at(value: &Value) -> Option<StepAct>
-    ensures { result ≡ drained_at (view value.now) }
+/// A taken packet finished.
+#[tactic(auto, unfolding(crate::specs::Acts::finish_taken_at))]
+fn finish_taken_at(place: usize, value: &Value) -> Option<StepAct>
+    ensures { result ≡ finish_taken_at place (view value.now) }
 {
-    if !has_keys(value, &["do", "lock", "seat"]) {
+    if !has_keys(
+        value,
+        &["do", "information", "irp", "seat", "slot", "status"],
+    ) {
         return None;
     }
-    let lock = under("lock", value)?;
-    Some(StepAct::Drained { lock })
+    let irp = packet_in(place, value)?;
+    let token = under("slot", value)?;
+    let status = under("status", value)?;
+    let information = under("information", value)?;
+    Some(StepAct::Call(Call::FinishTaken {
+        irp,
+        token,
+        status,
+        information,
+    }))
 }
 
 /// What is done, by its name, where a label that it names has this place.
@@ -82,34 +92,27 @@ fn act_named(place: usize, name: &str, value: &Value) -> Option<StepAct>
     match name {
         "delete" => delete_at(value),
         "allocate" => allocate_at(place, value),
-        "acquire" => {
-            let (lock, tag) = tagged_at(value)?;
-            Some(StepAct::Acquire { lock, tag })
+        "hand" => {
+            let hand = hand_at(&["seat"], value)?;
+            Some(StepAct::Hand(hand))
         }
-        "release" => {
-            let (lock, tag) = tagged_at(value)?;
-            Some(StepAct::Release { lock, tag })
-        }
-        "begin_remove" => {
-            let (lock, tag) = tagged_at(value)?;
-            Some(StepAct::BeginRemove { lock, tag })
-        }
-        "drained" => drained_at(value),
-        "hand" => hand_at(value),
         "publish" => publish_at(place, value),
         "finish_taken" => finish_taken_at(place, value),
         "withdraw" => {
-            let slot = slot_alone_at(value)?;
+            let slot = slot_alone_at(&["seat"], value)?;
             Some(StepAct::Withdraw { slot })
         }
         "request" => {
-            let slot = slot_alone_at(value)?;
+            let slot = slot_alone_at(&["seat"], value)?;
             Some(StepAct::Request { slot })
         }
-        _ => {
-            let call = call_named(name, &["seat"], packet_in(place, value), value)?;
-            Some(StepAct::Call(call))
-        }
+        _ => match lock_act_named(name, &["seat"], value) {
+            Some(on) => Some(StepAct::OnLock(on)),
+            None => {
+                let call = call_named(name, &["seat"], packet_in(place, value), value)?;
+                Some(StepAct::Call(call))
+            }
+        },
     }
 }
 

@@ -14,11 +14,8 @@ impl StepAct {
     {
         !matches!(
             self,
-            StepAct::Acquire { .. }
-                | StepAct::Release { .. }
-                | StepAct::BeginRemove { .. }
-                | StepAct::Drained { .. }
-                | StepAct::Hand { .. }
+            StepAct::OnLock(_)
+                | StepAct::Hand(_)
                 | StepAct::Publish { .. }
                 | StepAct::Withdraw { .. }
                 | StepAct::Request { .. }
@@ -50,7 +47,7 @@ impl ScriptForm {
         ensures { result ≡ may_do self seats seat act }
     {
         match act {
-            StepAct::Hand { to, .. } => self.is_two() && to < seats && to != seat,
+            StepAct::Hand(hand) => self.is_two() && hand.to < seats && hand.to != seat,
             StepAct::Publish { slot, .. } => self.owns(seats, seat, slot),
             StepAct::Withdraw { slot } => self.owns(seats, seat, slot),
             StepAct::Request { .. } => self.is_two(),

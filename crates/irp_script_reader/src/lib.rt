@@ -12,7 +12,6 @@ mod read;
 mod refusal;
 mod routines;
 mod script;
-mod slot_acts;
 mod taking;
 
 pub use act::{Named, Step, StepAct};

@@ -1,27 +1,13 @@
 //! Steps on remove locks and on cancel slots, as a transcript tells them.
 
-use irp_types::LockNo;
+use irp_types::{Hand, LockAct, SlotAct};
 
-/// What a step did on a remove lock (WDK: "Using Remove Locks") or on a cancel slot (this project's own rule).
+/// What a step did on a remove lock or on a cancel slot (this project's own format, docs/FORMATS.md).
 #[derive(Clone, Copy, PartialEq, Eq, Debug)]
 pub enum Act {
-    /// Acquires the lock with this tag (WDK: "IoAcquireRemoveLock").
-    Acquire { lock: LockNo, tag: u32 },
-    /// Gives back one acquisition with this tag (WDK: "IoReleaseRemoveLock").
-    Release { lock: LockNo, tag: u32 },
-    /// Begins the removal, and gives back one acquisition with this tag; it doesn't wait
-    /// (WDK: "IoReleaseRemoveLockAndWait").
-    BeginRemove { lock: LockNo, tag: u32 },
-    /// Asks whether removal has begun and nobody holds the lock (this project's own call).
-    Drained { lock: LockNo },
-    /// Hands one acquisition with this tag to another seat, from 0 (this project's own call).
-    Hand { lock: LockNo, tag: u32, to: u32 },
-    /// Puts a use of a packet into the slot (this project's own call).
-    Publish { slot: u32 },
-    /// Takes the seat's own use out of the slot again (this project's own call).
-    Withdraw { slot: u32 },
-    /// Takes what stands in the slot, to cancel it (this project's own call).
-    Request { slot: u32 },
+    OnLock(LockAct),
+    Hand(Hand),
+    OnSlot(SlotAct),
     /// Finishes a packet with the token that the seat took from the slot, where it has none: with one, the call is an
     /// entry (this project's own call).
     FinishTaken { slot: u32 },

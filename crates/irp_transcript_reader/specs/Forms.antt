@@ -33,10 +33,7 @@ one_has_entry entry = not (needs_token entry.call) && list_all one_has_asked ent
 
 -- a step that form 1 has: on a remove lock, and no hand
 abbrev pub one_has_act : Act → Bool
-one_has_act (acts.Acquire lock tag) = true
-one_has_act (acts.Release lock tag) = true
-one_has_act (acts.BeginRemove lock tag) = true
-one_has_act (acts.Drained lock) = true
+one_has_act (acts.OnLock on) = true
 one_has_act other = false
 
 -- an answer that form 1 has: one of remove locks

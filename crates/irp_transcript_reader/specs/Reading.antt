@@ -36,7 +36,7 @@ is_entry form = is_some (get (codes "call") form)
 
 -- a step hands over to one of these seats, if it hands over
 abbrev pub hands_within : ℕ → Act → Bool
-hands_within seats (acts.Hand lock tag receiver) = nat_lt receiver seats
+hands_within seats (acts.Hand hand) = nat_lt hand.to seats
 hands_within seats other = true
 
 -- a word line of one of these seats, which the form has

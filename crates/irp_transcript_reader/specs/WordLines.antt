@@ -5,8 +5,9 @@ use Rattle.std.proofs.Common.{bytes_eq}
 use Rattle.serde_json.specs.Data.{Data, string}
 use Rattle.serde_json.specs.Find.{get, as_str}
 use Rattle.irp_forms.specs.Parts.{◌>>=◌, has_keys, u32_at, u64_at}
-use Rattle.irp_forms.specs.Values.{lock_at}
-use Rattle.irp_types.specs.declared.names.LockNo.{LockNo}
+use Rattle.irp_forms.specs.Calls.{Keys}
+use Rattle.irp_forms.specs.SeatActs.{hand_at, lock_act_named, slot_alone_at}
+use Rattle.irp_types.specs.declared.seat_act.SlotAct.TheVariants.{Publish, Withdraw, Request}
 use Rattle.irp_shared.specs.declared.word_line.Act.{Act}
 use Rattle.irp_shared.specs.declared.word_line.Act.TheVariants as acts
 use Rattle.irp_shared.specs.declared.word_line.WordLine.{WordLine}
@@ -48,49 +49,23 @@ unfoldable pub word_reply_at : Data → Option WordReply
 word_reply_at (string name) = word_reply_named name
 word_reply_at form = valued_reply_at form
 
--- the lock and the tag of a step that names nothing else
-unfoldable pub tagged_at : Data → Option (LockNo × ℕ)
-tagged_at form = if has_keys (codes "do" ∷ codes "lock" ∷ codes "reply" ∷ codes "seat" ∷ codes "step" ∷ codes "tag" ∷ []) form then (do
-  lock ← get (codes "lock") form >>= lock_at
-  tag ← get (codes "tag") form >>= u32_at
-  Some (lock, tag)) else None
+-- the keys that stand beside those of an act
+abbrev pub beside : Keys
+beside = codes "reply" ∷ codes "seat" ∷ codes "step" ∷ []
 
--- what a step that has no tag did, which asked whether a lock is drained
-unfoldable pub drained_at : Data → Option Act
-drained_at form = if has_keys (codes "do" ∷ codes "lock" ∷ codes "reply" ∷ codes "seat" ∷ codes "step" ∷ []) form then (do
-  lock ← get (codes "lock") form >>= lock_at
-  Some (acts.Drained lock)) else None
-
--- the keys of a step that hands a reference to another seat
-unfoldable pub hand_keys : List (List ℕ)
-hand_keys = codes "do" ∷ codes "lock" ∷ codes "reply" ∷ codes "seat" ∷ codes "step" ∷ codes "tag" ∷ codes "to" ∷ []
-
--- what a step did that hands a reference to another seat
-unfoldable pub hand_at : Data → Option Act
-hand_at form = if has_keys hand_keys form then (do
-  lock ← get (codes "lock") form >>= lock_at
-  tag ← get (codes "tag") form >>= u32_at
-  receiver ← get (codes "to") form >>= u32_at
-  Some (acts.Hand lock tag receiver)) else None
-
--- the slot of a step on a cancel slot
-unfoldable pub slot_at : Data → Option ℕ
-slot_at form =
-    if has_keys (codes "do" ∷ codes "reply" ∷ codes "seat" ∷ codes "slot" ∷ codes "step" ∷ []) form then (get (codes "slot") form >>= u32_at) else None
+-- what a step did, by its name
+unfoldable pub act_named : List ℕ → Data → Option Act
+act_named name form =
+    if bytes_eq name (codes "hand") then (hand_at beside form >>= λ hand. Some (acts.Hand hand)) else
+    (if bytes_eq name (codes "publish") then (slot_alone_at beside form >>= λ slot. Some (acts.OnSlot (Publish slot))) else
+    (if bytes_eq name (codes "withdraw") then (slot_alone_at beside form >>= λ slot. Some (acts.OnSlot (Withdraw slot))) else
+    (if bytes_eq name (codes "request") then (slot_alone_at beside form >>= λ slot. Some (acts.OnSlot (Request slot))) else
+    (if bytes_eq name (codes "finish_taken") then (slot_alone_at beside form >>= λ slot. Some (acts.FinishTaken slot)) else
+    (lock_act_named name beside form >>= λ on. Some (acts.OnLock on))))))
 
 -- what a step did, by the name under `do`
 unfoldable pub act_at : Data → Option Act
-act_at form = do
-  name ← get (codes "do") form >>= as_str
-  if bytes_eq name (codes "acquire") then (tagged_at form >>= λ tagged. Some (acts.Acquire tagged.0 tagged.1)) else
-      (if bytes_eq name (codes "release") then (tagged_at form >>= λ tagged. Some (acts.Release tagged.0 tagged.1)) else
-      (if bytes_eq name (codes "begin_remove") then (tagged_at form >>= λ tagged. Some (acts.BeginRemove tagged.0 tagged.1)) else
-      (if bytes_eq name (codes "drained") then drained_at form else
-      (if bytes_eq name (codes "hand") then hand_at form else
-      (if bytes_eq name (codes "publish") then (slot_at form >>= λ slot. Some (acts.Publish slot)) else
-      (if bytes_eq name (codes "withdraw") then (slot_at form >>= λ slot. Some (acts.Withdraw slot)) else
-      (if bytes_eq name (codes "request") then (slot_at form >>= λ slot. Some (acts.Request slot)) else
-      (if bytes_eq name (codes "finish_taken") then (slot_at form >>= λ slot. Some (acts.FinishTaken slot)) else None))))))))
+act_at form = get (codes "do") form >>= as_str >>= λ name. act_named name form
 
 -- a word line: what the step did, what it was answered, its seat and its place
 unfoldable pub word_line_at : Data → Option WordLine

@@ -50,11 +50,7 @@ fn one_has_entry(entry: &Entry) -> bool
 fn one_has_act(act: Act) -> bool
     ensures { result ≡ one_has_act act }
 {
-    match act {
-        Act::Acquire { .. } | Act::Release { .. } | Act::BeginRemove { .. } | Act::Drained { .. } =>
-            { true }
-        _ => false,
-    }
+    matches!(act, Act::OnLock(_))
 }
 
 /// Whether form 1 has this answer: one of remove locks.

@@ -50,7 +50,7 @@ fn hands_within(seats: u32, act: Act) -> bool
     ensures { result ≡ hands_within seats act }
 {
     match act {
-        Act::Hand { to, .. } => to < seats,
+        Act::Hand(hand) => hand.to < seats,
         _ => true,
     }
 }

@@ -2,14 +2,9 @@
 
 ghost use Rattle.std.specs.Prelude.{◌≡◌};
 ghost use Rattle.serde_json.specs.View.{view};
-ghost use Rattle.irp_forms.specs.Parts.{has_keys};
 ghost use Rattle.irp_transcript_reader.specs.WordLines.{
   act_at,
-  drained_at,
-  hand_at,
-  hand_keys,
-  slot_at,
-  tagged_at,
+  act_named,
   valued_reply_at,
   word_line_at,
   word_reply_at,
@@ -17,9 +12,9 @@ ghost use Rattle.irp_transcript_reader.specs.WordLines.{
   word_status,
 };
 
-use irp_forms::{has_keys, under};
+use irp_forms::{hand_at, has_keys, lock_act_named, slot_alone_at, under};
 use irp_shared::{Act, WordLine, WordReply};
-use irp_types::LockNo;
+use irp_types::SlotAct;
 use serde_json::Value;
 
 /// A step's answer by its name: those of remove locks, then those of cancel slots.
@@ -88,62 +83,38 @@ fn word_reply_at(value: &Value) -> Option<WordReply>
     }
 }
 
-/// The lock and the tag of a step that names nothing else.
-#[tactic(auto, unfolding(crate::specs::WordLines::tagged_at))]
-fn tagged_at(value: &Value) -> Option<(LockNo, u32)>
-    ensures { result ≡ tagged_at (view value.now) }
+/// What a step did, by its name.
+#[tactic(auto, unfolding(crate::specs::WordLines::act_named))]
+fn act_named(name: &str, value: &Value) -> Option<Act>
+    ensures { result ≡ act_named name.now (view value.now) }
 {
-    if !has_keys(value, &["do", "lock", "reply", "seat", "step", "tag"]) {
-        return None;
+    let beside = &["reply", "seat", "step"];
+    match name {
+        "hand" => {
+            let hand = hand_at(beside, value)?;
+            Some(Act::Hand(hand))
+        }
+        "publish" => {
+            let slot = slot_alone_at(beside, value)?;
+            Some(Act::OnSlot(SlotAct::Publish { slot }))
+        }
+        "withdraw" => {
+            let slot = slot_alone_at(beside, value)?;
+            Some(Act::OnSlot(SlotAct::Withdraw { slot }))
+        }
+        "request" => {
+            let slot = slot_alone_at(beside, value)?;
+            Some(Act::OnSlot(SlotAct::Request { slot }))
+        }
+        "finish_taken" => {
+            let slot = slot_alone_at(beside, value)?;
+            Some(Act::FinishTaken { slot })
+        }
+        _ => {
+            let on = lock_act_named(name, beside, value)?;
+            Some(Act::OnLock(on))
+        }
     }
-    let lock = under("lock", value)?;
-    let tag = under("tag", value)?;
-    Some((lock, tag))
-}
-
-/// What a step that has no tag did, which asked whether a lock is drained.
-#[tactic(auto, unfolding(crate::specs::WordLines::drained_at))]
-fn drained_at(value: &Value) -> Option<Act>
-    ensures { result ≡ drained_at (view value.now) }
-{
-    if !has_keys(value, &["do", "lock", "reply", "seat", "step"]) {
-        return None;
-    }
-    let lock = under("lock", value)?;
-    Some(Act::Drained { lock })
-}
-
-/// Whether it has the keys of a step that hands a reference to another seat.
-#[tactic(auto, unfolding(crate::specs::WordLines::hand_keys))]
-fn has_hand_keys(value: &Value) -> bool
-    ensures { result ≡ has_keys hand_keys (view value.now) }
-{
-    has_keys(value, &["do", "lock", "reply", "seat", "step", "tag", "to"])
-}
-
-/// What a step did that hands a reference to another seat.
-#[tactic(auto, unfolding(crate::specs::WordLines::hand_at))]
-fn hand_at(value: &Value) -> Option<Act>
-    ensures { result ≡ hand_at (view value.now) }
-{
-    if !has_hand_keys(value) {
-        return None;
-    }
-    let lock = under("lock", value)?;
-    let tag = under("tag", value)?;
-    let to = under("to", value)?;
-    Some(Act::Hand { lock, tag, to })
-}
-
-/// The slot of a step on a cancel slot.
-#[tactic(auto, unfolding(crate::specs::WordLines::slot_at))]
-fn slot_at(value: &Value) -> Option<u32>
-    ensures { result ≡ slot_at (view value.now) }
-{
-    if !has_keys(value, &["do", "reply", "seat", "slot", "step"]) {
-        return None;
-    }
-    under("slot", value)
 }
 
 /// What a step did, by the name under `do`.
@@ -151,39 +122,7 @@ fn slot_at(value: &Value) -> Option<u32>
 fn act_at(value: &Value) -> Option<Act>
     ensures { result ≡ act_at (view value.now) }
 {
-    match value.get("do").and_then(Value::as_str)? {
-        "acquire" => {
-            let (lock, tag) = tagged_at(value)?;
-            Some(Act::Acquire { lock, tag })
-        }
-        "release" => {
-            let (lock, tag) = tagged_at(value)?;
-            Some(Act::Release { lock, tag })
-        }
-        "begin_remove" => {
-            let (lock, tag) = tagged_at(value)?;
-            Some(Act::BeginRemove { lock, tag })
-        }
-        "drained" => drained_at(value),
-        "hand" => hand_at(value),
-        "publish" => {
-            let slot = slot_at(value)?;
-            Some(Act::Publish { slot })
-        }
-        "withdraw" => {
-            let slot = slot_at(value)?;
-            Some(Act::Withdraw { slot })
-        }
-        "request" => {
-            let slot = slot_at(value)?;
-            Some(Act::Request { slot })
-        }
-        "finish_taken" => {
-            let slot = slot_at(value)?;
-            Some(Act::FinishTaken { slot })
-        }
-        _ => None,
-    }
+    act_named(value.get("do").and_then(Value::as_str)?, value)
 }
 
 /// A word line: what the step did, what it was answered, its seat and its place.

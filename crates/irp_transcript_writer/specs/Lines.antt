@@ -31,6 +31,8 @@ use Rattle.irp_types.specs.declared.routine.CancelRule.{CancelRule}
 use Rattle.irp_types.specs.declared.routine.Known.{Known}
 use Rattle.irp_types.specs.declared.routine.RoutineId.{RoutineId}
 use Rattle.irp_types.specs.declared.routine.Setting.{Setting}
+use Rattle.irp_types.specs.declared.seat_act.LockAct.TheVariants as on_lock
+use Rattle.irp_types.specs.declared.seat_act.SlotAct.TheVariants as on_slot
 use Rattle.irp_types.specs.declared.shown.Shown.{Shown}
 use Rattle.irp_types.specs.declared.status.Status.{Status}
 use Rattle.irp_shared.specs.Transcripts.{TranscriptValue}
@@ -260,18 +262,15 @@ word_reply_json word_reply.NotStanding = string (codes "not_standing")
 word_reply_json word_reply.NoSlot = string (codes "no_slot")
 word_reply_json word_reply.NoToken = string (codes "no_token")
 
--- the line of a step that has a tag, by its name
-abbrev pub tagged_json : List ℕ → LockNo → ℕ → WordLine → Data
-tagged_json name lock tag line =
+-- the line of a step on a remove lock, by its name and what it tells behind its place
+abbrev pub locked_json : List ℕ → LockNo → WordLine → List (List ℕ × Data) → Data
+locked_json name lock line others =
     fields ((codes "do", string name) ∷ (codes "lock", lock_json lock) ∷ (codes "reply", word_reply_json line.reply)
-    ∷ (codes "seat", natural line.seat) ∷ (codes "step", natural line.step) ∷ (codes "tag", natural tag) ∷ [])
+    ∷ (codes "seat", natural line.seat) ∷ (codes "step", natural line.step) ∷ others)
 
--- the line of a step that hands a reference to another seat
-abbrev pub hand_json : LockNo → ℕ → ℕ → WordLine → Data
-hand_json lock tag receiver line =
-    fields ((codes "do", string (codes "hand")) ∷ (codes "lock", lock_json lock) ∷ (codes "reply", word_reply_json line.reply)
-    ∷ (codes "seat", natural line.seat) ∷ (codes "step", natural line.step) ∷ (codes "tag", natural tag)
-    ∷ (codes "to", natural receiver) ∷ [])
+-- the same with a tag alone
+abbrev pub tagged_json : List ℕ → LockNo → ℕ → WordLine → Data
+tagged_json name lock tag line = locked_json name lock line ((codes "tag", natural tag) ∷ [])
 
 -- the line of a step on a cancel slot, by its name
 abbrev pub slot_json : List ℕ → ℕ → WordLine → Data
@@ -281,16 +280,15 @@ slot_json name slot line =
 
 -- the line of a step that did this
 abbrev pub line_of_act : Act → WordLine → Data
-line_of_act (act.Acquire lock tag) line = tagged_json (codes "acquire") lock tag line
-line_of_act (act.Release lock tag) line = tagged_json (codes "release") lock tag line
-line_of_act (act.BeginRemove lock tag) line = tagged_json (codes "begin_remove") lock tag line
-line_of_act (act.Drained lock) line =
-    fields ((codes "do", string (codes "drained")) ∷ (codes "lock", lock_json lock) ∷ (codes "reply", word_reply_json line.reply)
-    ∷ (codes "seat", natural line.seat) ∷ (codes "step", natural line.step) ∷ [])
-line_of_act (act.Hand lock tag receiver) line = hand_json lock tag receiver line
-line_of_act (act.Publish slot) line = slot_json (codes "publish") slot line
-line_of_act (act.Withdraw slot) line = slot_json (codes "withdraw") slot line
-line_of_act (act.Request slot) line = slot_json (codes "request") slot line
+line_of_act (act.OnLock (on_lock.Acquire lock tag)) line = tagged_json (codes "acquire") lock tag line
+line_of_act (act.OnLock (on_lock.Release lock tag)) line = tagged_json (codes "release") lock tag line
+line_of_act (act.OnLock (on_lock.BeginRemove lock tag)) line = tagged_json (codes "begin_remove") lock tag line
+line_of_act (act.OnLock (on_lock.Drained lock)) line = locked_json (codes "drained") lock line []
+line_of_act (act.Hand hand) line =
+    locked_json (codes "hand") hand.lock line ((codes "tag", natural hand.tag) ∷ (codes "to", natural hand.to) ∷ [])
+line_of_act (act.OnSlot (on_slot.Publish slot)) line = slot_json (codes "publish") slot line
+line_of_act (act.OnSlot (on_slot.Withdraw slot)) line = slot_json (codes "withdraw") slot line
+line_of_act (act.OnSlot (on_slot.Request slot)) line = slot_json (codes "request") slot line
 line_of_act (act.FinishTaken slot) line = slot_json (codes "finish_taken") slot line
 
 -- a word line: what the step did, its seat and place, and what it was answered

@@ -8,7 +8,7 @@ ghost use Rattle.irp_transcript_writer.specs.Texts.{locked_text, slot_text};
 
 use crate::form::{Written, put, put_one, put_text, put_two};
 use irp_shared::{Act, WordLine, WordReply};
-use irp_types::{LockNo, Status};
+use irp_types::{LockAct, LockNo, SlotAct, Status};
 use std::alloc::AllocError;
 
 impl Written for WordReply {
@@ -69,31 +69,38 @@ impl Written for WordLine {
 
     fn write(&self, out: &mut Vec<u8>) -> Result<(), AllocError> {
         match self.act {
-            Act::Acquire { lock, tag } => {
+            Act::OnLock(LockAct::Acquire { lock, tag }) => {
                 put_locked(out, "{\"do\":\"acquire\",\"lock\":", lock, self)?;
                 put_one(out, ",\"tag\":", &tag, "}")
             }
-            Act::Release { lock, tag } => {
+            Act::OnLock(LockAct::Release { lock, tag }) => {
                 put_locked(out, "{\"do\":\"release\",\"lock\":", lock, self)?;
                 put_one(out, ",\"tag\":", &tag, "}")
             }
-            Act::BeginRemove { lock, tag } => {
+            Act::OnLock(LockAct::BeginRemove { lock, tag }) => {
                 put_locked(out, "{\"do\":\"begin_remove\",\"lock\":", lock, self)?;
                 put_one(out, ",\"tag\":", &tag, "}")
             }
-            Act::Drained { lock } => {
+            Act::OnLock(LockAct::Drained { lock }) => {
                 put_locked(out, "{\"do\":\"drained\",\"lock\":", lock, self)?;
                 put_text(out, "}")
             }
-            Act::Hand { lock, tag, to } => {
-                put_locked(out, "{\"do\":\"hand\",\"lock\":", lock, self)?;
-                put_two(out, ",\"tag\":", &tag, ",\"to\":", &to, "}")
+            Act::Hand(hand) => {
+                put_locked(out, "{\"do\":\"hand\",\"lock\":", hand.lock, self)?;
+                put_two(out, ",\"tag\":", &hand.tag, ",\"to\":", &hand.to, "}")
             }
-            Act::Publish { slot } => { put_slot(out, "{\"do\":\"publish\",\"reply\":", slot, self) }
-            Act::Withdraw { slot } => {
+            Act::OnSlot(SlotAct::Publish { slot }) => {
+                put_slot(out, "{\"do\":\"publish\",\"reply\":", slot, self)
+            }
+            Act::OnSlot(SlotAct::Withdraw { slot }) => {
                 put_slot(out, "{\"do\":\"withdraw\",\"reply\":", slot, self)
             }
-            Act::Request { slot } => put_slot(out, "{\"do\":\"request\",\"reply\":", slot, self),
+            Act::OnSlot(SlotAct::Request { slot }) => put_slot(
+                out,
+                "{\"do\":\"request\",\"reply\":",
+                slot,
+                self,
+            ),
             Act::FinishTaken { slot } => {
                 put_slot(out, "{\"do\":\"finish_taken\",\"reply\":", slot, self)
             }

@@ -1,0 +1,94 @@
+//! Acts on remove locks and on cancel slots, which word lines of a transcript and steps of a script tell in the same
+//! way.
+
+ghost use Rattle.std.specs.Prelude.{◌≡◌};
+ghost use Rattle.serde_json.specs.View.{view};
+ghost use Rattle.irp_forms.specs.Parts.{keys_in};
+ghost use Rattle.irp_forms.specs.SeatActs.{
+  drained_at,
+  hand_at,
+  lock_act_named,
+  slot_alone_at,
+  tagged_at,
+};
+
+use crate::from_value::under;
+use crate::parts::has_keys_beside;
+use irp_types::{Hand, LockAct, LockNo};
+use serde_json::Value;
+
+/// The lock and the tag of an act that names nothing else.
+#[tactic(auto, unfolding(crate::specs::SeatActs::tagged_at))]
+fn tagged_at(beside: &[&str], value: &Value) -> Option<(LockNo, u32)>
+    ensures { result ≡ tagged_at (keys_in beside.now) (view value.now) }
+{
+    if !has_keys_beside(value, &["do", "lock", "tag"], beside) {
+        return None;
+    }
+    let lock = under("lock", value)?;
+    let tag = under("tag", value)?;
+    Some((lock, tag))
+}
+
+/// The question whether a lock is drained.
+#[tactic(auto, unfolding(crate::specs::SeatActs::drained_at))]
+fn drained_at(beside: &[&str], value: &Value) -> Option<LockAct>
+    ensures { result ≡ drained_at (keys_in beside.now) (view value.now) }
+{
+    if !has_keys_beside(value, &["do", "lock"], beside) {
+        return None;
+    }
+    let lock = under("lock", value)?;
+    Some(LockAct::Drained { lock })
+}
+
+/// The act on a remove lock of this name that an object tells with its own keys and those beside them. None for another
+/// name or another form (this project's own format, docs/FORMATS.md).
+#[tactic(auto, unfolding(crate::specs::SeatActs::lock_act_named))]
+pub fn lock_act_named(name: &str, beside: &[&str], value: &Value) -> Option<LockAct>
+    ensures { result ≡ lock_act_named name.now (keys_in beside.now) (view value.now) }
+{
+    match name {
+        "acquire" => {
+            let (lock, tag) = tagged_at(beside, value)?;
+            Some(LockAct::Acquire { lock, tag })
+        }
+        "release" => {
+            let (lock, tag) = tagged_at(beside, value)?;
+            Some(LockAct::Release { lock, tag })
+        }
+        "begin_remove" => {
+            let (lock, tag) = tagged_at(beside, value)?;
+            Some(LockAct::BeginRemove { lock, tag })
+        }
+        "drained" => drained_at(beside, value),
+        _ => None,
+    }
+}
+
+/// The hand that an object tells with its own keys and those beside them, whatever its name. None for another form (this
+/// project's own format, docs/FORMATS.md).
+#[tactic(auto, unfolding(crate::specs::SeatActs::hand_at))]
+pub fn hand_at(beside: &[&str], value: &Value) -> Option<Hand>
+    ensures { result ≡ hand_at (keys_in beside.now) (view value.now) }
+{
+    if !has_keys_beside(value, &["do", "lock", "tag", "to"], beside) {
+        return None;
+    }
+    let lock = under("lock", value)?;
+    let tag = under("tag", value)?;
+    let to = under("to", value)?;
+    Some(Hand { lock, tag, to })
+}
+
+/// The cancel slot of an act that names nothing else, whatever its name, with the keys beside its own. None for another
+/// form (this project's own format, docs/FORMATS.md).
+#[tactic(auto, unfolding(crate::specs::SeatActs::slot_alone_at))]
+pub fn slot_alone_at(beside: &[&str], value: &Value) -> Option<u32>
+    ensures { result ≡ slot_alone_at (keys_in beside.now) (view value.now) }
+{
+    if !has_keys_beside(value, &["do", "slot"], beside) {
+        return None;
+    }
+    under("slot", value)
+}
