@@ -5,8 +5,8 @@ ghost use Rattle.std.specs.FinMap as fin;
 ghost use Rattle.irp_manager.specs.Slots.{IsGranted};
 ghost use Rattle.irp_manager.specs.Keeps.{mapped};
 
+use crate::in_flight;
 use crate::keep::{Keep, Live};
-use crate::packets;
 use irp_types::DeviceId;
 use std::alloc::{AllocError, Global};
 use std::collections::BTreeMap;
@@ -73,7 +73,7 @@ impl Keep for MapKeep {
 
     fn is_in_flight(&self, device: DeviceId) -> bool {
         for (_slot, live) in &self.places {
-            if packets::has_packet(live, device) {
+            if in_flight::has_packet(live, device) {
                 return true;
             }
         }

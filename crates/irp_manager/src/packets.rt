@@ -4,9 +4,7 @@ ghost use Rattle.std.specs.Prelude.{◌≡◌, ◌+◌, ◌<◌, ◌≤◌, fals
 ghost use Rattle.irp_types.specs.Checks.{or_else};
 ghost use Rattle.irp_types.specs.Packet.{size_of, is_nothing, set_next_refusal, copy_to_next_refusal, mark_pending_refusal};
 ghost use Rattle.irp_types.specs.Stacks.{stack_size_of};
-ghost use Rattle.std.specs.List.{list_any};
-ghost use Rattle.irp_types.specs.Unwinding.{from_to};
-ghost use Rattle.irp_types.specs.Refusals.{is_owner, is_wrong_target, stands_at, has_packet, leave_refusal, routine_refusal, cancel_refusal, send_refusal, complete_refusal, take_refusal};
+ghost use Rattle.irp_types.specs.Refusals.{is_owner, is_wrong_target, leave_refusal, routine_refusal, cancel_refusal, send_refusal, complete_refusal, take_refusal};
 ghost use Rattle.irp_types.specs.Descent.{StaysUp};
 ghost use Rattle.irp_types.specs.Steps.{seen_of};
 ghost use Rattle.irp_types.specs.Standing.{IsSound};
@@ -32,7 +30,7 @@ pub(crate) const USE_LIMIT: u64 = 0x8000_0000_0000_0000;
 
 /// Whether the party is the owner.
 #[inline]
-fn is_owner(party: Party, owner: Owner) -> bool
+pub(crate) fn is_owner(party: Party, owner: Owner) -> bool
     ensures { result ≡ is_owner party owner }
 {
     match party {
@@ -212,41 +210,6 @@ pub fn set_cancel_routine(
     let previous = live.packet.cancel_routine();
     live.packet.set_cancel(live.packet.cancel(), cancel);
     Reply::Previous(previous)
-}
-
-/// Whether a device stands in a location of the packet.
-fn stands_at(packet: &Packet, device: DeviceId, number: u32) -> bool
-    requires some { 1 ≤ number }
-    requires within { number ≤ size_of packet.now }
-    ensures { result ≡ stands_at packet.now device.0 number }
-{
-    match packet.location_at(number).device {
-        None => false,
-        Some(there) => there.0 == device.0,
-    }
-}
-
-/// Whether a device stands in a location of the packet, from the current one up.
-fn stands_in(packet: &Packet, device: DeviceId) -> bool
-    ensures { result
-        ≡ list_any (stands_at packet.now device.0)
-        (from_to packet.now.current (size_of packet.now)) }
-{
-    let start = packet.current();
-    let size = packet.size();
-    for number in start..size + 1 {
-        if stands_at(packet, device, number) {
-            return true;
-        }
-    }
-    false
-}
-
-/// Whether a device owns the packet, or stands in a location of it from the current one up.
-pub fn has_packet(live: &Live, device: DeviceId) -> bool
-    ensures { result ≡ has_packet device.0 live.now.packet }
-{
-    is_owner(Party::Device(device), live.packet.owner()) || stands_in(&live.packet, device)
 }
 
 /// Why the packet of a reference is not given back or used again, if it is not.

@@ -2,7 +2,7 @@ use Rattle.std.proofs.Common.{◌≡◌, ◌+◌, ◌-◌, true, sym, ◌∙◌,
 use Rattle.irp_types.specs.Packet.{size_of}
 use Rattle.irp_types.specs.Refusals.{stands_at}
 use Rattle.irp_manager.proofs.Scan.{range_none, range_some}
-use Rattle.irp_manager.proofs.packets.stands_in.Goals as goal
+use Rattle.irp_manager.proofs.in_flight.stands_in.Goals as goal
 
 pub returns-then-stands_at : goal.returns-then-stands_at
 returns-then-stands_at c =
