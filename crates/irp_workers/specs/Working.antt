@@ -216,13 +216,16 @@ abbrev pub if_own : ℕ → ℕ → ℕ → Step → List (ℕ × Step)
 if_own number workers place step =
     if is_own_step number workers step then (place, step) ∷ [] else []
 
--- one of so many workers made its own among the first steps, and among all where it wasn't stopped
+-- one of so many workers made its own among the first steps, and among all where it wasn't stopped; where it was, the
+-- next step is one of its own
 pub record MakesOwn (count number workers : ℕ) (steps : List Step) (before after : Working)
     (stopped : Bool) : Type 0 where
   pub reached : ℕ
   pub within : reached ≤ length steps
   pub each : MakesEach count (own_placed number workers (take reached steps)) before after
   pub all : stopped ≡ false → reached ≡ length steps
+  pub next : stopped ≡ true
+      → (step : Step) × (slice_get steps reached ≡ Some step) × (is_own_step number workers step ≡ true)
 
 -- a seat is one of a worker's own
 abbrev pub IsOwn : ℕ → ℕ → AtWork → Type 0

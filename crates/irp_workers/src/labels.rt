@@ -68,8 +68,8 @@ impl Labels {
         }
     }
 
-    /// The packet that an act names. One that it names by a reference is that packet, and an act that names none has a
-    /// packet that is never live.
+    /// The packet that an act names; where it names none, one that is never live. That what it names by a reference is that
+    /// packet, its clause says.
     pub fn packet_of(&self, rt: &impl Wait, act: StepAct) -> IrpRef
         ensures { IsNamed act result }
     {

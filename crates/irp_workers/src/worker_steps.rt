@@ -23,6 +23,7 @@ ghost use Rattle.std.specs.Prelude.{
   MatchOption,
   Some,
 };
+ghost use Rattle.irp_workers.specs.Outcomes.{is_own_step};
 ghost use Rattle.irp_workers.specs.Seats.{IsAtLocks, numbers_of, seats_at_work};
 ghost use Rattle.irp_workers.specs.Workers.{IsSameWorker, RunsOwn, work_of};
 ghost use Rattle.irp_workers.specs.Working.{HandsBetween, Makes, MakesEach, MakesHand, if_own};
@@ -97,7 +98,7 @@ impl<'a, L: Session> Worker<'a, L> {
         Ok(())
     }
 
-    /// The place among its seats of the first one with this number. None where there is none.
+    /// The place among its seats of one with this number. None where there is none.
     fn place_of(&self, number: u32) -> Option<usize>
         ensures place { IfSome result (λ place. place < vec_len self.now.seats) }
         ensures some { IfSome result (λ place.
@@ -196,6 +197,8 @@ impl<'a, L: Session> Worker<'a, L> {
             → MakesEach L.fixed.locks (if_own self.old.number self.old.workers index step)
             (work_of self.old) (work_of self.new) }
         ensures stayed { result ≡ false → work_of self.new ≡ work_of self.old }
+        ensures own { result ≡ false
+            → is_own_step self.old.number self.old.workers step ≡ true }
     {
         if !self.has(step) {
             return true;
@@ -226,6 +229,7 @@ impl<'a, L: Session> Worker<'a, L> {
                 return self;
             }
         }
+        self.stopped = false;
         meeting.leave();
         self
     }
