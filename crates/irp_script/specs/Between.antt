@@ -7,7 +7,7 @@ use Rattle.irp_script_reader.specs.declared.act.StepAct.TheVariants as act
 
 -- whether a seat's act hands a reference to a seat of another worker
 abbrev pub goes_between : ℕ → ℕ → StepAct → Bool
-goes_between workers seat (act.Hand lock tag to) = not (seat % workers == to % workers)
+goes_between workers seat (act.Hand hand) = not (seat % workers == hand.to % workers)
 goes_between workers seat other = false
 
 -- whether a step hands a reference between seats of different workers

@@ -11,7 +11,7 @@ fn hands_between(step: Step, workers: u32) -> bool
     ensures { result ≡ hands_between workers step }
 {
     match step.act {
-        StepAct::Hand { to, .. } => step.seat % workers != to % workers,
+        StepAct::Hand(hand) => step.seat % workers != hand.to % workers,
         _ => false,
     }
 }

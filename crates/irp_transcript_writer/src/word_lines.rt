@@ -95,12 +95,9 @@ impl Written for WordLine {
             Act::OnSlot(SlotAct::Withdraw { slot }) => {
                 put_slot(out, "{\"do\":\"withdraw\",\"reply\":", slot, self)
             }
-            Act::OnSlot(SlotAct::Request { slot }) => put_slot(
-                out,
-                "{\"do\":\"request\",\"reply\":",
-                slot,
-                self,
-            ),
+            Act::OnSlot(SlotAct::Request { slot }) => {
+                put_slot(out, "{\"do\":\"request\",\"reply\":", slot, self)
+            }
             Act::FinishTaken { slot } => {
                 put_slot(out, "{\"do\":\"finish_taken\",\"reply\":", slot, self)
             }

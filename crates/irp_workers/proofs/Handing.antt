@@ -10,7 +10,8 @@ use Rattle.std.proofs.lemmas.List.Elements.{All-set}
 use Rattle.std.proofs.lemmas.Option.{slice_get-get_or, slice_get-map}
 use Rattle.atomic_table.specs.Seated.{TableId}
 use Rattle.irp_types.specs.declared.names.LockNo.{LockNo}
-use Rattle.irp_shared.specs.declared.word_line.Act.TheVariants.{Hand}
+use Rattle.irp_types.specs.declared.seat_act.Hand.{Hand}
+use Rattle.irp_shared.specs.declared.word_line.Act.TheVariants as act
 use Rattle.irp_shared.specs.declared.word_line.WordLine.{WordLine}
 use Rattle.irp_shared.specs.declared.word_line.WordReply.{WordReply}
 use Rattle.irp_script_reader.specs.declared.act.Step.{Step}
@@ -135,17 +136,17 @@ named_at f seats at number own is there =
     map_twice g f (x ∷ xs) = ap (λ rest. g (f x) ∷ rest) (map_twice g f xs)
 
 -- a hand of two seats is what a worker makes that has them
-pub makes_hand : {S : Type 0} (f : S → AtWork) (count place : ℕ) (step : Step) (lock : LockNo) (tag to from_at to_at : ℕ) (seats new : List S) (lines room longer : List WordLine) (reply : WordReply)
-    → slice_get (map (λ s. (f s).seat.number) seats) from_at ≡ Some step.seat → slice_get (map (λ s. (f s).seat.number) seats) to_at ≡ Some to → from_at ≢ to_at
-    → room ≡ lines → HandsBetween count lock tag from_at to_at (map f seats) (map f new) reply → Tells place step (Hand lock tag to) reply room longer
-    → MakesHand count place step lock tag to (working (map f seats) lines) (working (map f new) longer)
-makes_hand f count place step lock tag to from_at to_at seats new lines room longer reply from_found to_found apart roomy hands told = record {
+pub makes_hand : {S : Type 0} (f : S → AtWork) (count place : ℕ) (step : Step) (hand : Hand) (from_at to_at : ℕ) (seats new : List S) (lines room longer : List WordLine) (reply : WordReply)
+    → slice_get (map (λ s. (f s).seat.number) seats) from_at ≡ Some step.seat → slice_get (map (λ s. (f s).seat.number) seats) to_at ≡ Some hand.to → from_at ≢ to_at
+    → room ≡ lines → HandsBetween count hand.lock hand.tag from_at to_at (map f seats) (map f new) reply → Tells place step (act.Hand hand) reply room longer
+    → MakesHand count place step hand (working (map f seats) lines) (working (map f new) longer)
+makes_hand f count place step hand from_at to_at seats new lines room longer reply from_found to_found apart roomy hands told = record {
   from_at = from_at;
   to_at = to_at;
   apart = apart;
   reply = reply;
   between = hands;
   giver_named = named_at f seats from_at step.seat hands.giver from_found hands.giver_there;
-  taker_named = named_at f seats to_at to hands.taker to_found hands.taker_there;
-  told = subst (λ all. Tells place step (Hand lock tag to) reply all longer) roomy told;
+  taker_named = named_at f seats to_at hand.to hands.taker to_found hands.taker_there;
+  told = subst (λ all. Tells place step (act.Hand hand) reply all longer) roomy told;
 }

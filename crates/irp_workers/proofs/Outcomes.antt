@@ -4,7 +4,7 @@ use Rattle.std.specs.Option.{option_to_list}
 use Rattle.std.specs.List.{cons_option}
 use Rattle.std.proofs.lemmas.List.{append-nil, get_or-set_other, length-set, map_push}
 use Rattle.std.proofs.lemmas.Option.{get_or_from_slice_get, slice_get_within}
-use Rattle.irp_types.specs.declared.names.LockNo.{LockNo}
+use Rattle.irp_types.specs.declared.seat_act.Hand.{Hand}
 use Rattle.irp_types.specs.Calls.{Call}
 use Rattle.irp_types.specs.declared.entry.Entry.{Entry}
 use Rattle.irp_shared.specs.declared.word_line.WordLine.{WordLine}
@@ -75,7 +75,7 @@ came_out count place step (Finishes slot status information) old new lines longe
   pair = ap pair_at did.rest;
   calls = no_call_more old new (ap (λ own. own.seat) did.rest);
 }
-came_out count place step (Hands lock tag to) old new lines longer did = absurd did
+came_out count place step (Hands hand) old new lines longer did = absurd did
 
 -- what a worker's seats and lines tell of a step
 pub record Comes (out : Outcome) (before after : Working) : Type 0 where
@@ -138,9 +138,9 @@ uncalled place step tokenless none (told ∷ all) =
     ∙ ap (λ made. told.calls ++ cons_option made []) (no_call (told.pair.seat == step.seat)) ∙ append-nil told.calls in
     λ i. record { pair = told.pair; calls = here i } ∷ uncalled place step tokenless none all i
 
-handed : (count place : ℕ) (step : Step) (before after : Working) (lock : LockNo) (tag to : ℕ) → kind_of step.act ≡ Hands lock tag to → MakesHand count place step lock tag to before after
+handed : (count place : ℕ) (step : Step) (before after : Working) (hand : Hand) → kind_of step.act ≡ Hands hand → MakesHand count place step hand before after
     → Comes (out_of place step false) before after
-handed count place step before after lock tag to is made =
+handed count place step before after hand is made =
     let two = made.between in
     let from_lt = slice_get_within before.seats made.from_at two.giver two.giver_there in
     let to_lt = slice_get_within before.seats made.to_at two.taker two.taker_there in
@@ -171,7 +171,7 @@ alone_by count place step before after kind is made = subst (λ some. MakesAlone
 
 by_deed : (count place : ℕ) (step : Step) (before after : Working) (kind : StepKind) → kind_of step.act ≡ kind → MakesBy count place step kind before after
     → (tokenless : Bool) × Comes (out_of place step tokenless) before after
-by_deed count place step before after (Hands lock tag to) is made = (false, handed count place step before after lock tag to is made)
+by_deed count place step before after (Hands hand) is made = (false, handed count place step before after hand is made)
 by_deed count place step before after Calls is made = alone count place step before after (alone_by count place step before after Calls is made)
 by_deed count place step before after (OnLock on) is made = alone count place step before after (alone_by count place step before after (OnLock on) is made)
 by_deed count place step before after (OnSlot on) is made = alone count place step before after (alone_by count place step before after (OnSlot on) is made)

@@ -6,7 +6,7 @@ use Rattle.irp_types.specs.declared.names.IrpRef.{IrpRef}
 use Rattle.irp_types.specs.Calls.{Call}
 use Rattle.irp_shared.specs.Sharing.{needs_token}
 use Rattle.irp_script_reader.specs.declared.act.StepAct.{StepAct}
-use Rattle.irp_script_reader.specs.declared.act.StepAct.TheVariants.{Call as Made, Allocate, Acquire, Release, BeginRemove, Drained, Hand, Publish, Withdraw, Request}
+use Rattle.irp_script_reader.specs.declared.act.StepAct.TheVariants.{Call as Made, Allocate, OnLock, Hand, Publish, Withdraw, Request}
 use Rattle.irp_types.specs.declared.call.Call.TheVariants as calls
 use Rattle.irp_workers.specs.StepKinds.{call_of}
 use Rattle.irp_workers.specs.Made.{nameless}
@@ -36,11 +36,8 @@ each_call (Made (calls.Complete party named status information)) irp = (refl, re
 each_call (Made (calls.SetCancelRoutine party named cancel)) irp = (refl, refl)
 each_call (Made (calls.Cancel named)) irp = (refl, refl)
 each_call (Made (calls.Look named)) irp = (refl, refl)
-each_call (Acquire lock tag) irp = (refl, tt)
-each_call (Release lock tag) irp = (refl, tt)
-each_call (BeginRemove lock tag) irp = (refl, tt)
-each_call (Drained lock) irp = (refl, tt)
-each_call (Hand lock tag to) irp = (refl, tt)
+each_call (OnLock on) irp = (refl, tt)
+each_call (Hand hand) irp = (refl, tt)
 each_call (Publish slot named) irp = (refl, tt)
 each_call (Withdraw slot) irp = (refl, tt)
 each_call (Request slot) irp = (refl, tt)

@@ -10,6 +10,7 @@ use Rattle.std.proofs.lemmas.List.Sums.{sum_by-append, sum_by-cons}
 use Rattle.std.proofs.lemmas.Option.{get_or_from_slice_get, none-some, slice_get-get_or, slice_get-map, slice_get_within}
 use Rattle.irp_types.specs.declared.names.IrpRef.{IrpRef}
 use Rattle.irp_types.specs.declared.names.LockNo.{LockNo}
+use Rattle.irp_types.specs.declared.seat_act.Hand.{Hand}
 use Rattle.irp_types.specs.declared.status.Status.{Status}
 use Rattle.irp_types.specs.Calls.{Call}
 use Rattle.irp_types.specs.declared.call.Call.TheVariants.{FinishTaken}
@@ -126,7 +127,7 @@ finish_stays slot before after remove remove_after parties between parties_after
 
 -- what one seat makes of a step that isn't a hand is what a worker makes that has it
 by_alone : (count place : ℕ) (step : Step) (kind : StepKind) (before after : Working) → MakesAlone count place step kind before after → MakesBy count place step kind before after
-by_alone count place step (Hands lock tag to) before after made = absurd made.did
+by_alone count place step (Hands hand) before after made = absurd made.did
 by_alone count place step Calls before after made = made
 by_alone count place step (OnLock on) before after made = made
 by_alone count place step (OnSlot on) before after made = made
@@ -152,10 +153,10 @@ made_at (Some x) f seats at new old lines longer count place step lt there named
 }
 
 -- a hand of the worker is its step
-pub hand_is_made : {T : Type 0} (result : Option T) (count place : ℕ) (step : Step) (lock : LockNo) (tag to : ℕ) (before after : Working) → kind_of step.act ≡ Hands lock tag to
-    → MatchOption result (after ≡ before) (λ _. MakesHand count place step lock tag to before after) → MatchOption result (after ≡ before) (λ _. Makes count place step before after)
-hand_is_made None count place step lock tag to before after is made = made
-hand_is_made (Some one) count place step lock tag to before after is made = subst (λ kind. MakesBy count place step kind before after) (sym is) made
+pub hand_is_made : {T : Type 0} (result : Option T) (count place : ℕ) (step : Step) (hand : Hand) (before after : Working) → kind_of step.act ≡ Hands hand
+    → MatchOption result (after ≡ before) (λ _. MakesHand count place step hand before after) → MatchOption result (after ≡ before) (λ _. Makes count place step before after)
+hand_is_made None count place step hand before after is made = made
+hand_is_made (Some one) count place step hand before after is made = subst (λ kind. MakesBy count place step kind before after) (sym is) made
 
 -- a turn of the worker: it makes the step if it is its own
 pub turn_skips : (count number workers place : ℕ) (step : Step) (work : Working) → (step.seat % workers == number) ≡ false → MakesEach count (if_own number workers place step) work work

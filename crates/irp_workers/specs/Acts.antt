@@ -23,15 +23,15 @@ use Rattle.irp_shared.specs.declared.word_line.WordReply.{WordReply}
 use Rattle.irp_shared.specs.declared.word_line.WordReply.TheVariants as answered
 use Rattle.irp_script_reader.specs.declared.act.StepAct.{StepAct}
 use Rattle.irp_slot_parties.specs.AtSlots.{AtSlots, Publishing, Requesting, Withdrawing}
-use Rattle.irp_workers.specs.declared.step_kind.LockAct.{LockAct}
-use Rattle.irp_workers.specs.declared.step_kind.LockAct.TheVariants.{
+use Rattle.irp_types.specs.declared.seat_act.LockAct.{LockAct}
+use Rattle.irp_types.specs.declared.seat_act.LockAct.TheVariants.{
   Acquire,
   Release,
   BeginRemove,
   Drained,
 }
-use Rattle.irp_workers.specs.declared.step_kind.SlotAct.{SlotAct}
-use Rattle.irp_workers.specs.declared.step_kind.SlotAct.TheVariants.{Publish, Withdraw, Request}
+use Rattle.irp_types.specs.declared.seat_act.SlotAct.{SlotAct}
+use Rattle.irp_types.specs.declared.seat_act.SlotAct.TheVariants.{Publish, Withdraw, Request}
 use Rattle.irp_workers.specs.StepKinds.{IsNamed}
 
 -- an acquisition, of so many locks

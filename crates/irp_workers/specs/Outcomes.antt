@@ -17,7 +17,7 @@ use Rattle.irp_workers.specs.declared.step_kind.StepKind.TheVariants.{
   OnSlot,
   Finishes,
 }
-use Rattle.irp_workers.specs.StepKinds.{call_of, lock_act, slot_act}
+use Rattle.irp_workers.specs.StepKinds.{call_of}
 
 -- a step, its place among the steps, and whether it was a finish that found no token
 pub record Outcome : Type 0 where
@@ -40,9 +40,9 @@ outcomes tokenless steps = map (outcome tokenless) (enumerate_from 0 steps)
 -- the act that a word line tells of
 abbrev pub told_act : StepKind → Bool → Option Act
 told_act Calls tokenless = None
-told_act (OnLock on) tokenless = Some (lock_act on)
-told_act (Hands lock tag to) tokenless = Some (act.Hand lock tag to)
-told_act (OnSlot on) tokenless = Some (slot_act on)
+told_act (OnLock on) tokenless = Some (act.OnLock on)
+told_act (Hands hand) tokenless = Some (act.Hand hand)
+told_act (OnSlot on) tokenless = Some (act.OnSlot on)
 told_act (Finishes slot status information) tokenless =
     if tokenless then Some (act.FinishTaken slot) else None
 
@@ -53,11 +53,9 @@ any_packet = record { slot = 0; use_no = 0 }
 -- the call, with that packet in the place of its own, and 0 in the place of a token
 abbrev pub nameless_call : StepKind → StepAct → Bool → Option Call
 nameless_call Calls act tokenless = call_of act any_packet
-nameless_call (OnLock on) act tokenless = None
-nameless_call (Hands lock tag to) act tokenless = None
-nameless_call (OnSlot on) act tokenless = None
 nameless_call (Finishes slot status information) act tokenless =
     if tokenless then None else Some (FinishTaken any_packet 0 status information)
+nameless_call other act tokenless = None
 
 -- the steps of the seats whose numbers leave this number when divided by how many workers there are
 abbrev pub is_own_step : ℕ → ℕ → Step → Bool

@@ -1,29 +1,21 @@
--- What is read of a step's act: the packet that it names, its kind, the act of its word line, and its call.
+-- What is read of a step's act: the packet that it names, its kind, and its call.
 use Rattle.std.specs.Prelude.{◌≡◌, Option, Some, None}
 use Rattle.irp_types.specs.Calls.{Call, call_with, packet_named}
 use Rattle.irp_types.specs.declared.names.IrpRef.{IrpRef}
 use Rattle.irp_types.specs.declared.call.Call.TheVariants as call
-use Rattle.irp_shared.specs.declared.word_line.Act.{Act}
-use Rattle.irp_shared.specs.declared.word_line.Act.TheVariants as act
+use Rattle.irp_types.specs.declared.seat_act.SlotAct.TheVariants as on_slot
 use Rattle.irp_script_reader.specs.declared.act.Named.{Named}
 use Rattle.irp_script_reader.specs.declared.act.Named.TheVariants.{Irp}
 use Rattle.irp_script_reader.specs.declared.act.StepAct.{StepAct}
 use Rattle.irp_script_reader.specs.declared.act.StepAct.TheVariants.{
   Call as Made,
   Allocate,
-  Acquire,
-  Release,
-  BeginRemove,
-  Drained,
+  OnLock,
   Hand,
   Publish,
   Withdraw,
   Request,
 }
-use Rattle.irp_workers.specs.declared.step_kind.LockAct.{LockAct}
-use Rattle.irp_workers.specs.declared.step_kind.LockAct.TheVariants as on_lock
-use Rattle.irp_workers.specs.declared.step_kind.SlotAct.{SlotAct}
-use Rattle.irp_workers.specs.declared.step_kind.SlotAct.TheVariants as on_slot
 use Rattle.irp_workers.specs.declared.step_kind.StepKind.{StepKind}
 use Rattle.irp_workers.specs.declared.step_kind.StepKind.TheVariants as kind
 
@@ -39,28 +31,13 @@ IsNamed act irp = (given : IrpRef) → named_by act ≡ Some (Irp given) → irp
 
 -- what kind a step is of
 abbrev pub kind_of : StepAct → StepKind
-kind_of (Acquire lock tag) = kind.OnLock (on_lock.Acquire lock tag)
-kind_of (Release lock tag) = kind.OnLock (on_lock.Release lock tag)
-kind_of (BeginRemove lock tag) = kind.OnLock (on_lock.BeginRemove lock tag)
-kind_of (Drained lock) = kind.OnLock (on_lock.Drained lock)
-kind_of (Hand lock tag to) = kind.Hands lock tag to
+kind_of (OnLock on) = kind.OnLock on
+kind_of (Hand hand) = kind.Hands hand
 kind_of (Publish slot irp) = kind.OnSlot (on_slot.Publish slot)
 kind_of (Withdraw slot) = kind.OnSlot (on_slot.Withdraw slot)
 kind_of (Request slot) = kind.OnSlot (on_slot.Request slot)
 kind_of (Made (call.FinishTaken irp slot status information)) = kind.Finishes slot status information
 kind_of other = kind.Calls
-
--- the acts that word lines tell of
-abbrev pub lock_act : LockAct → Act
-lock_act (on_lock.Acquire lock tag) = act.Acquire lock tag
-lock_act (on_lock.Release lock tag) = act.Release lock tag
-lock_act (on_lock.BeginRemove lock tag) = act.BeginRemove lock tag
-lock_act (on_lock.Drained lock) = act.Drained lock
-
-abbrev pub slot_act : SlotAct → Act
-slot_act (on_slot.Publish slot) = act.Publish slot
-slot_act (on_slot.Withdraw slot) = act.Withdraw slot
-slot_act (on_slot.Request slot) = act.Request slot
 
 -- the call of the manager that needs no token, of this packet where the act names one
 abbrev pub call_of : StepAct → IrpRef → Option Call

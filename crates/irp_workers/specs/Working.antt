@@ -24,6 +24,9 @@ use Rattle.std.specs.Prelude.{
 use Rattle.std.specs.List.{flat_map, list_any}
 use Rattle.irp_types.specs.declared.names.IrpRef.{IrpRef}
 use Rattle.irp_types.specs.declared.names.LockNo.{LockNo}
+use Rattle.irp_types.specs.declared.seat_act.Hand.{Hand}
+use Rattle.irp_types.specs.declared.seat_act.LockAct.{LockAct}
+use Rattle.irp_types.specs.declared.seat_act.SlotAct.{SlotAct}
 use Rattle.irp_types.specs.declared.status.Status.{Status}
 use Rattle.irp_types.specs.declared.call.Call.TheVariants.{FinishTaken}
 use Rattle.irp_manager.specs.Booked.{Receipted}
@@ -38,8 +41,6 @@ use Rattle.irp_shared.specs.declared.word_line.WordLine.{WordLine}
 use Rattle.irp_shared.specs.declared.word_line.WordReply.{WordReply}
 use Rattle.irp_shared.specs.declared.word_line.WordReply.TheVariants.{NoToken}
 use Rattle.irp_script_reader.specs.declared.act.Step.{Step}
-use Rattle.irp_workers.specs.declared.step_kind.LockAct.{LockAct}
-use Rattle.irp_workers.specs.declared.step_kind.SlotAct.{SlotAct}
 use Rattle.irp_workers.specs.declared.step_kind.StepKind.{StepKind}
 use Rattle.irp_workers.specs.declared.step_kind.StepKind.TheVariants.{
   Calls,
@@ -51,7 +52,7 @@ use Rattle.irp_workers.specs.declared.step_kind.StepKind.TheVariants.{
 use Rattle.irp_workers.specs.Acts.{Acts, HandActs, SlotActs}
 use Rattle.irp_slot_parties.specs.AtSlots.{AtSlots, IsSpent, fresh}
 use Rattle.irp_workers.specs.Calling.{CallsFor}
-use Rattle.irp_workers.specs.StepKinds.{IsNamed, kind_of, lock_act, slot_act}
+use Rattle.irp_workers.specs.StepKinds.{IsNamed, kind_of}
 use Rattle.irp_workers.specs.Outcomes.{is_own_step, own_placed}
 use Rattle.irp_workers.specs.Numbers.{EachAsOften}
 
@@ -101,7 +102,7 @@ pub record ActsOnLock (count place : ℕ) (step : Step) (on : LockAct) (before a
   pub did : Acts count on before.remove after.remove reply
   pub same : IsSameSeat before.remove after.remove
   pub rest : after ≡ record before { remove = after.remove }
-  pub told : Tells place step (lock_act on) reply lines longer
+  pub told : Tells place step (act.OnLock on) reply lines longer
 
 -- an act on a cancel slot, and its line
 pub record ActsOnSlot (place : ℕ) (step : Step) (on : SlotAct) (before after : AtWork)
@@ -109,7 +110,7 @@ pub record ActsOnSlot (place : ℕ) (step : Step) (on : SlotAct) (before after :
   pub reply : WordReply
   pub did : SlotActs step.act on before.parties after.parties reply
   pub rest : after ≡ record before { parties = after.parties }
-  pub told : Tells place step (slot_act on) reply lines longer
+  pub told : Tells place step (act.OnSlot on) reply lines longer
 
 -- a finish with a token that the seat took from the slot, and has not spent: one call, of this token's number. The
 -- token is left in its place where it comes back
@@ -149,7 +150,7 @@ Does count place step (OnSlot on) before after lines longer =
 Does count place step (Finishes slot status information) before after lines longer =
     FinishesTaken step slot status information before after lines longer
     ⊎ FindsNoToken place step slot before after lines longer
-Does count place step (Hands lock tag to) before after lines longer = ⊥
+Does count place step (Hands hand) before after lines longer = ⊥
 
 -- the seat that the step names made it, and the others stay
 pub record MakesAlone (count place : ℕ) (step : Step) (kind : StepKind) (before after : Working)
@@ -185,28 +186,20 @@ pub record HandsBetween (count : ℕ) (lock : LockNo) (tag from_at to_at : ℕ)
   pub others : after ≡ slice_set (slice_set before from_at giver_after) to_at taker_after
 
 -- the seat that the step names handed to another one, which has that number, and there is one line more
-pub record MakesHand (count place : ℕ) (step : Step) (lock : LockNo) (tag to : ℕ)
-    (before after : Working) : Type 0 where
+pub record MakesHand (count place : ℕ) (step : Step) (hand : Hand) (before after : Working) : Type 0 where
   pub from_at : ℕ
   pub to_at : ℕ
   pub apart : from_at ≢ to_at
   pub reply : WordReply
-  pub between : HandsBetween count lock tag from_at to_at before.seats after.seats reply
+  pub between : HandsBetween count hand.lock hand.tag from_at to_at before.seats after.seats reply
   pub giver_named : between.giver.seat.number ≡ step.seat
-  pub taker_named : between.taker.seat.number ≡ to
-  pub told : Tells place step (act.Hand lock tag to) reply before.lines after.lines
+  pub taker_named : between.taker.seat.number ≡ hand.to
+  pub told : Tells place step (act.Hand hand) reply before.lines after.lines
 
 -- a step of this place was made
 abbrev pub MakesBy : ℕ → ℕ → Step → StepKind → Working → Working → Type 0
-MakesBy count place step (Hands lock tag to) before after =
-    MakesHand count place step lock tag to before after
-MakesBy count place step Calls before after = MakesAlone count place step Calls before after
-MakesBy count place step (OnLock on) before after =
-    MakesAlone count place step (OnLock on) before after
-MakesBy count place step (OnSlot on) before after =
-    MakesAlone count place step (OnSlot on) before after
-MakesBy count place step (Finishes slot status information) before after =
-    MakesAlone count place step (Finishes slot status information) before after
+MakesBy count place step (Hands hand) before after = MakesHand count place step hand before after
+MakesBy count place step alone before after = MakesAlone count place step alone before after
 
 abbrev pub Makes : ℕ → ℕ → Step → Working → Working → Type 0
 Makes count place step before after = MakesBy count place step (kind_of step.act) before after
@@ -223,13 +216,16 @@ abbrev pub if_own : ℕ → ℕ → ℕ → Step → List (ℕ × Step)
 if_own number workers place step =
     if is_own_step number workers step then (place, step) ∷ [] else []
 
--- one of so many workers made its own among the first steps, and among all where it wasn't stopped
+-- one of so many workers made its own among the first steps, and among all where it wasn't stopped; where it was, the
+-- next step is one of its own
 pub record MakesOwn (count number workers : ℕ) (steps : List Step) (before after : Working)
     (stopped : Bool) : Type 0 where
   pub reached : ℕ
   pub within : reached ≤ length steps
   pub each : MakesEach count (own_placed number workers (take reached steps)) before after
   pub all : stopped ≡ false → reached ≡ length steps
+  pub next : stopped ≡ true
+      → (step : Step) × (slice_get steps reached ≡ Some step) × (is_own_step number workers step ≡ true)
 
 -- a seat is one of a worker's own
 abbrev pub IsOwn : ℕ → ℕ → AtWork → Type 0

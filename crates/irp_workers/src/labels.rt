@@ -68,8 +68,7 @@ impl Labels {
         }
     }
 
-    /// The packet that an act names. One that it names by a reference is that packet, and an act that names none has a
-    /// packet that is never live.
+    /// The packet that an act names; where it names none, one that is never live. Its clause speaks of references alone.
     pub fn packet_of(&self, rt: &impl Wait, act: StepAct) -> IrpRef
         ensures { IsNamed act result }
     {

@@ -228,14 +228,14 @@ fn gather<'a, L: Session>(
 /// Runs a script: its setup in order, on this thread, and then so many workers in threads of their own, of which
 /// worker w runs, in the order of the script, the steps whose seat's number leaves w when divided by their number.
 /// The workers meet before each of their first 32 steps, so that short scripts mix: each waits for the others for a
-/// bounded time. With one worker all steps are run in the order of the script.
+/// bounded time (no clause says so; tests show it). With one worker all steps are run in the order of the script.
 ///
 /// Labels are shared by all seats: one that isn't bound yet stands for a packet that is never live. A step whose seat
 /// isn't there, one whose call isn't recorded, a hand to a seat that its worker doesn't have, and a publish or a
 /// withdraw in a slot of another seat stops its worker; in the setup, nothing more is run. The gate is called before
-/// and after each of the script's `steps`, with its seat and its place, outside the session's lock. A step of the setup
-/// on a lock or a slot, which no script that was read has, has no word line (this project's own format,
-/// docs/FORMATS.md).
+/// and after each of the script's `steps`, with its seat and its place, outside the session's lock (tests show it, no
+/// clause). A step of the setup on a lock or a slot, which no script that was read has, has no word line (this
+/// project's own format, docs/FORMATS.md).
 ///
 /// All remove seats were opened with these locks, and all that the seats have at slots with these slots, which are the
 /// conditions of this call.

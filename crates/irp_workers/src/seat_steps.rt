@@ -12,13 +12,13 @@ ghost use Rattle.irp_workers.specs.Working.{ActsOnLock, ActsOnSlot, Does, HandsO
 
 use crate::run_context::RunContext;
 use crate::script_seat::ScriptSeat;
-use crate::step_call::{call_of, kind_of, lock_act, slot_act};
-use crate::step_kind::{LockAct, SlotAct, StepKind};
+use crate::step_call::{call_of, kind_of};
+use crate::step_kind::StepKind;
 use irp_remove::{AcquireRefusal, BeginRefusal, DrainRefusal, HandRefusal, ReleaseRefusal};
 use irp_routines::Ask;
 use irp_script_reader::Step;
 use irp_shared::{Act, Session, WordLine, WordReply};
-use irp_types::{LockNo, Status};
+use irp_types::{LockAct, LockNo, SlotAct, Status};
 use std::sync::Wait;
 
 /// Adds a line, for which there is room.
@@ -186,7 +186,7 @@ impl<'a, L: Session> ScriptSeat<'a, L> {
     {
         words.reserve(1).ok()?;
         let reply = self.act(on);
-        tell(words, index, step, lock_act(on), reply);
+        tell(words, index, step, Act::OnLock(on), reply);
         Some(())
     }
 
@@ -209,7 +209,7 @@ impl<'a, L: Session> ScriptSeat<'a, L> {
     {
         words.reserve(1).ok()?;
         let reply = self.act_at_slot(rt, context, step, on)?;
-        tell(words, index, step, slot_act(on), reply);
+        tell(words, index, step, Act::OnSlot(on), reply);
         Some(())
     }
 
@@ -305,7 +305,7 @@ impl<'a, L: Session> ScriptSeat<'a, L> {
                 status,
                 information,
             } => self.finish(rt, context, index, step, slot, status, information, words),
-            StepKind::Hands { .. } => None,
+            StepKind::Hands(_) => None,
         }
     }
 }

@@ -1,18 +1,11 @@
-//! What is read of a step's act: the packet that it names, its kind, the act of its word line, and its call.
+//! What is read of a step's act: the packet that it names, its kind, and its call.
 
 ghost use Rattle.std.specs.Prelude.{◌≡◌};
-ghost use Rattle.irp_workers.specs.StepKinds.{
-  call_of,
-  kind_of,
-  lock_act,
-  named_by,
-  slot_act,
-};
+ghost use Rattle.irp_workers.specs.StepKinds.{call_of, kind_of, named_by};
 
-use crate::step_kind::{LockAct, SlotAct, StepKind};
+use crate::step_kind::StepKind;
 use irp_script_reader::{Named, StepAct};
-use irp_shared::Act;
-use irp_types::{Call, IrpRef};
+use irp_types::{Call, IrpRef, SlotAct};
 
 /// The packet that an act names. None for an act that names none.
 pub fn named_by(act: StepAct) -> Option<Named>
@@ -30,11 +23,8 @@ pub fn kind_of(act: StepAct) -> StepKind
     ensures { result ≡ kind_of act }
 {
     match act {
-        StepAct::Acquire { lock, tag } => StepKind::OnLock(LockAct::Acquire { lock, tag }),
-        StepAct::Release { lock, tag } => StepKind::OnLock(LockAct::Release { lock, tag }),
-        StepAct::BeginRemove { lock, tag } => StepKind::OnLock(LockAct::BeginRemove { lock, tag }),
-        StepAct::Drained { lock } => StepKind::OnLock(LockAct::Drained { lock }),
-        StepAct::Hand { lock, tag, to } => StepKind::Hands { lock, tag, to },
+        StepAct::OnLock(on) => StepKind::OnLock(on),
+        StepAct::Hand(hand) => StepKind::Hands(hand),
         StepAct::Publish { slot, .. } => StepKind::OnSlot(SlotAct::Publish { slot }),
         StepAct::Withdraw { slot } => StepKind::OnSlot(SlotAct::Withdraw { slot }),
         StepAct::Request { slot } => StepKind::OnSlot(SlotAct::Request { slot }),
@@ -51,29 +41,6 @@ pub fn kind_of(act: StepAct) -> StepKind
             information,
         },
         _ => StepKind::Calls,
-    }
-}
-
-/// The act on a lock, as a word line tells it.
-pub fn lock_act(on: LockAct) -> Act
-    ensures { result ≡ lock_act on }
-{
-    match on {
-        LockAct::Acquire { lock, tag } => Act::Acquire { lock, tag },
-        LockAct::Release { lock, tag } => Act::Release { lock, tag },
-        LockAct::BeginRemove { lock, tag } => Act::BeginRemove { lock, tag },
-        LockAct::Drained { lock } => Act::Drained { lock },
-    }
-}
-
-/// The act on a slot, as a word line tells it.
-pub fn slot_act(on: SlotAct) -> Act
-    ensures { result ≡ slot_act on }
-{
-    match on {
-        SlotAct::Publish { slot } => Act::Publish { slot },
-        SlotAct::Withdraw { slot } => Act::Withdraw { slot },
-        SlotAct::Request { slot } => Act::Request { slot },
     }
 }
 

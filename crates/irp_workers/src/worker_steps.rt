@@ -23,6 +23,7 @@ ghost use Rattle.std.specs.Prelude.{
   MatchOption,
   Some,
 };
+ghost use Rattle.irp_workers.specs.Outcomes.{is_own_step};
 ghost use Rattle.irp_workers.specs.Seats.{IsAtLocks, numbers_of, seats_at_work};
 ghost use Rattle.irp_workers.specs.Workers.{IsSameWorker, RunsOwn, work_of};
 ghost use Rattle.irp_workers.specs.Working.{HandsBetween, Makes, MakesEach, MakesHand, if_own};
@@ -39,7 +40,7 @@ use irp_remove::Locks;
 use irp_routines::Ask;
 use irp_script_reader::Step;
 use irp_shared::{Act, Session, WordLine, WordReply};
-use irp_types::LockNo;
+use irp_types::{Hand, LockNo};
 use std::alloc::AllocError;
 use std::sync::Wait;
 
@@ -97,7 +98,7 @@ impl<'a, L: Session> Worker<'a, L> {
         Ok(())
     }
 
-    /// The place among its seats of the first one with this number. None where there is none.
+    /// The place among its seats of one with this number. None where there is none.
     fn place_of(&self, number: u32) -> Option<usize>
         ensures place { IfSome result (λ place. place < vec_len self.now.seats) }
         ensures some { IfSome result (λ place.
@@ -114,27 +115,20 @@ impl<'a, L: Session> Worker<'a, L> {
 
     /// Makes a hand, which has this place. None where one of the seats isn't there, both are one, or there is no
     /// memory for the line, and then nothing was done.
-    fn hand(&mut self, index: u32, step: Step, lock: LockNo, tag: u32, to: u32) -> Option<()>
+    fn hand(&mut self, index: u32, step: Step, hand: Hand) -> Option<()>
         ensures same { IsSameWorker self.old self.new }
         ensures made { MatchOption result (work_of self.new ≡ work_of self.old)
-            (λ _. MakesHand L.fixed.locks index step lock tag to
-            (work_of self.old) (work_of self.new)) }
+            (λ _. MakesHand L.fixed.locks index step hand (work_of self.old) (work_of self.new)) }
     {
         let from_at = self.place_of(step.seat)?;
-        let to_at = self.place_of(to)?;
+        let to_at = self.place_of(hand.to)?;
         if from_at == to_at {
             return None;
         }
         self.words.reserve(1).ok()?;
         let locks = self.locks;
-        let reply = hand_between(locks, &mut self.seats, from_at, to_at, lock, tag);
-        tell(
-            &mut self.words,
-            index,
-            step,
-            Act::Hand { lock, tag, to },
-            reply,
-        );
+        let reply = hand_between(locks, &mut self.seats, from_at, to_at, hand.lock, hand.tag);
+        tell(&mut self.words, index, step, Act::Hand(hand), reply);
         Some(())
     }
 
@@ -151,8 +145,8 @@ impl<'a, L: Session> Worker<'a, L> {
         ensures made { MatchOption result (work_of self.new ≡ work_of self.old)
             (λ _. Makes L.fixed.locks index step (work_of self.old) (work_of self.new)) }
     {
-        if let StepKind::Hands { lock, tag, to } = kind_of(step.act) {
-            return self.hand(index, step, lock, tag, to);
+        if let StepKind::Hands(hand) = kind_of(step.act) {
+            return self.hand(index, step, hand);
         }
         let at = self.place_of(step.seat)?;
         let own = &mut self.seats[at];
@@ -203,6 +197,8 @@ impl<'a, L: Session> Worker<'a, L> {
             → MakesEach L.fixed.locks (if_own self.old.number self.old.workers index step)
             (work_of self.old) (work_of self.new) }
         ensures stayed { result ≡ false → work_of self.new ≡ work_of self.old }
+        ensures own { result ≡ false
+            → is_own_step self.old.number self.old.workers step ≡ true }
     {
         if !self.has(step) {
             return true;
@@ -233,6 +229,7 @@ impl<'a, L: Session> Worker<'a, L> {
                 return self;
             }
         }
+        self.stopped = false;
         meeting.leave();
         self
     }
