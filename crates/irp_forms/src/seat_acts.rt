@@ -66,8 +66,8 @@ pub fn lock_act_named(name: &str, beside: &[&str], value: &Value) -> Option<Lock
     }
 }
 
-/// The hand that an object tells with its own keys and those beside them, whatever its name. None for another form (this
-/// project's own format, docs/FORMATS.md).
+/// The hand that an object tells with its own keys and those beside them, whatever its name. None for another form
+/// (this project's own format, docs/FORMATS.md).
 #[tactic(auto, unfolding(crate::specs::SeatActs::hand_at))]
 pub fn hand_at(beside: &[&str], value: &Value) -> Option<Hand>
     ensures { result ≡ hand_at (keys_in beside.now) (view value.now) }

@@ -4,12 +4,13 @@ use super::{ALLOCATE, CREATE, LOCK, LOOK, by, worked};
 use irp_script::{AlwaysOpen, Gate};
 use irp_script_reader::StepAct;
 use irp_shared::{WordLine, WordReply};
+use irp_types::LockAct;
 use std::sync::atomic::{AtomicBool, AtomicU64, Ordering};
 use std::test::Fail;
 
 /// An acquisition of the lock with this tag.
 const fn acquire(tag: u32) -> StepAct {
-    StepAct::Acquire { lock: LOCK, tag }
+    StepAct::OnLock(LockAct::Acquire { lock: LOCK, tag })
 }
 
 #[test]
