@@ -3,21 +3,7 @@
 ghost use Rattle.std.specs.Prelude.{◌≡◌};
 ghost use Rattle.serde_json.specs.View.{view};
 ghost use Rattle.irp_forms.specs.Parts.{keys_in};
-ghost use Rattle.irp_forms.specs.Calls.{
-  attach_at,
-  by_party_at,
-  call_driver_at,
-  call_named,
-  complete_at,
-  create_device_at,
-  detach_at,
-  packet_alone_at,
-  party_alone_at,
-  reuse_at,
-  set_cancel_routine_at,
-  set_next_at,
-  set_routine_at,
-};
+ghost use Rattle.irp_forms.specs.Calls as spec;
 
 use crate::from_value::under;
 use crate::parts::has_keys_beside;
@@ -27,7 +13,7 @@ use serde_json::Value;
 /// A call that creates a device.
 #[tactic(auto, unfolding(crate::specs::Calls::create_device_at))]
 fn create_device_at<P: Copy, T: Copy>(beside: &[&str], value: &Value) -> Option<Call<P, T>>
-    ensures { result ≡ create_device_at (keys_in beside.now) (view value.now) }
+    ensures { result ≡ spec.create_device_at (keys_in beside.now) (view value.now) }
 {
     if !has_keys_beside(value, &["do", "driver", "lock"], beside) {
         return None;
@@ -40,7 +26,7 @@ fn create_device_at<P: Copy, T: Copy>(beside: &[&str], value: &Value) -> Option<
 /// A call that puts a device on another's stack.
 #[tactic(auto, unfolding(crate::specs::Calls::attach_at))]
 fn attach_at<P: Copy, T: Copy>(beside: &[&str], value: &Value) -> Option<Call<P, T>>
-    ensures { result ≡ attach_at (keys_in beside.now) (view value.now) }
+    ensures { result ≡ spec.attach_at (keys_in beside.now) (view value.now) }
 {
     if !has_keys_beside(value, &["device", "do", "to"], beside) {
         return None;
@@ -53,7 +39,7 @@ fn attach_at<P: Copy, T: Copy>(beside: &[&str], value: &Value) -> Option<Call<P,
 /// A call that takes the device off that stands on this one.
 #[tactic(auto, unfolding(crate::specs::Calls::detach_at))]
 fn detach_at<P: Copy, T: Copy>(beside: &[&str], value: &Value) -> Option<Call<P, T>>
-    ensures { result ≡ detach_at (keys_in beside.now) (view value.now) }
+    ensures { result ≡ spec.detach_at (keys_in beside.now) (view value.now) }
 {
     if !has_keys_beside(value, &["do", "lower"], beside) {
         return None;
@@ -65,7 +51,7 @@ fn detach_at<P: Copy, T: Copy>(beside: &[&str], value: &Value) -> Option<Call<P,
 /// The packet of a call that names nothing else.
 #[tactic(auto, unfolding(crate::specs::Calls::packet_alone_at))]
 fn packet_alone_at<P: Copy>(beside: &[&str], packet: Option<P>, value: &Value) -> Option<P>
-    ensures { result ≡ packet_alone_at (keys_in beside.now) packet (view value.now) }
+    ensures { result ≡ spec.packet_alone_at (keys_in beside.now) packet (view value.now) }
 {
     if has_keys_beside(value, &["do", "irp"], beside) {
         packet
@@ -81,7 +67,7 @@ fn reuse_at<P: Copy, T: Copy>(
     packet: Option<P>,
     value: &Value,
 ) -> Option<Call<P, T>>
-    ensures { result ≡ reuse_at (keys_in beside.now) packet (view value.now) }
+    ensures { result ≡ spec.reuse_at (keys_in beside.now) packet (view value.now) }
 {
     if !has_keys_beside(value, &["do", "irp", "status"], beside) {
         return None;
@@ -94,7 +80,7 @@ fn reuse_at<P: Copy, T: Copy>(
 /// The party and its packet.
 #[tactic(auto, unfolding(crate::specs::Calls::by_party_at))]
 fn by_party_at<P: Copy>(packet: Option<P>, value: &Value) -> Option<(Party, P)>
-    ensures { result ≡ by_party_at packet (view value.now) }
+    ensures { result ≡ spec.by_party_at packet (view value.now) }
 {
     let party = under("by", value)?;
     let irp = packet?;
@@ -104,7 +90,7 @@ fn by_party_at<P: Copy>(packet: Option<P>, value: &Value) -> Option<(Party, P)>
 /// The party and its packet of a call that names nothing else.
 #[tactic(auto, unfolding(crate::specs::Calls::party_alone_at))]
 fn party_alone_at<P: Copy>(beside: &[&str], packet: Option<P>, value: &Value) -> Option<(Party, P)>
-    ensures { result ≡ party_alone_at (keys_in beside.now) packet (view value.now) }
+    ensures { result ≡ spec.party_alone_at (keys_in beside.now) packet (view value.now) }
 {
     if has_keys_beside(value, &["by", "do", "irp"], beside) {
         by_party_at(packet, value)
@@ -120,7 +106,7 @@ fn set_next_at<P: Copy, T: Copy>(
     packet: Option<P>,
     value: &Value,
 ) -> Option<Call<P, T>>
-    ensures { result ≡ set_next_at (keys_in beside.now) packet (view value.now) }
+    ensures { result ≡ spec.set_next_at (keys_in beside.now) packet (view value.now) }
 {
     if !has_keys_beside(value, &["by", "do", "irp", "major", "word"], beside) {
         return None;
@@ -143,7 +129,7 @@ fn set_routine_at<P: Copy, T: Copy>(
     packet: Option<P>,
     value: &Value,
 ) -> Option<Call<P, T>>
-    ensures { result ≡ set_routine_at (keys_in beside.now) packet (view value.now) }
+    ensures { result ≡ spec.set_routine_at (keys_in beside.now) packet (view value.now) }
 {
     if !has_keys_beside(value, &["by", "do", "irp", "set"], beside) {
         return None;
@@ -164,7 +150,7 @@ fn call_driver_at<P: Copy, T: Copy>(
     packet: Option<P>,
     value: &Value,
 ) -> Option<Call<P, T>>
-    ensures { result ≡ call_driver_at (keys_in beside.now) packet (view value.now) }
+    ensures { result ≡ spec.call_driver_at (keys_in beside.now) packet (view value.now) }
 {
     if !has_keys_beside(value, &["by", "do", "irp", "target"], beside) {
         return None;
@@ -181,7 +167,7 @@ fn complete_at<P: Copy, T: Copy>(
     packet: Option<P>,
     value: &Value,
 ) -> Option<Call<P, T>>
-    ensures { result ≡ complete_at (keys_in beside.now) packet (view value.now) }
+    ensures { result ≡ spec.complete_at (keys_in beside.now) packet (view value.now) }
 {
     if !has_keys_beside(value, &["by", "do", "information", "irp", "status"], beside) {
         return None;
@@ -204,7 +190,7 @@ fn set_cancel_routine_at<P: Copy, T: Copy>(
     packet: Option<P>,
     value: &Value,
 ) -> Option<Call<P, T>>
-    ensures { result ≡ set_cancel_routine_at (keys_in beside.now) packet (view value.now) }
+    ensures { result ≡ spec.set_cancel_routine_at (keys_in beside.now) packet (view value.now) }
 {
     if !has_keys_beside(value, &["by", "cancel", "do", "irp"], beside) {
         return None;
@@ -224,7 +210,7 @@ pub fn call_named<P: Copy, T: Copy>(
     packet: Option<P>,
     value: &Value,
 ) -> Option<Call<P, T>>
-    ensures { result ≡ call_named name.now (keys_in beside.now) packet (view value.now) }
+    ensures { result ≡ spec.call_named name.now (keys_in beside.now) packet (view value.now) }
 {
     match name {
         "create_device" => create_device_at(beside, value),

@@ -4,13 +4,7 @@
 ghost use Rattle.std.specs.Prelude.{◌≡◌};
 ghost use Rattle.serde_json.specs.View.{view};
 ghost use Rattle.irp_forms.specs.Parts.{keys_in};
-ghost use Rattle.irp_forms.specs.SeatActs.{
-  drained_at,
-  hand_at,
-  lock_act_named,
-  slot_alone_at,
-  tagged_at,
-};
+ghost use Rattle.irp_forms.specs.SeatActs as spec;
 
 use crate::from_value::under;
 use crate::parts::has_keys_beside;
@@ -20,7 +14,7 @@ use serde_json::Value;
 /// The lock and the tag of an act that names nothing else.
 #[tactic(auto, unfolding(crate::specs::SeatActs::tagged_at))]
 fn tagged_at(beside: &[&str], value: &Value) -> Option<(LockNo, u32)>
-    ensures { result ≡ tagged_at (keys_in beside.now) (view value.now) }
+    ensures { result ≡ spec.tagged_at (keys_in beside.now) (view value.now) }
 {
     if !has_keys_beside(value, &["do", "lock", "tag"], beside) {
         return None;
@@ -33,7 +27,7 @@ fn tagged_at(beside: &[&str], value: &Value) -> Option<(LockNo, u32)>
 /// The question whether a lock is drained.
 #[tactic(auto, unfolding(crate::specs::SeatActs::drained_at))]
 fn drained_at(beside: &[&str], value: &Value) -> Option<LockAct>
-    ensures { result ≡ drained_at (keys_in beside.now) (view value.now) }
+    ensures { result ≡ spec.drained_at (keys_in beside.now) (view value.now) }
 {
     if !has_keys_beside(value, &["do", "lock"], beside) {
         return None;
@@ -46,7 +40,7 @@ fn drained_at(beside: &[&str], value: &Value) -> Option<LockAct>
 /// name or another form (this project's own format, docs/FORMATS.md).
 #[tactic(auto, unfolding(crate::specs::SeatActs::lock_act_named))]
 pub fn lock_act_named(name: &str, beside: &[&str], value: &Value) -> Option<LockAct>
-    ensures { result ≡ lock_act_named name.now (keys_in beside.now) (view value.now) }
+    ensures { result ≡ spec.lock_act_named name.now (keys_in beside.now) (view value.now) }
 {
     match name {
         "acquire" => {
@@ -70,7 +64,7 @@ pub fn lock_act_named(name: &str, beside: &[&str], value: &Value) -> Option<Lock
 /// project's own format, docs/FORMATS.md).
 #[tactic(auto, unfolding(crate::specs::SeatActs::hand_at))]
 pub fn hand_at(beside: &[&str], value: &Value) -> Option<Hand>
-    ensures { result ≡ hand_at (keys_in beside.now) (view value.now) }
+    ensures { result ≡ spec.hand_at (keys_in beside.now) (view value.now) }
 {
     if !has_keys_beside(value, &["do", "lock", "tag", "to"], beside) {
         return None;
@@ -85,7 +79,7 @@ pub fn hand_at(beside: &[&str], value: &Value) -> Option<Hand>
 /// form (this project's own format, docs/FORMATS.md).
 #[tactic(auto, unfolding(crate::specs::SeatActs::slot_alone_at))]
 pub fn slot_alone_at(beside: &[&str], value: &Value) -> Option<u32>
-    ensures { result ≡ slot_alone_at (keys_in beside.now) (view value.now) }
+    ensures { result ≡ spec.slot_alone_at (keys_in beside.now) (view value.now) }
 {
     if !has_keys_beside(value, &["do", "slot"], beside) {
         return None;

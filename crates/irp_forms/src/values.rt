@@ -3,32 +3,7 @@
 ghost use Rattle.std.specs.Prelude.{◌≡◌};
 ghost use Rattle.serde_json.specs.View.{view};
 ghost use Rattle.irp_forms.specs.Names.{cancel_rule_at};
-ghost use Rattle.irp_forms.specs.Values.{
-  cancel_answer_at,
-  cancel_answer_named,
-  cancel_at,
-  cancel_finish_at,
-  completions_at,
-  device_at,
-  dispatch_at,
-  driver_at,
-  finish_at,
-  first_counts_at,
-  forward_at,
-  forward_pend_at,
-  handler_at,
-  hold_at,
-  irp_at,
-  known_at,
-  lock_at,
-  party_at,
-  plan_at,
-  plan_named,
-  replacement_at,
-  routine_at,
-  setting_at,
-  status_at,
-};
+ghost use Rattle.irp_forms.specs.Values as spec;
 
 use crate::from_value::{FromValue, nth};
 use crate::list::FromJson;
@@ -44,7 +19,7 @@ use std::alloc::Global;
 
 /// A device by its number (this project's own format, docs/FORMATS.md).
 impl FromValue for DeviceId {
-    ghost form = { device_at };
+    ghost form = { spec.device_at };
 
     #[tactic(auto, unfolding(crate::specs::Values::device_at))]
     fn from_value(value: &Value) -> Option<Self> {
@@ -54,7 +29,7 @@ impl FromValue for DeviceId {
 
 /// A cancel routine by its number (this project's own format, docs/FORMATS.md).
 impl FromValue for CancelId {
-    ghost form = { cancel_at };
+    ghost form = { spec.cancel_at };
 
     #[tactic(auto, unfolding(crate::specs::Values::cancel_at))]
     fn from_value(value: &Value) -> Option<Self> {
@@ -64,7 +39,7 @@ impl FromValue for CancelId {
 
 /// A dispatch routine by its number (this project's own format, docs/FORMATS.md).
 impl FromValue for DispatchId {
-    ghost form = { dispatch_at };
+    ghost form = { spec.dispatch_at };
 
     #[tactic(auto, unfolding(crate::specs::Values::dispatch_at))]
     fn from_value(value: &Value) -> Option<Self> {
@@ -74,7 +49,7 @@ impl FromValue for DispatchId {
 
 /// A driver by its number (this project's own format, docs/FORMATS.md).
 impl FromValue for DriverId {
-    ghost form = { driver_at };
+    ghost form = { spec.driver_at };
 
     #[tactic(auto, unfolding(crate::specs::Values::driver_at))]
     fn from_value(value: &Value) -> Option<Self> {
@@ -84,7 +59,7 @@ impl FromValue for DriverId {
 
 /// A remove lock by its number (this project's own format, docs/FORMATS.md).
 impl FromValue for LockNo {
-    ghost form = { lock_at };
+    ghost form = { spec.lock_at };
 
     #[tactic(auto, unfolding(crate::specs::Values::lock_at))]
     fn from_value(value: &Value) -> Option<Self> {
@@ -94,7 +69,7 @@ impl FromValue for LockNo {
 
 /// A status by its number (this project's own format, docs/FORMATS.md).
 impl FromValue for Status {
-    ghost form = { status_at };
+    ghost form = { spec.status_at };
 
     #[tactic(auto, unfolding(crate::specs::Values::status_at))]
     fn from_value(value: &Value) -> Option<Self> {
@@ -104,7 +79,7 @@ impl FromValue for Status {
 
 /// A packet by its slot, below 2^32, and its use (this project's own format, docs/FORMATS.md).
 impl FromValue for IrpRef {
-    ghost form = { irp_at };
+    ghost form = { spec.irp_at };
 
     #[tactic(auto, unfolding(crate::specs::Values::irp_at))]
     fn from_value(value: &Value) -> Option<Self> {
@@ -122,7 +97,7 @@ impl FromValue for IrpRef {
 
 /// A party: `"o"` for the originator, or the device's number (this project's own format, docs/FORMATS.md).
 impl FromValue for Party {
-    ghost form = { party_at };
+    ghost form = { spec.party_at };
 
     #[tactic(auto, unfolding(crate::specs::Values::party_at))]
     fn from_value(value: &Value) -> Option<Self> {
@@ -140,7 +115,7 @@ impl FromValue for Party {
 
 /// A completion routine by its rule and its number there (this project's own format, docs/FORMATS.md).
 impl FromValue for RoutineId {
-    ghost form = { routine_at };
+    ghost form = { spec.routine_at };
 
     #[tactic(auto, unfolding(crate::specs::Values::routine_at))]
     fn from_value(value: &Value) -> Option<Self> {
@@ -155,7 +130,7 @@ impl FromValue for RoutineId {
 
 /// A setting: rule, number, context and flags (this project's own format, docs/FORMATS.md).
 impl FromValue for Setting {
-    ghost form = { setting_at };
+    ghost form = { spec.setting_at };
 
     #[tactic(auto, unfolding(crate::specs::Values::setting_at))]
     fn from_value(value: &Value) -> Option<Self> {
@@ -182,7 +157,7 @@ impl FromValue for Setting {
 
 /// A replacement: status and information (this project's own format, docs/FORMATS.md).
 impl FromValue for Replacement {
-    ghost form = { replacement_at };
+    ghost form = { spec.replacement_at };
 
     #[tactic(auto, unfolding(crate::specs::Values::replacement_at))]
     fn from_value(value: &Value) -> Option<Self> {
@@ -201,7 +176,7 @@ impl FromValue for Replacement {
 /// A plan that finishes, with its status and information.
 #[tactic(auto, unfolding(crate::specs::Values::finish_at))]
 fn finish_at(value: &Value) -> Option<Plan>
-    ensures { result ≡ finish_at (view value.now) }
+    ensures { result ≡ spec.finish_at (view value.now) }
 {
     if !has_items(value, 3) {
         return None;
@@ -217,7 +192,7 @@ fn finish_at(value: &Value) -> Option<Plan>
 /// A plan that holds, with its cancel routine or null.
 #[tactic(auto, unfolding(crate::specs::Values::hold_at))]
 fn hold_at(value: &Value) -> Option<Plan>
-    ensures { result ≡ hold_at (view value.now) }
+    ensures { result ≡ spec.hold_at (view value.now) }
 {
     if !has_items(value, 2) {
         return None;
@@ -229,7 +204,7 @@ fn hold_at(value: &Value) -> Option<Plan>
 /// A plan that forwards, with its setting or null.
 #[tactic(auto, unfolding(crate::specs::Values::forward_at))]
 fn forward_at(value: &Value) -> Option<Plan>
-    ensures { result ≡ forward_at (view value.now) }
+    ensures { result ≡ spec.forward_at (view value.now) }
 {
     if !has_items(value, 2) {
         return None;
@@ -241,7 +216,7 @@ fn forward_at(value: &Value) -> Option<Plan>
 /// A plan that forwards and pends, with its setting or null.
 #[tactic(auto, unfolding(crate::specs::Values::forward_pend_at))]
 fn forward_pend_at(value: &Value) -> Option<Plan>
-    ensures { result ≡ forward_pend_at (view value.now) }
+    ensures { result ≡ spec.forward_pend_at (view value.now) }
 {
     if !has_items(value, 2) {
         return None;
@@ -253,7 +228,7 @@ fn forward_pend_at(value: &Value) -> Option<Plan>
 /// A plan by its name.
 #[tactic(auto, unfolding(crate::specs::Values::plan_named))]
 fn plan_named(name: &str, value: &Value) -> Option<Plan>
-    ensures { result ≡ plan_named name.now (view value.now) }
+    ensures { result ≡ spec.plan_named name.now (view value.now) }
 {
     match name {
         "finish" => finish_at(value),
@@ -281,7 +256,7 @@ fn plan_named(name: &str, value: &Value) -> Option<Plan>
 /// A plan: its name, which stands first, and what it names. `Plan::HoldSlot` is a plan of form 2 alone, and is read in
 /// either form: a reader of form 1 refuses it (this project's own format, docs/FORMATS.md).
 impl FromValue for Plan {
-    ghost form = { plan_at };
+    ghost form = { spec.plan_at };
 
     #[tactic(auto, unfolding(crate::specs::Values::plan_at))]
     fn from_value(value: &Value) -> Option<Self> {
@@ -292,7 +267,7 @@ impl FromValue for Plan {
 /// An answer that finishes the packet, with its information.
 #[tactic(auto, unfolding(crate::specs::Values::cancel_finish_at))]
 fn cancel_finish_at(value: &Value) -> Option<CancelAnswer>
-    ensures { result ≡ cancel_finish_at (view value.now) }
+    ensures { result ≡ spec.cancel_finish_at (view value.now) }
 {
     if !has_items(value, 2) {
         return None;
@@ -304,7 +279,7 @@ fn cancel_finish_at(value: &Value) -> Option<CancelAnswer>
 /// A cancel routine's answer by its name.
 #[tactic(auto, unfolding(crate::specs::Values::cancel_answer_named))]
 fn cancel_answer_named(name: &str, value: &Value) -> Option<CancelAnswer>
-    ensures { result ≡ cancel_answer_named name.now (view value.now) }
+    ensures { result ≡ spec.cancel_answer_named name.now (view value.now) }
 {
     match name {
         "finish" => cancel_finish_at(value),
@@ -322,7 +297,7 @@ fn cancel_answer_named(name: &str, value: &Value) -> Option<CancelAnswer>
 /// A cancel routine's answer: its name, which stands first, and what it names (this project's own format,
 /// docs/FORMATS.md).
 impl FromValue for CancelAnswer {
-    ghost form = { cancel_answer_at };
+    ghost form = { spec.cancel_answer_at };
 
     #[tactic(auto, unfolding(crate::specs::Values::cancel_answer_at))]
     fn from_value(value: &Value) -> Option<Self> {
@@ -333,7 +308,7 @@ impl FromValue for CancelAnswer {
 /// How many completion routines of each rule, from the first five items.
 #[tactic(auto, unfolding(crate::specs::Values::first_counts_at))]
 fn first_counts_at(value: &Value) -> Option<Known>
-    ensures { result ≡ first_counts_at (view value.now) }
+    ensures { result ≡ spec.first_counts_at (view value.now) }
 {
     let watch = nth(0, value)?;
     let change = nth(1, value)?;
@@ -353,7 +328,7 @@ fn first_counts_at(value: &Value) -> Option<Known>
 /// How many completion routines of each rule, and no cancel routines (this project's own format, docs/FORMATS.md).
 #[tactic(auto, unfolding(crate::specs::Values::completions_at))]
 pub fn completions_at(value: &Value) -> Option<Known>
-    ensures { result ≡ completions_at (view value.now) }
+    ensures { result ≡ spec.completions_at (view value.now) }
 {
     if has_items(value, 5) {
         first_counts_at(value)
@@ -365,7 +340,7 @@ pub fn completions_at(value: &Value) -> Option<Known>
 /// How many completion routines of each rule, and how many cancel routines (this project's own format,
 /// docs/FORMATS.md).
 impl FromValue for Known {
-    ghost form = { known_at };
+    ghost form = { spec.known_at };
 
     #[tactic(auto, unfolding(crate::specs::Values::known_at))]
     fn from_value(value: &Value) -> Option<Self> {
@@ -380,7 +355,7 @@ impl FromValue for Known {
 
 /// A major function code, up to 255, and its dispatch (this project's own format, docs/FORMATS.md).
 impl FromValue for (u8, DispatchId) {
-    ghost form = { handler_at };
+    ghost form = { spec.handler_at };
 
     #[tactic(auto, unfolding(crate::specs::Values::handler_at))]
     fn from_value(value: &Value) -> Option<Self> {
@@ -402,7 +377,7 @@ impl FromJson for CancelRule {
 }
 
 impl FromJson for Known {
-    ghost at = { known_at };
+    ghost at = { spec.known_at };
 
     fn from_json(_alloc: Global, value: &Value) -> Result<Self, Unread> {
         form_of(FromValue::from_value(value))
@@ -410,7 +385,7 @@ impl FromJson for Known {
 }
 
 impl FromJson for (u8, DispatchId) {
-    ghost at = { handler_at };
+    ghost at = { spec.handler_at };
 
     fn from_json(_alloc: Global, value: &Value) -> Result<Self, Unread> {
         form_of(FromValue::from_value(value))
