@@ -6,7 +6,7 @@ ghost use Rattle.irp_forms.specs.Parts.{keys_in};
 ghost use Rattle.irp_forms.specs.Calls as spec;
 
 use crate::from_value::under;
-use crate::parts::has_keys_beside;
+use crate::parts::only_keys;
 use irp_types::{Call, Party};
 use serde_json::Value;
 
@@ -15,9 +15,7 @@ use serde_json::Value;
 fn create_device_at<P: Copy, T: Copy>(beside: &[&str], value: &Value) -> Option<Call<P, T>>
     ensures { result ≡ spec.create_device_at (keys_in beside.now) (view value.now) }
 {
-    if !has_keys_beside(value, &["do", "driver", "lock"], beside) {
-        return None;
-    }
+    only_keys(value, &["do", "driver", "lock"], beside)?;
     let driver = under("driver", value)?;
     let lock = under("lock", value)?;
     Some(Call::CreateDevice { driver, lock })
@@ -28,9 +26,7 @@ fn create_device_at<P: Copy, T: Copy>(beside: &[&str], value: &Value) -> Option<
 fn attach_at<P: Copy, T: Copy>(beside: &[&str], value: &Value) -> Option<Call<P, T>>
     ensures { result ≡ spec.attach_at (keys_in beside.now) (view value.now) }
 {
-    if !has_keys_beside(value, &["device", "do", "to"], beside) {
-        return None;
-    }
+    only_keys(value, &["device", "do", "to"], beside)?;
     let device = under("device", value)?;
     let to = under("to", value)?;
     Some(Call::Attach { device, to })
@@ -41,9 +37,7 @@ fn attach_at<P: Copy, T: Copy>(beside: &[&str], value: &Value) -> Option<Call<P,
 fn detach_at<P: Copy, T: Copy>(beside: &[&str], value: &Value) -> Option<Call<P, T>>
     ensures { result ≡ spec.detach_at (keys_in beside.now) (view value.now) }
 {
-    if !has_keys_beside(value, &["do", "lower"], beside) {
-        return None;
-    }
+    only_keys(value, &["do", "lower"], beside)?;
     let lower = under("lower", value)?;
     Some(Call::Detach { lower })
 }
@@ -53,11 +47,8 @@ fn detach_at<P: Copy, T: Copy>(beside: &[&str], value: &Value) -> Option<Call<P,
 fn packet_alone_at<P: Copy>(beside: &[&str], packet: Option<P>, value: &Value) -> Option<P>
     ensures { result ≡ spec.packet_alone_at (keys_in beside.now) packet (view value.now) }
 {
-    if has_keys_beside(value, &["do", "irp"], beside) {
-        packet
-    } else {
-        None
-    }
+    only_keys(value, &["do", "irp"], beside)?;
+    packet
 }
 
 /// A call that begins another use of a packet.
@@ -69,9 +60,7 @@ fn reuse_at<P: Copy, T: Copy>(
 ) -> Option<Call<P, T>>
     ensures { result ≡ spec.reuse_at (keys_in beside.now) packet (view value.now) }
 {
-    if !has_keys_beside(value, &["do", "irp", "status"], beside) {
-        return None;
-    }
+    only_keys(value, &["do", "irp", "status"], beside)?;
     let irp = packet?;
     let status = under("status", value)?;
     Some(Call::Reuse { irp, status })
@@ -92,11 +81,8 @@ fn by_party_at<P: Copy>(packet: Option<P>, value: &Value) -> Option<(Party, P)>
 fn party_alone_at<P: Copy>(beside: &[&str], packet: Option<P>, value: &Value) -> Option<(Party, P)>
     ensures { result ≡ spec.party_alone_at (keys_in beside.now) packet (view value.now) }
 {
-    if has_keys_beside(value, &["by", "do", "irp"], beside) {
-        by_party_at(packet, value)
-    } else {
-        None
-    }
+    only_keys(value, &["by", "do", "irp"], beside)?;
+    by_party_at(packet, value)
 }
 
 /// A call that fills the next lower location.
@@ -108,9 +94,7 @@ fn set_next_at<P: Copy, T: Copy>(
 ) -> Option<Call<P, T>>
     ensures { result ≡ spec.set_next_at (keys_in beside.now) packet (view value.now) }
 {
-    if !has_keys_beside(value, &["by", "do", "irp", "major", "word"], beside) {
-        return None;
-    }
+    only_keys(value, &["by", "do", "irp", "major", "word"], beside)?;
     let (party, irp) = by_party_at(packet, value)?;
     let major = under("major", value)?;
     let word = under("word", value)?;
@@ -131,9 +115,7 @@ fn set_routine_at<P: Copy, T: Copy>(
 ) -> Option<Call<P, T>>
     ensures { result ≡ spec.set_routine_at (keys_in beside.now) packet (view value.now) }
 {
-    if !has_keys_beside(value, &["by", "do", "irp", "set"], beside) {
-        return None;
-    }
+    only_keys(value, &["by", "do", "irp", "set"], beside)?;
     let (party, irp) = by_party_at(packet, value)?;
     let setting = under("set", value)?;
     Some(Call::SetRoutine {
@@ -152,9 +134,7 @@ fn call_driver_at<P: Copy, T: Copy>(
 ) -> Option<Call<P, T>>
     ensures { result ≡ spec.call_driver_at (keys_in beside.now) packet (view value.now) }
 {
-    if !has_keys_beside(value, &["by", "do", "irp", "target"], beside) {
-        return None;
-    }
+    only_keys(value, &["by", "do", "irp", "target"], beside)?;
     let (party, irp) = by_party_at(packet, value)?;
     let target = under("target", value)?;
     Some(Call::CallDriver { party, irp, target })
@@ -169,9 +149,7 @@ fn complete_at<P: Copy, T: Copy>(
 ) -> Option<Call<P, T>>
     ensures { result ≡ spec.complete_at (keys_in beside.now) packet (view value.now) }
 {
-    if !has_keys_beside(value, &["by", "do", "information", "irp", "status"], beside) {
-        return None;
-    }
+    only_keys(value, &["by", "do", "information", "irp", "status"], beside)?;
     let (party, irp) = by_party_at(packet, value)?;
     let status = under("status", value)?;
     let information = under("information", value)?;
@@ -192,9 +170,7 @@ fn set_cancel_routine_at<P: Copy, T: Copy>(
 ) -> Option<Call<P, T>>
     ensures { result ≡ spec.set_cancel_routine_at (keys_in beside.now) packet (view value.now) }
 {
-    if !has_keys_beside(value, &["by", "cancel", "do", "irp"], beside) {
-        return None;
-    }
+    only_keys(value, &["by", "cancel", "do", "irp"], beside)?;
     let (party, irp) = by_party_at(packet, value)?;
     let cancel = under("cancel", value)?;
     Some(Call::SetCancelRoutine { party, irp, cancel })

@@ -6,7 +6,7 @@ ghost use Rattle.irp_forms.specs.Questions as spec;
 
 use crate::from_value::{FromValue, nth, under};
 use crate::list::FromJson;
-use crate::parts::{has_items, has_keys};
+use crate::parts::{has_keys, of_items};
 use crate::unread::{Unread, form_of};
 use irp_types::{Answer, Asked, DeviceId, IrpRef, Shown};
 use serde_json::Value;
@@ -41,9 +41,7 @@ impl FromValue for Answer {
 
     #[tactic(auto, unfolding(crate::specs::Questions::answer_at))]
     fn from_value(value: &Value) -> Option<Self> {
-        if !has_items(value, 3) {
-            return None;
-        }
+        of_items(value, 3)?;
         let keep = keep_named(value.get(0).and_then(Value::as_str)?)?;
         let mark = nth(1, value)?;
         let replacement = nth(2, value)?;
@@ -84,9 +82,7 @@ impl FromValue for Shown {
 
     #[tactic(auto, unfolding(crate::specs::Questions::shown_at))]
     fn from_value(value: &Value) -> Option<Self> {
-        if !has_items(value, 12) {
-            return None;
-        }
+        of_items(value, 12)?;
         let place = place_at(value)?;
         let status = nth(6, value)?;
         let information = nth(7, value)?;

@@ -7,7 +7,7 @@ ghost use Rattle.irp_forms.specs.Parts.{keys_in};
 ghost use Rattle.irp_forms.specs.SeatActs as spec;
 
 use crate::from_value::under;
-use crate::parts::has_keys_beside;
+use crate::parts::only_keys;
 use irp_types::{Hand, LockAct, LockNo};
 use serde_json::Value;
 
@@ -16,9 +16,7 @@ use serde_json::Value;
 fn tagged_at(beside: &[&str], value: &Value) -> Option<(LockNo, u32)>
     ensures { result ≡ spec.tagged_at (keys_in beside.now) (view value.now) }
 {
-    if !has_keys_beside(value, &["do", "lock", "tag"], beside) {
-        return None;
-    }
+    only_keys(value, &["do", "lock", "tag"], beside)?;
     let lock = under("lock", value)?;
     let tag = under("tag", value)?;
     Some((lock, tag))
@@ -29,9 +27,7 @@ fn tagged_at(beside: &[&str], value: &Value) -> Option<(LockNo, u32)>
 fn drained_at(beside: &[&str], value: &Value) -> Option<LockAct>
     ensures { result ≡ spec.drained_at (keys_in beside.now) (view value.now) }
 {
-    if !has_keys_beside(value, &["do", "lock"], beside) {
-        return None;
-    }
+    only_keys(value, &["do", "lock"], beside)?;
     let lock = under("lock", value)?;
     Some(LockAct::Drained { lock })
 }
@@ -66,9 +62,7 @@ pub fn lock_act_named(name: &str, beside: &[&str], value: &Value) -> Option<Lock
 pub fn hand_at(beside: &[&str], value: &Value) -> Option<Hand>
     ensures { result ≡ spec.hand_at (keys_in beside.now) (view value.now) }
 {
-    if !has_keys_beside(value, &["do", "lock", "tag", "to"], beside) {
-        return None;
-    }
+    only_keys(value, &["do", "lock", "tag", "to"], beside)?;
     let lock = under("lock", value)?;
     let tag = under("tag", value)?;
     let to = under("to", value)?;
@@ -81,8 +75,6 @@ pub fn hand_at(beside: &[&str], value: &Value) -> Option<Hand>
 pub fn slot_alone_at(beside: &[&str], value: &Value) -> Option<u32>
     ensures { result ≡ spec.slot_alone_at (keys_in beside.now) (view value.now) }
 {
-    if !has_keys_beside(value, &["do", "slot"], beside) {
-        return None;
-    }
+    only_keys(value, &["do", "slot"], beside)?;
     under("slot", value)
 }

@@ -8,7 +8,7 @@ ghost use Rattle.irp_forms.specs.Values as spec;
 use crate::from_value::{FromValue, nth};
 use crate::list::FromJson;
 use crate::names::Flags;
-use crate::parts::has_items;
+use crate::parts::{has_items, of_items};
 use crate::unread::{Unread, form_of};
 use irp_types::{
     CancelAnswer, CancelId, CancelRule, DeviceId, DispatchId, DriverId, IrpRef, Known, LockNo,
@@ -83,9 +83,7 @@ impl FromValue for IrpRef {
 
     #[tactic(auto, unfolding(crate::specs::Values::irp_at))]
     fn from_value(value: &Value) -> Option<Self> {
-        if !has_items(value, 2) {
-            return None;
-        }
+        of_items(value, 2)?;
         let slot: u32 = nth(0, value)?;
         let use_no = nth(1, value)?;
         Some(IrpRef {
@@ -119,9 +117,7 @@ impl FromValue for RoutineId {
 
     #[tactic(auto, unfolding(crate::specs::Values::routine_at))]
     fn from_value(value: &Value) -> Option<Self> {
-        if !has_items(value, 2) {
-            return None;
-        }
+        of_items(value, 2)?;
         let rule = nth(0, value)?;
         let no = nth(1, value)?;
         Some(RoutineId { rule, no })
@@ -134,9 +130,7 @@ impl FromValue for Setting {
 
     #[tactic(auto, unfolding(crate::specs::Values::setting_at))]
     fn from_value(value: &Value) -> Option<Self> {
-        if !has_items(value, 4) {
-            return None;
-        }
+        of_items(value, 4)?;
         let rule = nth(0, value)?;
         let no = nth(1, value)?;
         let context = nth(2, value)?;
@@ -161,9 +155,7 @@ impl FromValue for Replacement {
 
     #[tactic(auto, unfolding(crate::specs::Values::replacement_at))]
     fn from_value(value: &Value) -> Option<Self> {
-        if !has_items(value, 2) {
-            return None;
-        }
+        of_items(value, 2)?;
         let status = nth(0, value)?;
         let information = nth(1, value)?;
         Some(Replacement {
@@ -178,9 +170,7 @@ impl FromValue for Replacement {
 fn finish_at(value: &Value) -> Option<Plan>
     ensures { result ≡ spec.finish_at (view value.now) }
 {
-    if !has_items(value, 3) {
-        return None;
-    }
+    of_items(value, 3)?;
     let status = nth(1, value)?;
     let information = nth(2, value)?;
     Some(Plan::Finish {
@@ -194,9 +184,7 @@ fn finish_at(value: &Value) -> Option<Plan>
 fn hold_at(value: &Value) -> Option<Plan>
     ensures { result ≡ spec.hold_at (view value.now) }
 {
-    if !has_items(value, 2) {
-        return None;
-    }
+    of_items(value, 2)?;
     let cancel = nth(1, value)?;
     Some(Plan::Hold { cancel })
 }
@@ -206,9 +194,7 @@ fn hold_at(value: &Value) -> Option<Plan>
 fn forward_at(value: &Value) -> Option<Plan>
     ensures { result ≡ spec.forward_at (view value.now) }
 {
-    if !has_items(value, 2) {
-        return None;
-    }
+    of_items(value, 2)?;
     let set = nth(1, value)?;
     Some(Plan::Forward { set })
 }
@@ -218,9 +204,7 @@ fn forward_at(value: &Value) -> Option<Plan>
 fn forward_pend_at(value: &Value) -> Option<Plan>
     ensures { result ≡ spec.forward_pend_at (view value.now) }
 {
-    if !has_items(value, 2) {
-        return None;
-    }
+    of_items(value, 2)?;
     let set = nth(1, value)?;
     Some(Plan::ForwardPend { set })
 }
@@ -233,20 +217,8 @@ fn plan_named(name: &str, value: &Value) -> Option<Plan>
     match name {
         "finish" => finish_at(value),
         "hold" => hold_at(value),
-        "hold_slot" => {
-            if has_items(value, 1) {
-                Some(Plan::HoldSlot)
-            } else {
-                None
-            }
-        }
-        "skip" => {
-            if has_items(value, 1) {
-                Some(Plan::Skip)
-            } else {
-                None
-            }
-        }
+        "hold_slot" => { has_items(value, 1).then_some(Plan::HoldSlot) }
+        "skip" => { has_items(value, 1).then_some(Plan::Skip) }
         "forward" => forward_at(value),
         "forward_pend" => forward_pend_at(value),
         _ => None,
@@ -269,9 +241,7 @@ impl FromValue for Plan {
 fn cancel_finish_at(value: &Value) -> Option<CancelAnswer>
     ensures { result ≡ spec.cancel_finish_at (view value.now) }
 {
-    if !has_items(value, 2) {
-        return None;
-    }
+    of_items(value, 2)?;
     let information = nth(1, value)?;
     Some(CancelAnswer::Finish { information })
 }
@@ -283,13 +253,7 @@ fn cancel_answer_named(name: &str, value: &Value) -> Option<CancelAnswer>
 {
     match name {
         "finish" => cancel_finish_at(value),
-        "leave" => {
-            if has_items(value, 1) {
-                Some(CancelAnswer::Leave)
-            } else {
-                None
-            }
-        }
+        "leave" => { has_items(value, 1).then_some(CancelAnswer::Leave) }
         _ => None,
     }
 }
@@ -330,11 +294,8 @@ fn first_counts_at(value: &Value) -> Option<Known>
 pub fn completions_at(value: &Value) -> Option<Known>
     ensures { result ≡ spec.completions_at (view value.now) }
 {
-    if has_items(value, 5) {
-        first_counts_at(value)
-    } else {
-        None
-    }
+    of_items(value, 5)?;
+    first_counts_at(value)
 }
 
 /// How many completion routines of each rule, and how many cancel routines (this project's own format,
@@ -344,9 +305,7 @@ impl FromValue for Known {
 
     #[tactic(auto, unfolding(crate::specs::Values::known_at))]
     fn from_value(value: &Value) -> Option<Self> {
-        if !has_items(value, 6) {
-            return None;
-        }
+        of_items(value, 6)?;
         let counts = first_counts_at(value)?;
         let cancel = nth(5, value)?;
         Some(Known { cancel, ..counts })
@@ -359,9 +318,7 @@ impl FromValue for (u8, DispatchId) {
 
     #[tactic(auto, unfolding(crate::specs::Values::handler_at))]
     fn from_value(value: &Value) -> Option<Self> {
-        if !has_items(value, 2) {
-            return None;
-        }
+        of_items(value, 2)?;
         let major = nth(0, value)?;
         let dispatch = nth(1, value)?;
         Some((major, dispatch))
