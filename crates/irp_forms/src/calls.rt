@@ -192,31 +192,22 @@ pub fn call_named<P: Copy, T: Copy>(
         "create_device" => create_device_at(beside, value),
         "attach" => attach_at(beside, value),
         "detach" => detach_at(beside, value),
-        "free" => {
-            let irp = packet_alone_at(beside, packet, value)?;
-            Some(Call::Free { irp })
-        }
+        "free" => packet_alone_at(beside, packet, value).map(|irp| Call::Free { irp }),
         "reuse" => reuse_at(beside, packet, value),
-        "cancel" => {
-            let irp = packet_alone_at(beside, packet, value)?;
-            Some(Call::Cancel { irp })
-        }
-        "look" => {
-            let irp = packet_alone_at(beside, packet, value)?;
-            Some(Call::Look { irp })
-        }
-        "copy_to_next" => {
-            let (party, irp) = party_alone_at(beside, packet, value)?;
-            Some(Call::CopyToNext { party, irp })
-        }
-        "skip" => {
-            let (party, irp) = party_alone_at(beside, packet, value)?;
-            Some(Call::Skip { party, irp })
-        }
-        "mark_pending" => {
-            let (party, irp) = party_alone_at(beside, packet, value)?;
-            Some(Call::MarkPending { party, irp })
-        }
+        "cancel" => packet_alone_at(beside, packet, value).map(|irp| Call::Cancel { irp }),
+        "look" => packet_alone_at(beside, packet, value).map(|irp| Call::Look { irp }),
+        "copy_to_next" => party_alone_at(beside, packet, value).map(|(
+            party,
+            irp,
+        )| Call::CopyToNext { party, irp }),
+        "skip" => party_alone_at(beside, packet, value).map(|(party, irp)| Call::Skip {
+            party,
+            irp,
+        }),
+        "mark_pending" => party_alone_at(beside, packet, value).map(|(
+            party,
+            irp,
+        )| Call::MarkPending { party, irp }),
         "set_next" => set_next_at(beside, packet, value),
         "set_routine" => set_routine_at(beside, packet, value),
         "call_driver" => call_driver_at(beside, packet, value),

@@ -5,12 +5,9 @@ ghost use Rattle.serde_json.specs.View.{view};
 ghost use Rattle.irp_forms.specs.Questions as spec;
 
 use crate::from_value::{FromValue, nth, under};
-use crate::list::FromJson;
 use crate::parts::{has_keys, of_items};
-use crate::unread::{Unread, form_of};
 use irp_types::{Answer, Asked, DeviceId, IrpRef, Shown};
 use serde_json::Value;
-use std::alloc::Global;
 
 /// The first of what a closure is shown: the packet, and where it is.
 #[derive(Clone, Copy)]
@@ -154,13 +151,5 @@ impl FromValue for Asked {
         } else {
             None
         }
-    }
-}
-
-impl FromJson for Asked {
-    ghost at = { spec.asked_at };
-
-    fn from_json(_alloc: Global, value: &Value) -> Result<Self, Unread> {
-        form_of(FromValue::from_value(value))
     }
 }

@@ -39,18 +39,12 @@ pub fn lock_act_named(name: &str, beside: &[&str], value: &Value) -> Option<Lock
     ensures { result ≡ spec.lock_act_named name.now (keys_in beside.now) (view value.now) }
 {
     match name {
-        "acquire" => {
-            let (lock, tag) = tagged_at(beside, value)?;
-            Some(LockAct::Acquire { lock, tag })
-        }
-        "release" => {
-            let (lock, tag) = tagged_at(beside, value)?;
-            Some(LockAct::Release { lock, tag })
-        }
-        "begin_remove" => {
-            let (lock, tag) = tagged_at(beside, value)?;
-            Some(LockAct::BeginRemove { lock, tag })
-        }
+        "acquire" => tagged_at(beside, value).map(|(lock, tag)| LockAct::Acquire { lock, tag }),
+        "release" => tagged_at(beside, value).map(|(lock, tag)| LockAct::Release { lock, tag }),
+        "begin_remove" => tagged_at(beside, value).map(|(lock, tag)| LockAct::BeginRemove {
+            lock,
+            tag,
+        }),
         "drained" => drained_at(beside, value),
         _ => None,
     }

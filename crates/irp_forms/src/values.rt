@@ -6,16 +6,13 @@ ghost use Rattle.irp_forms.specs.Names.{cancel_rule_at};
 ghost use Rattle.irp_forms.specs.Values as spec;
 
 use crate::from_value::{FromValue, nth};
-use crate::list::FromJson;
 use crate::names::Flags;
 use crate::parts::{has_items, of_items};
-use crate::unread::{Unread, form_of};
 use irp_types::{
     CancelAnswer, CancelId, CancelRule, DeviceId, DispatchId, DriverId, IrpRef, Known, LockNo,
     Party, Plan, Replacement, RoutineId, Setting, Status,
 };
 use serde_json::Value;
-use std::alloc::Global;
 
 /// A device by its number (this project's own format, docs/FORMATS.md).
 impl FromValue for DeviceId {
@@ -165,62 +162,34 @@ impl FromValue for Replacement {
     }
 }
 
-/// A plan that finishes, with its status and information.
-#[tactic(auto, unfolding(crate::specs::Values::finish_at))]
-fn finish_at(value: &Value) -> Option<Plan>
-    ensures { result ≡ spec.finish_at (view value.now) }
-{
-    of_items(value, 3)?;
-    let status = nth(1, value)?;
-    let information = nth(2, value)?;
-    Some(Plan::Finish {
-        status,
-        information,
-    })
-}
-
-/// A plan that holds, with its cancel routine or null.
-#[tactic(auto, unfolding(crate::specs::Values::hold_at))]
-fn hold_at(value: &Value) -> Option<Plan>
-    ensures { result ≡ spec.hold_at (view value.now) }
-{
-    of_items(value, 2)?;
-    let cancel = nth(1, value)?;
-    Some(Plan::Hold { cancel })
-}
-
-/// A plan that forwards, with its setting or null.
-#[tactic(auto, unfolding(crate::specs::Values::forward_at))]
-fn forward_at(value: &Value) -> Option<Plan>
-    ensures { result ≡ spec.forward_at (view value.now) }
-{
-    of_items(value, 2)?;
-    let set = nth(1, value)?;
-    Some(Plan::Forward { set })
-}
-
-/// A plan that forwards and pends, with its setting or null.
-#[tactic(auto, unfolding(crate::specs::Values::forward_pend_at))]
-fn forward_pend_at(value: &Value) -> Option<Plan>
-    ensures { result ≡ spec.forward_pend_at (view value.now) }
-{
-    of_items(value, 2)?;
-    let set = nth(1, value)?;
-    Some(Plan::ForwardPend { set })
-}
-
 /// A plan by its name.
-#[tactic(auto, unfolding(crate::specs::Values::plan_named))]
+#[tactic(auto, unfolding(crate::specs::Values::plan_named, crate::specs::Values::finish_at, crate::specs::Values::hold_at, crate::specs::Values::forward_at, crate::specs::Values::forward_pend_at,))]
 fn plan_named(name: &str, value: &Value) -> Option<Plan>
     ensures { result ≡ spec.plan_named name.now (view value.now) }
 {
     match name {
-        "finish" => finish_at(value),
-        "hold" => hold_at(value),
-        "hold_slot" => { has_items(value, 1).then_some(Plan::HoldSlot) }
-        "skip" => { has_items(value, 1).then_some(Plan::Skip) }
-        "forward" => forward_at(value),
-        "forward_pend" => forward_pend_at(value),
+        "finish" => {
+            of_items(value, 3)?;
+            let status = nth(1, value)?;
+            nth(2, value).map(|information| Plan::Finish {
+                status,
+                information,
+            })
+        }
+        "hold" => {
+            of_items(value, 2)?;
+            nth(1, value).map(|cancel| Plan::Hold { cancel })
+        }
+        "hold_slot" => has_items(value, 1).then_some(Plan::HoldSlot),
+        "skip" => has_items(value, 1).then_some(Plan::Skip),
+        "forward" => {
+            of_items(value, 2)?;
+            nth(1, value).map(|set| Plan::Forward { set })
+        }
+        "forward_pend" => {
+            of_items(value, 2)?;
+            nth(1, value).map(|set| Plan::ForwardPend { set })
+        }
         _ => None,
     }
 }
@@ -236,24 +205,17 @@ impl FromValue for Plan {
     }
 }
 
-/// An answer that finishes the packet, with its information.
-#[tactic(auto, unfolding(crate::specs::Values::cancel_finish_at))]
-fn cancel_finish_at(value: &Value) -> Option<CancelAnswer>
-    ensures { result ≡ spec.cancel_finish_at (view value.now) }
-{
-    of_items(value, 2)?;
-    let information = nth(1, value)?;
-    Some(CancelAnswer::Finish { information })
-}
-
 /// A cancel routine's answer by its name.
-#[tactic(auto, unfolding(crate::specs::Values::cancel_answer_named))]
+#[tactic(auto, unfolding(crate::specs::Values::cancel_answer_named, crate::specs::Values::cancel_finish_at))]
 fn cancel_answer_named(name: &str, value: &Value) -> Option<CancelAnswer>
     ensures { result ≡ spec.cancel_answer_named name.now (view value.now) }
 {
     match name {
-        "finish" => cancel_finish_at(value),
-        "leave" => { has_items(value, 1).then_some(CancelAnswer::Leave) }
+        "finish" => {
+            of_items(value, 2)?;
+            nth(1, value).map(|information| CancelAnswer::Finish { information })
+        }
+        "leave" => has_items(value, 1).then_some(CancelAnswer::Leave),
         _ => None,
     }
 }
@@ -322,29 +284,5 @@ impl FromValue for (u8, DispatchId) {
         let major = nth(0, value)?;
         let dispatch = nth(1, value)?;
         Some((major, dispatch))
-    }
-}
-
-impl FromJson for CancelRule {
-    ghost at = { cancel_rule_at };
-
-    fn from_json(_alloc: Global, value: &Value) -> Result<Self, Unread> {
-        form_of(FromValue::from_value(value))
-    }
-}
-
-impl FromJson for Known {
-    ghost at = { spec.known_at };
-
-    fn from_json(_alloc: Global, value: &Value) -> Result<Self, Unread> {
-        form_of(FromValue::from_value(value))
-    }
-}
-
-impl FromJson for (u8, DispatchId) {
-    ghost at = { spec.handler_at };
-
-    fn from_json(_alloc: Global, value: &Value) -> Result<Self, Unread> {
-        form_of(FromValue::from_value(value))
     }
 }

@@ -23,20 +23,20 @@ returns c =
     let there : c.if-has_each.there ≡ has_keys (keys ++ beside) (view c.args.value.now) = elim c.if-has_each.branch [
       | then-has_each last ↦ elim c.if-count_members-keys.branch [
         | then-count_members-keys first ↦
-          last.there-is ∙ last.has_each-there.ensures
-          ∙ others_too keys beside (view c.args.value.now)
-          (sym c.count_members.ensures ∙ first.if-count_members-keys.true ∙ sym (as_many c.args.keys.now c.args.beside.now))
-          (sym first.has_each.ensures ∙ sym first.value-is ∙ last.if-has_each.true)
+            last.there-is ∙ last.has_each-there.ensures
+            ∙ others_too keys beside (view c.args.value.now)
+            (sym c.count_members.ensures ∙ first.if-count_members-keys.true ∙ sym (as_many c.args.keys.now c.args.beside.now))
+            (sym first.has_each.ensures ∙ sym first.value-is ∙ last.if-has_each.true)
         | else-count_members-keys first ↦ absurd (first.if-count_members-keys.false ((unsigned_Decides _ _).0 (sym first.value-is ∙ last.if-has_each.true)))
-        ]
+      ]
       | else-has_each last ↦ elim c.if-count_members-keys.branch [
         | then-count_members-keys first ↦
-          last.there-is ∙ last.if-has_each.false
-          ∙ key_lacks keys beside (view c.args.value.now) (sym first.has_each.ensures ∙ sym first.value-is ∙ last.if-has_each.false)
+            last.there-is ∙ last.if-has_each.false
+            ∙ key_lacks keys beside (view c.args.value.now) (sym first.has_each.ensures ∙ sym first.value-is ∙ last.if-has_each.false)
         | else-count_members-keys first ↦
-          last.there-is ∙ last.if-has_each.false
-          ∙ other_count keys beside (view c.args.value.now)
-          (λ is. first.if-count_members-keys.false (c.count_members.ensures ∙ is ∙ as_many c.args.keys.now c.args.beside.now))
-        ]
-      ] in
+            last.there-is ∙ last.if-has_each.false
+            ∙ other_count keys beside (view c.args.value.now)
+            (λ is. first.if-count_members-keys.false (c.count_members.ensures ∙ is ∙ as_many c.args.keys.now c.args.beside.now))
+      ]
+    ] in
     c.then_some.ensures ∙ ap (λ b. then_some b tt) there
