@@ -16,8 +16,7 @@ fn delete_at(value: &Value) -> Option<StepAct>
     ensures { result ≡ spec.delete_at (view value.now) }
 {
     only_keys(value, &["device", "do", "seat"], &[])?;
-    let device = under("device", value)?;
-    Some(StepAct::Call(Call::Delete { device }))
+    under("device", value).map(|device| StepAct::Call(Call::Delete { device }))
 }
 
 /// A new packet, whose label has this place.
@@ -38,8 +37,7 @@ fn publish_at(place: usize, value: &Value) -> Option<StepAct>
 {
     only_keys(value, &["do", "irp", "seat", "slot"], &[])?;
     let slot = under("slot", value)?;
-    let irp = packet_in(place, value)?;
-    Some(StepAct::Publish { slot, irp })
+    packet_in(place, value).map(|irp| StepAct::Publish { slot, irp })
 }
 
 /// A taken packet finished.
@@ -72,26 +70,14 @@ fn act_named(place: usize, name: &str, value: &Value) -> Option<StepAct>
     match name {
         "delete" => delete_at(value),
         "allocate" => allocate_at(place, value),
-        "hand" => {
-            let hand = hand_at(&["seat"], value)?;
-            Some(StepAct::Hand(hand))
-        }
+        "hand" => hand_at(&["seat"], value).map(StepAct::Hand),
         "publish" => publish_at(place, value),
         "finish_taken" => finish_taken_at(place, value),
-        "withdraw" => {
-            let slot = slot_alone_at(&["seat"], value)?;
-            Some(StepAct::Withdraw { slot })
-        }
-        "request" => {
-            let slot = slot_alone_at(&["seat"], value)?;
-            Some(StepAct::Request { slot })
-        }
+        "withdraw" => slot_alone_at(&["seat"], value).map(|slot| StepAct::Withdraw { slot }),
+        "request" => slot_alone_at(&["seat"], value).map(|slot| StepAct::Request { slot }),
         _ => match lock_act_named(name, &["seat"], value) {
             Some(on) => Some(StepAct::OnLock(on)),
-            None => {
-                let call = call_named(name, &["seat"], packet_in(place, value), value)?;
-                Some(StepAct::Call(call))
-            }
+            None => call_named(name, &["seat"], packet_in(place, value), value).map(StepAct::Call),
         },
     }
 }
@@ -110,6 +96,5 @@ pub fn step_at(place: usize, value: &Value) -> Option<Step>
     ensures { result ≡ spec.step_at place (view value.now) }
 {
     let act = act_at(place, value)?;
-    let seat = under("seat", value)?;
-    Some(Step { seat, act })
+    under("seat", value).map(|seat| Step { seat, act })
 }

@@ -147,10 +147,7 @@ fn named_at(place: usize, value: &Value) -> Option<Named>
 {
     match value {
         Value::String(text) => is_label(text.as_str()).then_some(Named::Label(place)),
-        _ => {
-            let irp = FromValue::from_value(value)?;
-            Some(Named::Irp(irp))
-        }
+        _ => Some(Named::Irp(FromValue::from_value(value)?)),
     }
 }
 

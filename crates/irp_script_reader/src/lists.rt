@@ -65,10 +65,7 @@ pub struct Steps {
 fn in_room<T>(room: Option<T>) -> Result<T, Stop>
     ensures { Gives result (spec.in_room room) }
 {
-    match room {
-        Some(value) => Ok(value),
-        None => Err(Stop::Fault(Fault::TooMany)),
-    }
+    room.ok_or(Stop::Fault(Fault::TooMany))
 }
 
 impl Taking for Completions {

@@ -2,6 +2,7 @@
 
 ghost use Rattle.std.specs.Prelude.{◌≡◌, IfOk};
 ghost use Rattle.serde_json.specs.View.{view};
+ghost use Rattle.irp_forms.specs.Parts.{keys_in};
 ghost use Rattle.irp_script_reader.specs.Scripts as spec;
 ghost use Rattle.irp_script_reader.specs.Sound.{IsSound};
 ghost use Rattle.irp_script_reader.specs.Taking.{Tells};
@@ -12,7 +13,7 @@ use crate::lists::{Cancels, Completions, Dispatches, Drivers, Steps};
 use crate::refusal::{Fault, ScriptFault, ScriptRefusal, Section};
 use crate::script::{Script, ScriptForm, ScriptParts};
 use crate::taking::{Taking, list_of, refused};
-use irp_forms::{has_keys, under};
+use irp_forms::{only_keys, under};
 use irp_types::{Known, Row};
 use serde_json::Value;
 use std::alloc::Global;
@@ -41,57 +42,22 @@ fn form_at(value: &Value) -> Result<FormKey, ScriptFault>
     }
 }
 
-/// Whether it has the keys of form 1.
-fn has_keys_of_one(value: &Value) -> bool
-    ensures { result ≡ spec.has_keys_of_one (view value.now) }
+/// Some where it has the keys of both forms and those beside them.
+fn its_keys(beside: &[&str], value: &Value) -> Option<()>
+    ensures { result ≡ spec.its_keys (keys_in beside.now) (view value.now) }
 {
-    has_keys(
-        value,
-        &[
-            "cancels",
-            "completions",
-            "dispatches",
-            "drivers",
-            "form",
-            "locks",
-            "seats",
-            "setup",
-            "steps",
-        ],
-    )
-}
-
-/// Whether it has the keys of form 2.
-fn has_keys_of_two(value: &Value) -> bool
-    ensures { result ≡ spec.has_keys_of_two (view value.now) }
-{
-    has_keys(
-        value,
-        &[
-            "cancels",
-            "completions",
-            "dispatches",
-            "drivers",
-            "form",
-            "locks",
-            "seats",
-            "setup",
-            "slots",
-            "steps",
-        ],
-    )
-}
-
-impl FormKey {
-    /// Whether a script has the keys of this form.
-    fn has_its_keys(self, value: &Value) -> bool
-        ensures { result ≡ spec.has_its_keys self (view value.now) }
-    {
-        match self {
-            FormKey::One => has_keys_of_one(value),
-            FormKey::Two => has_keys_of_two(value),
-        }
-    }
+    let keys = &[
+        "cancels",
+        "completions",
+        "dispatches",
+        "drivers",
+        "form",
+        "locks",
+        "seats",
+        "setup",
+        "steps",
+    ];
+    only_keys(value, keys, beside)
 }
 
 /// The keys of a script of this form.
@@ -99,11 +65,11 @@ impl FormKey {
 fn keys_at(given: FormKey, value: &Value) -> Result<(), ScriptFault>
     ensures { Tells result (spec.keys_at given (view value.now)) }
 {
-    if given.has_its_keys(value) {
-        Ok(())
-    } else {
-        Err(refused(Fault::BadField, Section::Top, 0))
-    }
+    let there = match given {
+        FormKey::One => its_keys(&[], value),
+        FormKey::Two => its_keys(&["slots"], value),
+    };
+    there.ok_or(refused(Fault::BadField, Section::Top, 0))
 }
 
 /// The number under a key, from the least one to 64.
@@ -112,14 +78,8 @@ fn count_at(section: Section, least: u32, key: &str, value: &Value) -> Result<u3
     ensures { Tells result (spec.count_at section least key.now (view value.now)) }
 {
     match under::<u32>(key, value) {
-        Some(count) => {
-            if count >= least && count <= 64 {
-                Ok(count)
-            } else {
-                Err(refused(Fault::BadField, section, 0))
-            }
-        }
-        None => Err(refused(Fault::BadField, section, 0)),
+        Some(count) if count >= least && count <= 64 => Ok(count),
+        _ => Err(refused(Fault::BadField, section, 0)),
     }
 }
 

@@ -144,28 +144,13 @@ pub fn counted(counts: Known, rule: Rule) -> Option<Known>
     ensures { result ≡ spec.counted counts rule }
 {
     match rule {
-        Rule::Watch => {
-            let watch = one_more(counts.watch)?;
-            Some(Known { watch, ..counts })
-        }
-        Rule::Change => {
-            let change = one_more(counts.change)?;
-            Some(Known { change, ..counts })
-        }
-        Rule::Keeper => {
-            let keeper = one_more(counts.keeper)?;
-            Some(Known { keeper, ..counts })
-        }
-        Rule::KeepOnError => {
-            let keep_on_error = one_more(counts.keep_on_error)?;
-            Some(Known {
-                keep_on_error,
-                ..counts
-            })
-        }
-        Rule::Free => {
-            let free = one_more(counts.free)?;
-            Some(Known { free, ..counts })
-        }
+        Rule::Watch => one_more(counts.watch).map(|watch| Known { watch, ..counts }),
+        Rule::Change => one_more(counts.change).map(|change| Known { change, ..counts }),
+        Rule::Keeper => one_more(counts.keeper).map(|keeper| Known { keeper, ..counts }),
+        Rule::KeepOnError => one_more(counts.keep_on_error).map(|keep_on_error| Known {
+            keep_on_error,
+            ..counts
+        }),
+        Rule::Free => one_more(counts.free).map(|free| Known { free, ..counts }),
     }
 }
