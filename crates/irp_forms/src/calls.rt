@@ -11,7 +11,6 @@ use irp_types::{Call, Party};
 use serde_json::Value;
 
 /// A call that creates a device.
-#[tactic(auto, unfolding(crate::specs::Calls::create_device_at))]
 fn create_device_at<P: Copy, T: Copy>(beside: &[&str], value: &Value) -> Option<Call<P, T>>
     ensures { result ≡ spec.create_device_at (keys_in beside.now) (view value.now) }
 {
@@ -22,7 +21,6 @@ fn create_device_at<P: Copy, T: Copy>(beside: &[&str], value: &Value) -> Option<
 }
 
 /// A call that puts a device on another's stack.
-#[tactic(auto, unfolding(crate::specs::Calls::attach_at))]
 fn attach_at<P: Copy, T: Copy>(beside: &[&str], value: &Value) -> Option<Call<P, T>>
     ensures { result ≡ spec.attach_at (keys_in beside.now) (view value.now) }
 {
@@ -33,7 +31,6 @@ fn attach_at<P: Copy, T: Copy>(beside: &[&str], value: &Value) -> Option<Call<P,
 }
 
 /// A call that takes the device off that stands on this one.
-#[tactic(auto, unfolding(crate::specs::Calls::detach_at))]
 fn detach_at<P: Copy, T: Copy>(beside: &[&str], value: &Value) -> Option<Call<P, T>>
     ensures { result ≡ spec.detach_at (keys_in beside.now) (view value.now) }
 {
@@ -43,7 +40,6 @@ fn detach_at<P: Copy, T: Copy>(beside: &[&str], value: &Value) -> Option<Call<P,
 }
 
 /// The packet of a call that names nothing else.
-#[tactic(auto, unfolding(crate::specs::Calls::packet_alone_at))]
 fn packet_alone_at<P: Copy>(beside: &[&str], packet: Option<P>, value: &Value) -> Option<P>
     ensures { result ≡ spec.packet_alone_at (keys_in beside.now) packet (view value.now) }
 {
@@ -52,7 +48,6 @@ fn packet_alone_at<P: Copy>(beside: &[&str], packet: Option<P>, value: &Value) -
 }
 
 /// A call that begins another use of a packet.
-#[tactic(auto, unfolding(crate::specs::Calls::reuse_at))]
 fn reuse_at<P: Copy, T: Copy>(
     beside: &[&str],
     packet: Option<P>,
@@ -67,7 +62,6 @@ fn reuse_at<P: Copy, T: Copy>(
 }
 
 /// The party and its packet.
-#[tactic(auto, unfolding(crate::specs::Calls::by_party_at))]
 fn by_party_at<P: Copy>(packet: Option<P>, value: &Value) -> Option<(Party, P)>
     ensures { result ≡ spec.by_party_at packet (view value.now) }
 {
@@ -77,7 +71,6 @@ fn by_party_at<P: Copy>(packet: Option<P>, value: &Value) -> Option<(Party, P)>
 }
 
 /// The party and its packet of a call that names nothing else.
-#[tactic(auto, unfolding(crate::specs::Calls::party_alone_at))]
 fn party_alone_at<P: Copy>(beside: &[&str], packet: Option<P>, value: &Value) -> Option<(Party, P)>
     ensures { result ≡ spec.party_alone_at (keys_in beside.now) packet (view value.now) }
 {
@@ -86,7 +79,6 @@ fn party_alone_at<P: Copy>(beside: &[&str], packet: Option<P>, value: &Value) ->
 }
 
 /// A call that fills the next lower location.
-#[tactic(auto, unfolding(crate::specs::Calls::set_next_at))]
 fn set_next_at<P: Copy, T: Copy>(
     beside: &[&str],
     packet: Option<P>,
@@ -107,7 +99,6 @@ fn set_next_at<P: Copy, T: Copy>(
 }
 
 /// A call that sets a completion routine.
-#[tactic(auto, unfolding(crate::specs::Calls::set_routine_at))]
 fn set_routine_at<P: Copy, T: Copy>(
     beside: &[&str],
     packet: Option<P>,
@@ -126,7 +117,6 @@ fn set_routine_at<P: Copy, T: Copy>(
 }
 
 /// A call that sends a packet.
-#[tactic(auto, unfolding(crate::specs::Calls::call_driver_at))]
 fn call_driver_at<P: Copy, T: Copy>(
     beside: &[&str],
     packet: Option<P>,
@@ -141,7 +131,6 @@ fn call_driver_at<P: Copy, T: Copy>(
 }
 
 /// A call that completes a packet.
-#[tactic(auto, unfolding(crate::specs::Calls::complete_at))]
 fn complete_at<P: Copy, T: Copy>(
     beside: &[&str],
     packet: Option<P>,
@@ -162,7 +151,6 @@ fn complete_at<P: Copy, T: Copy>(
 }
 
 /// A call that sets a cancel routine, or takes it out.
-#[tactic(auto, unfolding(crate::specs::Calls::set_cancel_routine_at))]
 fn set_cancel_routine_at<P: Copy, T: Copy>(
     beside: &[&str],
     packet: Option<P>,

@@ -46,6 +46,15 @@ pub fn named<T: HasName>(given: &str) -> Option<T>
     None
 }
 
+/// The value that has the name that a text is (this project's own format, docs/FORMATS.md).
+impl<T: HasName> FromValue for T {
+    ghost form = { spec.value_at T.name T.all };
+
+    fn from_value(value: &Value) -> Option<Self> {
+        named(value.as_str()?)
+    }
+}
+
 impl HasName for Rule {
     ghost name = { spec.rule_name };
 
@@ -75,16 +84,6 @@ impl HasName for Rule {
     }
 }
 
-/// The rule of a completion routine by its name (this project's own format, docs/FORMATS.md).
-impl FromValue for Rule {
-    ghost form = { spec.rule_at };
-
-    #[tactic(auto, unfolding(crate::specs::Names::rule_at))]
-    fn from_value(value: &Value) -> Option<Self> {
-        named(value.as_str()?)
-    }
-}
-
 impl HasName for CancelRule {
     ghost name = { spec.cancel_rule_name };
 
@@ -107,16 +106,6 @@ impl HasName for CancelRule {
             CancelRule::MustLeave => "must_leave",
             CancelRule::Either => "either",
         }
-    }
-}
-
-/// The rule of a cancel routine by its name (this project's own format, docs/FORMATS.md).
-impl FromValue for CancelRule {
-    ghost form = { spec.cancel_rule_at };
-
-    #[tactic(auto, unfolding(crate::specs::Names::cancel_rule_at))]
-    fn from_value(value: &Value) -> Option<Self> {
-        named(value.as_str()?)
     }
 }
 
@@ -238,15 +227,5 @@ impl HasName for Refusal {
             Refusal::SlotHeld => "SlotHeld",
             Refusal::NotSlotHeld => "NotSlotHeld",
         }
-    }
-}
-
-/// A refusal by its name (this project's own format, docs/FORMATS.md).
-impl FromValue for Refusal {
-    ghost form = { spec.refusal_at };
-
-    #[tactic(auto, unfolding(crate::specs::Names::refusal_at))]
-    fn from_value(value: &Value) -> Option<Self> {
-        named(value.as_str()?)
     }
 }

@@ -12,7 +12,6 @@ use irp_types::{Hand, LockAct, LockNo};
 use serde_json::Value;
 
 /// The lock and the tag of an act that names nothing else.
-#[tactic(auto, unfolding(crate::specs::SeatActs::tagged_at))]
 fn tagged_at(beside: &[&str], value: &Value) -> Option<(LockNo, u32)>
     ensures { result ≡ spec.tagged_at (keys_in beside.now) (view value.now) }
 {
@@ -23,7 +22,6 @@ fn tagged_at(beside: &[&str], value: &Value) -> Option<(LockNo, u32)>
 }
 
 /// The question whether a lock is drained.
-#[tactic(auto, unfolding(crate::specs::SeatActs::drained_at))]
 fn drained_at(beside: &[&str], value: &Value) -> Option<LockAct>
     ensures { result ≡ spec.drained_at (keys_in beside.now) (view value.now) }
 {

@@ -163,7 +163,6 @@ impl FromValue for Replacement {
 }
 
 /// A plan by its name.
-#[tactic(auto, unfolding(crate::specs::Values::plan_named, crate::specs::Values::finish_at, crate::specs::Values::hold_at, crate::specs::Values::forward_at, crate::specs::Values::forward_pend_at,))]
 fn plan_named(name: &str, value: &Value) -> Option<Plan>
     ensures { result ≡ spec.plan_named name.now (view value.now) }
 {
@@ -206,7 +205,6 @@ impl FromValue for Plan {
 }
 
 /// A cancel routine's answer by its name.
-#[tactic(auto, unfolding(crate::specs::Values::cancel_answer_named, crate::specs::Values::cancel_finish_at))]
 fn cancel_answer_named(name: &str, value: &Value) -> Option<CancelAnswer>
     ensures { result ≡ spec.cancel_answer_named name.now (view value.now) }
 {
