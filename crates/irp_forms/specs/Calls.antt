@@ -17,19 +17,19 @@ Keys = List (List ℕ)
 
 -- ---- calls on devices
 
-unfoldable pub create_device_at : {P T : Type 0} → Keys → Data → Option (CallOf P T)
+abbrev pub create_device_at : {P T : Type 0} → Keys → Data → Option (CallOf P T)
 create_device_at beside form = if has_keys (codes "do" ∷ codes "driver" ∷ codes "lock" ∷ beside) form then (do
   driver ← get (codes "driver") form >>= driver_at
   lock ← get (codes "lock") form >>= lock_at
   Some (calls.CreateDevice driver lock)) else None
 
-unfoldable pub attach_at : {P T : Type 0} → Keys → Data → Option (CallOf P T)
+abbrev pub attach_at : {P T : Type 0} → Keys → Data → Option (CallOf P T)
 attach_at beside form = if has_keys (codes "device" ∷ codes "do" ∷ codes "to" ∷ beside) form then (do
   device ← get (codes "device") form >>= device_at
   to ← get (codes "to") form >>= device_at
   Some (calls.Attach device to)) else None
 
-unfoldable pub detach_at : {P T : Type 0} → Keys → Data → Option (CallOf P T)
+abbrev pub detach_at : {P T : Type 0} → Keys → Data → Option (CallOf P T)
 detach_at beside form = if has_keys (codes "do" ∷ codes "lower" ∷ beside) form then (do
   lower ← get (codes "lower") form >>= device_at
   Some (calls.Detach lower)) else None
@@ -37,10 +37,10 @@ detach_at beside form = if has_keys (codes "do" ∷ codes "lower" ∷ beside) fo
 -- ---- calls on a packet that no party makes
 
 -- the packet of a call that names nothing else
-unfoldable pub packet_alone_at : {P : Type 0} → Keys → Option P → Data → Option P
+abbrev pub packet_alone_at : {P : Type 0} → Keys → Option P → Data → Option P
 packet_alone_at beside packet form = if has_keys (codes "do" ∷ codes "irp" ∷ beside) form then packet else None
 
-unfoldable pub reuse_at : {P T : Type 0} → Keys → Option P → Data → Option (CallOf P T)
+abbrev pub reuse_at : {P T : Type 0} → Keys → Option P → Data → Option (CallOf P T)
 reuse_at beside packet form = if has_keys (codes "do" ∷ codes "irp" ∷ codes "status" ∷ beside) form then (do
   irp ← packet
   status ← get (codes "status") form >>= status_at
@@ -49,17 +49,17 @@ reuse_at beside packet form = if has_keys (codes "do" ∷ codes "irp" ∷ codes 
 -- ---- calls of a party on its packet
 
 -- the party and its packet
-unfoldable pub by_party_at : {P : Type 0} → Option P → Data → Option (Party × P)
+abbrev pub by_party_at : {P : Type 0} → Option P → Data → Option (Party × P)
 by_party_at packet form = do
   party ← get (codes "by") form >>= party_at
   irp ← packet
   Some (party, irp)
 
 -- the party and its packet of a call that names nothing else
-unfoldable pub party_alone_at : {P : Type 0} → Keys → Option P → Data → Option (Party × P)
+abbrev pub party_alone_at : {P : Type 0} → Keys → Option P → Data → Option (Party × P)
 party_alone_at beside packet form = if has_keys (codes "by" ∷ codes "do" ∷ codes "irp" ∷ beside) form then by_party_at packet form else None
 
-unfoldable pub set_next_at : {P T : Type 0} → Keys → Option P → Data → Option (CallOf P T)
+abbrev pub set_next_at : {P T : Type 0} → Keys → Option P → Data → Option (CallOf P T)
 set_next_at beside packet form =
     if has_keys (codes "by" ∷ codes "do" ∷ codes "irp" ∷ codes "major" ∷ codes "word" ∷ beside) form then (do
       caller ← by_party_at packet form
@@ -67,19 +67,19 @@ set_next_at beside packet form =
       word ← get (codes "word") form >>= u64_at
       Some (calls.SetNext caller.0 caller.1 major word)) else None
 
-unfoldable pub set_routine_at : {P T : Type 0} → Keys → Option P → Data → Option (CallOf P T)
+abbrev pub set_routine_at : {P T : Type 0} → Keys → Option P → Data → Option (CallOf P T)
 set_routine_at beside packet form = if has_keys (codes "by" ∷ codes "do" ∷ codes "irp" ∷ codes "set" ∷ beside) form then (do
   caller ← by_party_at packet form
   setting ← get (codes "set") form >>= setting_at
   Some (calls.SetRoutine caller.0 caller.1 setting)) else None
 
-unfoldable pub call_driver_at : {P T : Type 0} → Keys → Option P → Data → Option (CallOf P T)
+abbrev pub call_driver_at : {P T : Type 0} → Keys → Option P → Data → Option (CallOf P T)
 call_driver_at beside packet form = if has_keys (codes "by" ∷ codes "do" ∷ codes "irp" ∷ codes "target" ∷ beside) form then (do
   caller ← by_party_at packet form
   target ← get (codes "target") form >>= device_at
   Some (calls.CallDriver caller.0 caller.1 target)) else None
 
-unfoldable pub complete_at : {P T : Type 0} → Keys → Option P → Data → Option (CallOf P T)
+abbrev pub complete_at : {P T : Type 0} → Keys → Option P → Data → Option (CallOf P T)
 complete_at beside packet form =
     if has_keys (codes "by" ∷ codes "do" ∷ codes "information" ∷ codes "irp" ∷ codes "status" ∷ beside) form then (do
       caller ← by_party_at packet form
@@ -87,7 +87,7 @@ complete_at beside packet form =
       information ← get (codes "information") form >>= u64_at
       Some (calls.Complete caller.0 caller.1 status information)) else None
 
-unfoldable pub set_cancel_routine_at : {P T : Type 0} → Keys → Option P → Data → Option (CallOf P T)
+abbrev pub set_cancel_routine_at : {P T : Type 0} → Keys → Option P → Data → Option (CallOf P T)
 set_cancel_routine_at beside packet form =
     if has_keys (codes "by" ∷ codes "cancel" ∷ codes "do" ∷ codes "irp" ∷ beside) form then (do
       caller ← by_party_at packet form

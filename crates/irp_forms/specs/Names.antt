@@ -17,6 +17,10 @@ use Rattle.irp_types.specs.declared.routine.Rule.TheVariants as rule
 abbrev pub first_named : {T : Type 0} → (T → List ℕ) → List T → List ℕ → Option T
 first_named name values given = find (λ value. bytes_eq given (name value)) values
 
+-- the first of these values whose name the text is
+abbrev pub value_at : {T : Type 0} → (T → List ℕ) → List T → Data → Option T
+value_at name values form = as_str form >>= first_named name values
+
 -- the name of a completion routine's rule
 abbrev pub rule_name : Rule → List ℕ
 rule_name rule.Watch = codes "watch"
@@ -30,8 +34,8 @@ unfoldable pub rules : List Rule
 rules = rule.Watch ∷ rule.Change ∷ rule.Keeper ∷ rule.KeepOnError ∷ rule.Free ∷ []
 
 -- a completion routine's rule by its name
-unfoldable pub rule_at : Data → Option Rule
-rule_at form = as_str form >>= first_named rule_name rules
+abbrev pub rule_at : Data → Option Rule
+rule_at = value_at rule_name rules
 
 -- the name of a cancel routine's rule
 abbrev pub cancel_rule_name : CancelRule → List ℕ
@@ -44,8 +48,8 @@ unfoldable pub cancel_rules : List CancelRule
 cancel_rules = cancel_rule.MustFinish ∷ cancel_rule.MustLeave ∷ cancel_rule.Either ∷ []
 
 -- a cancel routine's rule by its name
-unfoldable pub cancel_rule_at : Data → Option CancelRule
-cancel_rule_at form = as_str form >>= first_named cancel_rule_name cancel_rules
+abbrev pub cancel_rule_at : Data → Option CancelRule
+cancel_rule_at = value_at cancel_rule_name cancel_rules
 
 -- flags: on success, on error, on cancel
 abbrev pub flagged : Bool → Bool → Bool → Flags
@@ -118,5 +122,5 @@ refusals =
     refusal.Ended ∷ refusal.HistoryFull ∷ refusal.NoLock ∷ refusal.SlotHeld ∷ refusal.NotSlotHeld ∷ []
 
 -- a refusal by its name
-unfoldable pub refusal_at : Data → Option Refusal
-refusal_at form = as_str form >>= first_named refusal_name refusals
+abbrev pub refusal_at : Data → Option Refusal
+refusal_at = value_at refusal_name refusals

@@ -1,5 +1,6 @@
 -- What a JSON value reads as: numbers, keys, items and lists. None where the value has another form.
 use Rattle.std.specs.Prelude.{◌≡◌, ℕ, ◌^◌, ◌-◌, ◌==◌, ◌&&◌, List, [], ◌∷◌, length, map, nat_le, Bool, true, false, is_some, Option, Some, None, Result, Ok, Err, if◌then◌else◌}
+use Rattle.std.specs.Bool.{then_some}
 use Rattle.std.specs.Borrow.{Bor}
 use Rattle.serde_json.specs.Data.{Data, null, array, object, Items, no_items, item}
 use Rattle.serde_json.specs.Find.{get, as_number, as_u64, as_array}
@@ -71,6 +72,14 @@ each_key (key ∷ keys) form = is_some (get key form) && each_key keys form
 -- an object with exactly these keys, which differ: as many members, and each key
 unfoldable pub has_keys : List (List ℕ) → Data → Bool
 has_keys keys form = (count_members form == length keys) && each_key keys form
+
+-- some where it is an object with exactly these keys, which differ
+abbrev pub only_keys : List (List ℕ) → Data → Option (Unit {0})
+only_keys keys form = then_some (has_keys keys form) tt
+
+-- some where it is an array of so many items
+abbrev pub of_items : ℕ → Data → Option (Unit {0})
+of_items count form = then_some (has_items count form) tt
 
 -- what each item reads as
 abbrev pub each : {T : Type 0} → (Data → Option T) → Items → Option (List T)

@@ -14,13 +14,13 @@ use Rattle.irp_types.specs.declared.seat_act.LockAct.{LockAct}
 use Rattle.irp_types.specs.declared.seat_act.LockAct.TheVariants.{Acquire, Release, BeginRemove, Drained}
 
 -- the lock and the tag of an act that names nothing else
-unfoldable pub tagged_at : Keys → Data → Option (LockNo × ℕ)
+abbrev pub tagged_at : Keys → Data → Option (LockNo × ℕ)
 tagged_at beside form = if has_keys (codes "do" ∷ codes "lock" ∷ codes "tag" ∷ beside) form then (do
   lock ← get (codes "lock") form >>= lock_at
   tag ← get (codes "tag") form >>= u32_at
   Some (lock, tag)) else None
 
-unfoldable pub drained_at : Keys → Data → Option LockAct
+abbrev pub drained_at : Keys → Data → Option LockAct
 drained_at beside form = if has_keys (codes "do" ∷ codes "lock" ∷ beside) form then (do
   lock ← get (codes "lock") form >>= lock_at
   Some (Drained lock)) else None

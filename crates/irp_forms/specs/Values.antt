@@ -89,32 +89,32 @@ replacement_at form = if has_items 2 form then (do
   Some (record { status = status; information = information })) else None
 
 -- a plan that finishes, with its status and information
-unfoldable pub finish_at : Data → Option Plan
+abbrev pub finish_at : Data → Option Plan
 finish_at form = if has_items 3 form then (do
   status ← at 1 form >>= status_at
   information ← at 2 form >>= u64_at
   Some (plans.Finish status information)) else None
 
 -- a plan that holds, with its cancel routine or null
-unfoldable pub hold_at : Data → Option Plan
+abbrev pub hold_at : Data → Option Plan
 hold_at form = if has_items 2 form then (do
   cancel ← at 1 form >>= or_null_at cancel_at
   Some (plans.Hold cancel)) else None
 
 -- a plan that forwards, with its setting or null
-unfoldable pub forward_at : Data → Option Plan
+abbrev pub forward_at : Data → Option Plan
 forward_at form = if has_items 2 form then (do
   setting ← at 1 form >>= or_null_at setting_at
   Some (plans.Forward setting)) else None
 
 -- a plan that forwards and pends, with its setting or null
-unfoldable pub forward_pend_at : Data → Option Plan
+abbrev pub forward_pend_at : Data → Option Plan
 forward_pend_at form = if has_items 2 form then (do
   setting ← at 1 form >>= or_null_at setting_at
   Some (plans.ForwardPend setting)) else None
 
 -- a plan by its name
-unfoldable pub plan_named : List ℕ → Data → Option Plan
+abbrev pub plan_named : List ℕ → Data → Option Plan
 plan_named name form =
     if bytes_eq name (codes "finish") then finish_at form else
     (if bytes_eq name (codes "hold") then hold_at form else
@@ -128,13 +128,13 @@ unfoldable pub plan_at : Data → Option Plan
 plan_at form = at 0 form >>= λ first. as_str first >>= λ name. plan_named name form
 
 -- an answer that finishes the packet, with its information
-unfoldable pub cancel_finish_at : Data → Option CancelAnswer
+abbrev pub cancel_finish_at : Data → Option CancelAnswer
 cancel_finish_at form = if has_items 2 form then (do
   information ← at 1 form >>= u64_at
   Some (cancel_answers.Finish information)) else None
 
 -- a cancel routine's answer by its name
-unfoldable pub cancel_answer_named : List ℕ → Data → Option CancelAnswer
+abbrev pub cancel_answer_named : List ℕ → Data → Option CancelAnswer
 cancel_answer_named name form =
     if bytes_eq name (codes "finish") then cancel_finish_at form else
     (if bytes_eq name (codes "leave") then (if has_items 1 form then Some cancel_answers.Leave else None) else None)

@@ -3,98 +3,67 @@
 ghost use Rattle.std.specs.Prelude.{◌≡◌};
 ghost use Rattle.serde_json.specs.View.{view};
 ghost use Rattle.irp_forms.specs.Parts.{keys_in};
-ghost use Rattle.irp_forms.specs.Calls.{
-  attach_at,
-  by_party_at,
-  call_driver_at,
-  call_named,
-  complete_at,
-  create_device_at,
-  detach_at,
-  packet_alone_at,
-  party_alone_at,
-  reuse_at,
-  set_cancel_routine_at,
-  set_next_at,
-  set_routine_at,
-};
+ghost use Rattle.irp_forms.specs.Calls as spec;
 
 use crate::from_value::under;
-use crate::parts::has_keys_beside;
+use crate::parts::only_keys;
 use irp_types::{Call, Party};
 use serde_json::Value;
 
 /// A call that creates a device.
-#[tactic(auto, unfolding(crate::specs::Calls::create_device_at))]
 fn create_device_at<P: Copy, T: Copy>(beside: &[&str], value: &Value) -> Option<Call<P, T>>
-    ensures { result ≡ create_device_at (keys_in beside.now) (view value.now) }
+    ensures { result ≡ spec.create_device_at (keys_in beside.now) (view value.now) }
 {
-    if !has_keys_beside(value, &["do", "driver", "lock"], beside) {
-        return None;
-    }
+    only_keys(value, &["do", "driver", "lock"], beside)?;
     let driver = under("driver", value)?;
     let lock = under("lock", value)?;
     Some(Call::CreateDevice { driver, lock })
 }
 
 /// A call that puts a device on another's stack.
-#[tactic(auto, unfolding(crate::specs::Calls::attach_at))]
 fn attach_at<P: Copy, T: Copy>(beside: &[&str], value: &Value) -> Option<Call<P, T>>
-    ensures { result ≡ attach_at (keys_in beside.now) (view value.now) }
+    ensures { result ≡ spec.attach_at (keys_in beside.now) (view value.now) }
 {
-    if !has_keys_beside(value, &["device", "do", "to"], beside) {
-        return None;
-    }
+    only_keys(value, &["device", "do", "to"], beside)?;
     let device = under("device", value)?;
     let to = under("to", value)?;
     Some(Call::Attach { device, to })
 }
 
 /// A call that takes the device off that stands on this one.
-#[tactic(auto, unfolding(crate::specs::Calls::detach_at))]
 fn detach_at<P: Copy, T: Copy>(beside: &[&str], value: &Value) -> Option<Call<P, T>>
-    ensures { result ≡ detach_at (keys_in beside.now) (view value.now) }
+    ensures { result ≡ spec.detach_at (keys_in beside.now) (view value.now) }
 {
-    if !has_keys_beside(value, &["do", "lower"], beside) {
-        return None;
-    }
+    only_keys(value, &["do", "lower"], beside)?;
     let lower = under("lower", value)?;
     Some(Call::Detach { lower })
 }
 
 /// The packet of a call that names nothing else.
-#[tactic(auto, unfolding(crate::specs::Calls::packet_alone_at))]
 fn packet_alone_at<P: Copy>(beside: &[&str], packet: Option<P>, value: &Value) -> Option<P>
-    ensures { result ≡ packet_alone_at (keys_in beside.now) packet (view value.now) }
+    ensures { result ≡ spec.packet_alone_at (keys_in beside.now) packet (view value.now) }
 {
-    if has_keys_beside(value, &["do", "irp"], beside) {
-        packet
-    } else {
-        None
-    }
+    only_keys(value, &["do", "irp"], beside)?;
+    packet
 }
 
 /// A call that begins another use of a packet.
-#[tactic(auto, unfolding(crate::specs::Calls::reuse_at))]
 fn reuse_at<P: Copy, T: Copy>(
     beside: &[&str],
     packet: Option<P>,
     value: &Value,
 ) -> Option<Call<P, T>>
-    ensures { result ≡ reuse_at (keys_in beside.now) packet (view value.now) }
+    ensures { result ≡ spec.reuse_at (keys_in beside.now) packet (view value.now) }
 {
-    if !has_keys_beside(value, &["do", "irp", "status"], beside) {
-        return None;
-    }
+    only_keys(value, &["do", "irp", "status"], beside)?;
     let irp = packet?;
     let status = under("status", value)?;
     Some(Call::Reuse { irp, status })
 }
 
 /// The party and its packet.
-#[tactic(auto, unfolding(crate::specs::Calls::by_party_at))]
 fn by_party_at<P: Copy>(packet: Option<P>, value: &Value) -> Option<(Party, P)>
-    ensures { result ≡ by_party_at packet (view value.now) }
+    ensures { result ≡ spec.by_party_at packet (view value.now) }
 {
     let party = under("by", value)?;
     let irp = packet?;
@@ -102,29 +71,22 @@ fn by_party_at<P: Copy>(packet: Option<P>, value: &Value) -> Option<(Party, P)>
 }
 
 /// The party and its packet of a call that names nothing else.
-#[tactic(auto, unfolding(crate::specs::Calls::party_alone_at))]
 fn party_alone_at<P: Copy>(beside: &[&str], packet: Option<P>, value: &Value) -> Option<(Party, P)>
-    ensures { result ≡ party_alone_at (keys_in beside.now) packet (view value.now) }
+    ensures { result ≡ spec.party_alone_at (keys_in beside.now) packet (view value.now) }
 {
-    if has_keys_beside(value, &["by", "do", "irp"], beside) {
-        by_party_at(packet, value)
-    } else {
-        None
-    }
+    only_keys(value, &["by", "do", "irp"], beside)?;
+    by_party_at(packet, value)
 }
 
 /// A call that fills the next lower location.
-#[tactic(auto, unfolding(crate::specs::Calls::set_next_at))]
 fn set_next_at<P: Copy, T: Copy>(
     beside: &[&str],
     packet: Option<P>,
     value: &Value,
 ) -> Option<Call<P, T>>
-    ensures { result ≡ set_next_at (keys_in beside.now) packet (view value.now) }
+    ensures { result ≡ spec.set_next_at (keys_in beside.now) packet (view value.now) }
 {
-    if !has_keys_beside(value, &["by", "do", "irp", "major", "word"], beside) {
-        return None;
-    }
+    only_keys(value, &["by", "do", "irp", "major", "word"], beside)?;
     let (party, irp) = by_party_at(packet, value)?;
     let major = under("major", value)?;
     let word = under("word", value)?;
@@ -137,17 +99,14 @@ fn set_next_at<P: Copy, T: Copy>(
 }
 
 /// A call that sets a completion routine.
-#[tactic(auto, unfolding(crate::specs::Calls::set_routine_at))]
 fn set_routine_at<P: Copy, T: Copy>(
     beside: &[&str],
     packet: Option<P>,
     value: &Value,
 ) -> Option<Call<P, T>>
-    ensures { result ≡ set_routine_at (keys_in beside.now) packet (view value.now) }
+    ensures { result ≡ spec.set_routine_at (keys_in beside.now) packet (view value.now) }
 {
-    if !has_keys_beside(value, &["by", "do", "irp", "set"], beside) {
-        return None;
-    }
+    only_keys(value, &["by", "do", "irp", "set"], beside)?;
     let (party, irp) = by_party_at(packet, value)?;
     let setting = under("set", value)?;
     Some(Call::SetRoutine {
@@ -158,34 +117,28 @@ fn set_routine_at<P: Copy, T: Copy>(
 }
 
 /// A call that sends a packet.
-#[tactic(auto, unfolding(crate::specs::Calls::call_driver_at))]
 fn call_driver_at<P: Copy, T: Copy>(
     beside: &[&str],
     packet: Option<P>,
     value: &Value,
 ) -> Option<Call<P, T>>
-    ensures { result ≡ call_driver_at (keys_in beside.now) packet (view value.now) }
+    ensures { result ≡ spec.call_driver_at (keys_in beside.now) packet (view value.now) }
 {
-    if !has_keys_beside(value, &["by", "do", "irp", "target"], beside) {
-        return None;
-    }
+    only_keys(value, &["by", "do", "irp", "target"], beside)?;
     let (party, irp) = by_party_at(packet, value)?;
     let target = under("target", value)?;
     Some(Call::CallDriver { party, irp, target })
 }
 
 /// A call that completes a packet.
-#[tactic(auto, unfolding(crate::specs::Calls::complete_at))]
 fn complete_at<P: Copy, T: Copy>(
     beside: &[&str],
     packet: Option<P>,
     value: &Value,
 ) -> Option<Call<P, T>>
-    ensures { result ≡ complete_at (keys_in beside.now) packet (view value.now) }
+    ensures { result ≡ spec.complete_at (keys_in beside.now) packet (view value.now) }
 {
-    if !has_keys_beside(value, &["by", "do", "information", "irp", "status"], beside) {
-        return None;
-    }
+    only_keys(value, &["by", "do", "information", "irp", "status"], beside)?;
     let (party, irp) = by_party_at(packet, value)?;
     let status = under("status", value)?;
     let information = under("information", value)?;
@@ -198,17 +151,14 @@ fn complete_at<P: Copy, T: Copy>(
 }
 
 /// A call that sets a cancel routine, or takes it out.
-#[tactic(auto, unfolding(crate::specs::Calls::set_cancel_routine_at))]
 fn set_cancel_routine_at<P: Copy, T: Copy>(
     beside: &[&str],
     packet: Option<P>,
     value: &Value,
 ) -> Option<Call<P, T>>
-    ensures { result ≡ set_cancel_routine_at (keys_in beside.now) packet (view value.now) }
+    ensures { result ≡ spec.set_cancel_routine_at (keys_in beside.now) packet (view value.now) }
 {
-    if !has_keys_beside(value, &["by", "cancel", "do", "irp"], beside) {
-        return None;
-    }
+    only_keys(value, &["by", "cancel", "do", "irp"], beside)?;
     let (party, irp) = by_party_at(packet, value)?;
     let cancel = under("cancel", value)?;
     Some(Call::SetCancelRoutine { party, irp, cancel })
@@ -224,37 +174,28 @@ pub fn call_named<P: Copy, T: Copy>(
     packet: Option<P>,
     value: &Value,
 ) -> Option<Call<P, T>>
-    ensures { result ≡ call_named name.now (keys_in beside.now) packet (view value.now) }
+    ensures { result ≡ spec.call_named name.now (keys_in beside.now) packet (view value.now) }
 {
     match name {
         "create_device" => create_device_at(beside, value),
         "attach" => attach_at(beside, value),
         "detach" => detach_at(beside, value),
-        "free" => {
-            let irp = packet_alone_at(beside, packet, value)?;
-            Some(Call::Free { irp })
-        }
+        "free" => packet_alone_at(beside, packet, value).map(|irp| Call::Free { irp }),
         "reuse" => reuse_at(beside, packet, value),
-        "cancel" => {
-            let irp = packet_alone_at(beside, packet, value)?;
-            Some(Call::Cancel { irp })
-        }
-        "look" => {
-            let irp = packet_alone_at(beside, packet, value)?;
-            Some(Call::Look { irp })
-        }
-        "copy_to_next" => {
-            let (party, irp) = party_alone_at(beside, packet, value)?;
-            Some(Call::CopyToNext { party, irp })
-        }
-        "skip" => {
-            let (party, irp) = party_alone_at(beside, packet, value)?;
-            Some(Call::Skip { party, irp })
-        }
-        "mark_pending" => {
-            let (party, irp) = party_alone_at(beside, packet, value)?;
-            Some(Call::MarkPending { party, irp })
-        }
+        "cancel" => packet_alone_at(beside, packet, value).map(|irp| Call::Cancel { irp }),
+        "look" => packet_alone_at(beside, packet, value).map(|irp| Call::Look { irp }),
+        "copy_to_next" => party_alone_at(beside, packet, value).map(|(
+            party,
+            irp,
+        )| Call::CopyToNext { party, irp }),
+        "skip" => party_alone_at(beside, packet, value).map(|(party, irp)| Call::Skip {
+            party,
+            irp,
+        }),
+        "mark_pending" => party_alone_at(beside, packet, value).map(|(
+            party,
+            irp,
+        )| Call::MarkPending { party, irp }),
         "set_next" => set_next_at(beside, packet, value),
         "set_routine" => set_routine_at(beside, packet, value),
         "call_driver" => call_driver_at(beside, packet, value),

@@ -5,7 +5,8 @@ ghost use Rattle.serde_json.specs.Data.{Data};
 ghost use Rattle.serde_json.specs.View.{view};
 ghost use Rattle.irp_forms.specs.Parts.{Gives, list_at};
 
-use crate::unread::Unread;
+use crate::from_value::FromValue;
+use crate::unread::{Unread, form_of};
 use irp_types::Row;
 use serde_json::Value;
 use std::alloc::Global;
@@ -47,5 +48,13 @@ impl<T: FromJson + Drop> FromJson for Row<T> {
 
     fn from_json(alloc: Global, value: &Value) -> Result<Self, Unread> {
         list_at(alloc, value)
+    }
+}
+
+impl<T: FromValue> FromJson for T {
+    ghost at = { T.form };
+
+    fn from_json(_alloc: Global, value: &Value) -> Result<Self, Unread> {
+        form_of(T::from_value(value))
     }
 }

@@ -5,21 +5,7 @@ ghost use Rattle.std.specs.Prelude.{◌≡◌, ℕ, List, ◌++◌, Some, codes}
 ghost use mathlib.Core.Logic.{◌↔◌};
 ghost use Rattle.json.specs.Print.{quoted};
 ghost use Rattle.serde_json.specs.View.{view};
-ghost use Rattle.irp_forms.specs.Names.{
-  cancel_rule_at,
-  cancel_rule_name,
-  cancel_rules,
-  every_flags,
-  flags_at,
-  flags_name,
-  first_named,
-  refusal_at,
-  refusal_name,
-  refusals,
-  rule_at,
-  rule_name,
-  rules,
-};
+ghost use Rattle.irp_forms.specs.Names as spec;
 ghost use Rattle.irp_forms.specs.Found.{cancel_rule_found, refusal_found, rule_found};
 
 use crate::from_value::FromValue;
@@ -44,12 +30,12 @@ pub trait HasName: Copy + 'static {
         ensures as_it_stands { quoted result.now ≡ codes "\"" ++ (result.now ++ codes "\"") };
 
     /// Each value is the first of all that has its name. So all values are there, and no two have the same name.
-    ghost found: { (one : Self) → first_named name all (name one) ≡ Some one };
+    ghost found: { (one : Self) → spec.first_named name all (name one) ≡ Some one };
 }
 
 /// The value that has this name, or none (this project's own format, docs/FORMATS.md).
 pub fn named<T: HasName>(given: &str) -> Option<T>
-    ensures first { result ≡ first_named T.name T.all given.now }
+    ensures first { result ≡ spec.first_named T.name T.all given.now }
     ensures found { (one : T) → (result ≡ Some one) ↔ (given.now ≡ T.name one) }
 {
     for one in T::all() {
@@ -60,10 +46,19 @@ pub fn named<T: HasName>(given: &str) -> Option<T>
     None
 }
 
-impl HasName for Rule {
-    ghost name = { rule_name };
+/// The value that has the name that a text is (this project's own format, docs/FORMATS.md).
+impl<T: HasName> FromValue for T {
+    ghost form = { spec.value_at T.name T.all };
 
-    ghost all = { rules };
+    fn from_value(value: &Value) -> Option<Self> {
+        named(value.as_str()?)
+    }
+}
+
+impl HasName for Rule {
+    ghost name = { spec.rule_name };
+
+    ghost all = { spec.rules };
 
     ghost found = { rule_found };
 
@@ -89,20 +84,10 @@ impl HasName for Rule {
     }
 }
 
-/// The rule of a completion routine by its name (this project's own format, docs/FORMATS.md).
-impl FromValue for Rule {
-    ghost form = { rule_at };
-
-    #[tactic(auto, unfolding(crate::specs::Names::rule_at))]
-    fn from_value(value: &Value) -> Option<Self> {
-        named(value.as_str()?)
-    }
-}
-
 impl HasName for CancelRule {
-    ghost name = { cancel_rule_name };
+    ghost name = { spec.cancel_rule_name };
 
-    ghost all = { cancel_rules };
+    ghost all = { spec.cancel_rules };
 
     ghost found = { cancel_rule_found };
 
@@ -124,16 +109,6 @@ impl HasName for CancelRule {
     }
 }
 
-/// The rule of a cancel routine by its name (this project's own format, docs/FORMATS.md).
-impl FromValue for CancelRule {
-    ghost form = { cancel_rule_at };
-
-    #[tactic(auto, unfolding(crate::specs::Names::cancel_rule_at))]
-    fn from_value(value: &Value) -> Option<Self> {
-        named(value.as_str()?)
-    }
-}
-
 /// When a completion routine is called, as a setting's letters say (this project's own format, docs/FORMATS.md).
 #[derive(Clone, Copy, Debug, PartialEq, Eq)]
 pub struct Flags {
@@ -148,7 +123,7 @@ pub struct Flags {
 /// The flags that have these letters: some of s, e, c in this order (this project's own format, docs/FORMATS.md).
 #[tactic(auto, unfolding(crate::specs::Names::every_flags))]
 pub fn flags_named(letters: &str) -> Option<Flags>
-    ensures { result ≡ first_named flags_name every_flags letters.now }
+    ensures { result ≡ spec.first_named spec.flags_name spec.every_flags letters.now }
 {
     let (on_success, on_error, on_cancel) = match letters {
         "" => (false, false, false),
@@ -170,7 +145,7 @@ pub fn flags_named(letters: &str) -> Option<Flags>
 
 /// The flags by their letters: some of s, e, c in this order (this project's own format, docs/FORMATS.md).
 impl FromValue for Flags {
-    ghost form = { flags_at };
+    ghost form = { spec.flags_at };
 
     #[tactic(auto, unfolding(crate::specs::Names::flags_at))]
     fn from_value(value: &Value) -> Option<Self> {
@@ -179,9 +154,9 @@ impl FromValue for Flags {
 }
 
 impl HasName for Refusal {
-    ghost name = { refusal_name };
+    ghost name = { spec.refusal_name };
 
-    ghost all = { refusals };
+    ghost all = { spec.refusals };
 
     ghost found = { refusal_found };
 
@@ -252,15 +227,5 @@ impl HasName for Refusal {
             Refusal::SlotHeld => "SlotHeld",
             Refusal::NotSlotHeld => "NotSlotHeld",
         }
-    }
-}
-
-/// A refusal by its name (this project's own format, docs/FORMATS.md).
-impl FromValue for Refusal {
-    ghost form = { refusal_at };
-
-    #[tactic(auto, unfolding(crate::specs::Names::refusal_at))]
-    fn from_value(value: &Value) -> Option<Self> {
-        named(value.as_str()?)
     }
 }

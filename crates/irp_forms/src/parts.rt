@@ -2,13 +2,14 @@
 
 ghost use Rattle.std.specs.Prelude.{◌≡◌, ◌++◌};
 ghost use Rattle.serde_json.specs.View.{view};
-ghost use Rattle.irp_forms.specs.Parts.{count_members, each_key, has_items, has_keys, keys_in};
+ghost use Rattle.irp_forms.specs.Parts as spec;
+ghost use Rattle.irp_forms.specs.Parts.{keys_in};
 
 use serde_json::Value;
 
 /// Whether it is an array of so many items.
 pub fn has_items(value: &Value, count: usize) -> bool
-    ensures { result ≡ has_items count (view value.now) }
+    ensures { result ≡ spec.has_items count (view value.now) }
 {
     match value {
         Value::Array(items) => items.len() == count,
@@ -18,7 +19,7 @@ pub fn has_items(value: &Value, count: usize) -> bool
 
 /// How many members an object has, or 0.
 fn count_members(value: &Value) -> usize
-    ensures { result ≡ count_members (view value.now) }
+    ensures { result ≡ spec.count_members (view value.now) }
 {
     match value {
         Value::Object(members) => members.len(),
@@ -28,7 +29,7 @@ fn count_members(value: &Value) -> usize
 
 /// Whether each of these keys is there.
 fn has_each(value: &Value, keys: &[&str]) -> bool
-    ensures { result ≡ each_key (keys_in keys.now) (view value.now) }
+    ensures { result ≡ spec.each_key (keys_in keys.now) (view value.now) }
 {
     for key in keys {
         if value.get(*key).is_none() {
@@ -42,20 +43,24 @@ fn has_each(value: &Value, keys: &[&str]) -> bool
 /// keys.
 #[tactic(auto, unfolding(crate::specs::Parts::has_keys))]
 pub fn has_keys(value: &Value, keys: &[&str]) -> bool
-    ensures { result ≡ has_keys (keys_in keys.now) (view value.now) }
+    ensures { result ≡ spec.has_keys (keys_in keys.now) (view value.now) }
 {
     count_members(value) == keys.len() && has_each(value, keys)
 }
 
-/// The same of some keys and those beside them.
-pub(crate) fn has_keys_beside(value: &Value, keys: &[&str], beside: &[&str]) -> bool
-    ensures { result ≡ has_keys (keys_in keys.now ++ keys_in beside.now) (view value.now) }
+/// Some where it has exactly these keys and those beside them, which differ.
+pub fn only_keys(value: &Value, keys: &[&str], beside: &[&str]) -> Option<()>
+    ensures { result ≡ spec.only_keys (keys_in keys.now ++ keys_in beside.now) (view value.now) }
 {
-    if count_members(value) != keys.len() + beside.len() {
-        return false;
-    }
-    if !has_each(value, keys) {
-        return false;
-    }
-    has_each(value, beside)
+    let there = count_members(value) == keys.len() + beside.len()
+        && has_each(value, keys)
+        && has_each(value, beside);
+    there.then_some(())
+}
+
+/// Some where it is an array of so many items.
+pub fn of_items(value: &Value, count: usize) -> Option<()>
+    ensures { result ≡ spec.of_items count (view value.now) }
+{
+    has_items(value, count).then_some(())
 }

@@ -2,24 +2,12 @@
 
 ghost use Rattle.std.specs.Prelude.{◌≡◌};
 ghost use Rattle.serde_json.specs.View.{view};
-ghost use Rattle.irp_forms.specs.Questions.{
-  answer_at,
-  asked_at,
-  cancel_asked_at,
-  completion_asked_at,
-  dispatch_asked_at,
-  keep_named,
-  place_at,
-  shown_at,
-};
+ghost use Rattle.irp_forms.specs.Questions as spec;
 
 use crate::from_value::{FromValue, nth, under};
-use crate::list::FromJson;
-use crate::parts::{has_items, has_keys};
-use crate::unread::{Unread, form_of};
+use crate::parts::{has_keys, of_items};
 use irp_types::{Answer, Asked, DeviceId, IrpRef, Shown};
 use serde_json::Value;
-use std::alloc::Global;
 
 /// The first of what a closure is shown: the packet, and where it is.
 #[derive(Clone, Copy)]
@@ -35,7 +23,7 @@ pub struct Place {
 /// docs/FORMATS.md).
 #[tactic(auto, unfolding(crate::specs::Questions::keep_named))]
 pub fn keep_named(name: &str) -> Option<bool>
-    ensures { result ≡ keep_named name.now }
+    ensures { result ≡ spec.keep_named name.now }
 {
     match name {
         "keep" => Some(true),
@@ -46,13 +34,11 @@ pub fn keep_named(name: &str) -> Option<bool>
 
 /// A completion routine's answer: its name, the mark, and the replacement or null.
 impl FromValue for Answer {
-    ghost form = { answer_at };
+    ghost form = { spec.answer_at };
 
     #[tactic(auto, unfolding(crate::specs::Questions::answer_at))]
     fn from_value(value: &Value) -> Option<Self> {
-        if !has_items(value, 3) {
-            return None;
-        }
+        of_items(value, 3)?;
         let keep = keep_named(value.get(0).and_then(Value::as_str)?)?;
         let mark = nth(1, value)?;
         let replacement = nth(2, value)?;
@@ -67,7 +53,7 @@ impl FromValue for Answer {
 /// The first six things that a closure is shown.
 #[tactic(auto, unfolding(crate::specs::Questions::place_at))]
 fn place_at(value: &Value) -> Option<Place>
-    ensures { result ≡ place_at (view value.now) }
+    ensures { result ≡ spec.place_at (view value.now) }
 {
     let device = nth(0, value)?;
     let slot: u32 = nth(1, value)?;
@@ -89,13 +75,11 @@ fn place_at(value: &Value) -> Option<Place>
 
 /// What a closure is shown, of twelve items.
 impl FromValue for Shown {
-    ghost form = { shown_at };
+    ghost form = { spec.shown_at };
 
     #[tactic(auto, unfolding(crate::specs::Questions::shown_at))]
     fn from_value(value: &Value) -> Option<Self> {
-        if !has_items(value, 12) {
-            return None;
-        }
+        of_items(value, 12)?;
         let place = place_at(value)?;
         let status = nth(6, value)?;
         let information = nth(7, value)?;
@@ -122,7 +106,7 @@ impl FromValue for Shown {
 /// A dispatch routine's question.
 #[tactic(auto, unfolding(crate::specs::Questions::dispatch_asked_at))]
 fn dispatch_asked_at(value: &Value) -> Option<Asked>
-    ensures { result ≡ dispatch_asked_at (view value.now) }
+    ensures { result ≡ spec.dispatch_asked_at (view value.now) }
 {
     let id = under("dispatch", value)?;
     let shown = under("shown", value)?;
@@ -133,7 +117,7 @@ fn dispatch_asked_at(value: &Value) -> Option<Asked>
 /// A completion routine's question.
 #[tactic(auto, unfolding(crate::specs::Questions::completion_asked_at))]
 fn completion_asked_at(value: &Value) -> Option<Asked>
-    ensures { result ≡ completion_asked_at (view value.now) }
+    ensures { result ≡ spec.completion_asked_at (view value.now) }
 {
     let id = under("completion", value)?;
     let shown = under("shown", value)?;
@@ -144,7 +128,7 @@ fn completion_asked_at(value: &Value) -> Option<Asked>
 /// A cancel routine's question.
 #[tactic(auto, unfolding(crate::specs::Questions::cancel_asked_at))]
 fn cancel_asked_at(value: &Value) -> Option<Asked>
-    ensures { result ≡ cancel_asked_at (view value.now) }
+    ensures { result ≡ spec.cancel_asked_at (view value.now) }
 {
     let id = under("cancel", value)?;
     let shown = under("shown", value)?;
@@ -154,7 +138,7 @@ fn cancel_asked_at(value: &Value) -> Option<Asked>
 
 /// A question, by the keys that it has (this project's own format, docs/FORMATS.md).
 impl FromValue for Asked {
-    ghost form = { asked_at };
+    ghost form = { spec.asked_at };
 
     #[tactic(auto, unfolding(crate::specs::Questions::asked_at))]
     fn from_value(value: &Value) -> Option<Self> {
@@ -167,13 +151,5 @@ impl FromValue for Asked {
         } else {
             None
         }
-    }
-}
-
-impl FromJson for Asked {
-    ghost at = { asked_at };
-
-    fn from_json(_alloc: Global, value: &Value) -> Result<Self, Unread> {
-        form_of(FromValue::from_value(value))
     }
 }

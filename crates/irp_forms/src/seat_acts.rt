@@ -4,40 +4,28 @@
 ghost use Rattle.std.specs.Prelude.{◌≡◌};
 ghost use Rattle.serde_json.specs.View.{view};
 ghost use Rattle.irp_forms.specs.Parts.{keys_in};
-ghost use Rattle.irp_forms.specs.SeatActs.{
-  drained_at,
-  hand_at,
-  lock_act_named,
-  slot_alone_at,
-  tagged_at,
-};
+ghost use Rattle.irp_forms.specs.SeatActs as spec;
 
 use crate::from_value::under;
-use crate::parts::has_keys_beside;
+use crate::parts::only_keys;
 use irp_types::{Hand, LockAct, LockNo};
 use serde_json::Value;
 
 /// The lock and the tag of an act that names nothing else.
-#[tactic(auto, unfolding(crate::specs::SeatActs::tagged_at))]
 fn tagged_at(beside: &[&str], value: &Value) -> Option<(LockNo, u32)>
-    ensures { result ≡ tagged_at (keys_in beside.now) (view value.now) }
+    ensures { result ≡ spec.tagged_at (keys_in beside.now) (view value.now) }
 {
-    if !has_keys_beside(value, &["do", "lock", "tag"], beside) {
-        return None;
-    }
+    only_keys(value, &["do", "lock", "tag"], beside)?;
     let lock = under("lock", value)?;
     let tag = under("tag", value)?;
     Some((lock, tag))
 }
 
 /// The question whether a lock is drained.
-#[tactic(auto, unfolding(crate::specs::SeatActs::drained_at))]
 fn drained_at(beside: &[&str], value: &Value) -> Option<LockAct>
-    ensures { result ≡ drained_at (keys_in beside.now) (view value.now) }
+    ensures { result ≡ spec.drained_at (keys_in beside.now) (view value.now) }
 {
-    if !has_keys_beside(value, &["do", "lock"], beside) {
-        return None;
-    }
+    only_keys(value, &["do", "lock"], beside)?;
     let lock = under("lock", value)?;
     Some(LockAct::Drained { lock })
 }
@@ -46,21 +34,15 @@ fn drained_at(beside: &[&str], value: &Value) -> Option<LockAct>
 /// name or another form (this project's own format, docs/FORMATS.md).
 #[tactic(auto, unfolding(crate::specs::SeatActs::lock_act_named))]
 pub fn lock_act_named(name: &str, beside: &[&str], value: &Value) -> Option<LockAct>
-    ensures { result ≡ lock_act_named name.now (keys_in beside.now) (view value.now) }
+    ensures { result ≡ spec.lock_act_named name.now (keys_in beside.now) (view value.now) }
 {
     match name {
-        "acquire" => {
-            let (lock, tag) = tagged_at(beside, value)?;
-            Some(LockAct::Acquire { lock, tag })
-        }
-        "release" => {
-            let (lock, tag) = tagged_at(beside, value)?;
-            Some(LockAct::Release { lock, tag })
-        }
-        "begin_remove" => {
-            let (lock, tag) = tagged_at(beside, value)?;
-            Some(LockAct::BeginRemove { lock, tag })
-        }
+        "acquire" => tagged_at(beside, value).map(|(lock, tag)| LockAct::Acquire { lock, tag }),
+        "release" => tagged_at(beside, value).map(|(lock, tag)| LockAct::Release { lock, tag }),
+        "begin_remove" => tagged_at(beside, value).map(|(lock, tag)| LockAct::BeginRemove {
+            lock,
+            tag,
+        }),
         "drained" => drained_at(beside, value),
         _ => None,
     }
@@ -70,11 +52,9 @@ pub fn lock_act_named(name: &str, beside: &[&str], value: &Value) -> Option<Lock
 /// (this project's own format, docs/FORMATS.md).
 #[tactic(auto, unfolding(crate::specs::SeatActs::hand_at))]
 pub fn hand_at(beside: &[&str], value: &Value) -> Option<Hand>
-    ensures { result ≡ hand_at (keys_in beside.now) (view value.now) }
+    ensures { result ≡ spec.hand_at (keys_in beside.now) (view value.now) }
 {
-    if !has_keys_beside(value, &["do", "lock", "tag", "to"], beside) {
-        return None;
-    }
+    only_keys(value, &["do", "lock", "tag", "to"], beside)?;
     let lock = under("lock", value)?;
     let tag = under("tag", value)?;
     let to = under("to", value)?;
@@ -85,10 +65,8 @@ pub fn hand_at(beside: &[&str], value: &Value) -> Option<Hand>
 /// form (this project's own format, docs/FORMATS.md).
 #[tactic(auto, unfolding(crate::specs::SeatActs::slot_alone_at))]
 pub fn slot_alone_at(beside: &[&str], value: &Value) -> Option<u32>
-    ensures { result ≡ slot_alone_at (keys_in beside.now) (view value.now) }
+    ensures { result ≡ spec.slot_alone_at (keys_in beside.now) (view value.now) }
 {
-    if !has_keys_beside(value, &["do", "slot"], beside) {
-        return None;
-    }
+    only_keys(value, &["do", "slot"], beside)?;
     under("slot", value)
 }

@@ -26,8 +26,5 @@ pub fn form_of<T>(read: Option<T>) -> Result<T, Unread>
     ensures reads { Gives result read }
     ensures refuses { IfErr result (λ why. why ≡ Form) }
 {
-    match read {
-        Some(value) => Ok(value),
-        None => Err(Unread::Form),
-    }
+    read.ok_or(Unread::Form)
 }

@@ -3,48 +3,20 @@
 ghost use Rattle.std.specs.Prelude.{◌≡◌};
 ghost use Rattle.serde_json.specs.View.{view};
 ghost use Rattle.irp_forms.specs.Names.{cancel_rule_at};
-ghost use Rattle.irp_forms.specs.Values.{
-  cancel_answer_at,
-  cancel_answer_named,
-  cancel_at,
-  cancel_finish_at,
-  completions_at,
-  device_at,
-  dispatch_at,
-  driver_at,
-  finish_at,
-  first_counts_at,
-  forward_at,
-  forward_pend_at,
-  handler_at,
-  hold_at,
-  irp_at,
-  known_at,
-  lock_at,
-  party_at,
-  plan_at,
-  plan_named,
-  replacement_at,
-  routine_at,
-  setting_at,
-  status_at,
-};
+ghost use Rattle.irp_forms.specs.Values as spec;
 
 use crate::from_value::{FromValue, nth};
-use crate::list::FromJson;
 use crate::names::Flags;
-use crate::parts::has_items;
-use crate::unread::{Unread, form_of};
+use crate::parts::{has_items, of_items};
 use irp_types::{
     CancelAnswer, CancelId, CancelRule, DeviceId, DispatchId, DriverId, IrpRef, Known, LockNo,
     Party, Plan, Replacement, RoutineId, Setting, Status,
 };
 use serde_json::Value;
-use std::alloc::Global;
 
 /// A device by its number (this project's own format, docs/FORMATS.md).
 impl FromValue for DeviceId {
-    ghost form = { device_at };
+    ghost form = { spec.device_at };
 
     #[tactic(auto, unfolding(crate::specs::Values::device_at))]
     fn from_value(value: &Value) -> Option<Self> {
@@ -54,7 +26,7 @@ impl FromValue for DeviceId {
 
 /// A cancel routine by its number (this project's own format, docs/FORMATS.md).
 impl FromValue for CancelId {
-    ghost form = { cancel_at };
+    ghost form = { spec.cancel_at };
 
     #[tactic(auto, unfolding(crate::specs::Values::cancel_at))]
     fn from_value(value: &Value) -> Option<Self> {
@@ -64,7 +36,7 @@ impl FromValue for CancelId {
 
 /// A dispatch routine by its number (this project's own format, docs/FORMATS.md).
 impl FromValue for DispatchId {
-    ghost form = { dispatch_at };
+    ghost form = { spec.dispatch_at };
 
     #[tactic(auto, unfolding(crate::specs::Values::dispatch_at))]
     fn from_value(value: &Value) -> Option<Self> {
@@ -74,7 +46,7 @@ impl FromValue for DispatchId {
 
 /// A driver by its number (this project's own format, docs/FORMATS.md).
 impl FromValue for DriverId {
-    ghost form = { driver_at };
+    ghost form = { spec.driver_at };
 
     #[tactic(auto, unfolding(crate::specs::Values::driver_at))]
     fn from_value(value: &Value) -> Option<Self> {
@@ -84,7 +56,7 @@ impl FromValue for DriverId {
 
 /// A remove lock by its number (this project's own format, docs/FORMATS.md).
 impl FromValue for LockNo {
-    ghost form = { lock_at };
+    ghost form = { spec.lock_at };
 
     #[tactic(auto, unfolding(crate::specs::Values::lock_at))]
     fn from_value(value: &Value) -> Option<Self> {
@@ -94,7 +66,7 @@ impl FromValue for LockNo {
 
 /// A status by its number (this project's own format, docs/FORMATS.md).
 impl FromValue for Status {
-    ghost form = { status_at };
+    ghost form = { spec.status_at };
 
     #[tactic(auto, unfolding(crate::specs::Values::status_at))]
     fn from_value(value: &Value) -> Option<Self> {
@@ -104,13 +76,11 @@ impl FromValue for Status {
 
 /// A packet by its slot, below 2^32, and its use (this project's own format, docs/FORMATS.md).
 impl FromValue for IrpRef {
-    ghost form = { irp_at };
+    ghost form = { spec.irp_at };
 
     #[tactic(auto, unfolding(crate::specs::Values::irp_at))]
     fn from_value(value: &Value) -> Option<Self> {
-        if !has_items(value, 2) {
-            return None;
-        }
+        of_items(value, 2)?;
         let slot: u32 = nth(0, value)?;
         let use_no = nth(1, value)?;
         Some(IrpRef {
@@ -122,7 +92,7 @@ impl FromValue for IrpRef {
 
 /// A party: `"o"` for the originator, or the device's number (this project's own format, docs/FORMATS.md).
 impl FromValue for Party {
-    ghost form = { party_at };
+    ghost form = { spec.party_at };
 
     #[tactic(auto, unfolding(crate::specs::Values::party_at))]
     fn from_value(value: &Value) -> Option<Self> {
@@ -140,13 +110,11 @@ impl FromValue for Party {
 
 /// A completion routine by its rule and its number there (this project's own format, docs/FORMATS.md).
 impl FromValue for RoutineId {
-    ghost form = { routine_at };
+    ghost form = { spec.routine_at };
 
     #[tactic(auto, unfolding(crate::specs::Values::routine_at))]
     fn from_value(value: &Value) -> Option<Self> {
-        if !has_items(value, 2) {
-            return None;
-        }
+        of_items(value, 2)?;
         let rule = nth(0, value)?;
         let no = nth(1, value)?;
         Some(RoutineId { rule, no })
@@ -155,13 +123,11 @@ impl FromValue for RoutineId {
 
 /// A setting: rule, number, context and flags (this project's own format, docs/FORMATS.md).
 impl FromValue for Setting {
-    ghost form = { setting_at };
+    ghost form = { spec.setting_at };
 
     #[tactic(auto, unfolding(crate::specs::Values::setting_at))]
     fn from_value(value: &Value) -> Option<Self> {
-        if !has_items(value, 4) {
-            return None;
-        }
+        of_items(value, 4)?;
         let rule = nth(0, value)?;
         let no = nth(1, value)?;
         let context = nth(2, value)?;
@@ -182,13 +148,11 @@ impl FromValue for Setting {
 
 /// A replacement: status and information (this project's own format, docs/FORMATS.md).
 impl FromValue for Replacement {
-    ghost form = { replacement_at };
+    ghost form = { spec.replacement_at };
 
     #[tactic(auto, unfolding(crate::specs::Values::replacement_at))]
     fn from_value(value: &Value) -> Option<Self> {
-        if !has_items(value, 2) {
-            return None;
-        }
+        of_items(value, 2)?;
         let status = nth(0, value)?;
         let information = nth(1, value)?;
         Some(Replacement {
@@ -198,82 +162,33 @@ impl FromValue for Replacement {
     }
 }
 
-/// A plan that finishes, with its status and information.
-#[tactic(auto, unfolding(crate::specs::Values::finish_at))]
-fn finish_at(value: &Value) -> Option<Plan>
-    ensures { result ≡ finish_at (view value.now) }
-{
-    if !has_items(value, 3) {
-        return None;
-    }
-    let status = nth(1, value)?;
-    let information = nth(2, value)?;
-    Some(Plan::Finish {
-        status,
-        information,
-    })
-}
-
-/// A plan that holds, with its cancel routine or null.
-#[tactic(auto, unfolding(crate::specs::Values::hold_at))]
-fn hold_at(value: &Value) -> Option<Plan>
-    ensures { result ≡ hold_at (view value.now) }
-{
-    if !has_items(value, 2) {
-        return None;
-    }
-    let cancel = nth(1, value)?;
-    Some(Plan::Hold { cancel })
-}
-
-/// A plan that forwards, with its setting or null.
-#[tactic(auto, unfolding(crate::specs::Values::forward_at))]
-fn forward_at(value: &Value) -> Option<Plan>
-    ensures { result ≡ forward_at (view value.now) }
-{
-    if !has_items(value, 2) {
-        return None;
-    }
-    let set = nth(1, value)?;
-    Some(Plan::Forward { set })
-}
-
-/// A plan that forwards and pends, with its setting or null.
-#[tactic(auto, unfolding(crate::specs::Values::forward_pend_at))]
-fn forward_pend_at(value: &Value) -> Option<Plan>
-    ensures { result ≡ forward_pend_at (view value.now) }
-{
-    if !has_items(value, 2) {
-        return None;
-    }
-    let set = nth(1, value)?;
-    Some(Plan::ForwardPend { set })
-}
-
 /// A plan by its name.
-#[tactic(auto, unfolding(crate::specs::Values::plan_named))]
 fn plan_named(name: &str, value: &Value) -> Option<Plan>
-    ensures { result ≡ plan_named name.now (view value.now) }
+    ensures { result ≡ spec.plan_named name.now (view value.now) }
 {
     match name {
-        "finish" => finish_at(value),
-        "hold" => hold_at(value),
-        "hold_slot" => {
-            if has_items(value, 1) {
-                Some(Plan::HoldSlot)
-            } else {
-                None
-            }
+        "finish" => {
+            of_items(value, 3)?;
+            let status = nth(1, value)?;
+            nth(2, value).map(|information| Plan::Finish {
+                status,
+                information,
+            })
         }
-        "skip" => {
-            if has_items(value, 1) {
-                Some(Plan::Skip)
-            } else {
-                None
-            }
+        "hold" => {
+            of_items(value, 2)?;
+            nth(1, value).map(|cancel| Plan::Hold { cancel })
         }
-        "forward" => forward_at(value),
-        "forward_pend" => forward_pend_at(value),
+        "hold_slot" => has_items(value, 1).then_some(Plan::HoldSlot),
+        "skip" => has_items(value, 1).then_some(Plan::Skip),
+        "forward" => {
+            of_items(value, 2)?;
+            nth(1, value).map(|set| Plan::Forward { set })
+        }
+        "forward_pend" => {
+            of_items(value, 2)?;
+            nth(1, value).map(|set| Plan::ForwardPend { set })
+        }
         _ => None,
     }
 }
@@ -281,7 +196,7 @@ fn plan_named(name: &str, value: &Value) -> Option<Plan>
 /// A plan: its name, which stands first, and what it names. `Plan::HoldSlot` is a plan of form 2 alone, and is read in
 /// either form: a reader of form 1 refuses it (this project's own format, docs/FORMATS.md).
 impl FromValue for Plan {
-    ghost form = { plan_at };
+    ghost form = { spec.plan_at };
 
     #[tactic(auto, unfolding(crate::specs::Values::plan_at))]
     fn from_value(value: &Value) -> Option<Self> {
@@ -289,32 +204,16 @@ impl FromValue for Plan {
     }
 }
 
-/// An answer that finishes the packet, with its information.
-#[tactic(auto, unfolding(crate::specs::Values::cancel_finish_at))]
-fn cancel_finish_at(value: &Value) -> Option<CancelAnswer>
-    ensures { result ≡ cancel_finish_at (view value.now) }
-{
-    if !has_items(value, 2) {
-        return None;
-    }
-    let information = nth(1, value)?;
-    Some(CancelAnswer::Finish { information })
-}
-
 /// A cancel routine's answer by its name.
-#[tactic(auto, unfolding(crate::specs::Values::cancel_answer_named))]
 fn cancel_answer_named(name: &str, value: &Value) -> Option<CancelAnswer>
-    ensures { result ≡ cancel_answer_named name.now (view value.now) }
+    ensures { result ≡ spec.cancel_answer_named name.now (view value.now) }
 {
     match name {
-        "finish" => cancel_finish_at(value),
-        "leave" => {
-            if has_items(value, 1) {
-                Some(CancelAnswer::Leave)
-            } else {
-                None
-            }
+        "finish" => {
+            of_items(value, 2)?;
+            nth(1, value).map(|information| CancelAnswer::Finish { information })
         }
+        "leave" => has_items(value, 1).then_some(CancelAnswer::Leave),
         _ => None,
     }
 }
@@ -322,7 +221,7 @@ fn cancel_answer_named(name: &str, value: &Value) -> Option<CancelAnswer>
 /// A cancel routine's answer: its name, which stands first, and what it names (this project's own format,
 /// docs/FORMATS.md).
 impl FromValue for CancelAnswer {
-    ghost form = { cancel_answer_at };
+    ghost form = { spec.cancel_answer_at };
 
     #[tactic(auto, unfolding(crate::specs::Values::cancel_answer_at))]
     fn from_value(value: &Value) -> Option<Self> {
@@ -333,7 +232,7 @@ impl FromValue for CancelAnswer {
 /// How many completion routines of each rule, from the first five items.
 #[tactic(auto, unfolding(crate::specs::Values::first_counts_at))]
 fn first_counts_at(value: &Value) -> Option<Known>
-    ensures { result ≡ first_counts_at (view value.now) }
+    ensures { result ≡ spec.first_counts_at (view value.now) }
 {
     let watch = nth(0, value)?;
     let change = nth(1, value)?;
@@ -353,25 +252,20 @@ fn first_counts_at(value: &Value) -> Option<Known>
 /// How many completion routines of each rule, and no cancel routines (this project's own format, docs/FORMATS.md).
 #[tactic(auto, unfolding(crate::specs::Values::completions_at))]
 pub fn completions_at(value: &Value) -> Option<Known>
-    ensures { result ≡ completions_at (view value.now) }
+    ensures { result ≡ spec.completions_at (view value.now) }
 {
-    if has_items(value, 5) {
-        first_counts_at(value)
-    } else {
-        None
-    }
+    of_items(value, 5)?;
+    first_counts_at(value)
 }
 
 /// How many completion routines of each rule, and how many cancel routines (this project's own format,
 /// docs/FORMATS.md).
 impl FromValue for Known {
-    ghost form = { known_at };
+    ghost form = { spec.known_at };
 
     #[tactic(auto, unfolding(crate::specs::Values::known_at))]
     fn from_value(value: &Value) -> Option<Self> {
-        if !has_items(value, 6) {
-            return None;
-        }
+        of_items(value, 6)?;
         let counts = first_counts_at(value)?;
         let cancel = nth(5, value)?;
         Some(Known { cancel, ..counts })
@@ -380,39 +274,13 @@ impl FromValue for Known {
 
 /// A major function code, up to 255, and its dispatch (this project's own format, docs/FORMATS.md).
 impl FromValue for (u8, DispatchId) {
-    ghost form = { handler_at };
+    ghost form = { spec.handler_at };
 
     #[tactic(auto, unfolding(crate::specs::Values::handler_at))]
     fn from_value(value: &Value) -> Option<Self> {
-        if !has_items(value, 2) {
-            return None;
-        }
+        of_items(value, 2)?;
         let major = nth(0, value)?;
         let dispatch = nth(1, value)?;
         Some((major, dispatch))
-    }
-}
-
-impl FromJson for CancelRule {
-    ghost at = { cancel_rule_at };
-
-    fn from_json(_alloc: Global, value: &Value) -> Result<Self, Unread> {
-        form_of(FromValue::from_value(value))
-    }
-}
-
-impl FromJson for Known {
-    ghost at = { known_at };
-
-    fn from_json(_alloc: Global, value: &Value) -> Result<Self, Unread> {
-        form_of(FromValue::from_value(value))
-    }
-}
-
-impl FromJson for (u8, DispatchId) {
-    ghost at = { handler_at };
-
-    fn from_json(_alloc: Global, value: &Value) -> Result<Self, Unread> {
-        form_of(FromValue::from_value(value))
     }
 }

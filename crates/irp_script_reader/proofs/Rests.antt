@@ -1,24 +1,16 @@
 -- A list from some place on is the item there and the list after it.
-use Rattle.std.proofs.Common.{◌≡◌, ℕ, suc, ◌+◌, ◌<◌, ◌==◌, List, map, length, drop, get_or, not, ◌&&◌, ◌||◌, bytes_eq, Result, sym, ap, ◌∙◌, String, string_bytes, if◌then◌else◌}
+use Rattle.std.proofs.Common.{◌≡◌, ℕ, suc, ◌+◌, ◌<◌, List, map, length, drop, get_or, not, ◌&&◌, bytes_eq, Result, sym, ap, ◌∙◌, String, string_bytes, if◌then◌else◌}
 use Rattle.std.specs.declared.alloc.Global.{Global}
 use Rattle.std.proofs.lemmas.List.{at_drop_more}
 use Rattle.serde_json.specs.Data.{Data}
 use Rattle.serde_json.specs.View.{view, items_view}
 use Rattle.serde_json.specs.declared.value.Value.{Value}
 use Rattle.irp_types.specs.declared.names.DispatchId.{DispatchId}
-use Rattle.irp_script_reader.specs.Labels.{are_label_bytes, is_label_byte, place_of}
+use Rattle.irp_script_reader.specs.Labels.{place_of}
 use Rattle.irp_script_reader.specs.Plans.{has_major, is_driver, is_handler}
 use Rattle.irp_script_reader.specs.Taking.{members_at, told}
 use Rattle.irp_script_reader.specs.declared.refusal.Fault.{Fault}
 use Rattle.irp_script_reader.specs.declared.refusal.Section.{Section}
-
-pub bytes_at : (bytes : List ℕ) (i : ℕ) (byte : ℕ) → i < length bytes
-    → are_label_bytes (drop i bytes) ≡ (is_label_byte (get_or bytes i byte) && are_label_bytes (drop (i + 1) bytes))
-bytes_at bytes i byte h = at_drop_more are_label_bytes bytes i byte h
-
-pub majors_at : (major : ℕ) (handlers : List (ℕ × DispatchId)) (i : ℕ) (handler : ℕ × DispatchId) → i < length handlers
-    → has_major major (drop i handlers) ≡ (((get_or handlers i handler).0 == major) || has_major major (drop (i + 1) handlers))
-majors_at major handlers i handler h = at_drop_more (has_major major) handlers i handler h
 
 pub handlers_at : (dispatches : ℕ) (handlers : List (ℕ × DispatchId)) (i : ℕ) (handler : ℕ × DispatchId) → i < length handlers
     → is_driver dispatches (drop i handlers)

@@ -1,5 +1,6 @@
 -- The labels of a script, and how a step names a packet.
-use Rattle.std.specs.Prelude.{ℕ, suc, ◌==◌, ◌&&◌, ◌||◌, List, [], ◌∷◌, ◌++◌, length, codes, Bool, true, nat_le, nat_lt, Option, Some, None, Result, Ok, Err, if◌then◌else◌}
+use Rattle.std.specs.Prelude.{ℕ, suc, ◌==◌, ◌&&◌, ◌||◌, List, [], ◌∷◌, ◌++◌, length, codes, Bool, nat_le, nat_lt, Option, Some, None, Result, Ok, Err, if◌then◌else◌}
+use Rattle.std.specs.List.{list_all}
 use Rattle.std.proofs.Common.{bytes_eq}
 use Rattle.serde_json.specs.Data.{Data, string}
 use Rattle.serde_json.specs.Find.{get, as_str}
@@ -19,14 +20,9 @@ abbrev pub is_label_byte : ℕ → Bool
 is_label_byte byte =
     (nat_le 48 byte && nat_le byte 57) || ((nat_le 65 byte && nat_le byte 90) || ((nat_le 97 byte && nat_le byte 122) || (byte == 95)))
 
--- nothing but these
-abbrev pub are_label_bytes : List ℕ → Bool
-are_label_bytes [] = true
-are_label_bytes (byte ∷ bytes) = is_label_byte byte && are_label_bytes bytes
-
 -- 1 to 32 of these
 unfoldable pub is_label : List ℕ → Bool
-is_label text = nat_le 1 (length text) && (nat_le (length text) 32 && are_label_bytes text)
+is_label text = nat_le 1 (length text) && (nat_le (length text) 32 && list_all is_label_byte text)
 
 -- a label's place among those that were named before; their number, where it wasn't
 abbrev pub place_of : List ℕ → List (List ℕ) → ℕ

@@ -1,5 +1,6 @@
 -- What the plans and the drivers of a script may name.
-use Rattle.std.specs.Prelude.{ℕ, ◌==◌, ◌&&◌, ◌||◌, List, [], ◌∷◌, Bool, true, false, not, nat_le, nat_lt}
+use Rattle.std.specs.Prelude.{ℕ, ◌==◌, ◌&&◌, List, [], ◌∷◌, Bool, true, not, nat_le, nat_lt}
+use Rattle.std.specs.List.{list_any}
 use Rattle.std.specs.Option.{option_map_or}
 use Rattle.irp_types.specs.Limits.{last_major}
 use Rattle.irp_types.specs.Rules.{is_known, is_watch}
@@ -35,8 +36,7 @@ is_handler dispatches handler = nat_le handler.0 last_major && nat_lt handler.1.
 
 -- one of these has the major function code
 abbrev pub has_major : ℕ → List (ℕ × DispatchId) → Bool
-has_major major [] = false
-has_major major (first ∷ others) = (first.0 == major) || has_major major others
+has_major major handlers = list_any (λ handler. handler.0 == major) handlers
 
 -- a driver of a script with so many dispatches: no dispatch that isn't there, no major function code twice
 abbrev pub is_driver : ℕ → List (ℕ × DispatchId) → Bool

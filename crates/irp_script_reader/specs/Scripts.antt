@@ -1,11 +1,12 @@
 -- Whole scripts. The first fault is given: the text's length, whether it is JSON, its form, its keys, and then the parts in
 -- order.
 use Rattle.std.specs.Prelude.{◌≡◌, ◌⊎◌, ℕ, ◌<◌, ◌≤◌, ◌==◌, ◌&&◌, Bool, List, [], ◌∷◌, length, codes, IsUtf8, true, false, nat_le, Option, Some, None, Result, Ok, Err, if◌then◌else◌}
-use Rattle.std.specs.Option.{option_and_then}
+use Rattle.std.specs.Option.{ok_or, option_and_then}
 use Rattle.serde_json.specs.Data.{Data}
 use Rattle.serde_json.specs.Find.{get}
 use Rattle.serde_json.specs.Read.{read}
-use Rattle.irp_forms.specs.Parts.{has_keys, u32_at}
+use Rattle.irp_forms.specs.Calls.{Keys}
+use Rattle.irp_forms.specs.Parts.{only_keys, u32_at}
 use Rattle.irp_types.specs.State.{no_routines}
 use Rattle.irp_types.specs.declared.routine.Known.{Known}
 use Rattle.irp_script_reader.specs.Members.{takes_cancel, takes_completion, takes_dispatch, takes_driver, takes_step}
@@ -40,25 +41,16 @@ form_of (Some given) = if given == 1 then Ok keys.One else (if given == 2 then O
 unfoldable pub form_at : Data → Result FormKey ScriptRefusal
 form_at whole = form_of (option_and_then u32_at (get (codes "form") whole))
 
--- the keys of a script of form 1, and no others
-unfoldable pub has_keys_of_one : Data → Bool
-has_keys_of_one whole =
-    has_keys (codes "cancels" ∷ codes "completions" ∷ codes "dispatches" ∷ codes "drivers" ∷ codes "form" ∷ codes "locks"
-    ∷ codes "seats" ∷ codes "setup" ∷ codes "steps" ∷ []) whole
-
--- the keys of a script of form 2, and no others
-unfoldable pub has_keys_of_two : Data → Bool
-has_keys_of_two whole =
-    has_keys (codes "cancels" ∷ codes "completions" ∷ codes "dispatches" ∷ codes "drivers" ∷ codes "form" ∷ codes "locks"
-    ∷ codes "seats" ∷ codes "setup" ∷ codes "slots" ∷ codes "steps" ∷ []) whole
+-- some where there are the keys of both forms and those beside them, and no others
+unfoldable pub its_keys : Keys → Data → Option (Unit {0})
+its_keys beside whole =
+    only_keys (codes "cancels" ∷ codes "completions" ∷ codes "dispatches" ∷ codes "drivers" ∷ codes "form" ∷ codes "locks"
+    ∷ codes "seats" ∷ codes "setup" ∷ codes "steps" ∷ beside) whole
 
 -- the keys of a script of this form, and no others
-abbrev pub has_its_keys : FormKey → Data → Bool
-has_its_keys keys.One whole = has_keys_of_one whole
-has_its_keys keys.Two whole = has_keys_of_two whole
-
 unfoldable pub keys_at : FormKey → Data → Result (Unit {0}) ScriptRefusal
-keys_at given whole = if has_its_keys given whole then Ok tt else Err (At BadField section.Top 0)
+keys_at keys.One whole = ok_or (its_keys [] whole) (At BadField section.Top 0)
+keys_at keys.Two whole = ok_or (its_keys (codes "slots" ∷ []) whole) (At BadField section.Top 0)
 
 -- from the least number to 64
 abbrev pub count_of : Section → ℕ → Option ℕ → Result ℕ ScriptRefusal

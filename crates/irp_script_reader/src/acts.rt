@@ -2,76 +2,54 @@
 
 ghost use Rattle.std.specs.Prelude.{◌≡◌};
 ghost use Rattle.serde_json.specs.View.{view};
-ghost use Rattle.irp_script_reader.specs.Acts.{
-  act_at,
-  act_named,
-  allocate_at,
-  delete_at,
-  finish_taken_at,
-  publish_at,
-  step_at,
-};
+ghost use Rattle.irp_script_reader.specs.Acts as spec;
 
 use crate::act::{Step, StepAct};
-use crate::fields::packet_in;
-use crate::labels::is_label;
-use irp_forms::{call_named, hand_at, has_keys, lock_act_named, slot_alone_at, under};
+use crate::labels::{is_label, packet_in};
+use irp_forms::{call_named, hand_at, lock_act_named, only_keys, slot_alone_at, under};
 use irp_types::Call;
 use serde_json::Value;
 
 /// A device deleted.
 #[tactic(auto, unfolding(crate::specs::Acts::delete_at))]
 fn delete_at(value: &Value) -> Option<StepAct>
-    ensures { result ≡ delete_at (view value.now) }
+    ensures { result ≡ spec.delete_at (view value.now) }
 {
-    if !has_keys(value, &["device", "do", "seat"]) {
-        return None;
-    }
-    let device = under("device", value)?;
-    Some(StepAct::Call(Call::Delete { device }))
+    only_keys(value, &["device", "do", "seat"], &[])?;
+    under("device", value).map(|device| StepAct::Call(Call::Delete { device }))
 }
 
 /// A new packet, whose label has this place.
 #[tactic(auto, unfolding(crate::specs::Acts::allocate_at))]
 fn allocate_at(place: usize, value: &Value) -> Option<StepAct>
-    ensures { result ≡ allocate_at place (view value.now) }
+    ensures { result ≡ spec.allocate_at place (view value.now) }
 {
-    if !has_keys(value, &["as", "do", "seat", "size"]) {
-        return None;
-    }
+    only_keys(value, &["as", "do", "seat", "size"], &[])?;
     let size = under("size", value)?;
     let label = value.get("as").and_then(Value::as_str)?;
-    if is_label(label) {
-        Some(StepAct::Allocate { size, label: place })
-    } else {
-        None
-    }
+    is_label(label).then_some(StepAct::Allocate { size, label: place })
 }
 
 /// A use put into a slot.
 #[tactic(auto, unfolding(crate::specs::Acts::publish_at))]
 fn publish_at(place: usize, value: &Value) -> Option<StepAct>
-    ensures { result ≡ publish_at place (view value.now) }
+    ensures { result ≡ spec.publish_at place (view value.now) }
 {
-    if !has_keys(value, &["do", "irp", "seat", "slot"]) {
-        return None;
-    }
+    only_keys(value, &["do", "irp", "seat", "slot"], &[])?;
     let slot = under("slot", value)?;
-    let irp = packet_in(place, value)?;
-    Some(StepAct::Publish { slot, irp })
+    packet_in(place, value).map(|irp| StepAct::Publish { slot, irp })
 }
 
 /// A taken packet finished.
 #[tactic(auto, unfolding(crate::specs::Acts::finish_taken_at))]
 fn finish_taken_at(place: usize, value: &Value) -> Option<StepAct>
-    ensures { result ≡ finish_taken_at place (view value.now) }
+    ensures { result ≡ spec.finish_taken_at place (view value.now) }
 {
-    if !has_keys(
+    only_keys(
         value,
         &["do", "information", "irp", "seat", "slot", "status"],
-    ) {
-        return None;
-    }
+        &[],
+    )?;
     let irp = packet_in(place, value)?;
     let token = under("slot", value)?;
     let status = under("status", value)?;
@@ -87,31 +65,19 @@ fn finish_taken_at(place: usize, value: &Value) -> Option<StepAct>
 /// What is done, by its name, where a label that it names has this place.
 #[tactic(auto, unfolding(crate::specs::Acts::act_named))]
 fn act_named(place: usize, name: &str, value: &Value) -> Option<StepAct>
-    ensures { result ≡ act_named place name.now (view value.now) }
+    ensures { result ≡ spec.act_named place name.now (view value.now) }
 {
     match name {
         "delete" => delete_at(value),
         "allocate" => allocate_at(place, value),
-        "hand" => {
-            let hand = hand_at(&["seat"], value)?;
-            Some(StepAct::Hand(hand))
-        }
+        "hand" => hand_at(&["seat"], value).map(StepAct::Hand),
         "publish" => publish_at(place, value),
         "finish_taken" => finish_taken_at(place, value),
-        "withdraw" => {
-            let slot = slot_alone_at(&["seat"], value)?;
-            Some(StepAct::Withdraw { slot })
-        }
-        "request" => {
-            let slot = slot_alone_at(&["seat"], value)?;
-            Some(StepAct::Request { slot })
-        }
+        "withdraw" => slot_alone_at(&["seat"], value).map(|slot| StepAct::Withdraw { slot }),
+        "request" => slot_alone_at(&["seat"], value).map(|slot| StepAct::Request { slot }),
         _ => match lock_act_named(name, &["seat"], value) {
             Some(on) => Some(StepAct::OnLock(on)),
-            None => {
-                let call = call_named(name, &["seat"], packet_in(place, value), value)?;
-                Some(StepAct::Call(call))
-            }
+            None => call_named(name, &["seat"], packet_in(place, value), value).map(StepAct::Call),
         },
     }
 }
@@ -119,7 +85,7 @@ fn act_named(place: usize, name: &str, value: &Value) -> Option<StepAct>
 /// What a step does, where a label that it names has this place.
 #[tactic(auto, unfolding(crate::specs::Acts::act_at))]
 fn act_at(place: usize, value: &Value) -> Option<StepAct>
-    ensures { result ≡ act_at place (view value.now) }
+    ensures { result ≡ spec.act_at place (view value.now) }
 {
     act_named(place, value.get("do").and_then(Value::as_str)?, value)
 }
@@ -127,9 +93,8 @@ fn act_at(place: usize, value: &Value) -> Option<StepAct>
 /// A step, where a label that it names has this place (this project's own format, docs/FORMATS.md).
 #[tactic(auto, unfolding(crate::specs::Acts::step_at))]
 pub fn step_at(place: usize, value: &Value) -> Option<Step>
-    ensures { result ≡ step_at place (view value.now) }
+    ensures { result ≡ spec.step_at place (view value.now) }
 {
     let act = act_at(place, value)?;
-    let seat = under("seat", value)?;
-    Some(Step { seat, act })
+    under("seat", value).map(|seat| Step { seat, act })
 }

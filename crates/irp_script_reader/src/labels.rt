@@ -1,18 +1,10 @@
-//! The labels of a script.
+//! The labels of a script, and the packets that steps name.
 
-ghost use Rattle.std.specs.Prelude.{◌≡◌, [], length, option_map};
+ghost use Rattle.std.specs.Prelude.{◌≡◌, [], codes, length, option_map};
+ghost use Rattle.std.specs.List.{list_all};
 ghost use Rattle.serde_json.specs.View.{view};
-ghost use Rattle.irp_script_reader.specs.Labels.{
-  are_label_bytes,
-  is_label,
-  is_label_byte,
-  label_at,
-  named_at,
-  place_among,
-  place_of,
-  with_label,
-  with_labels,
-};
+ghost use Rattle.irp_forms.specs.Fields.{field};
+ghost use Rattle.irp_script_reader.specs.Labels as spec;
 ghost use Rattle.irp_script_reader.specs.Taking.{Gives};
 
 use crate::act::Named;
@@ -59,7 +51,7 @@ impl Labels {
 
     /// The label's place, or how many there are where it is none of them.
     pub fn place_of(&self, label: &str) -> usize
-        ensures { result ≡ place_of label.now self.now }
+        ensures { result ≡ spec.place_of label.now self.now }
     {
         for (place, text) in self.texts.iter().enumerate() {
             if text.as_str() == label {
@@ -71,7 +63,7 @@ impl Labels {
 
     /// The place of the label that a step names, or 0 where it names none.
     pub fn place_in(&self, value: &Value) -> usize
-        ensures { result ≡ place_among self.now (label_at (view value.now)) }
+        ensures { result ≡ spec.place_among self.now (spec.label_at (view value.now)) }
     {
         match label_at(value) {
             Some(label) => self.place_of(label),
@@ -82,7 +74,7 @@ impl Labels {
     /// These and the label, where it is none of them. The 4,097th is `TooMany`.
     #[tactic(auto, unfolding(crate::specs::Labels::with_label))]
     fn with_label(self, alloc: Global, label: &str) -> Result<Labels, Stop>
-        ensures { Gives result (with_label self label.now) }
+        ensures { Gives result (spec.with_label self label.now) }
     {
         if self.place_of(label) < self.len() {
             return Ok(self);
@@ -102,7 +94,7 @@ impl Labels {
 
     /// These and the label that a step names, where it names one that is none of them. The 4,097th is `TooMany`.
     pub fn with_label_in(self, alloc: Global, value: &Value) -> Result<Labels, Stop>
-        ensures { Gives result (with_labels self (label_at (view value.now))) }
+        ensures { Gives result (spec.with_labels self (spec.label_at (view value.now))) }
     {
         match label_at(value) {
             Some(label) => self.with_label(alloc, label),
@@ -114,7 +106,7 @@ impl Labels {
 /// The text under `as`, or else under `irp`.
 #[tactic(auto, unfolding(crate::specs::Labels::label_at))]
 fn label_at(value: &Value) -> Option<&str>
-    ensures { option_map (λ text. text.now) result ≡ label_at (view value.now) }
+    ensures { option_map (λ text. text.now) result ≡ spec.label_at (view value.now) }
 {
     match value.get("as") {
         Some(given) => given.as_str(),
@@ -124,7 +116,7 @@ fn label_at(value: &Value) -> Option<&str>
 
 /// Whether a byte is an ASCII letter, a digit or an underscore.
 fn is_label_byte(byte: u8) -> bool
-    ensures { result ≡ is_label_byte byte }
+    ensures { result ≡ spec.is_label_byte byte }
 {
     (byte >= b'0' && byte <= b'9')
         || (byte >= b'A' && byte <= b'Z')
@@ -134,20 +126,15 @@ fn is_label_byte(byte: u8) -> bool
 
 /// Whether there are no other bytes.
 fn are_label_bytes(bytes: &[u8]) -> bool
-    ensures { result ≡ are_label_bytes bytes.now }
+    ensures { result ≡ list_all spec.is_label_byte bytes.now }
 {
-    for byte in bytes {
-        if !is_label_byte(*byte) {
-            return false;
-        }
-    }
-    true
+    bytes.iter().all(|byte| is_label_byte(*byte))
 }
 
 /// Whether a text is a label: 1 to 32 ASCII letters, digits or underscores.
 #[tactic(auto, unfolding(crate::specs::Labels::is_label))]
 pub fn is_label(text: &str) -> bool
-    ensures { result ≡ is_label text.now }
+    ensures { result ≡ spec.is_label text.now }
 {
     let bytes = text.as_bytes();
     bytes.len() >= 1 && bytes.len() <= 32 && are_label_bytes(bytes)
@@ -155,20 +142,18 @@ pub fn is_label(text: &str) -> bool
 
 /// A packet by a label, which has this place, or by a reference.
 #[tactic(auto, unfolding(crate::specs::Labels::named_at))]
-pub fn named_at(place: usize, value: &Value) -> Option<Named>
-    ensures { result ≡ named_at place (view value.now) }
+fn named_at(place: usize, value: &Value) -> Option<Named>
+    ensures { result ≡ spec.named_at place (view value.now) }
 {
     match value {
-        Value::String(text) => {
-            if is_label(text.as_str()) {
-                Some(Named::Label(place))
-            } else {
-                None
-            }
-        }
-        _ => {
-            let irp = FromValue::from_value(value)?;
-            Some(Named::Irp(irp))
-        }
+        Value::String(text) => is_label(text.as_str()).then_some(Named::Label(place)),
+        _ => Some(Named::Irp(FromValue::from_value(value)?)),
     }
+}
+
+/// The packet of a step, by a label, which has this place, or by a reference.
+pub fn packet_in(place: usize, value: &Value) -> Option<Named>
+    ensures { result ≡ field (codes "irp") (spec.named_at place) (view value.now) }
+{
+    named_at(place, value.get("irp")?)
 }

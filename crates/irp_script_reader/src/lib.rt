@@ -3,7 +3,6 @@
 
 mod act;
 mod acts;
-mod fields;
 mod forms;
 mod labels;
 mod lists;

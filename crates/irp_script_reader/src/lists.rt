@@ -4,15 +4,7 @@ ghost use Rattle.std.specs.Prelude.{◌≡◌};
 ghost use Rattle.serde_json.specs.View.{view};
 ghost use Rattle.irp_forms.specs.Parts.{list_at};
 ghost use Rattle.irp_forms.specs.Values.{handler_at};
-ghost use Rattle.irp_script_reader.specs.Members.{
-  in_room,
-  may_have,
-  takes_cancel,
-  takes_completion,
-  takes_dispatch,
-  takes_driver,
-  takes_step,
-};
+ghost use Rattle.irp_script_reader.specs.Members as spec;
 ghost use Rattle.irp_script_reader.specs.Taking.{Gives, formed};
 
 use crate::act::Step;
@@ -71,16 +63,13 @@ pub struct Steps {
 
 /// What there is, or `TooMany`.
 fn in_room<T>(room: Option<T>) -> Result<T, Stop>
-    ensures { Gives result (in_room room) }
+    ensures { Gives result (spec.in_room room) }
 {
-    match room {
-        Some(value) => Ok(value),
-        None => Err(Stop::Fault(Fault::TooMany)),
-    }
+    room.ok_or(Stop::Fault(Fault::TooMany))
 }
 
 impl Taking for Completions {
-    ghost takes = { takes_completion };
+    ghost takes = { spec.takes_completion };
 
     /// `BadField` where it is no completion routine, `RuleBroken` where its behaviours aren't those of its rule,
     /// `TooMany` where there are as many of the rule as there may be.
@@ -95,7 +84,7 @@ impl Taking for Completions {
 }
 
 impl Taking for Cancels {
-    ghost takes = { takes_cancel };
+    ghost takes = { spec.takes_cancel };
 
     /// `BadField` where it is no cancel routine's answer, `TooMany` where there are as many as there may be.
     #[tactic(auto, unfolding(crate::specs::Members::takes_cancel))]
@@ -112,7 +101,7 @@ impl Taking for Cancels {
 }
 
 impl Taking for Dispatches {
-    ghost takes = { takes_dispatch };
+    ghost takes = { spec.takes_dispatch };
 
     /// `BadField` where it is no plan or one that the form doesn't have, `RuleBroken` where the plan isn't sound,
     /// `NoRoutine` where it names a routine that isn't there, `TooMany` where there are as many as there may be.
@@ -142,7 +131,7 @@ fn table_at(alloc: Global, value: &Value) -> Result<Row<(u8, DispatchId)>, Stop>
 }
 
 impl Taking for Drivers {
-    ghost takes = { takes_driver };
+    ghost takes = { spec.takes_driver };
 
     /// `BadField` where it is no driver's table, `BadDispatch` where it names a dispatch that isn't there, a major
     /// function code that there isn't or one twice, `TooMany` where there are as many as there may be.
@@ -161,7 +150,7 @@ impl Taking for Drivers {
 impl Steps {
     /// Whether it may have the step: its seat is there, `setup` may have it, and the seat may do it.
     fn may_have(&self, step: Step) -> bool
-        ensures { result ≡ may_have self.now step }
+        ensures { result ≡ spec.may_have self.now step }
     {
         step.seat < self.seats
             && (!self.in_setup || step.act.suits_setup())
@@ -170,7 +159,7 @@ impl Steps {
 }
 
 impl Taking for Steps {
-    ghost takes = { takes_step };
+    ghost takes = { spec.takes_step };
 
     /// `BadField` where it is no step or one that the list may not have, `TooMany` where it names the first label too
     /// many.

@@ -41,12 +41,7 @@ fn is_handler(dispatches: usize, handler: (u8, DispatchId)) -> bool
 fn has_major(major: u8, handlers: &[(u8, DispatchId)]) -> bool
     ensures { result ≡ has_major major handlers.now }
 {
-    for handler in handlers {
-        if handler.0 == major {
-            return true;
-        }
-    }
-    false
+    handlers.iter().any(|handler| handler.0 == major)
 }
 
 /// Whether each of a driver's major function codes is one and is named once, and each dispatch is there

@@ -2,23 +2,8 @@
 
 ghost use Rattle.std.specs.Prelude.{◌≡◌, IfOk};
 ghost use Rattle.serde_json.specs.View.{view};
-ghost use Rattle.irp_script_reader.specs.Scripts.{
-  ReadsScript,
-  cancels_at,
-  completions_at,
-  count_at,
-  dispatches_at,
-  drivers_at,
-  form_at,
-  has_its_keys,
-  has_keys_of_one,
-  has_keys_of_two,
-  keys_at,
-  list_at,
-  script_at,
-  steps_at,
-  with_slots,
-};
+ghost use Rattle.irp_forms.specs.Parts.{keys_in};
+ghost use Rattle.irp_script_reader.specs.Scripts as spec;
 ghost use Rattle.irp_script_reader.specs.Sound.{IsSound};
 ghost use Rattle.irp_script_reader.specs.Taking.{Tells};
 
@@ -28,7 +13,7 @@ use crate::lists::{Cancels, Completions, Dispatches, Drivers, Steps};
 use crate::refusal::{Fault, ScriptFault, ScriptRefusal, Section};
 use crate::script::{Script, ScriptForm, ScriptParts};
 use crate::taking::{Taking, list_of, refused};
-use irp_forms::{has_keys, under};
+use irp_forms::{only_keys, under};
 use irp_types::{Known, Row};
 use serde_json::Value;
 use std::alloc::Global;
@@ -48,7 +33,7 @@ enum FormKey {
 /// The form of a script.
 #[tactic(auto, unfolding(crate::specs::Scripts::form_at))]
 fn form_at(value: &Value) -> Result<FormKey, ScriptFault>
-    ensures { Tells result (form_at (view value.now)) }
+    ensures { Tells result (spec.form_at (view value.now)) }
 {
     match under::<u32>("form", value) {
         Some(1) => Ok(FormKey::One),
@@ -57,92 +42,51 @@ fn form_at(value: &Value) -> Result<FormKey, ScriptFault>
     }
 }
 
-/// Whether it has the keys of form 1.
-fn has_keys_of_one(value: &Value) -> bool
-    ensures { result ≡ has_keys_of_one (view value.now) }
+/// Some where it has the keys of both forms and those beside them.
+fn its_keys(beside: &[&str], value: &Value) -> Option<()>
+    ensures { result ≡ spec.its_keys (keys_in beside.now) (view value.now) }
 {
-    has_keys(
-        value,
-        &[
-            "cancels",
-            "completions",
-            "dispatches",
-            "drivers",
-            "form",
-            "locks",
-            "seats",
-            "setup",
-            "steps",
-        ],
-    )
-}
-
-/// Whether it has the keys of form 2.
-fn has_keys_of_two(value: &Value) -> bool
-    ensures { result ≡ has_keys_of_two (view value.now) }
-{
-    has_keys(
-        value,
-        &[
-            "cancels",
-            "completions",
-            "dispatches",
-            "drivers",
-            "form",
-            "locks",
-            "seats",
-            "setup",
-            "slots",
-            "steps",
-        ],
-    )
-}
-
-impl FormKey {
-    /// Whether a script has the keys of this form.
-    fn has_its_keys(self, value: &Value) -> bool
-        ensures { result ≡ has_its_keys self (view value.now) }
-    {
-        match self {
-            FormKey::One => has_keys_of_one(value),
-            FormKey::Two => has_keys_of_two(value),
-        }
-    }
+    let keys = &[
+        "cancels",
+        "completions",
+        "dispatches",
+        "drivers",
+        "form",
+        "locks",
+        "seats",
+        "setup",
+        "steps",
+    ];
+    only_keys(value, keys, beside)
 }
 
 /// The keys of a script of this form.
 #[tactic(auto, unfolding(crate::specs::Scripts::keys_at))]
 fn keys_at(given: FormKey, value: &Value) -> Result<(), ScriptFault>
-    ensures { Tells result (keys_at given (view value.now)) }
+    ensures { Tells result (spec.keys_at given (view value.now)) }
 {
-    if given.has_its_keys(value) {
-        Ok(())
-    } else {
-        Err(refused(Fault::BadField, Section::Top, 0))
-    }
+    let there = match given {
+        FormKey::One => its_keys(&[], value),
+        FormKey::Two => its_keys(&["slots"], value),
+    };
+    there.ok_or(refused(Fault::BadField, Section::Top, 0))
 }
 
 /// The number under a key, from the least one to 64.
 #[tactic(auto, unfolding(crate::specs::Scripts::count_at))]
 fn count_at(section: Section, least: u32, key: &str, value: &Value) -> Result<u32, ScriptFault>
-    ensures { Tells result (count_at section least key.now (view value.now)) }
+    ensures { Tells result (spec.count_at section least key.now (view value.now)) }
 {
     match under::<u32>(key, value) {
-        Some(count) => {
-            if count >= least && count <= 64 {
-                Ok(count)
-            } else {
-                Err(refused(Fault::BadField, section, 0))
-            }
-        }
-        None => Err(refused(Fault::BadField, section, 0)),
+        Some(count) if count >= least && count <= 64 => Ok(count),
+        _ => Err(refused(Fault::BadField, section, 0)),
     }
 }
 
 /// The form, with the number of cancel slots where it has these.
 #[tactic(auto, unfolding(crate::specs::Scripts::with_slots))]
 fn with_slots(given: FormKey, value: &Value) -> Result<ScriptForm, ScriptFault>
-    ensures { Tells result (with_slots given (view value.now)) }
+    ensures { Tells result (spec.with_slots given (view value.now)) }
 {
     match given {
         FormKey::One => Ok(ScriptForm::One),
@@ -162,7 +106,7 @@ fn list_at<L: Taking + Drop>(
     empty: L,
     value: &Value,
 ) -> Result<L, ScriptFault>
-    ensures { Tells result (list_at L.takes section key.now empty (view value.now)) }
+    ensures { Tells result (spec.list_at L.takes section key.now empty (view value.now)) }
 {
     match value.get(key) {
         Some(list) => list_of(alloc, section, empty, list),
@@ -173,7 +117,7 @@ fn list_at<L: Taking + Drop>(
 /// The completion routines.
 #[tactic(auto, unfolding(crate::specs::Scripts::completions_at))]
 fn completions_at(alloc: Global, value: &Value) -> Result<Completions, ScriptFault>
-    ensures { Tells result (completions_at (view value.now)) }
+    ensures { Tells result (spec.completions_at (view value.now)) }
 {
     let empty = Completions {
         routines: Row::from_vec(Vec::new(alloc)),
@@ -185,7 +129,7 @@ fn completions_at(alloc: Global, value: &Value) -> Result<Completions, ScriptFau
 /// The cancel routines, beside so many completion routines.
 #[tactic(auto, unfolding(crate::specs::Scripts::cancels_at))]
 fn cancels_at(alloc: Global, counts: Known, value: &Value) -> Result<Cancels, ScriptFault>
-    ensures { Tells result (cancels_at counts (view value.now)) }
+    ensures { Tells result (spec.cancels_at counts (view value.now)) }
 {
     let empty = Cancels {
         answers: Row::from_vec(Vec::new(alloc)),
@@ -202,7 +146,7 @@ fn dispatches_at(
     known: Known,
     value: &Value,
 ) -> Result<Dispatches, ScriptFault>
-    ensures { Tells result (dispatches_at form known (view value.now)) }
+    ensures { Tells result (spec.dispatches_at form known (view value.now)) }
 {
     let empty = Dispatches {
         form,
@@ -215,7 +159,7 @@ fn dispatches_at(
 /// The drivers, who may name so many dispatches.
 #[tactic(auto, unfolding(crate::specs::Scripts::drivers_at))]
 fn drivers_at(alloc: Global, dispatches: usize, value: &Value) -> Result<Drivers, ScriptFault>
-    ensures { Tells result (drivers_at dispatches (view value.now)) }
+    ensures { Tells result (spec.drivers_at dispatches (view value.now)) }
 {
     let empty = Drivers {
         dispatches,
@@ -232,7 +176,7 @@ fn steps_at(
     seats: u32,
     value: &Value,
 ) -> Result<(Row<Step>, Steps), ScriptFault>
-    ensures { Tells result (steps_at form seats (view value.now)) }
+    ensures { Tells result (spec.steps_at form seats (view value.now)) }
 {
     let empty = Steps {
         form,
@@ -257,7 +201,7 @@ fn steps_at(
 /// What the script says that a JSON value is.
 #[tactic(auto, unfolding(crate::specs::Scripts::script_at))]
 fn script_at(alloc: Global, value: &Value) -> Result<ScriptParts, ScriptFault>
-    ensures { Tells result (script_at (view value.now)) }
+    ensures { Tells result (spec.script_at (view value.now)) }
 {
     let given = form_at(value)?;
     keys_at(given, value)?;
@@ -293,7 +237,7 @@ fn script_at(alloc: Global, value: &Value) -> Result<ScriptParts, ScriptFault>
 /// `steps`, in a list by place. `NoMemory` where memory runs out: never for an empty text, or for one that is too long.
 #[tactic(auto, using(crate::proofs::Sounds::told_sound, crate::proofs::Sounds::told_reads))]
 pub fn read_script(alloc: Global, bytes: &[u8]) -> Result<Script, ScriptFault>
-    ensures reads { ReadsScript result bytes.now }
+    ensures reads { spec.ReadsScript result bytes.now }
     ensures sound { IfOk result IsSound }
 {
     if bytes.len() > MOST_BYTES {

@@ -2,23 +2,10 @@
 
 ghost use Rattle.std.specs.Prelude.{◌≡◌};
 ghost use Rattle.serde_json.specs.View.{view};
-ghost use Rattle.irp_script_reader.specs.Routines.{
-  behaviour_at,
-  behaviour_named,
-  can_complete,
-  completion_at,
-  continues,
-  counted,
-  keeps,
-  obeys_its_rule,
-  one_more,
-  replace_at,
-  replace_named,
-  takes_behaviours,
-};
+ghost use Rattle.irp_script_reader.specs.Routines as spec;
 
 use crate::script::{Behaviour, CompletionRoutine};
-use irp_forms::{has_items, nth};
+use irp_forms::{nth, of_items};
 use irp_types::limits::MOST_ROUTINES;
 use irp_types::{Known, Replacement, Rule};
 use serde_json::Value;
@@ -26,7 +13,7 @@ use serde_json::Value;
 /// A behaviour that has a name.
 #[tactic(auto, unfolding(crate::specs::Routines::behaviour_named))]
 fn behaviour_named(name: &str) -> Option<Behaviour>
-    ensures { result ≡ behaviour_named name.now }
+    ensures { result ≡ spec.behaviour_named name.now }
 {
     match name {
         "continue" => Some(Behaviour::Continue),
@@ -38,7 +25,7 @@ fn behaviour_named(name: &str) -> Option<Behaviour>
 /// A replacement, where this is its name.
 #[tactic(auto, unfolding(crate::specs::Routines::replace_named))]
 fn replace_named(name: &str, value: &Value) -> Option<Behaviour>
-    ensures { result ≡ replace_named name.now (view value.now) }
+    ensures { result ≡ spec.replace_named name.now (view value.now) }
 {
     if name != "replace" {
         return None;
@@ -54,18 +41,16 @@ fn replace_named(name: &str, value: &Value) -> Option<Behaviour>
 /// A replacement.
 #[tactic(auto, unfolding(crate::specs::Routines::replace_at))]
 fn replace_at(value: &Value) -> Option<Behaviour>
-    ensures { result ≡ replace_at (view value.now) }
+    ensures { result ≡ spec.replace_at (view value.now) }
 {
-    if !has_items(value, 3) {
-        return None;
-    }
+    of_items(value, 3)?;
     replace_named(value.get(0).and_then(Value::as_str)?, value)
 }
 
 /// A behaviour.
 #[tactic(auto, unfolding(crate::specs::Routines::behaviour_at))]
 fn behaviour_at(value: &Value) -> Option<Behaviour>
-    ensures { result ≡ behaviour_at (view value.now) }
+    ensures { result ≡ spec.behaviour_at (view value.now) }
 {
     match value {
         Value::String(name) => behaviour_named(name.as_str()),
@@ -76,11 +61,9 @@ fn behaviour_at(value: &Value) -> Option<Behaviour>
 /// A completion routine.
 #[tactic(auto, unfolding(crate::specs::Routines::completion_at))]
 pub fn completion_at(value: &Value) -> Option<CompletionRoutine>
-    ensures { result ≡ completion_at (view value.now) }
+    ensures { result ≡ spec.completion_at (view value.now) }
 {
-    if !has_items(value, 3) {
-        return None;
-    }
+    of_items(value, 3)?;
     let rule = nth(0, value)?;
     let on_ok = behaviour_at(value.get(1)?)?;
     let on_err = behaviour_at(value.get(2)?)?;
@@ -94,21 +77,21 @@ pub fn completion_at(value: &Value) -> Option<CompletionRoutine>
 impl Behaviour {
     /// Whether it continues, and replaces nothing.
     fn continues(self) -> bool
-        ensures { result ≡ continues self }
+        ensures { result ≡ spec.continues self }
     {
         matches!(self, Behaviour::Continue)
     }
 
     /// Whether it keeps the packet.
     fn keeps(self) -> bool
-        ensures { result ≡ keeps self }
+        ensures { result ≡ spec.keeps self }
     {
         matches!(self, Behaviour::Keep)
     }
 
     /// Whether what it replaces by can complete a packet.
     fn can_complete(self) -> bool
-        ensures { result ≡ can_complete self }
+        ensures { result ≡ spec.can_complete self }
     {
         match self {
             Behaviour::Continue => true,
@@ -120,7 +103,7 @@ impl Behaviour {
 
 /// Whether a rule takes these behaviours.
 fn takes_behaviours(rule: Rule, on_ok: Behaviour, on_err: Behaviour) -> bool
-    ensures { result ≡ takes_behaviours rule on_ok on_err }
+    ensures { result ≡ spec.takes_behaviours rule on_ok on_err }
 {
     match rule {
         Rule::Watch => on_ok.continues() && on_err.continues(),
@@ -136,7 +119,7 @@ impl CompletionRoutine {
     /// twice; keep_on_error continues on a success and else keeps; free does any of these. What replaces can complete a
     /// packet, whatever the rule (this project's own format, docs/FORMATS.md).
     pub fn obeys_its_rule(self) -> bool
-        ensures { result ≡ obeys_its_rule self }
+        ensures { result ≡ spec.obeys_its_rule self }
     {
         self.on_ok.can_complete()
             && self.on_err.can_complete()
@@ -146,7 +129,7 @@ impl CompletionRoutine {
 
 /// One more than so many of one kind, where there may be one more.
 pub fn one_more(count: u32) -> Option<u32>
-    ensures { result ≡ one_more count }
+    ensures { result ≡ spec.one_more count }
 {
     if count < MOST_ROUTINES {
         Some(count + 1)
@@ -158,31 +141,16 @@ pub fn one_more(count: u32) -> Option<u32>
 /// The counts with one more routine of a rule, where there may be one more.
 #[tactic(auto, unfolding(crate::specs::Routines::counted))]
 pub fn counted(counts: Known, rule: Rule) -> Option<Known>
-    ensures { result ≡ counted counts rule }
+    ensures { result ≡ spec.counted counts rule }
 {
     match rule {
-        Rule::Watch => {
-            let watch = one_more(counts.watch)?;
-            Some(Known { watch, ..counts })
-        }
-        Rule::Change => {
-            let change = one_more(counts.change)?;
-            Some(Known { change, ..counts })
-        }
-        Rule::Keeper => {
-            let keeper = one_more(counts.keeper)?;
-            Some(Known { keeper, ..counts })
-        }
-        Rule::KeepOnError => {
-            let keep_on_error = one_more(counts.keep_on_error)?;
-            Some(Known {
-                keep_on_error,
-                ..counts
-            })
-        }
-        Rule::Free => {
-            let free = one_more(counts.free)?;
-            Some(Known { free, ..counts })
-        }
+        Rule::Watch => one_more(counts.watch).map(|watch| Known { watch, ..counts }),
+        Rule::Change => one_more(counts.change).map(|change| Known { change, ..counts }),
+        Rule::Keeper => one_more(counts.keeper).map(|keeper| Known { keeper, ..counts }),
+        Rule::KeepOnError => one_more(counts.keep_on_error).map(|keep_on_error| Known {
+            keep_on_error,
+            ..counts
+        }),
+        Rule::Free => one_more(counts.free).map(|free| Known { free, ..counts }),
     }
 }

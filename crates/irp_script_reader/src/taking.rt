@@ -35,10 +35,7 @@ pub trait Taking {
 pub fn formed<T>(read: Option<T>) -> Result<T, Stop>
     ensures { Gives result (formed read) }
 {
-    match read {
-        Some(value) => Ok(value),
-        None => Err(Stop::Fault(Fault::BadField)),
-    }
+    read.ok_or(Stop::Fault(Fault::BadField))
 }
 
 /// The fault, unless this holds.
