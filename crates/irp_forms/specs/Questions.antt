@@ -59,7 +59,7 @@ shown_at form = if has_items 12 form then (do
   })) else None
 
 -- a dispatch routine's question: its number, its plan and what it was shown
-unfoldable pub dispatch_asked_at : Data → Option Asked
+abbrev pub dispatch_asked_at : Data → Option Asked
 dispatch_asked_at form = do
   id ← get (codes "dispatch") form >>= dispatch_at
   shown ← get (codes "shown") form >>= shown_at
@@ -67,7 +67,7 @@ dispatch_asked_at form = do
   Some (questions.Dispatch id shown plan)
 
 -- a completion routine's question: its rule and number, its answer and what it was shown
-unfoldable pub completion_asked_at : Data → Option Asked
+abbrev pub completion_asked_at : Data → Option Asked
 completion_asked_at form = do
   id ← get (codes "completion") form >>= routine_at
   shown ← get (codes "shown") form >>= shown_at
@@ -75,7 +75,7 @@ completion_asked_at form = do
   Some (questions.Completion id shown answer)
 
 -- a cancel routine's question: its number, its answer and what it was shown
-unfoldable pub cancel_asked_at : Data → Option Asked
+abbrev pub cancel_asked_at : Data → Option Asked
 cancel_asked_at form = do
   id ← get (codes "cancel") form >>= cancel_at
   shown ← get (codes "shown") form >>= shown_at

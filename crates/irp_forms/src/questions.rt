@@ -103,39 +103,6 @@ impl FromValue for Shown {
     }
 }
 
-/// A dispatch routine's question.
-#[tactic(auto, unfolding(crate::specs::Questions::dispatch_asked_at))]
-fn dispatch_asked_at(value: &Value) -> Option<Asked>
-    ensures { result ≡ spec.dispatch_asked_at (view value.now) }
-{
-    let id = under("dispatch", value)?;
-    let shown = under("shown", value)?;
-    let plan = under("plan", value)?;
-    Some(Asked::Dispatch { id, shown, plan })
-}
-
-/// A completion routine's question.
-#[tactic(auto, unfolding(crate::specs::Questions::completion_asked_at))]
-fn completion_asked_at(value: &Value) -> Option<Asked>
-    ensures { result ≡ spec.completion_asked_at (view value.now) }
-{
-    let id = under("completion", value)?;
-    let shown = under("shown", value)?;
-    let answer = under("answer", value)?;
-    Some(Asked::Completion { id, shown, answer })
-}
-
-/// A cancel routine's question.
-#[tactic(auto, unfolding(crate::specs::Questions::cancel_asked_at))]
-fn cancel_asked_at(value: &Value) -> Option<Asked>
-    ensures { result ≡ spec.cancel_asked_at (view value.now) }
-{
-    let id = under("cancel", value)?;
-    let shown = under("shown", value)?;
-    let answer = under("answer", value)?;
-    Some(Asked::Cancel { id, shown, answer })
-}
-
 /// A question, by the keys that it has (this project's own format, docs/FORMATS.md).
 impl FromValue for Asked {
     ghost form = { spec.asked_at };
@@ -143,11 +110,17 @@ impl FromValue for Asked {
     #[tactic(auto, unfolding(crate::specs::Questions::asked_at))]
     fn from_value(value: &Value) -> Option<Self> {
         if has_keys(value, &["dispatch", "plan", "shown"]) {
-            dispatch_asked_at(value)
+            let id = under("dispatch", value)?;
+            let shown = under("shown", value)?;
+            under("plan", value).map(|plan| Asked::Dispatch { id, shown, plan })
         } else if has_keys(value, &["answer", "completion", "shown"]) {
-            completion_asked_at(value)
+            let id = under("completion", value)?;
+            let shown = under("shown", value)?;
+            under("answer", value).map(|answer| Asked::Completion { id, shown, answer })
         } else if has_keys(value, &["answer", "cancel", "shown"]) {
-            cancel_asked_at(value)
+            let id = under("cancel", value)?;
+            let shown = under("shown", value)?;
+            under("answer", value).map(|answer| Asked::Cancel { id, shown, answer })
         } else {
             None
         }
