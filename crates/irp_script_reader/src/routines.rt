@@ -121,11 +121,7 @@ impl CompletionRoutine {
 pub fn one_more(count: u32) -> Option<u32>
     ensures { result ≡ spec.one_more count }
 {
-    if count < MOST_ROUTINES {
-        Some(count + 1)
-    } else {
-        None
-    }
+    (count < MOST_ROUTINES).then(|| count + 1)
 }
 
 /// The counts with one more routine of a rule, where there may be one more.
