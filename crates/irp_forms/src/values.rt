@@ -97,12 +97,7 @@ impl FromValue for Party {
     #[tactic(auto, unfolding(crate::specs::Values::party_at))]
     fn from_value(value: &Value) -> Option<Self> {
         match value {
-            Value::String(name) => {
-                match name.as_str() {
-                    "o" => Some(Party::Originator),
-                    _ => None,
-                }
-            }
+            Value::String(name) => (name.as_str() == "o").then_some(Party::Originator),
             _ => Some(Party::Device(DeviceId::from_value(value)?)),
         }
     }
