@@ -9,7 +9,6 @@ use Rattle.irp_types.specs.declared.answer.Answer.{Answer}
 use Rattle.irp_types.specs.declared.asked.Asked.{Asked}
 use Rattle.irp_types.specs.declared.asked.Asked.TheVariants as questions
 use Rattle.irp_types.specs.declared.shown.Shown.{Shown}
-use Rattle.irp_forms.specs.declared.questions.Place.{Place}
 
 -- whether a completion routine keeps the packet or continues
 unfoldable pub keep_named : List ℕ → Option Bool
@@ -23,21 +22,15 @@ answer_at form = if has_items 3 form then (do
   replacement ← at 2 form >>= or_null_at replacement_at
   Some (record { keep = keep; mark = mark; replacement = replacement })) else None
 
--- the first six things that a closure is shown
-unfoldable pub place_at : Data → Option Place
-place_at form = do
+-- what a closure is shown, of twelve items
+unfoldable pub shown_at : Data → Option Shown
+shown_at form = if has_items 12 form then (do
   device ← at 0 form >>= or_null_at device_at
   slot ← at 1 form >>= u32_at
   use_no ← at 2 form >>= u64_at
   major ← at 3 form >>= u8_at
   location ← at 4 form >>= u32_at
   word ← at 5 form >>= u64_at
-  Some (record { device = device; irp = record { slot = slot; use_no = use_no }; major = major; location = location; word = word })
-
--- what a closure is shown, of twelve items
-unfoldable pub shown_at : Data → Option Shown
-shown_at form = if has_items 12 form then (do
-  place ← place_at form
   status ← at 6 form >>= status_at
   information ← at 7 form >>= u64_at
   pending_returned ← at 8 form >>= as_bool
@@ -45,11 +38,11 @@ shown_at form = if has_items 12 form then (do
   context ← at 10 form >>= u64_at
   has_lower ← at 11 form >>= as_bool
   Some (record {
-    device = place.device;
-    irp = place.irp;
-    major = place.major;
-    location = place.location;
-    word = place.word;
+    device = device;
+    irp = record { slot = slot; use_no = use_no };
+    major = major;
+    location = location;
+    word = word;
     status = status;
     information = information;
     pending_returned = pending_returned;
@@ -59,7 +52,7 @@ shown_at form = if has_items 12 form then (do
   })) else None
 
 -- a dispatch routine's question: its number, its plan and what it was shown
-unfoldable pub dispatch_asked_at : Data → Option Asked
+abbrev pub dispatch_asked_at : Data → Option Asked
 dispatch_asked_at form = do
   id ← get (codes "dispatch") form >>= dispatch_at
   shown ← get (codes "shown") form >>= shown_at
@@ -67,7 +60,7 @@ dispatch_asked_at form = do
   Some (questions.Dispatch id shown plan)
 
 -- a completion routine's question: its rule and number, its answer and what it was shown
-unfoldable pub completion_asked_at : Data → Option Asked
+abbrev pub completion_asked_at : Data → Option Asked
 completion_asked_at form = do
   id ← get (codes "completion") form >>= routine_at
   shown ← get (codes "shown") form >>= shown_at
@@ -75,7 +68,7 @@ completion_asked_at form = do
   Some (questions.Completion id shown answer)
 
 -- a cancel routine's question: its number, its answer and what it was shown
-unfoldable pub cancel_asked_at : Data → Option Asked
+abbrev pub cancel_asked_at : Data → Option Asked
 cancel_asked_at form = do
   id ← get (codes "cancel") form >>= cancel_at
   shown ← get (codes "shown") form >>= shown_at

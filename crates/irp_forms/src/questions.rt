@@ -6,18 +6,8 @@ ghost use Rattle.irp_forms.specs.Questions as spec;
 
 use crate::from_value::{FromValue, nth, under};
 use crate::parts::{has_keys, of_items};
-use irp_types::{Answer, Asked, DeviceId, IrpRef, Shown};
+use irp_types::{Answer, Asked, IrpRef, Shown};
 use serde_json::Value;
-
-/// The first of what a closure is shown: the packet, and where it is.
-#[derive(Clone, Copy)]
-pub struct Place {
-    pub device: Option<DeviceId>,
-    pub irp: IrpRef,
-    pub major: u8,
-    pub location: u32,
-    pub word: u64,
-}
 
 /// Whether a completion routine whose answer has this name keeps the packet or continues (this project's own format,
 /// docs/FORMATS.md).
@@ -50,29 +40,6 @@ impl FromValue for Answer {
     }
 }
 
-/// The first six things that a closure is shown.
-#[tactic(auto, unfolding(crate::specs::Questions::place_at))]
-fn place_at(value: &Value) -> Option<Place>
-    ensures { result ≡ spec.place_at (view value.now) }
-{
-    let device = nth(0, value)?;
-    let slot: u32 = nth(1, value)?;
-    let use_no = nth(2, value)?;
-    let major = nth(3, value)?;
-    let location = nth(4, value)?;
-    let word = nth(5, value)?;
-    Some(Place {
-        device,
-        irp: IrpRef {
-            slot: slot as usize,
-            use_no,
-        },
-        major,
-        location,
-        word,
-    })
-}
-
 /// What a closure is shown, of twelve items.
 impl FromValue for Shown {
     ghost form = { spec.shown_at };
@@ -80,7 +47,12 @@ impl FromValue for Shown {
     #[tactic(auto, unfolding(crate::specs::Questions::shown_at))]
     fn from_value(value: &Value) -> Option<Self> {
         of_items(value, 12)?;
-        let place = place_at(value)?;
+        let device = nth(0, value)?;
+        let slot: u32 = nth(1, value)?;
+        let use_no = nth(2, value)?;
+        let major = nth(3, value)?;
+        let location = nth(4, value)?;
+        let word = nth(5, value)?;
         let status = nth(6, value)?;
         let information = nth(7, value)?;
         let pending_returned = nth(8, value)?;
@@ -88,11 +60,14 @@ impl FromValue for Shown {
         let context = nth(10, value)?;
         let has_lower = nth(11, value)?;
         Some(Shown {
-            device: place.device,
-            irp: place.irp,
-            major: place.major,
-            location: place.location,
-            word: place.word,
+            device,
+            irp: IrpRef {
+                slot: slot as usize,
+                use_no,
+            },
+            major,
+            location,
+            word,
             status,
             information,
             pending_returned,
@@ -103,39 +78,6 @@ impl FromValue for Shown {
     }
 }
 
-/// A dispatch routine's question.
-#[tactic(auto, unfolding(crate::specs::Questions::dispatch_asked_at))]
-fn dispatch_asked_at(value: &Value) -> Option<Asked>
-    ensures { result ≡ spec.dispatch_asked_at (view value.now) }
-{
-    let id = under("dispatch", value)?;
-    let shown = under("shown", value)?;
-    let plan = under("plan", value)?;
-    Some(Asked::Dispatch { id, shown, plan })
-}
-
-/// A completion routine's question.
-#[tactic(auto, unfolding(crate::specs::Questions::completion_asked_at))]
-fn completion_asked_at(value: &Value) -> Option<Asked>
-    ensures { result ≡ spec.completion_asked_at (view value.now) }
-{
-    let id = under("completion", value)?;
-    let shown = under("shown", value)?;
-    let answer = under("answer", value)?;
-    Some(Asked::Completion { id, shown, answer })
-}
-
-/// A cancel routine's question.
-#[tactic(auto, unfolding(crate::specs::Questions::cancel_asked_at))]
-fn cancel_asked_at(value: &Value) -> Option<Asked>
-    ensures { result ≡ spec.cancel_asked_at (view value.now) }
-{
-    let id = under("cancel", value)?;
-    let shown = under("shown", value)?;
-    let answer = under("answer", value)?;
-    Some(Asked::Cancel { id, shown, answer })
-}
-
 /// A question, by the keys that it has (this project's own format, docs/FORMATS.md).
 impl FromValue for Asked {
     ghost form = { spec.asked_at };
@@ -143,11 +85,17 @@ impl FromValue for Asked {
     #[tactic(auto, unfolding(crate::specs::Questions::asked_at))]
     fn from_value(value: &Value) -> Option<Self> {
         if has_keys(value, &["dispatch", "plan", "shown"]) {
-            dispatch_asked_at(value)
+            let id = under("dispatch", value)?;
+            let shown = under("shown", value)?;
+            under("plan", value).map(|plan| Asked::Dispatch { id, shown, plan })
         } else if has_keys(value, &["answer", "completion", "shown"]) {
-            completion_asked_at(value)
+            let id = under("completion", value)?;
+            let shown = under("shown", value)?;
+            under("answer", value).map(|answer| Asked::Completion { id, shown, answer })
         } else if has_keys(value, &["answer", "cancel", "shown"]) {
-            cancel_asked_at(value)
+            let id = under("cancel", value)?;
+            let shown = under("shown", value)?;
+            under("answer", value).map(|answer| Asked::Cancel { id, shown, answer })
         } else {
             None
         }

@@ -97,12 +97,7 @@ impl FromValue for Party {
     #[tactic(auto, unfolding(crate::specs::Values::party_at))]
     fn from_value(value: &Value) -> Option<Self> {
         match value {
-            Value::String(name) => {
-                match name.as_str() {
-                    "o" => Some(Party::Originator),
-                    _ => None,
-                }
-            }
+            Value::String(name) => (name.as_str() == "o").then_some(Party::Originator),
             _ => Some(Party::Device(DeviceId::from_value(value)?)),
         }
     }
@@ -162,37 +157,6 @@ impl FromValue for Replacement {
     }
 }
 
-/// A plan by its name.
-fn plan_named(name: &str, value: &Value) -> Option<Plan>
-    ensures { result ≡ spec.plan_named name.now (view value.now) }
-{
-    match name {
-        "finish" => {
-            of_items(value, 3)?;
-            let status = nth(1, value)?;
-            nth(2, value).map(|information| Plan::Finish {
-                status,
-                information,
-            })
-        }
-        "hold" => {
-            of_items(value, 2)?;
-            nth(1, value).map(|cancel| Plan::Hold { cancel })
-        }
-        "hold_slot" => has_items(value, 1).then_some(Plan::HoldSlot),
-        "skip" => has_items(value, 1).then_some(Plan::Skip),
-        "forward" => {
-            of_items(value, 2)?;
-            nth(1, value).map(|set| Plan::Forward { set })
-        }
-        "forward_pend" => {
-            of_items(value, 2)?;
-            nth(1, value).map(|set| Plan::ForwardPend { set })
-        }
-        _ => None,
-    }
-}
-
 /// A plan: its name, which stands first, and what it names. `Plan::HoldSlot` is a plan of form 2 alone, and is read in
 /// either form: a reader of form 1 refuses it (this project's own format, docs/FORMATS.md).
 impl FromValue for Plan {
@@ -200,21 +164,31 @@ impl FromValue for Plan {
 
     #[tactic(auto, unfolding(crate::specs::Values::plan_at))]
     fn from_value(value: &Value) -> Option<Self> {
-        plan_named(value.get(0)?.as_str()?, value)
-    }
-}
-
-/// A cancel routine's answer by its name.
-fn cancel_answer_named(name: &str, value: &Value) -> Option<CancelAnswer>
-    ensures { result ≡ spec.cancel_answer_named name.now (view value.now) }
-{
-    match name {
-        "finish" => {
-            of_items(value, 2)?;
-            nth(1, value).map(|information| CancelAnswer::Finish { information })
+        match value.get(0)?.as_str()? {
+            "finish" => {
+                of_items(value, 3)?;
+                let status = nth(1, value)?;
+                nth(2, value).map(|information| Plan::Finish {
+                    status,
+                    information,
+                })
+            }
+            "hold" => {
+                of_items(value, 2)?;
+                nth(1, value).map(|cancel| Plan::Hold { cancel })
+            }
+            "hold_slot" => has_items(value, 1).then_some(Plan::HoldSlot),
+            "skip" => has_items(value, 1).then_some(Plan::Skip),
+            "forward" => {
+                of_items(value, 2)?;
+                nth(1, value).map(|set| Plan::Forward { set })
+            }
+            "forward_pend" => {
+                of_items(value, 2)?;
+                nth(1, value).map(|set| Plan::ForwardPend { set })
+            }
+            _ => None,
         }
-        "leave" => has_items(value, 1).then_some(CancelAnswer::Leave),
-        _ => None,
     }
 }
 
@@ -225,7 +199,14 @@ impl FromValue for CancelAnswer {
 
     #[tactic(auto, unfolding(crate::specs::Values::cancel_answer_at))]
     fn from_value(value: &Value) -> Option<Self> {
-        cancel_answer_named(value.get(0)?.as_str()?, value)
+        match value.get(0)?.as_str()? {
+            "finish" => {
+                of_items(value, 2)?;
+                nth(1, value).map(|information| CancelAnswer::Finish { information })
+            }
+            "leave" => has_items(value, 1).then_some(CancelAnswer::Leave),
+            _ => None,
+        }
     }
 }
 

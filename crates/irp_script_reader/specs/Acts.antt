@@ -19,13 +19,13 @@ use Rattle.irp_script_reader.specs.declared.act.StepAct.TheVariants as act
 abbrev pub beside : Keys
 beside = codes "seat" ∷ []
 
-unfoldable pub delete_at : Data → Option StepAct
+abbrev pub delete_at : Data → Option StepAct
 delete_at form = if has_keys (codes "device" ∷ codes "do" ∷ codes "seat" ∷ []) form then (do
   device ← get (codes "device") form >>= device_at
   Some (act.Call (Delete device))) else None
 
 -- a new packet, whose label has this place
-unfoldable pub allocate_at : ℕ → Data → Option StepAct
+abbrev pub allocate_at : ℕ → Data → Option StepAct
 allocate_at place form = if has_keys (codes "as" ∷ codes "do" ∷ codes "seat" ∷ codes "size" ∷ []) form then (do
   size ← get (codes "size") form >>= u8_at
   label ← get (codes "as") form >>= as_str
@@ -33,13 +33,13 @@ allocate_at place form = if has_keys (codes "as" ∷ codes "do" ∷ codes "seat"
 
 -- ---- cancel slots
 
-unfoldable pub publish_at : ℕ → Data → Option StepAct
+abbrev pub publish_at : ℕ → Data → Option StepAct
 publish_at place form = if has_keys (codes "do" ∷ codes "irp" ∷ codes "seat" ∷ codes "slot" ∷ []) form then (do
   slot ← get (codes "slot") form >>= u32_at
   irp ← get (codes "irp") form >>= named_at place
   Some (act.Publish slot irp)) else None
 
-unfoldable pub finish_taken_at : ℕ → Data → Option StepAct
+abbrev pub finish_taken_at : ℕ → Data → Option StepAct
 finish_taken_at place form =
     if has_keys (codes "do" ∷ codes "information" ∷ codes "irp" ∷ codes "seat" ∷ codes "slot" ∷ codes "status" ∷ []) form then (do
       irp ← get (codes "irp") form >>= named_at place
@@ -51,7 +51,7 @@ finish_taken_at place form =
 -- ---- all of them
 
 -- by its name, where a label that it names has this place
-unfoldable pub act_named : ℕ → List ℕ → Data → Option StepAct
+abbrev pub act_named : ℕ → List ℕ → Data → Option StepAct
 act_named place name form =
     if bytes_eq name (codes "delete") then delete_at form else
     (if bytes_eq name (codes "allocate") then allocate_at place form else

@@ -16,19 +16,19 @@ use Rattle.irp_script_reader.specs.declared.script.Behaviour.TheVariants.{Contin
 use Rattle.irp_script_reader.specs.declared.script.CompletionRoutine.{CompletionRoutine}
 
 -- a behaviour that has a name
-unfoldable pub behaviour_named : List ℕ → Option Behaviour
+abbrev pub behaviour_named : List ℕ → Option Behaviour
 behaviour_named name =
     if bytes_eq name (codes "continue") then Some Continue else
     (if bytes_eq name (codes "keep") then Some Keep else None)
 
 -- `["replace",status,information]`
-unfoldable pub replace_named : List ℕ → Data → Option Behaviour
+abbrev pub replace_named : List ℕ → Data → Option Behaviour
 replace_named name form = if bytes_eq name (codes "replace") then (do
   status ← at 1 form >>= status_at
   information ← at 2 form >>= u64_at
   Some (Replace (record { status = status; information = information }))) else None
 
-unfoldable pub replace_at : Data → Option Behaviour
+abbrev pub replace_at : Data → Option Behaviour
 replace_at form =
     if has_items 3 form then (at 0 form >>= λ first. as_str first >>= λ name. replace_named name form) else None
 

@@ -11,7 +11,6 @@ use irp_types::Call;
 use serde_json::Value;
 
 /// A device deleted.
-#[tactic(auto, unfolding(crate::specs::Acts::delete_at))]
 fn delete_at(value: &Value) -> Option<StepAct>
     ensures { result ≡ spec.delete_at (view value.now) }
 {
@@ -20,7 +19,6 @@ fn delete_at(value: &Value) -> Option<StepAct>
 }
 
 /// A new packet, whose label has this place.
-#[tactic(auto, unfolding(crate::specs::Acts::allocate_at))]
 fn allocate_at(place: usize, value: &Value) -> Option<StepAct>
     ensures { result ≡ spec.allocate_at place (view value.now) }
 {
@@ -31,7 +29,6 @@ fn allocate_at(place: usize, value: &Value) -> Option<StepAct>
 }
 
 /// A use put into a slot.
-#[tactic(auto, unfolding(crate::specs::Acts::publish_at))]
 fn publish_at(place: usize, value: &Value) -> Option<StepAct>
     ensures { result ≡ spec.publish_at place (view value.now) }
 {
@@ -41,7 +38,6 @@ fn publish_at(place: usize, value: &Value) -> Option<StepAct>
 }
 
 /// A taken packet finished.
-#[tactic(auto, unfolding(crate::specs::Acts::finish_taken_at))]
 fn finish_taken_at(place: usize, value: &Value) -> Option<StepAct>
     ensures { result ≡ spec.finish_taken_at place (view value.now) }
 {
@@ -62,11 +58,12 @@ fn finish_taken_at(place: usize, value: &Value) -> Option<StepAct>
     }))
 }
 
-/// What is done, by its name, where a label that it names has this place.
-#[tactic(auto, unfolding(crate::specs::Acts::act_named))]
-fn act_named(place: usize, name: &str, value: &Value) -> Option<StepAct>
-    ensures { result ≡ spec.act_named place name.now (view value.now) }
+/// What a step does, where a label that it names has this place.
+#[tactic(auto, unfolding(crate::specs::Acts::act_at))]
+fn act_at(place: usize, value: &Value) -> Option<StepAct>
+    ensures { result ≡ spec.act_at place (view value.now) }
 {
+    let name = value.get("do").and_then(Value::as_str)?;
     match name {
         "delete" => delete_at(value),
         "allocate" => allocate_at(place, value),
@@ -80,14 +77,6 @@ fn act_named(place: usize, name: &str, value: &Value) -> Option<StepAct>
             None => call_named(name, &["seat"], packet_in(place, value), value).map(StepAct::Call),
         },
     }
-}
-
-/// What a step does, where a label that it names has this place.
-#[tactic(auto, unfolding(crate::specs::Acts::act_at))]
-fn act_at(place: usize, value: &Value) -> Option<StepAct>
-    ensures { result ≡ spec.act_at place (view value.now) }
-{
-    act_named(place, value.get("do").and_then(Value::as_str)?, value)
 }
 
 /// A step, where a label that it names has this place (this project's own format, docs/FORMATS.md).

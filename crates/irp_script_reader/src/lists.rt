@@ -112,8 +112,7 @@ impl Taking for Dispatches {
         unless(form.may_plan(plan), Fault::BadField)?;
         unless(is_plan_sound(plan), Fault::RuleBroken)?;
         unless(names_known(known, plan), Fault::NoRoutine)?;
-        let room = plans.as_slice().len() < MOST_DISPATCHES;
-        unless(room, Fault::TooMany)?;
+        unless(plans.as_slice().len() < MOST_DISPATCHES, Fault::TooMany)?;
         let plans = with_item(plans, plan)?;
         Ok(Dispatches { form, known, plans })
     }
@@ -140,8 +139,7 @@ impl Taking for Drivers {
         let table = table_at(alloc, value)?;
         let dispatches = self.dispatches;
         unless(is_driver(dispatches, table.as_slice()), Fault::BadDispatch)?;
-        let room = self.tables.as_slice().len() < MOST_DRIVERS;
-        unless(room, Fault::TooMany)?;
+        unless(self.tables.as_slice().len() < MOST_DRIVERS, Fault::TooMany)?;
         let tables = with_item(self.tables, table)?;
         Ok(Drivers { dispatches, tables })
     }
@@ -167,21 +165,12 @@ impl Taking for Steps {
     fn take(self, alloc: Global, value: &Value) -> Result<Self, Stop> {
         let step = formed(step_at(self.labels.place_in(value), value))?;
         unless(self.may_have(step), Fault::BadField)?;
-        let Steps {
-            form,
-            seats,
-            in_setup,
-            labels,
-            steps,
-        } = self;
-        let labels = labels.with_label_in(alloc, value)?;
-        let steps = with_item(steps, step)?;
+        let labels = self.labels.with_label_in(alloc, value)?;
+        let steps = with_item(self.steps, step)?;
         Ok(Steps {
-            form,
-            seats,
-            in_setup,
             labels,
             steps,
+            ..self
         })
     }
 }

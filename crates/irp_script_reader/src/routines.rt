@@ -11,7 +11,6 @@ use irp_types::{Known, Replacement, Rule};
 use serde_json::Value;
 
 /// A behaviour that has a name.
-#[tactic(auto, unfolding(crate::specs::Routines::behaviour_named))]
 fn behaviour_named(name: &str) -> Option<Behaviour>
     ensures { result ≡ spec.behaviour_named name.now }
 {
@@ -22,12 +21,12 @@ fn behaviour_named(name: &str) -> Option<Behaviour>
     }
 }
 
-/// A replacement, where this is its name.
-#[tactic(auto, unfolding(crate::specs::Routines::replace_named))]
-fn replace_named(name: &str, value: &Value) -> Option<Behaviour>
-    ensures { result ≡ spec.replace_named name.now (view value.now) }
+/// A replacement.
+fn replace_at(value: &Value) -> Option<Behaviour>
+    ensures { result ≡ spec.replace_at (view value.now) }
 {
-    if name != "replace" {
+    of_items(value, 3)?;
+    if value.get(0).and_then(Value::as_str)? != "replace" {
         return None;
     }
     let status = nth(1, value)?;
@@ -36,15 +35,6 @@ fn replace_named(name: &str, value: &Value) -> Option<Behaviour>
         status,
         information,
     }))
-}
-
-/// A replacement.
-#[tactic(auto, unfolding(crate::specs::Routines::replace_at))]
-fn replace_at(value: &Value) -> Option<Behaviour>
-    ensures { result ≡ spec.replace_at (view value.now) }
-{
-    of_items(value, 3)?;
-    replace_named(value.get(0).and_then(Value::as_str)?, value)
 }
 
 /// A behaviour.
@@ -131,11 +121,7 @@ impl CompletionRoutine {
 pub fn one_more(count: u32) -> Option<u32>
     ensures { result ≡ spec.one_more count }
 {
-    if count < MOST_ROUTINES {
-        Some(count + 1)
-    } else {
-        None
-    }
+    (count < MOST_ROUTINES).then(|| count + 1)
 }
 
 /// The counts with one more routine of a rule, where there may be one more.
