@@ -1,5 +1,6 @@
 -- Transcripts as the formats read them from bytes, line after line.
 use Rattle.std.specs.Prelude.{◌≡◌, ℕ, zero, suc, ◌+◌, ◌<◌, ◌≤◌, ◌==◌, ◌&&◌, nat_lt, List, [], ◌∷◌, ◌++◌, length, codes, Bool, true, is_some, IsUtf8, Option, Some, None, Result, Ok, Err, if◌then◌else◌}
+use Rattle.std.specs.Bool.{then_some}
 use Rattle.serde_json.specs.Data.{Data}
 use Rattle.serde_json.specs.Find.{get}
 use Rattle.serde_json.specs.Read.{read}
@@ -42,7 +43,7 @@ hands_within seats other = true
 -- a word line of one of these seats, which the form has
 unfoldable pub seated_word_at : Form → ℕ → Data → Option WordLine
 seated_word_at kind seats form = word_line_at form >>= λ line.
-    if (nat_lt line.seat seats && hands_within seats line.act) && has_word kind line then Some line else None
+    then_some ((nat_lt line.seat seats && hands_within seats line.act) && has_word kind line) line
 
 -- another entry may stand here: before the word lines, and where there are not too many
 abbrev pub has_room : TranscriptValue → Bool

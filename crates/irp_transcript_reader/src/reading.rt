@@ -4,20 +4,8 @@ ghost use Rattle.std.specs.Prelude.{◌≡◌};
 ghost use Rattle.serde_json.specs.View.{view};
 ghost use Rattle.irp_forms.specs.Parts.{Gives};
 ghost use Rattle.irp_shared.specs.Transcripts.{no_lines};
-ghost use Rattle.irp_transcript_reader.specs.Reading.{
-  GivesHeader,
-  GivesLine,
-  IsEntryLine,
-  TakesLine,
-  TakesValue,
-  hands_within,
-  seated_word_at,
-  so_far,
-  with_entry,
-  with_entry_at,
-  with_line,
-  with_word,
-};
+ghost use Rattle.irp_transcript_reader.specs.Reading as spec;
+ghost use Rattle.irp_transcript_reader.specs.Reading.{GivesLine, TakesLine, so_far};
 
 use crate::entries::entry_at;
 use crate::forms::{has_entry, has_word};
@@ -47,7 +35,7 @@ pub struct Reading {
 
 /// Whether a step hands over to one of these seats, if it hands over.
 fn hands_within(seats: u32, act: Act) -> bool
-    ensures { result ≡ hands_within seats act }
+    ensures { result ≡ spec.hands_within seats act }
 {
     match act {
         Act::Hand(hand) => hand.to < seats,
@@ -58,19 +46,16 @@ fn hands_within(seats: u32, act: Act) -> bool
 /// A word line of one of these seats, which the form has.
 #[tactic(auto, unfolding(crate::specs::Reading::seated_word_at))]
 fn seated_word_at(form: Form, seats: u32, value: &Value) -> Option<WordLine>
-    ensures { result ≡ seated_word_at form seats (view value.now) }
+    ensures { result ≡ spec.seated_word_at form seats (view value.now) }
 {
     let line = word_line_at(value)?;
-    if line.seat < seats && hands_within(seats, line.act) && has_word(form, line) {
-        Some(line)
-    } else {
-        None
-    }
+    let may_stand = line.seat < seats && hands_within(seats, line.act) && has_word(form, line);
+    may_stand.then_some(line)
 }
 
 /// A header that the formats accept.
 fn accepted_header_at(alloc: Global, value: &Value) -> Result<Header, Unread>
-    ensures { GivesHeader result (view value.now) }
+    ensures { spec.GivesHeader result (view value.now) }
 {
     let header = header_at(alloc, value)?;
     if header.is_accepted() {
@@ -96,7 +81,7 @@ impl Reading {
     #[tactic(auto, unfolding(crate::specs::Reading::with_entry))]
     fn take_entry(&mut self, form: Form, seats: u32, entry: Entry) -> Result<(), Unread>
         ensures { GivesLine result
-            (with_entry form seats (so_far self.old) entry) (so_far self.new) }
+            (spec.with_entry form seats (so_far self.old) entry) (so_far self.new) }
     {
         if !self.words.is_empty() || self.entries.len() >= MOST_ENTRIES {
             return Err(Unread::Form);
@@ -119,8 +104,8 @@ impl Reading {
         seats: u32,
         value: &Value,
     ) -> Result<(), Unread>
-        ensures { GivesLine result (with_entry_at form seats (so_far self.old) (view value.now))
-            (so_far self.new) }
+        ensures { GivesLine result
+            (spec.with_entry_at form seats (so_far self.old) (view value.now)) (so_far self.new) }
     {
         let entry = entry_at(alloc, value)?;
         self.take_entry(form, seats, entry)
@@ -129,7 +114,7 @@ impl Reading {
     /// Takes a word line.
     #[tactic(auto, unfolding(crate::specs::Reading::with_word))]
     fn take_word(&mut self, form: Form, seats: u32, value: &Value) -> Result<(), Unread>
-        ensures { GivesLine result (with_word form seats (so_far self.old) (view value.now))
+        ensures { GivesLine result (spec.with_word form seats (so_far self.old) (view value.now))
             (so_far self.new) }
     {
         let line = form_of(seated_word_at(form, seats, value))?;
@@ -148,7 +133,7 @@ impl Reading {
         seats: u32,
         value: &Value,
     ) -> Result<(), Unread>
-        ensures { GivesLine result (with_line form seats (so_far self.old) (view value.now))
+        ensures { GivesLine result (spec.with_line form seats (so_far self.old) (view value.now))
             (so_far self.new) }
     {
         if value.get("call").is_some() {
@@ -160,7 +145,7 @@ impl Reading {
 
     /// Takes the header's value first, and then those of entries and word lines.
     fn take_value(&mut self, alloc: Global, value: &Value) -> Result<(), Unread>
-        ensures { TakesValue result (so_far self.old) (view value.now) (so_far self.new) }
+        ensures { spec.TakesValue result (so_far self.old) (view value.now) (so_far self.new) }
     {
         match &self.header {
             None => {
@@ -209,7 +194,7 @@ impl Reading {
     ///
     /// As `take_line`: `Unread::Form` where the line is refused; `Unread::NoMemory` where memory ran out.
     pub fn take_known(&mut self, alloc: Global, entry: Entry, line: &[u8]) -> Result<(), Unread>
-        requires { IsEntryLine line.now entry }
+        requires { spec.IsEntryLine line.now entry }
         ensures { TakesLine result (so_far self.old) line.now (so_far self.new) }
     {
         match &self.header {
