@@ -18,10 +18,10 @@ unfolding entry_at has_keys
 entry_back entry h =
     rw (
       call_back entry.call entry.lock entry.drained h.call h.lock,
-      u64_back entry.number h.number,
-      reply_back entry.reply h.reply,
-      u32_back entry.seat h.seat,
       list_back asked_json asked_at AskedFits asked_back entry.asked h.asked,
+      u64_back entry.number h.number,
+      u32_back entry.seat h.seat,
+      reply_back entry.reply h.reply,
     )
 
 pub entry_stands : (levels : ℕ) (entry : Entry) → EntryFits entry → Stands (entry_json entry) (suc (suc (suc (suc (suc levels)))))

@@ -168,24 +168,24 @@ form_back form.One header slots_small locks_small seats_small lists =
     rw (
       u32_back 1 (omega arith),
       lists.completions,
-      u32_back header.locks locks_small,
-      u32_back header.seats seats_small,
       lists.cancels,
+      le-leb (length header.cancels) 256 lists.few,
       lists.dispatches,
       lists.drivers,
-      le-leb (length header.cancels) 256 lists.few,
+      u32_back header.locks locks_small,
+      u32_back header.seats seats_small,
     )
 form_back (form.Two slots) header slots_small locks_small seats_small lists =
     rw (
       u32_back 2 (omega arith),
       u32_back slots slots_small,
       lists.completions,
-      u32_back header.locks locks_small,
-      u32_back header.seats seats_small,
       lists.cancels,
+      le-leb (length header.cancels) 256 lists.few,
       lists.dispatches,
       lists.drivers,
-      le-leb (length header.cancels) 256 lists.few,
+      u32_back header.locks locks_small,
+      u32_back header.seats seats_small,
     )
 
 -- a header that the formats accept

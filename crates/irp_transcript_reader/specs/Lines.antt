@@ -23,10 +23,10 @@ list_under reads key form = get key form >>= list_at reads
 unfoldable pub entry_at : Data → Option Entry
 entry_at form = if has_keys (codes "asked" ∷ codes "call" ∷ codes "n" ∷ codes "reply" ∷ codes "seat" ∷ []) form then (do
   called ← get (codes "call") form >>= entry_call_at
-  place ← get (codes "n") form >>= u64_at
-  reply ← get (codes "reply") form >>= reply_at
-  seat ← get (codes "seat") form >>= u32_at
   asked ← list_under asked_at (codes "asked") form
+  place ← get (codes "n") form >>= u64_at
+  seat ← get (codes "seat") form >>= u32_at
+  reply ← get (codes "reply") form >>= reply_at
   Some (record {
     number = place;
     seat = seat;
@@ -56,12 +56,12 @@ unfoldable pub header_at : Data → Option Header
 header_at form = do
   kind ← header_form_at form
   completions ← get (codes "completions") form >>= completions_at
-  locks ← get (codes "locks") form >>= u32_at
-  seats ← get (codes "seats") form >>= u32_at
   cancels ← list_under cancel_rule_at (codes "cancels") form
+  cancel ← up_to most_routines (length cancels)
   dispatches ← list_under known_at (codes "dispatches") form
   drivers ← list_under (list_at handler_at) (codes "drivers") form
-  cancel ← up_to most_routines (length cancels)
+  locks ← get (codes "locks") form >>= u32_at
+  seats ← get (codes "seats") form >>= u32_at
   Some (record {
     cancels = cancels;
     completions = record completions { cancel = cancel };

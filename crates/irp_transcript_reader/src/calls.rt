@@ -24,9 +24,8 @@ fn allocate_at(value: &Value) -> Option<Call>
     if !has_keys(value, &["do", "size"]) {
         return None;
     }
-    Some(Call::Allocate {
-        size: under("size", value)?,
-    })
+    let size = under("size", value)?;
+    Some(Call::Allocate { size })
 }
 
 /// A call that finishes a packet which was taken from a cancel slot.

@@ -26,17 +26,14 @@ pub fn entry_at(alloc: Global, value: &Value) -> Result<Entry, Unread>
         return Err(Unread::Form);
     }
     let called = form_of(value.get("call").and_then(entry_call_at))?;
-    let number = form_of(under("n", value))?;
-    let reply = form_of(value.get("reply").and_then(reply_at))?;
-    let seat = form_of(under("seat", value))?;
     let asked: Row<Asked> = list_under(alloc, "asked", value)?;
     Ok(Entry {
-        number,
-        seat,
+        number: form_of(under("n", value))?,
+        seat: form_of(under("seat", value))?,
         call: called.call,
         lock: called.lock,
         drained: called.drained,
         asked: Questions::from_vec(asked.into_vec()),
-        reply,
+        reply: form_of(value.get("reply").and_then(reply_at))?,
     })
 }

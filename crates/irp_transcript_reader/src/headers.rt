@@ -91,16 +91,8 @@ pub fn header_at(alloc: Global, value: &Value) -> Result<Header, Unread>
     ensures { Gives result (spec.header_at (view value.now)) }
 {
     let form = form_of(header_form_at(value))?;
-    let completions = form_of(
-        value
-            .get("completions")
-            .and_then(|counts| completions_at(counts)),
-    )?;
-    let locks = form_of(under("locks", value))?;
-    let seats = form_of(under("seats", value))?;
+    let completions = form_of(value.get("completions").and_then(|it| completions_at(it)))?;
     let cancels = list_under(alloc, "cancels", value)?;
-    let dispatches = list_under(alloc, "dispatches", value)?;
-    let drivers = list_under(alloc, "drivers", value)?;
     let cancel = cancels.as_slice().len();
     if cancel > MOST_ROUTINES as usize {
         return Err(Unread::Form);
@@ -111,10 +103,10 @@ pub fn header_at(alloc: Global, value: &Value) -> Result<Header, Unread>
             cancel: cancel as u32,
             ..completions
         },
-        dispatches,
-        drivers,
+        dispatches: list_under(alloc, "dispatches", value)?,
+        drivers: list_under(alloc, "drivers", value)?,
         form,
-        locks,
-        seats,
+        locks: form_of(under("locks", value))?,
+        seats: form_of(under("seats", value))?,
     })
 }

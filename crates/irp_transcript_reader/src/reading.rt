@@ -43,28 +43,6 @@ fn hands_within(seats: u32, act: Act) -> bool
     }
 }
 
-/// A word line of one of these seats, which the form has.
-#[tactic(auto, unfolding(crate::specs::Reading::seated_word_at))]
-fn seated_word_at(form: Form, seats: u32, value: &Value) -> Option<WordLine>
-    ensures { result ≡ spec.seated_word_at form seats (view value.now) }
-{
-    let line = word_line_at(value)?;
-    let may_stand = line.seat < seats && hands_within(seats, line.act) && has_word(form, line);
-    may_stand.then_some(line)
-}
-
-/// A header that the formats accept.
-fn accepted_header_at(alloc: Global, value: &Value) -> Result<Header, Unread>
-    ensures { spec.GivesHeader result (view value.now) }
-{
-    let header = header_at(alloc, value)?;
-    if header.is_accepted() {
-        Ok(header)
-    } else {
-        Err(Unread::Form)
-    }
-}
-
 impl Reading {
     /// No lines. It takes no memory (this project's own rule).
     pub fn new(alloc: Global) -> Reading
@@ -89,39 +67,20 @@ impl Reading {
         if entry.seat >= seats || !has_entry(form, &entry) {
             return Err(Unread::Form);
         }
-        match self.entries.push(entry) {
-            Ok(()) => Ok(()),
-            Err(_) => Err(Unread::NoMemory),
-        }
+        self.entries.push(entry).map_err(|_| Unread::NoMemory)
     }
 
-    /// Takes the entry that the value is.
-    #[tactic(auto, unfolding(crate::specs::Reading::with_entry_at))]
-    fn take_entry_at(
-        &mut self,
-        alloc: Global,
-        form: Form,
-        seats: u32,
-        value: &Value,
-    ) -> Result<(), Unread>
-        ensures { GivesLine result
-            (spec.with_entry_at form seats (so_far self.old) (view value.now)) (so_far self.new) }
-    {
-        let entry = entry_at(alloc, value)?;
-        self.take_entry(form, seats, entry)
-    }
-
-    /// Takes a word line.
+    /// Takes a word line where it may stand: of one of these seats, which the form has.
     #[tactic(auto, unfolding(crate::specs::Reading::with_word))]
     fn take_word(&mut self, form: Form, seats: u32, value: &Value) -> Result<(), Unread>
         ensures { GivesLine result (spec.with_word form seats (so_far self.old) (view value.now))
             (so_far self.new) }
     {
-        let line = form_of(seated_word_at(form, seats, value))?;
-        match self.words.push(line) {
-            Ok(()) => Ok(()),
-            Err(_) => Err(Unread::NoMemory),
+        let line = form_of(word_line_at(value))?;
+        if line.seat >= seats || !hands_within(seats, line.act) || !has_word(form, line) {
+            return Err(Unread::Form);
         }
+        self.words.push(line).map_err(|_| Unread::NoMemory)
     }
 
     /// Takes an entry or a word line.
@@ -137,25 +96,28 @@ impl Reading {
             (so_far self.new) }
     {
         if value.get("call").is_some() {
-            self.take_entry_at(alloc, form, seats, value)
+            let entry = entry_at(alloc, value)?;
+            self.take_entry(form, seats, entry)
         } else {
             self.take_word(form, seats, value)
         }
     }
 
-    /// Takes the header's value first, and then those of entries and word lines.
+    /// Takes the value of a header that the formats accept first, and then those of entries and word lines.
     fn take_value(&mut self, alloc: Global, value: &Value) -> Result<(), Unread>
         ensures { spec.TakesValue result (so_far self.old) (view value.now) (so_far self.new) }
     {
         match &self.header {
             None => {
-                let header = accepted_header_at(alloc, value)?;
+                let header = header_at(alloc, value)?;
+                if !header.is_accepted() {
+                    return Err(Unread::Form);
+                }
                 self.header = Some(header);
                 Ok(())
             }
             Some(header) => {
-                let form = header.form;
-                let seats = header.seats;
+                let (form, seats) = (header.form, header.seats);
                 self.take_line_of(alloc, form, seats, value)
             }
         }
@@ -177,13 +139,8 @@ impl Reading {
         }
         match Value::from_slice(alloc, line) {
             Ok(value) => self.take_value(alloc, &value),
-            Err(error) => {
-                if error.is_memory() {
-                    Err(Unread::NoMemory)
-                } else {
-                    Err(Unread::Form)
-                }
-            }
+            Err(error) if error.is_memory() => Err(Unread::NoMemory),
+            Err(_) => Err(Unread::Form),
         }
     }
 
@@ -200,8 +157,7 @@ impl Reading {
         match &self.header {
             None => self.take_line(alloc, line),
             Some(header) => {
-                let form = header.form;
-                let seats = header.seats;
+                let (form, seats) = (header.form, header.seats);
                 self.take_entry(form, seats, entry)
             }
         }

@@ -45,42 +45,25 @@ fn seen_at(value: &Value) -> Option<Seen>
     })
 }
 
-/// A reply that names a thing, by its one key.
-#[tactic(auto, unfolding(crate::specs::Replies::naming_reply_at))]
-fn naming_reply_at(value: &Value) -> Option<Reply>
-    ensures { result ≡ spec.naming_reply_at (view value.now) }
+/// A reply that has a value, which stands under its name.
+#[tactic(auto, unfolding(crate::specs::Replies::valued_reply_at))]
+fn valued_reply_at(value: &Value) -> Option<Reply>
+    ensures { result ≡ spec.valued_reply_at (view value.now) }
 {
     if has_keys(value, &["device"]) {
-        let device = under("device", value)?;
-        Some(Reply::Device(device))
+        Some(Reply::Device(under("device", value)?))
     } else if has_keys(value, &["irp"]) {
-        let irp = under("irp", value)?;
-        Some(Reply::Irp(irp))
+        Some(Reply::Irp(under("irp", value)?))
     } else if has_keys(value, &["previous"]) {
-        let cancel = under("previous", value)?;
-        Some(Reply::Previous(cancel))
-    } else {
-        None
-    }
-}
-
-/// A reply that tells a state, by its one key.
-#[tactic(auto, unfolding(crate::specs::Replies::telling_reply_at))]
-fn telling_reply_at(value: &Value) -> Option<Reply>
-    ensures { result ≡ spec.telling_reply_at (view value.now) }
-{
-    if has_keys(value, &["status"]) {
-        let status = under("status", value)?;
-        Some(Reply::Status(status))
+        Some(Reply::Previous(under("previous", value)?))
+    } else if has_keys(value, &["status"]) {
+        Some(Reply::Status(under("status", value)?))
     } else if has_keys(value, &["cancelled"]) {
-        let cancelled = under("cancelled", value)?;
-        Some(Reply::Cancelled(cancelled))
+        Some(Reply::Cancelled(under("cancelled", value)?))
     } else if has_keys(value, &["seen"]) {
-        let seen = seen_at(value.get("seen")?)?;
-        Some(Reply::Seen(seen))
+        Some(Reply::Seen(seen_at(value.get("seen")?)?))
     } else if has_keys(value, &["refused"]) {
-        let refusal = under("refused", value)?;
-        Some(Reply::Refused(refusal))
+        Some(Reply::Refused(under("refused", value)?))
     } else {
         None
     }
@@ -91,11 +74,8 @@ fn telling_reply_at(value: &Value) -> Option<Reply>
 pub fn reply_at(value: &Value) -> Option<Reply>
     ensures { result ≡ spec.reply_at (view value.now) }
 {
-    if let Value::String(name) = value {
-        return (name.as_str() == "done").then_some(Reply::Done);
-    }
-    match naming_reply_at(value) {
-        Some(reply) => Some(reply),
-        None => telling_reply_at(value),
+    match value {
+        Value::String(name) => (name.as_str() == "done").then_some(Reply::Done),
+        _ => valued_reply_at(value),
     }
 }

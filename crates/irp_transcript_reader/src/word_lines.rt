@@ -82,30 +82,20 @@ fn act_named(name: &str, value: &Value) -> Option<Act>
 {
     let beside = &["reply", "seat", "step"];
     match name {
-        "hand" => {
-            let hand = hand_at(beside, value)?;
-            Some(Act::Hand(hand))
-        }
-        "publish" => {
-            let slot = slot_alone_at(beside, value)?;
-            Some(Act::OnSlot(SlotAct::Publish { slot }))
-        }
-        "withdraw" => {
-            let slot = slot_alone_at(beside, value)?;
-            Some(Act::OnSlot(SlotAct::Withdraw { slot }))
-        }
-        "request" => {
-            let slot = slot_alone_at(beside, value)?;
-            Some(Act::OnSlot(SlotAct::Request { slot }))
-        }
-        "finish_taken" => {
-            let slot = slot_alone_at(beside, value)?;
-            Some(Act::FinishTaken { slot })
-        }
-        _ => {
-            let on = lock_act_named(name, beside, value)?;
-            Some(Act::OnLock(on))
-        }
+        "hand" => Some(Act::Hand(hand_at(beside, value)?)),
+        "publish" => Some(Act::OnSlot(SlotAct::Publish {
+            slot: slot_alone_at(beside, value)?,
+        })),
+        "withdraw" => Some(Act::OnSlot(SlotAct::Withdraw {
+            slot: slot_alone_at(beside, value)?,
+        })),
+        "request" => Some(Act::OnSlot(SlotAct::Request {
+            slot: slot_alone_at(beside, value)?,
+        })),
+        "finish_taken" => Some(Act::FinishTaken {
+            slot: slot_alone_at(beside, value)?,
+        }),
+        _ => Some(Act::OnLock(lock_act_named(name, beside, value)?)),
     }
 }
 
