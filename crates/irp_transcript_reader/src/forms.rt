@@ -31,13 +31,6 @@ fn one_has_entry(entry: &Entry) -> bool
     !needs_token(entry.call) && one_has_each(entry.asked.as_slice())
 }
 
-/// Whether form 1 has this step: on a remove lock, and no hand.
-fn one_has_act(act: Act) -> bool
-    ensures { result ≡ spec.one_has_act act }
-{
-    matches!(act, Act::OnLock(_))
-}
-
 /// Whether form 1 has this answer: one of remove locks.
 fn one_has_reply(reply: WordReply) -> bool
     ensures { result ≡ spec.one_has_reply reply }
@@ -66,12 +59,12 @@ pub fn has_entry(form: Form, entry: &Entry) -> bool
     }
 }
 
-/// Whether the form has this word line.
+/// Whether the form has this word line; form 1 has those of steps on a remove lock, and no hand.
 pub fn has_word(form: Form, line: WordLine) -> bool
     ensures { result ≡ spec.has_word form line }
 {
     match form {
-        Form::One => one_has_act(line.act) && one_has_reply(line.reply),
+        Form::One => matches!(line.act, Act::OnLock(_)) && one_has_reply(line.reply),
         Form::Two { .. } => true,
     }
 }

@@ -1,8 +1,8 @@
 //! Headers.
 
-ghost use Rattle.std.specs.Prelude.{◌≡◌, ◌∷◌, codes};
+ghost use Rattle.std.specs.Prelude.{◌≡◌};
 ghost use Rattle.serde_json.specs.View.{view};
-ghost use Rattle.irp_forms.specs.Parts.{Gives, has_keys};
+ghost use Rattle.irp_forms.specs.Parts.{Gives};
 ghost use Rattle.irp_transcript_reader.specs.Lines as spec;
 
 use irp_forms::{FromJson, Unread, completions_at, form_of, has_keys, list_at, under};
@@ -20,49 +20,7 @@ pub fn list_under<T: FromJson + Drop>(
 ) -> Result<Row<T>, Unread>
     ensures { Gives result (spec.list_under T.at key.now (view value.now)) }
 {
-    match value.get(key) {
-        Some(list) => list_at(alloc, list),
-        None => Err(Unread::Form),
-    }
-}
-
-/// Whether it has the keys of a header of form 1.
-#[tactic(auto, unfolding(crate::specs::Lines::header_keys))]
-fn has_header_keys(value: &Value) -> bool
-    ensures { result ≡ has_keys spec.header_keys (view value.now) }
-{
-    has_keys(
-        value,
-        &[
-            "cancels",
-            "completions",
-            "dispatches",
-            "drivers",
-            "form",
-            "locks",
-            "seats",
-        ],
-    )
-}
-
-/// Whether it has the keys of a header of form 2.
-#[tactic(auto, unfolding(crate::specs::Lines::header_keys))]
-fn has_two_header_keys(value: &Value) -> bool
-    ensures { result ≡ has_keys (codes "slots" ∷ spec.header_keys) (view value.now) }
-{
-    has_keys(
-        value,
-        &[
-            "slots",
-            "cancels",
-            "completions",
-            "dispatches",
-            "drivers",
-            "form",
-            "locks",
-            "seats",
-        ],
-    )
+    list_at(alloc, form_of(value.get(key))?)
 }
 
 /// A header's form, by its number and its keys; form 2 has its cancel slots.
@@ -71,9 +29,19 @@ fn header_form_at(value: &Value) -> Option<Form>
     ensures { result ≡ spec.header_form_at (view value.now) }
 {
     let number: u32 = under("form", value)?;
-    if has_header_keys(value) {
+    let keys = &[
+        "slots",
+        "cancels",
+        "completions",
+        "dispatches",
+        "drivers",
+        "form",
+        "locks",
+        "seats",
+    ];
+    if has_keys(value, &keys[1..]) {
         (number == 1).then_some(Form::One)
-    } else if has_two_header_keys(value) {
+    } else if has_keys(value, keys) {
         let slots = under("slots", value)?;
         (number == 2).then_some(Form::Two { slots })
     } else {

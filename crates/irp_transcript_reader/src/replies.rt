@@ -14,13 +14,11 @@ fn owner_at(value: &Value) -> Option<Owner>
     ensures { result ≡ spec.owner_at (view value.now) }
 {
     match value {
-        Value::String(name) => {
-            match name.as_str() {
-                "o" => Some(Owner::Originator),
-                "ended" => Some(Owner::Ended),
-                _ => None,
-            }
-        }
+        Value::String(name) => match name.as_str() {
+            "o" => Some(Owner::Originator),
+            "ended" => Some(Owner::Ended),
+            _ => None,
+        },
         _ => Some(Owner::Device(FromValue::from_value(value)?)),
     }
 }
