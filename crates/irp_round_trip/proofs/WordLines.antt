@@ -11,7 +11,7 @@ use Rattle.irp_shared.specs.declared.word_line.WordLine.{WordLine}
 use Rattle.irp_shared.specs.declared.word_line.WordReply.{WordReply}
 use Rattle.irp_shared.specs.declared.word_line.WordReply.TheVariants as word_reply
 use Rattle.irp_transcript_reader.specs.Reading.{is_entry}
-use Rattle.irp_transcript_reader.specs.WordLines.{act_named, valued_reply_at, word_line_at, word_reply_at, word_reply_named, word_status}
+use Rattle.irp_transcript_reader.specs.WordLines.{act_named, valued_reply_at, word_line_at, word_reply_at, word_reply_named}
 use Rattle.irp_transcript_writer.specs.Lines.{line_of_act, word_json, word_reply_json}
 use Rattle.irp_round_trip.proofs.Numbers.{u32_back, u64_back, wide}
 use Rattle.irp_round_trip.proofs.Stands.{Stands}
@@ -19,7 +19,7 @@ use Rattle.irp_round_trip.proofs.Values.{lock_back}
 use Rattle.irp_round_trip.specs.Fits.{ActFits, WordFits, WordReplyFits}
 
 word_reply_back : (given : WordReply) → WordReplyFits given → word_reply_at (word_reply_json given) ≡ Some given
-unfolding word_reply_at valued_reply_at word_status word_reply_named has_keys
+unfolding word_reply_at valued_reply_at word_reply_named has_keys
 word_reply_back word_reply.Acquired h = rw (u32_back 0 (omega arith))
 word_reply_back word_reply.DeletePending h = rw (u32_back 0xc0000056 (omega arith))
 word_reply_back word_reply.Done h = refl

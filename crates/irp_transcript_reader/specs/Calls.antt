@@ -32,7 +32,7 @@ delete_at form = if has_keys (codes "device" ∷ codes "do" ∷ codes "drained" 
   Some (record { call = calls.Delete device; lock = lock; drained = drained })) else None
 
 -- a call by its name, but for a delete: with no keys beside its own, and its packet is a reference
-unfoldable pub other_call_named : List ℕ → Data → Option Call
+abbrev pub other_call_named : List ℕ → Data → Option Call
 other_call_named name form =
     if bytes_eq name (codes "allocate") then allocate_at form else
     (if bytes_eq name (codes "finish_taken") then finish_taken_at form else

@@ -32,7 +32,7 @@ word_reply_named name =
     (if bytes_eq name (codes "no_token") then Some word_replies.NoToken else None))))))))))))
 
 -- the status of an acquire: success, or that removal has begun
-unfoldable pub word_status : ℕ → Option WordReply
+abbrev pub word_status : ℕ → Option WordReply
 word_status status =
     if status == 0 then Some word_replies.Acquired else
     (if status == 0xc0000056 then Some word_replies.DeletePending else None)

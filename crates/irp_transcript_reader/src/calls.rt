@@ -44,18 +44,6 @@ fn finish_taken_at(value: &Value) -> Option<Call>
     })
 }
 
-/// A call by its name, but for a delete.
-#[tactic(auto, unfolding(crate::specs::Calls::other_call_named))]
-fn other_call_named(name: &str, value: &Value) -> Option<Call>
-    ensures { result ≡ spec.other_call_named name.now (view value.now) }
-{
-    match name {
-        "allocate" => allocate_at(value),
-        "finish_taken" => finish_taken_at(value),
-        _ => call_named(name, &[], under("irp", value), value),
-    }
-}
-
 /// A delete, with the entry's lock, or null, and whether that was known to be drained.
 #[tactic(auto, unfolding(crate::specs::Calls::delete_at))]
 fn delete_at(value: &Value) -> Option<EntryCall>
@@ -78,11 +66,14 @@ pub fn entry_call_at(value: &Value) -> Option<EntryCall>
     ensures { result ≡ spec.entry_call_at (view value.now) }
 {
     let name = value.get("do").and_then(Value::as_str)?;
-    if name == "delete" {
-        return delete_at(value);
-    }
+    let call = match name {
+        "delete" => return delete_at(value),
+        "allocate" => allocate_at(value)?,
+        "finish_taken" => finish_taken_at(value)?,
+        _ => call_named(name, &[], under("irp", value), value)?,
+    };
     Some(EntryCall {
-        call: other_call_named(name, value)?,
+        call,
         lock: None,
         drained: false,
     })

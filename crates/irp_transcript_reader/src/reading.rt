@@ -33,16 +33,6 @@ pub struct Reading {
     pub words: Vec<WordLine>,
 }
 
-/// Whether a step hands over to one of these seats, if it hands over.
-fn hands_within(seats: u32, act: Act) -> bool
-    ensures { result ≡ spec.hands_within seats act }
-{
-    match act {
-        Act::Hand(hand) => hand.to < seats,
-        _ => true,
-    }
-}
-
 impl Reading {
     /// No lines. It takes no memory (this project's own rule).
     pub fn new(alloc: Global) -> Reading
@@ -70,40 +60,23 @@ impl Reading {
         self.entries.push(entry).map_err(|_| Unread::NoMemory)
     }
 
-    /// Takes a word line where it may stand: of one of these seats, which the form has.
+    /// Takes a word line where it may stand: of one of these seats, to one of which it hands over if it does, and which the
+    /// form has.
     #[tactic(auto, unfolding(crate::specs::Reading::with_word))]
     fn take_word(&mut self, form: Form, seats: u32, value: &Value) -> Result<(), Unread>
         ensures { GivesLine result (spec.with_word form seats (so_far self.old) (view value.now))
             (so_far self.new) }
     {
         let line = form_of(word_line_at(value))?;
-        if line.seat >= seats || !hands_within(seats, line.act) || !has_word(form, line) {
+        let hands_beyond = matches!(line.act, Act::Hand(hand) if hand.to >= seats);
+        if line.seat >= seats || hands_beyond || !has_word(form, line) {
             return Err(Unread::Form);
         }
         self.words.push(line).map_err(|_| Unread::NoMemory)
     }
 
-    /// Takes an entry or a word line.
-    #[tactic(auto, unfolding(crate::specs::Reading::with_line))]
-    fn take_line_of(
-        &mut self,
-        alloc: Global,
-        form: Form,
-        seats: u32,
-        value: &Value,
-    ) -> Result<(), Unread>
-        ensures { GivesLine result (spec.with_line form seats (so_far self.old) (view value.now))
-            (so_far self.new) }
-    {
-        if value.get("call").is_some() {
-            let entry = entry_at(alloc, value)?;
-            self.take_entry(form, seats, entry)
-        } else {
-            self.take_word(form, seats, value)
-        }
-    }
-
     /// Takes the value of a header that the formats accept first, and then those of entries and word lines.
+    #[tactic(auto, unfolding(crate::specs::Reading::with_line))]
     fn take_value(&mut self, alloc: Global, value: &Value) -> Result<(), Unread>
         ensures { spec.TakesValue result (so_far self.old) (view value.now) (so_far self.new) }
     {
@@ -118,7 +91,12 @@ impl Reading {
             }
             Some(header) => {
                 let (form, seats) = (header.form, header.seats);
-                self.take_line_of(alloc, form, seats, value)
+                if value.get("call").is_some() {
+                    let entry = entry_at(alloc, value)?;
+                    self.take_entry(form, seats, entry)
+                } else {
+                    self.take_word(form, seats, value)
+                }
             }
         }
     }

@@ -32,27 +32,17 @@ fn word_reply_named(name: &str) -> Option<WordReply>
     }
 }
 
-/// The status of an acquire: success, or that removal has begun.
-#[tactic(auto, unfolding(crate::specs::WordLines::word_status))]
-fn word_status(status: u32) -> Option<WordReply>
-    ensures { result ≡ spec.word_status status }
-{
-    if status == 0 {
-        Some(WordReply::Acquired)
-    } else if status == 0xc0000056 {
-        Some(WordReply::DeletePending)
-    } else {
-        None
-    }
-}
-
-/// A step's answer that has a value, which stands under its name.
+/// A step's answer that has a value, which stands under its name; that of an acquire is a status.
 #[tactic(auto, unfolding(crate::specs::WordLines::valued_reply_at))]
 fn valued_reply_at(value: &Value) -> Option<WordReply>
     ensures { result ≡ spec.valued_reply_at (view value.now) }
 {
     if has_keys(value, &["status"]) {
-        word_status(under("status", value)?)
+        match under("status", value)? {
+            0u32 => Some(WordReply::Acquired),
+            0xc0000056 => Some(WordReply::DeletePending),
+            _ => None,
+        }
     } else if has_keys(value, &["busy"]) {
         let word = under("busy", value)?;
         Some(WordReply::Busy { word })
