@@ -31,16 +31,6 @@ fn guess_shown(scan: &mut Scan) -> Option<Shown> {
     Some(shown)
 }
 
-/// The plan that forwards and has this name, from behind the name on.
-fn guess_forward(scan: &mut Scan, name: &str) -> Option<Plan> {
-    scan.pass(",")?;
-    let set = guess_setting_or_null(scan)?;
-    match name {
-        "forward" => Some(Plan::Forward { set }),
-        _ => Some(Plan::ForwardPend { set }),
-    }
-}
-
 /// The plan that is next.
 fn guess_plan(scan: &mut Scan) -> Option<Plan> {
     let name = scan.word_after("[\"")?;
@@ -57,7 +47,15 @@ fn guess_plan(scan: &mut Scan) -> Option<Plan> {
         }
         "hold_slot" => Plan::HoldSlot,
         "skip" => Plan::Skip,
-        _ => guess_forward(scan, name)?,
+        _ => {
+            scan.pass(",")?;
+            let set = guess_setting_or_null(scan)?;
+            if name == "forward" {
+                Plan::Forward { set }
+            } else {
+                Plan::ForwardPend { set }
+            }
+        }
     };
     scan.pass("]")?;
     Some(plan)
