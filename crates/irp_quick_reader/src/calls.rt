@@ -8,46 +8,23 @@ use crate::scan::Scan;
 use irp_transcript_reader::EntryCall;
 use irp_types::{Call, DriverId, IrpRef, LockNo, Party};
 
-/// The call that sets a cancel routine, from the routine on.
-fn guess_set_cancel_routine(scan: &mut Scan, party: Party) -> Option<Call> {
-    let cancel = guess_cancel_after(scan, ":")?;
-    let irp = guess_irp_after(scan, ",\"do\":\"set_cancel_routine\",\"irp\":")?;
-    Some(Call::SetCancelRoutine { party, irp, cancel })
-}
-
-/// The call that completes a packet, from behind its name on.
-fn guess_complete(scan: &mut Scan, party: Party) -> Option<Call> {
-    let information = scan.wide_after(",\"information\":")?;
-    let irp = guess_irp_after(scan, ",\"irp\":")?;
-    let status = guess_status_after(scan, ",\"status\":")?;
-    Some(Call::Complete {
-        party,
-        irp,
-        status,
-        information,
-    })
-}
-
 /// The call of a party on its packet, from behind the packet on.
 fn guess_call_on(scan: &mut Scan, name: &str, party: Party, irp: IrpRef) -> Option<Call> {
     match name {
         "set_next" => {
-            let major = u8::try_from(scan.number_after(",\"major\":")?).ok()?;
-            let word = scan.wide_after(",\"word\":")?;
             Some(Call::SetNext {
                 party,
                 irp,
-                major,
-                word,
+                major: u8::try_from(scan.number_after(",\"major\":")?).ok()?,
+                word: scan.wide_after(",\"word\":")?,
             })
         }
         "set_routine" => {
             scan.pass(",\"set\":")?;
-            let setting = guess_setting(scan)?;
             Some(Call::SetRoutine {
                 party,
                 irp,
-                setting,
+                setting: guess_setting(scan)?,
             })
         }
         "call_driver" => {
@@ -64,28 +41,21 @@ fn guess_call_on(scan: &mut Scan, name: &str, party: Party, irp: IrpRef) -> Opti
 fn guess_party_call(scan: &mut Scan) -> Option<Call> {
     let party = guess_party(scan)?;
     if scan.word_after(",\"")? == "cancel" {
-        return guess_set_cancel_routine(scan, party);
+        let cancel = guess_cancel_after(scan, ":")?;
+        let irp = guess_irp_after(scan, ",\"do\":\"set_cancel_routine\",\"irp\":")?;
+        return Some(Call::SetCancelRoutine { party, irp, cancel });
     }
     let name = scan.word_after(":\"")?;
     if name == "complete" {
-        return guess_complete(scan, party);
+        return Some(Call::Complete {
+            party,
+            information: scan.wide_after(",\"information\":")?,
+            irp: guess_irp_after(scan, ",\"irp\":")?,
+            status: guess_status_after(scan, ",\"status\":")?,
+        });
     }
     let irp = guess_irp_after(scan, ",\"irp\":")?;
     guess_call_on(scan, name, party, irp)
-}
-
-/// The call that completes a packet which was taken from a cancel slot, from behind its name on.
-fn guess_finish_taken(scan: &mut Scan) -> Option<Call> {
-    let information = scan.wide_after(",\"information\":")?;
-    let irp = guess_irp_after(scan, ",\"irp\":")?;
-    let status = guess_status_after(scan, ",\"status\":")?;
-    let token = scan.wide_after(",\"token\":")?;
-    Some(Call::FinishTaken {
-        irp,
-        token,
-        status,
-        information,
-    })
 }
 
 /// The call on a packet that no party makes, from behind its name on.
@@ -119,7 +89,12 @@ fn guess_plain_call(scan: &mut Scan) -> Option<Call> {
             let lower = guess_device_after(scan, ",\"lower\":")?;
             Some(Call::Detach { lower })
         }
-        "finish_taken" => guess_finish_taken(scan),
+        "finish_taken" => Some(Call::FinishTaken {
+            information: scan.wide_after(",\"information\":")?,
+            irp: guess_irp_after(scan, ",\"irp\":")?,
+            status: guess_status_after(scan, ",\"status\":")?,
+            token: scan.wide_after(",\"token\":")?,
+        }),
         _ => guess_packet_call(scan, name),
     }
 }
@@ -131,12 +106,10 @@ fn guess_device_call(scan: &mut Scan) -> Option<EntryCall> {
         let to = guess_device_after(scan, ",\"to\":")?;
         return Some(without_lock(Call::Attach { device, to }));
     }
-    let drained = scan.flag_after(",\"drained\":")?;
-    let lock = scan.number_or_null_after(",\"lock\":")?.map(LockNo);
     Some(EntryCall {
         call: Call::Delete { device },
-        lock,
-        drained,
+        drained: scan.flag_after(",\"drained\":")?,
+        lock: scan.number_or_null_after(",\"lock\":")?.map(LockNo),
     })
 }
 

@@ -2,21 +2,7 @@
 
 ghost use Rattle.std.specs.Prelude.{◌≡◌, ◌<◌, ◌^◌, ◌↔◌, true};
 ghost use Rattle.std.specs.List.{All};
-ghost use Rattle.irp_round_trip.specs.Fits.{
-  AnswerFits,
-  AskedFits,
-  CallFits,
-  CancelAnswerFits,
-  EntryFits,
-  IrpFits,
-  PartyFits,
-  PlanFits,
-  ReplyFits,
-  SeenFits,
-  SettingFits,
-  ShownFits,
-  TellsLock,
-};
+ghost use Rattle.irp_round_trip.specs.Fits as spec;
 
 use irp_types::{Answer, Asked, Call, CancelAnswer, Entry, IrpRef, LockNo, Plan, Reply, Shown};
 
@@ -36,35 +22,35 @@ fn in_u64(number: u64)
 
 /// Tells that a plan's numbers are within the ranges of their types.
 fn plan_in_range(plan: Plan)
-    ensures { PlanFits plan }
+    ensures { spec.PlanFits plan }
 {
     let _ = plan;
 }
 
 /// Tells that the numbers of a completion routine's answer are within the ranges of their types.
 fn answer_in_range(answer: Answer)
-    ensures { AnswerFits answer }
+    ensures { spec.AnswerFits answer }
 {
     let _ = answer;
 }
 
 /// Tells that the number of a cancel routine's answer is within the range of its type.
 fn cancel_answer_in_range(answer: CancelAnswer)
-    ensures { CancelAnswerFits answer }
+    ensures { spec.CancelAnswerFits answer }
 {
     let _ = answer;
 }
 
 /// Whether a packet's slot has 32 bits.
 fn irp_fits(irp: IrpRef) -> bool
-    ensures { result ≡ true ↔ IrpFits irp }
+    ensures { result ≡ true ↔ spec.IrpFits irp }
 {
     irp.slot <= u32::MAX as usize
 }
 
 /// Whether what is shown fits.
 fn shown_fits(shown: Shown) -> bool
-    ensures { result ≡ true ↔ ShownFits shown }
+    ensures { result ≡ true ↔ spec.ShownFits shown }
 {
     shown.in_range();
     shown.irp.slot <= u32::MAX as usize
@@ -72,7 +58,7 @@ fn shown_fits(shown: Shown) -> bool
 
 /// Whether a question fits.
 fn question_fits(asked: Asked) -> bool
-    ensures { result ≡ true ↔ AskedFits asked }
+    ensures { result ≡ true ↔ spec.AskedFits asked }
 {
     match asked {
         Asked::Dispatch { id, shown, plan } => {
@@ -95,14 +81,14 @@ fn question_fits(asked: Asked) -> bool
 
 /// Whether each question fits.
 fn asked_fits(asked: &[Asked]) -> bool
-    ensures { result ≡ true ↔ All AskedFits asked.now }
+    ensures { result ≡ true ↔ All spec.AskedFits asked.now }
 {
     asked.iter().all(|question| question_fits(*question))
 }
 
 /// Whether a call fits.
 fn call_fits(call: Call) -> bool
-    ensures { result ≡ true ↔ CallFits call }
+    ensures { result ≡ true ↔ spec.CallFits call }
 {
     match call {
         Call::Free { irp }
@@ -124,7 +110,7 @@ fn call_fits(call: Call) -> bool
 
 /// Whether the entry of this call may have this lock, which may be known to be drained.
 fn tells_lock(call: Call, lock: Option<LockNo>, drained: bool) -> bool
-    ensures { result ≡ true ↔ TellsLock call lock drained }
+    ensures { result ≡ true ↔ spec.TellsLock call lock drained }
 {
     match call {
         Call::Delete { .. } => true,
@@ -134,7 +120,7 @@ fn tells_lock(call: Call, lock: Option<LockNo>, drained: bool) -> bool
 
 /// Whether a reply fits.
 fn reply_fits(reply: Reply) -> bool
-    ensures { result ≡ true ↔ ReplyFits reply }
+    ensures { result ≡ true ↔ spec.ReplyFits reply }
 {
     match reply {
         Reply::Irp(irp) => irp_fits(irp),
@@ -144,7 +130,7 @@ fn reply_fits(reply: Reply) -> bool
 
 /// Whether the entry fits: its line tells it whole.
 pub fn fits(entry: &Entry) -> bool
-    ensures { result ≡ true ↔ EntryFits entry.now }
+    ensures { result ≡ true ↔ spec.EntryFits entry.now }
 {
     in_u64(entry.number);
     in_u32(entry.seat);

@@ -10,7 +10,6 @@ mod guess;
 mod parts;
 mod questions;
 mod read;
-mod replies;
 mod scan;
 
 pub use read::{ByGuess, read_transcript};

@@ -25,10 +25,7 @@ pub fn guess_status_after(scan: &mut Scan, text: &str) -> Option<Status> {
 
 /// The cancel routine behind as many bytes as the text has, or none for `null`.
 pub fn guess_cancel_after(scan: &mut Scan, text: &str) -> Option<Option<CancelId>> {
-    match scan.number_or_null_after(text)? {
-        Some(number) => Some(Some(CancelId(number))),
-        None => Some(None),
-    }
+    Some(scan.number_or_null_after(text)?.map(CancelId))
 }
 
 /// The owner that is next.

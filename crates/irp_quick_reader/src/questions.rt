@@ -11,42 +11,24 @@ use irp_types::{
 
 /// What a closure is shown.
 fn guess_shown(scan: &mut Scan) -> Option<Shown> {
-    let device = scan.number_or_null_after(",\"shown\":[")?.map(DeviceId);
-    let slot = scan.number_after(",")? as usize;
-    let use_no = scan.wide_after(",")?;
-    let major = u8::try_from(scan.number_after(",")?).ok()?;
-    let location = scan.number_after(",")?;
-    let word = scan.wide_after(",")?;
-    let status = guess_status_after(scan, ",")?;
-    let information = scan.wide_after(",")?;
-    let pending_returned = scan.flag_after(",")?;
-    let cancel = scan.flag_after(",")?;
-    let context = scan.wide_after(",")?;
-    let has_lower = scan.flag_after(",")?;
+    let shown = Shown {
+        device: scan.number_or_null_after(",\"shown\":[")?.map(DeviceId),
+        irp: IrpRef {
+            slot: scan.number_after(",")? as usize,
+            use_no: scan.wide_after(",")?,
+        },
+        major: u8::try_from(scan.number_after(",")?).ok()?,
+        location: scan.number_after(",")?,
+        word: scan.wide_after(",")?,
+        status: guess_status_after(scan, ",")?,
+        information: scan.wide_after(",")?,
+        pending_returned: scan.flag_after(",")?,
+        cancel: scan.flag_after(",")?,
+        context: scan.wide_after(",")?,
+        has_lower: scan.flag_after(",")?,
+    };
     scan.pass("]")?;
-    Some(Shown {
-        device,
-        irp: IrpRef { slot, use_no },
-        major,
-        location,
-        word,
-        status,
-        information,
-        pending_returned,
-        cancel,
-        context,
-        has_lower,
-    })
-}
-
-/// The plan that forwards and has this name, from behind the name on.
-fn guess_forward(scan: &mut Scan, name: &str) -> Option<Plan> {
-    scan.pass(",")?;
-    let set = guess_setting_or_null(scan)?;
-    match name {
-        "forward" => Some(Plan::Forward { set }),
-        _ => Some(Plan::ForwardPend { set }),
-    }
+    Some(shown)
 }
 
 /// The plan that is next.
@@ -54,11 +36,9 @@ fn guess_plan(scan: &mut Scan) -> Option<Plan> {
     let name = scan.word_after("[\"")?;
     let plan = match name {
         "finish" => {
-            let status = guess_status_after(scan, ",")?;
-            let information = scan.wide_after(",")?;
             Plan::Finish {
-                status,
-                information,
+                status: guess_status_after(scan, ",")?,
+                information: scan.wide_after(",")?,
             }
         }
         "hold" => {
@@ -67,7 +47,15 @@ fn guess_plan(scan: &mut Scan) -> Option<Plan> {
         }
         "hold_slot" => Plan::HoldSlot,
         "skip" => Plan::Skip,
-        _ => guess_forward(scan, name)?,
+        _ => {
+            scan.pass(",")?;
+            let set = guess_setting_or_null(scan)?;
+            if name == "forward" {
+                Plan::Forward { set }
+            } else {
+                Plan::ForwardPend { set }
+            }
+        }
     };
     scan.pass("]")?;
     Some(plan)
@@ -78,13 +66,12 @@ fn guess_replacement(scan: &mut Scan) -> Option<Option<Replacement>> {
     if scan.is_null() {
         return Some(None);
     }
-    let status = guess_status_after(scan, "[")?;
-    let information = scan.wide_after(",")?;
+    let replacement = Replacement {
+        status: guess_status_after(scan, "[")?,
+        information: scan.wide_after(",")?,
+    };
     scan.pass("]")?;
-    Some(Some(Replacement {
-        status,
-        information,
-    }))
+    Some(Some(replacement))
 }
 
 /// The question to a dispatch, from its number on.
@@ -100,16 +87,15 @@ fn guess_dispatch(scan: &mut Scan) -> Option<Asked> {
 fn guess_completion(scan: &mut Scan, keep: bool) -> Option<Asked> {
     let mark = scan.flag_after(",")?;
     scan.pass(",")?;
-    let replacement = guess_replacement(scan)?;
+    let answer = Answer {
+        keep,
+        mark,
+        replacement: guess_replacement(scan)?,
+    };
     scan.pass("],\"completion\":[\"")?;
     let id = guess_routine(scan)?;
     scan.pass("]")?;
     let shown = guess_shown(scan)?;
-    let answer = Answer {
-        keep,
-        mark,
-        replacement,
-    };
     Some(Asked::Completion { id, shown, answer })
 }
 

@@ -3,7 +3,7 @@ use Rattle.std.proofs.Common.{◌≡◌, ℕ, suc, Some, refl}
 use Rattle.irp_forms.specs.Parts.{has_keys}
 use Rattle.irp_forms.specs.Questions.{asked_at}
 use Rattle.irp_types.specs.declared.entry.Entry.{Entry}
-use Rattle.irp_transcript_reader.specs.Lines.{entry_at, recorded_at}
+use Rattle.irp_transcript_reader.specs.Lines.{entry_at}
 use Rattle.irp_transcript_writer.specs.Lines.{asked_json, entry_json}
 use Rattle.irp_round_trip.proofs.Calls.{call_back, call_stands}
 use Rattle.irp_round_trip.proofs.Numbers.{items_stand, list_back, u32_back, u64_back, wide}
@@ -14,14 +14,14 @@ use Rattle.irp_round_trip.specs.Fits.{AskedFits, EntryFits}
 
 -- an entry
 pub entry_back : (entry : Entry) → EntryFits entry → entry_at (entry_json entry) ≡ Some entry
-unfolding entry_at recorded_at has_keys
+unfolding entry_at has_keys
 entry_back entry h =
     rw (
       call_back entry.call entry.lock entry.drained h.call h.lock,
-      u64_back entry.number h.number,
-      reply_back entry.reply h.reply,
-      u32_back entry.seat h.seat,
       list_back asked_json asked_at AskedFits asked_back entry.asked h.asked,
+      u64_back entry.number h.number,
+      u32_back entry.seat h.seat,
+      reply_back entry.reply h.reply,
     )
 
 pub entry_stands : (levels : ℕ) (entry : Entry) → EntryFits entry → Stands (entry_json entry) (suc (suc (suc (suc (suc levels)))))

@@ -15,7 +15,7 @@ use Rattle.irp_shared.specs.Headers.{IsHeader, fixed_of, slots_of}
 use Rattle.irp_shared.specs.declared.header.Form.{Form}
 use Rattle.irp_shared.specs.declared.header.Form.TheVariants as form
 use Rattle.irp_shared.specs.declared.header.Header.{Header}
-use Rattle.irp_transcript_reader.specs.Lines.{counts_at, form_one_at, form_two_at, header_at, header_form_at, header_keys}
+use Rattle.irp_transcript_reader.specs.Lines.{header_at, header_form_at, header_keys}
 use Rattle.irp_transcript_writer.specs.Json.{list}
 use Rattle.irp_transcript_writer.specs.Lines.{cancel_rule_json, completions_json, driver_json, handler_json, header_json, known_json, line_of_form}
 use Rattle.irp_round_trip.proofs.Names.{found_plain}
@@ -163,29 +163,29 @@ lists_back header is =
 
 form_back : (kind : Form) (header : Header) → slots_of kind < 2 ^ 32 → header.locks < 2 ^ 32 → header.seats < 2 ^ 32 → ListsBack header
     → header_at (line_of_form kind header) ≡ Some (counted kind header)
-unfolding header_at header_form_at header_keys form_one_at form_two_at counts_at has_keys
+unfolding header_at header_form_at header_keys has_keys
 form_back form.One header slots_small locks_small seats_small lists =
     rw (
       u32_back 1 (omega arith),
       lists.completions,
-      u32_back header.locks locks_small,
-      u32_back header.seats seats_small,
       lists.cancels,
+      le-leb (length header.cancels) 256 lists.few,
       lists.dispatches,
       lists.drivers,
-      le-leb (length header.cancels) 256 lists.few,
+      u32_back header.locks locks_small,
+      u32_back header.seats seats_small,
     )
 form_back (form.Two slots) header slots_small locks_small seats_small lists =
     rw (
       u32_back 2 (omega arith),
       u32_back slots slots_small,
       lists.completions,
-      u32_back header.locks locks_small,
-      u32_back header.seats seats_small,
       lists.cancels,
+      le-leb (length header.cancels) 256 lists.few,
       lists.dispatches,
       lists.drivers,
-      le-leb (length header.cancels) 256 lists.few,
+      u32_back header.locks locks_small,
+      u32_back header.seats seats_small,
     )
 
 -- a header that the formats accept

@@ -10,7 +10,7 @@ use Rattle.irp_types.specs.declared.refusal.Refusal.{Refusal}
 use Rattle.irp_types.specs.declared.reply.Reply.{Reply}
 use Rattle.irp_types.specs.declared.reply.Reply.TheVariants as reply
 use Rattle.irp_types.specs.declared.reply.Seen.{Seen}
-use Rattle.irp_transcript_reader.specs.Replies.{holder_at, naming_reply_at, owner_at, reply_at, seen_at, telling_reply_at}
+use Rattle.irp_transcript_reader.specs.Replies.{owner_at, reply_at, seen_at, valued_reply_at}
 use Rattle.irp_transcript_writer.specs.Lines.{owner_json, reply_json, seen_json}
 use Rattle.irp_round_trip.proofs.Names.{found_plain}
 use Rattle.irp_round_trip.proofs.Numbers.{u32_back, u64_back, wide}
@@ -39,7 +39,7 @@ owner_stands levels (owner.Device device) h = wide device.0 h
 owner_stands levels owner.Ended h = refl
 
 seen_back : (seen : Seen) → SeenFits seen → seen_at (seen_json seen) ≡ Some seen
-unfolding seen_at holder_at
+unfolding seen_at
 seen_back seen h =
     rw (
       owner_back seen.owner h.0,
@@ -66,7 +66,7 @@ seen_stands levels seen h = (
 
 -- a reply
 pub reply_back : (given : Reply) → ReplyFits given → reply_at (reply_json given) ≡ Some given
-unfolding reply_at naming_reply_at telling_reply_at has_keys
+unfolding reply_at valued_reply_at has_keys
 reply_back reply.Done h = refl
 reply_back (reply.Device device) h = rw (device_back device h)
 reply_back (reply.Irp irp) h = rw (irp_back irp h)

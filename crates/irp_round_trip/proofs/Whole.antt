@@ -13,7 +13,7 @@ use Rattle.irp_shared.specs.Headers.{IsHeader}
 use Rattle.irp_shared.specs.Transcripts.{TranscriptValue, IsTranscript, no_lines}
 use Rattle.irp_shared.specs.declared.header.Header.{Header}
 use Rattle.irp_shared.specs.declared.word_line.WordLine.{WordLine}
-use Rattle.irp_transcript_reader.specs.Reading.{IsLine, IsNext, IsNextUnder, ReadsFrom, RefusedAt, Takes, TakesAll, cut, most_entries, onto, seated_word_at, with_entry, with_entry_at, with_line, with_word}
+use Rattle.irp_transcript_reader.specs.Reading.{IsLine, IsNext, IsNextUnder, ReadsFrom, RefusedAt, Takes, TakesAll, cut, most_entries, onto, with_entry, with_line, with_word}
 use Rattle.irp_transcript_reader.specs.declared.read_fault.ReadFault.{ReadFault}
 use Rattle.irp_transcript_reader.specs.declared.read_fault.ReadFault.TheVariants.{Line, NoMemory}
 use Rattle.irp_transcript_writer.specs.Json.{line_text}
@@ -69,13 +69,13 @@ made header entries words = record { header = Some header; entries = entries; wo
 
 entry_taken : (header : Header) (before : List Entry) (entry : Entry) → length before < most_entries → EntryUnder header entry
     → with_line header.form header.seats (made header before []) (entry_json entry) ≡ Some (made header (before ++ entry ∷ []) [])
-unfolding with_line with_entry_at with_entry
+unfolding with_line with_entry
 entry_taken header before entry few h =
     rw (entry_back entry h.fits, lt-ltb (length before) most_entries few, lt-ltb entry.seat header.seats h.seated, h.of_form)
 
 word_taken : (header : Header) (entries : List Entry) (before : List WordLine) (line : WordLine) → WordUnder header line
     → with_line header.form header.seats (made header entries before) (word_json line) ≡ Some (made header entries (before ++ line ∷ []))
-unfolding with_line with_word seated_word_at
+unfolding with_line with_word
 word_taken header entries before line h =
     rw (no_entry line, word_back line h.fits, lt-ltb line.seat header.seats h.seated, h.hands, h.of_form)
 

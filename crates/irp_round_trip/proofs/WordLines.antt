@@ -1,6 +1,7 @@
 -- A word line is read as it was written, and its form stands.
-use Rattle.std.proofs.Common.{◌≡◌, ℕ, suc, ◌<◌, ◌^◌, false, Some, refl, arith}
-use Rattle.irp_forms.specs.Parts.{has_keys}
+use Rattle.std.proofs.Common.{◌≡◌, ℕ, suc, ◌<◌, ◌^◌, codes, false, Some, refl, arith}
+use Rattle.serde_json.specs.Find.{get, as_str}
+use Rattle.irp_forms.specs.Parts.{◌>>=◌, has_keys}
 use Rattle.irp_forms.specs.SeatActs.{drained_at, hand_at, lock_act_named, slot_alone_at, tagged_at}
 use Rattle.irp_types.specs.declared.seat_act.LockAct.TheVariants as on_lock
 use Rattle.irp_types.specs.declared.seat_act.SlotAct.TheVariants as on_slot
@@ -10,7 +11,7 @@ use Rattle.irp_shared.specs.declared.word_line.WordLine.{WordLine}
 use Rattle.irp_shared.specs.declared.word_line.WordReply.{WordReply}
 use Rattle.irp_shared.specs.declared.word_line.WordReply.TheVariants as word_reply
 use Rattle.irp_transcript_reader.specs.Reading.{is_entry}
-use Rattle.irp_transcript_reader.specs.WordLines.{act_at, act_named, valued_reply_at, word_line_at, word_reply_at, word_reply_named, word_status}
+use Rattle.irp_transcript_reader.specs.WordLines.{act_named, valued_reply_at, word_line_at, word_reply_at, word_reply_named}
 use Rattle.irp_transcript_writer.specs.Lines.{line_of_act, word_json, word_reply_json}
 use Rattle.irp_round_trip.proofs.Numbers.{u32_back, u64_back, wide}
 use Rattle.irp_round_trip.proofs.Stands.{Stands}
@@ -18,7 +19,7 @@ use Rattle.irp_round_trip.proofs.Values.{lock_back}
 use Rattle.irp_round_trip.specs.Fits.{ActFits, WordFits, WordReplyFits}
 
 word_reply_back : (given : WordReply) → WordReplyFits given → word_reply_at (word_reply_json given) ≡ Some given
-unfolding word_reply_at valued_reply_at word_status word_reply_named has_keys
+unfolding word_reply_at valued_reply_at word_reply_named has_keys
 word_reply_back word_reply.Acquired h = rw (u32_back 0 (omega arith))
 word_reply_back word_reply.DeletePending h = rw (u32_back 0xc0000056 (omega arith))
 word_reply_back word_reply.Done h = refl
@@ -56,8 +57,9 @@ word_reply_stands levels word_reply.NotStanding h = refl
 word_reply_stands levels word_reply.NoSlot h = refl
 word_reply_stands levels word_reply.NoToken h = refl
 
-act_back : (done : Act) (line : WordLine) → ActFits done → act_at (line_of_act done line) ≡ Some done
-unfolding act_at act_named lock_act_named drained_at hand_at tagged_at slot_alone_at has_keys
+act_back : (done : Act) (line : WordLine) → ActFits done
+    → (get (codes "do") (line_of_act done line) >>= as_str >>= λ name. act_named name (line_of_act done line)) ≡ Some done
+unfolding act_named lock_act_named drained_at hand_at tagged_at slot_alone_at has_keys
 act_back (act.OnLock (on_lock.Acquire lock tag)) line h = rw (lock_back lock h.0, u32_back tag h.1)
 act_back (act.OnLock (on_lock.Release lock tag)) line h = rw (lock_back lock h.0, u32_back tag h.1)
 act_back (act.OnLock (on_lock.BeginRemove lock tag)) line h = rw (lock_back lock h.0, u32_back tag h.1)

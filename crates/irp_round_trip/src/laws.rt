@@ -1,16 +1,43 @@
-//! Laws of transcripts' lines and texts. Each is the contract of a function that does nothing.
+//! Laws of transcripts' lines and texts, and a reader that keeps to them. Each law is the contract of a function that
+//! does nothing.
 
-ghost use Rattle.irp_round_trip.specs.Laws.{EntryIsRead, WrittenIsRead, NothingElseIsRead, TextTells};
+ghost use Rattle.irp_shared.specs.Transcripts.{no_lines};
+ghost use Rattle.irp_transcript_reader.specs.Reading.{ReadsFrom, cut};
+ghost use Rattle.irp_round_trip.specs.Laws as spec;
+
+use irp_shared::Transcript;
+use irp_transcript_reader::{ReadFault, read_transcript};
+use std::alloc::Global;
 
 /// The line of an entry that fits is read as the entry.
 pub fn entry_is_read()
-    ensures { EntryIsRead }
+    ensures { spec.EntryIsRead }
 {}
 
 /// The text of a transcript that fits is read as the transcript, and as nothing else: none of its lines is refused. So
 /// two transcripts that fit and have one text are one.
 pub fn written_is_read()
-    ensures same { WrittenIsRead }
-    ensures only { NothingElseIsRead }
-    ensures tells { TextTells }
+    ensures same { spec.WrittenIsRead }
+    ensures only { spec.NothingElseIsRead }
+    ensures tells { spec.TextTells }
 {}
+
+/// Reads a text as `read_transcript` does. Where it is the text of this transcript, and the transcript fits, the answer
+/// is an equal transcript, or that memory ran out (this project's own format, docs/FORMATS.md).
+///
+/// # Errors
+///
+/// `ReadFault::Line` with the number, from 1, of the first line that is refused: never for the text of a transcript
+/// that fits. `ReadFault::NoMemory` where memory ran out.
+pub fn read_again(
+    alloc: Global,
+    transcript: &Transcript,
+    text: &[u8],
+) -> Result<Transcript, ReadFault>
+    ensures reads { ReadsFrom no_lines 0 result (cut text.now) }
+    ensures own { spec.ReadsOwnText transcript.now text.now result }
+{
+    transcript.is_one();
+    written_is_read();
+    read_transcript(alloc, text)
+}

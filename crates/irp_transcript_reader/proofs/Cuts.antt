@@ -14,7 +14,7 @@ use Rattle.irp_shared.specs.Transcripts.{TranscriptValue}
 use Rattle.irp_shared.specs.declared.header.Form.{Form}
 use Rattle.irp_shared.specs.declared.header.Header.{Header}
 use Rattle.irp_transcript_reader.specs.Lines.{entry_at}
-use Rattle.irp_transcript_reader.specs.Reading.{cut, is_entry, most_bytes, onto, with_entry, with_entry_at, with_line, GivesLine, IsEntryLine, IsNext, IsNextUnder, ReadsFrom, Takes, TakesLine, TakesMemory, TakesValue, Refuses}
+use Rattle.irp_transcript_reader.specs.Reading.{cut, is_entry, most_bytes, onto, with_entry, with_line, GivesLine, IsEntryLine, IsNext, IsNextUnder, ReadsFrom, Takes, TakesLine, TakesMemory, TakesValue, Refuses}
 use Rattle.irp_transcript_reader.specs.declared.read_fault.ReadFault.{ReadFault}
 use Rattle.irp_transcript_reader.specs.declared.read_fault.ReadFault.TheVariants.{Line, NoMemory}
 
@@ -89,7 +89,7 @@ value_gives (Err unread.NoMemory) before after form header under made = tt
 
 line_of_entry : (kind : Form) (seats : ℕ) (before : TranscriptValue) (form : Data) (entry : Entry) → entry_at form ≡ Some entry → is_entry form ≡ true
     → with_entry kind seats before entry ≡ with_line kind seats before form
-unfolding with_line with_entry_at
+unfolding with_line
 line_of_entry kind seats before form entry reads named = rw (named, reads) refl
 
 -- what the entry gives that a line is read as is what the line gives

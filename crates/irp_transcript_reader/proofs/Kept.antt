@@ -7,9 +7,10 @@ use Rattle.irp_types.specs.declared.entry.Entry.{Entry}
 use Rattle.irp_shared.specs.Transcripts.{TranscriptValue, IsTranscript}
 use Rattle.irp_shared.specs.declared.header.Form.{Form}
 use Rattle.irp_shared.specs.declared.header.Header.{Header}
-use Rattle.irp_transcript_reader.specs.Forms.{has_entry}
+use Rattle.irp_transcript_reader.specs.Forms.{has_entry, has_word}
 use Rattle.irp_transcript_reader.specs.Lines.{entry_at}
-use Rattle.irp_transcript_reader.specs.Reading.{IsNext, IsNextUnder, has_room, is_entry, seated_word_at, with_entry, with_entry_at, with_line, with_word}
+use Rattle.irp_transcript_reader.specs.Reading.{IsNext, IsNextUnder, has_room, hands_within, is_entry, with_entry, with_line, with_word}
+use Rattle.irp_transcript_reader.specs.WordLines.{word_line_at}
 
 -- whatever is put to it, its header stays
 stays : (known : Option Header) (put after : TranscriptValue) → put.header ≡ known → Some put ≡ Some after → after.header ≡ known
@@ -30,15 +31,15 @@ unfolding with_entry
 entry_keeps kind seats before after entry is =
     guarded before.header (has_room before && (nat_lt entry.seat seats && has_entry kind entry)) _ after (stays before.header _ after refl) is
 
-value_keeps : (kind : Form) (seats : ℕ) (before after : TranscriptValue) (form : Data) → with_entry_at kind seats before form ≡ Some after → after.header ≡ before.header
-unfolding with_entry_at
+value_keeps : (kind : Form) (seats : ℕ) (before after : TranscriptValue) (form : Data) → (entry_at form >>= with_entry kind seats before) ≡ Some after → after.header ≡ before.header
 value_keeps kind seats before after form is =
     follows before.header (entry_at form) (with_entry kind seats before) after (entry_keeps kind seats before after) is
 
 word_keeps : (kind : Form) (seats : ℕ) (before after : TranscriptValue) (form : Data) → with_word kind seats before form ≡ Some after → after.header ≡ before.header
 unfolding with_word
 word_keeps kind seats before after form is =
-    follows before.header (seated_word_at kind seats form) _ after (λ line. stays before.header _ after refl) is
+    follows before.header (word_line_at form) _ after
+    (λ line. guarded before.header ((nat_lt line.seat seats && hands_within seats line.act) && has_word kind line) _ after (stays before.header _ after refl)) is
 
 chosen : (known : Option Header) (test : Bool) (one other : Option TranscriptValue) (after : TranscriptValue)
     → (one ≡ Some after → after.header ≡ known) → (other ≡ Some after → after.header ≡ known) → (if test then one else other) ≡ Some after → after.header ≡ known
@@ -48,7 +49,7 @@ chosen known false one other after first second is = second is
 line_keeps : (kind : Form) (seats : ℕ) (before after : TranscriptValue) (form : Data) → with_line kind seats before form ≡ Some after → after.header ≡ before.header
 unfolding with_line
 line_keeps kind seats before after form is =
-    chosen before.header (is_entry form) (with_entry_at kind seats before form) (with_word kind seats before form) after
+    chosen before.header (is_entry form) (entry_at form >>= with_entry kind seats before) (with_word kind seats before form) after
     (value_keeps kind seats before after form) (word_keeps kind seats before after form) is
 
 kept_under : (known : Option Header) (before after : TranscriptValue) (form : Data) → before.header ≡ known → IsTranscript before

@@ -15,12 +15,8 @@ allocate_at form = if has_keys (codes "do" ∷ codes "size" ∷ []) form then (d
   size ← get (codes "size") form >>= u8_at
   Some (calls.Allocate size)) else None
 
--- the keys of a call that finishes a packet which was taken from a cancel slot
-unfoldable pub finish_taken_keys : List (List ℕ)
-finish_taken_keys = codes "do" ∷ codes "information" ∷ codes "irp" ∷ codes "status" ∷ codes "token" ∷ []
-
 unfoldable pub finish_taken_at : Data → Option Call
-finish_taken_at form = if has_keys finish_taken_keys form then (do
+finish_taken_at form = if has_keys (codes "do" ∷ codes "information" ∷ codes "irp" ∷ codes "status" ∷ codes "token" ∷ []) form then (do
   irp ← get (codes "irp") form >>= irp_at
   token ← get (codes "token") form >>= u64_at
   status ← get (codes "status") form >>= status_at
@@ -36,18 +32,15 @@ delete_at form = if has_keys (codes "device" ∷ codes "do" ∷ codes "drained" 
   Some (record { call = calls.Delete device; lock = lock; drained = drained })) else None
 
 -- a call by its name, but for a delete: with no keys beside its own, and its packet is a reference
-unfoldable pub other_call_named : List ℕ → Data → Option Call
+abbrev pub other_call_named : List ℕ → Data → Option Call
 other_call_named name form =
     if bytes_eq name (codes "allocate") then allocate_at form else
     (if bytes_eq name (codes "finish_taken") then finish_taken_at form else
     call_named name [] (get (codes "irp") form >>= irp_at) form)
 
--- an entry's call, with the entry's lock and whether that was known to be drained, which only a delete tells
-unfoldable pub entry_call_named : List ℕ → Data → Option EntryCall
-entry_call_named name form =
+-- an entry's call, by the name under `do`, with the entry's lock and whether that was known to be drained, which only a
+-- delete tells
+unfoldable pub entry_call_at : Data → Option EntryCall
+entry_call_at form = get (codes "do") form >>= as_str >>= λ name.
     if bytes_eq name (codes "delete") then delete_at form else
     (other_call_named name form >>= λ call. Some (record { call = call; lock = None; drained = false }))
-
--- the same, by the name under `do`
-unfoldable pub entry_call_at : Data → Option EntryCall
-entry_call_at form = get (codes "do") form >>= as_str >>= λ name. entry_call_named name form

@@ -1,7 +1,6 @@
 -- What each form of transcripts has. Form 2 has all that is read; form 1 has nothing of cancel slots, and no hand.
 use Rattle.std.specs.Prelude.{◌&&◌, Bool, true, false, not}
 use Rattle.std.specs.List.{list_all}
-use Rattle.irp_types.specs.declared.answer.Plan.{Plan}
 use Rattle.irp_types.specs.declared.answer.Plan.TheVariants as plans
 use Rattle.irp_types.specs.declared.asked.Asked.{Asked}
 use Rattle.irp_types.specs.declared.asked.Asked.TheVariants as questions
@@ -17,14 +16,9 @@ use Rattle.irp_shared.specs.declared.word_line.WordReply.TheVariants as word_rep
 
 -- ---- form 1
 
--- a plan that form 1 has: it holds no packet in a cancel slot
-abbrev pub one_has_plan : Plan → Bool
-one_has_plan plans.HoldSlot = false
-one_has_plan other = true
-
--- a question that form 1 has
+-- a question that form 1 has: its plan holds no packet in a cancel slot
 abbrev pub one_has_asked : Asked → Bool
-one_has_asked (questions.Dispatch id shown plan) = one_has_plan plan
+one_has_asked (questions.Dispatch id shown plans.HoldSlot) = false
 one_has_asked other = true
 
 -- an entry that form 1 has: its call finishes no packet that was taken from a cancel slot

@@ -1,5 +1,6 @@
 -- What a line's JSON value reads as: an entry or a header. None where the value has another form.
 use Rattle.std.specs.Prelude.{ℕ, ◌==◌, List, [], ◌∷◌, length, codes, Option, Some, None, if◌then◌else◌}
+use Rattle.std.specs.Bool.{then_some}
 use Rattle.serde_json.specs.Data.{Data}
 use Rattle.serde_json.specs.Find.{get}
 use Rattle.irp_forms.specs.Parts.{◌>>=◌, has_keys, list_at, u32_at, u64_at, up_to}
@@ -13,82 +14,60 @@ use Rattle.irp_shared.specs.declared.header.Form.TheVariants as forms
 use Rattle.irp_transcript_reader.specs.Calls.{entry_call_at}
 use Rattle.irp_forms.specs.Questions.{asked_at}
 use Rattle.irp_transcript_reader.specs.Replies.{reply_at}
-use Rattle.irp_transcript_reader.specs.declared.entries.Recorded.{Recorded}
-use Rattle.irp_transcript_reader.specs.declared.headers.Counts.{Counts}
 
--- an entry but for what was asked
-unfoldable pub recorded_at : Data → Option Recorded
-recorded_at form = do
-  called ← get (codes "call") form >>= entry_call_at
-  place ← get (codes "n") form >>= u64_at
-  reply ← get (codes "reply") form >>= reply_at
-  seat ← get (codes "seat") form >>= u32_at
-  Some (record { called = called; number = place; reply = reply; seat = seat })
+-- the list under a key
+abbrev pub list_under : {T : Type 0} → (Data → Option T) → List ℕ → Data → Option (List T)
+list_under reads key form = get key form >>= list_at reads
 
 -- an entry: what was asked, the call, the entry's number, the reply and the seat
 unfoldable pub entry_at : Data → Option Entry
 entry_at form = if has_keys (codes "asked" ∷ codes "call" ∷ codes "n" ∷ codes "reply" ∷ codes "seat" ∷ []) form then (do
-  recorded ← recorded_at form
-  asked ← get (codes "asked") form >>= list_at asked_at
+  called ← get (codes "call") form >>= entry_call_at
+  asked ← list_under asked_at (codes "asked") form
+  place ← get (codes "n") form >>= u64_at
+  seat ← get (codes "seat") form >>= u32_at
+  reply ← get (codes "reply") form >>= reply_at
   Some (record {
-    number = recorded.number;
-    seat = recorded.seat;
-    call = recorded.called.call;
-    lock = recorded.called.lock;
-    drained = recorded.called.drained;
+    number = place;
+    seat = seat;
+    call = called.call;
+    lock = called.lock;
+    drained = called.drained;
     asked = asked;
-    reply = recorded.reply;
+    reply = reply;
   })) else None
 
 -- the keys of a header of form 1
 unfoldable pub header_keys : List (List ℕ)
 header_keys = codes "cancels" ∷ codes "completions" ∷ codes "dispatches" ∷ codes "drivers" ∷ codes "form" ∷ codes "locks" ∷ codes "seats" ∷ []
 
--- form 1, by its number
-unfoldable pub form_one_at : Data → Option Form
-form_one_at form = get (codes "form") form >>= u32_at >>= λ count. if count == 1 then Some forms.One else None
-
--- form 2, by its number, with its cancel slots
-unfoldable pub form_two_at : Data → Option Form
-form_two_at form = do
-  count ← get (codes "form") form >>= u32_at
-  slots ← get (codes "slots") form >>= u32_at
-  if count == 2 then Some (forms.Two slots) else None
-
--- a header's form, by its keys: those of form 1; or these and `slots`, in form 2
+-- a header's form, by its number and its keys: those of form 1; or these and `slots`, in form 2
 unfoldable pub header_form_at : Data → Option Form
-header_form_at form =
-    if has_keys header_keys form then form_one_at form else
-    (if has_keys (codes "slots" ∷ header_keys) form then form_two_at form else None)
-
--- a header's other numbers: the counts of completion routines, the locks and the seats
-unfoldable pub counts_at : Data → Option Counts
-counts_at form = do
-  completions ← get (codes "completions") form >>= completions_at
-  locks ← get (codes "locks") form >>= u32_at
-  seats ← get (codes "seats") form >>= u32_at
-  Some (record { completions = completions; locks = locks; seats = seats })
-
--- the list under a key
-abbrev pub list_under : {T : Type 0} → (Data → Option T) → List ℕ → Data → Option (List T)
-list_under reads key form = get key form >>= list_at reads
+header_form_at form = do
+  count ← get (codes "form") form >>= u32_at
+  if has_keys header_keys form then then_some (count == 1) forms.One else
+      (if has_keys (codes "slots" ∷ header_keys) form then (do
+        slots ← get (codes "slots") form >>= u32_at
+        then_some (count == 2) (forms.Two slots)) else None)
 
 -- a header: its form, the rules of at most 256 cancel routines, which it counts by their list, the other counts, what
 -- each dispatch may name, and each driver's dispatches
 unfoldable pub header_at : Data → Option Header
 header_at form = do
   kind ← header_form_at form
-  counts ← counts_at form
+  completions ← get (codes "completions") form >>= completions_at
   cancels ← list_under cancel_rule_at (codes "cancels") form
+  cancel ← up_to most_routines (length cancels)
   dispatches ← list_under known_at (codes "dispatches") form
   drivers ← list_under (list_at handler_at) (codes "drivers") form
-  cancel ← up_to most_routines (length cancels)
+  locks ← get (codes "locks") form >>= u32_at
+  seats ← get (codes "seats") form >>= u32_at
   Some (record {
     cancels = cancels;
-    completions = record counts.completions { cancel = cancel };
+    completions = record completions { cancel = cancel };
     dispatches = dispatches;
     drivers = drivers;
     form = kind;
-    locks = counts.locks;
-    seats = counts.seats;
+    locks = locks;
+    seats = seats;
   })

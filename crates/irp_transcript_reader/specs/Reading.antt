@@ -13,7 +13,6 @@ use Rattle.irp_shared.specs.declared.header.Header.{Header}
 use Rattle.irp_shared.specs.declared.header.Form.{Form}
 use Rattle.irp_shared.specs.declared.word_line.Act.{Act}
 use Rattle.irp_shared.specs.declared.word_line.Act.TheVariants as acts
-use Rattle.irp_shared.specs.declared.word_line.WordLine.{WordLine}
 use Rattle.irp_transcript_reader.specs.Forms.{has_entry, has_word}
 use Rattle.irp_transcript_reader.specs.Lines.{entry_at, header_at}
 use Rattle.irp_transcript_reader.specs.WordLines.{word_line_at}
@@ -39,11 +38,6 @@ abbrev pub hands_within : ℕ → Act → Bool
 hands_within seats (acts.Hand hand) = nat_lt hand.to seats
 hands_within seats other = true
 
--- a word line of one of these seats, which the form has
-unfoldable pub seated_word_at : Form → ℕ → Data → Option WordLine
-seated_word_at kind seats form = word_line_at form >>= λ line.
-    if (nat_lt line.seat seats && hands_within seats line.act) && has_word kind line then Some line else None
-
 -- another entry may stand here: before the word lines, and where there are not too many
 abbrev pub has_room : TranscriptValue → Bool
 has_room before = (length before.words == 0) && nat_lt (length before.entries) most_entries
@@ -55,17 +49,17 @@ with_entry kind seats before entry =
     then Some (record before { entries = before.entries ++ entry ∷ [] })
     else None
 
--- the transcript with the entry more that the value is
-unfoldable pub with_entry_at : Form → ℕ → TranscriptValue → Data → Option TranscriptValue
-with_entry_at kind seats before form = entry_at form >>= with_entry kind seats before
-
--- the transcript with one more word line
+-- the transcript with one more word line, where it may stand: of one of these seats, which the form has
 unfoldable pub with_word : Form → ℕ → TranscriptValue → Data → Option TranscriptValue
-with_word kind seats before form = seated_word_at kind seats form >>= λ line. Some (record before { words = before.words ++ line ∷ [] })
+with_word kind seats before form = word_line_at form >>= λ line.
+    if (nat_lt line.seat seats && hands_within seats line.act) && has_word kind line
+    then Some (record before { words = before.words ++ line ∷ [] })
+    else None
 
 -- the transcript with the entry or the word line that the value is
 unfoldable pub with_line : Form → ℕ → TranscriptValue → Data → Option TranscriptValue
-with_line kind seats before form = if is_entry form then with_entry_at kind seats before form else with_word kind seats before form
+with_line kind seats before form =
+    if is_entry form then (entry_at form >>= with_entry kind seats before) else with_word kind seats before form
 
 -- the next value makes the one transcript of the other: first a header that the formats accept, and then entries and
 -- word lines of its form and its seats
@@ -144,12 +138,6 @@ ReadsFrom before count (Err faults.NoMemory) text = (place : ℕ) × RunsOutAt p
 
 abbrev pub so_far : Reading → TranscriptValue
 so_far reading = record { header = reading.header; entries = reading.entries.items; words = reading.words.items }
-
--- a header that the formats accept is what the value reads as, unless memory ran out
-abbrev pub GivesHeader : Result Header Unread → Data → Type 0
-GivesHeader (Ok header) form = (header_at form ≡ Some header) × IsHeader header
-GivesHeader (Err unread.Form) form = (header : Header) → header_at form ≡ Some header → IsHeader header → ⊥
-GivesHeader (Err unread.NoMemory) form = Unit {0}
 
 -- what the next value made of it, unless memory ran out
 abbrev pub TakesValue : Result (Unit {0}) Unread → TranscriptValue → Data → TranscriptValue → Type 0

@@ -32,7 +32,7 @@ word_reply_named name =
     (if bytes_eq name (codes "no_token") then Some word_replies.NoToken else None))))))))))))
 
 -- the status of an acquire: success, or that removal has begun
-unfoldable pub word_status : ℕ → Option WordReply
+abbrev pub word_status : ℕ → Option WordReply
 word_status status =
     if status == 0 then Some word_replies.Acquired else
     (if status == 0xc0000056 then Some word_replies.DeletePending else None)
@@ -63,14 +63,11 @@ act_named name form =
     (if bytes_eq name (codes "finish_taken") then (slot_alone_at beside form >>= λ slot. Some (acts.FinishTaken slot)) else
     (lock_act_named name beside form >>= λ on. Some (acts.OnLock on))))))
 
--- what a step did, by the name under `do`
-unfoldable pub act_at : Data → Option Act
-act_at form = get (codes "do") form >>= as_str >>= λ name. act_named name form
-
--- a word line: what the step did, what it was answered, its seat and its place
+-- a word line: what the step did, by the name under `do`, what it was answered, its seat and its place
 unfoldable pub word_line_at : Data → Option WordLine
 word_line_at form = do
-  act ← act_at form
+  name ← get (codes "do") form >>= as_str
+  act ← act_named name form
   reply ← get (codes "reply") form >>= word_reply_at
   seat ← get (codes "seat") form >>= u32_at
   place ← get (codes "step") form >>= u32_at

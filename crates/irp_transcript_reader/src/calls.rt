@@ -2,16 +2,7 @@
 
 ghost use Rattle.std.specs.Prelude.{◌≡◌};
 ghost use Rattle.serde_json.specs.View.{view};
-ghost use Rattle.irp_forms.specs.Parts.{has_keys};
-ghost use Rattle.irp_transcript_reader.specs.Calls.{
-  allocate_at,
-  delete_at,
-  entry_call_at,
-  entry_call_named,
-  finish_taken_at,
-  finish_taken_keys,
-  other_call_named,
-};
+ghost use Rattle.irp_transcript_reader.specs.Calls as spec;
 
 use irp_forms::{call_named, has_keys, under};
 use irp_types::{Call, LockNo};
@@ -28,7 +19,7 @@ pub struct EntryCall {
 /// A call that allocates a packet.
 #[tactic(auto, unfolding(crate::specs::Calls::allocate_at))]
 fn allocate_at(value: &Value) -> Option<Call>
-    ensures { result ≡ allocate_at (view value.now) }
+    ensures { result ≡ spec.allocate_at (view value.now) }
 {
     if !has_keys(value, &["do", "size"]) {
         return None;
@@ -37,85 +28,53 @@ fn allocate_at(value: &Value) -> Option<Call>
     Some(Call::Allocate { size })
 }
 
-/// Whether it has the keys of a call that finishes a packet which was taken from a cancel slot.
-#[tactic(auto, unfolding(crate::specs::Calls::finish_taken_keys))]
-fn has_finish_taken_keys(value: &Value) -> bool
-    ensures { result ≡ has_keys finish_taken_keys (view value.now) }
-{
-    has_keys(value, &["do", "information", "irp", "status", "token"])
-}
-
 /// A call that finishes a packet which was taken from a cancel slot.
 #[tactic(auto, unfolding(crate::specs::Calls::finish_taken_at))]
 fn finish_taken_at(value: &Value) -> Option<Call>
-    ensures { result ≡ finish_taken_at (view value.now) }
+    ensures { result ≡ spec.finish_taken_at (view value.now) }
 {
-    if !has_finish_taken_keys(value) {
+    if !has_keys(value, &["do", "information", "irp", "status", "token"]) {
         return None;
     }
-    let irp = under("irp", value)?;
-    let token = under("token", value)?;
-    let status = under("status", value)?;
-    let information = under("information", value)?;
     Some(Call::FinishTaken {
-        irp,
-        token,
-        status,
-        information,
+        irp: under("irp", value)?,
+        token: under("token", value)?,
+        status: under("status", value)?,
+        information: under("information", value)?,
     })
-}
-
-/// A call by its name, but for a delete.
-#[tactic(auto, unfolding(crate::specs::Calls::other_call_named))]
-fn other_call_named(name: &str, value: &Value) -> Option<Call>
-    ensures { result ≡ other_call_named name.now (view value.now) }
-{
-    match name {
-        "allocate" => allocate_at(value),
-        "finish_taken" => finish_taken_at(value),
-        _ => call_named(name, &[], under("irp", value), value),
-    }
 }
 
 /// A delete, with the entry's lock, or null, and whether that was known to be drained.
 #[tactic(auto, unfolding(crate::specs::Calls::delete_at))]
 fn delete_at(value: &Value) -> Option<EntryCall>
-    ensures { result ≡ delete_at (view value.now) }
+    ensures { result ≡ spec.delete_at (view value.now) }
 {
     if !has_keys(value, &["device", "do", "drained", "lock"]) {
         return None;
     }
     let device = under("device", value)?;
-    let drained = under("drained", value)?;
-    let lock = under("lock", value)?;
     Some(EntryCall {
         call: Call::Delete { device },
-        lock,
-        drained,
-    })
-}
-
-/// An entry's call by its name.
-#[tactic(auto, unfolding(crate::specs::Calls::entry_call_named))]
-fn entry_call_named(name: &str, value: &Value) -> Option<EntryCall>
-    ensures { result ≡ entry_call_named name.now (view value.now) }
-{
-    if name == "delete" {
-        return delete_at(value);
-    }
-    let call = other_call_named(name, value)?;
-    Some(EntryCall {
-        call,
-        lock: None,
-        drained: false,
+        drained: under("drained", value)?,
+        lock: under("lock", value)?,
     })
 }
 
 /// An entry's call, by the name under `do`.
 #[tactic(auto, unfolding(crate::specs::Calls::entry_call_at))]
 pub fn entry_call_at(value: &Value) -> Option<EntryCall>
-    ensures { result ≡ entry_call_at (view value.now) }
+    ensures { result ≡ spec.entry_call_at (view value.now) }
 {
     let name = value.get("do").and_then(Value::as_str)?;
-    entry_call_named(name, value)
+    let call = match name {
+        "delete" => return delete_at(value),
+        "allocate" => allocate_at(value)?,
+        "finish_taken" => finish_taken_at(value)?,
+        _ => call_named(name, &[], under("irp", value), value)?,
+    };
+    Some(EntryCall {
+        call,
+        lock: None,
+        drained: false,
+    })
 }

@@ -2,60 +2,38 @@
 
 ghost use Rattle.std.specs.Prelude.{◌≡◌};
 ghost use Rattle.std.specs.List.{list_all};
-ghost use Rattle.irp_transcript_reader.specs.Forms.{
-  has_entry,
-  has_word,
-  one_has_act,
-  one_has_asked,
-  one_has_entry,
-  one_has_plan,
-  one_has_reply,
-};
+ghost use Rattle.irp_transcript_reader.specs.Forms as spec;
 
 use irp_shared::{Act, Form, WordLine, WordReply, needs_token};
 use irp_types::{Asked, Entry, Plan};
 
-/// Whether form 1 has this plan: it holds no packet in a cancel slot.
-fn one_has_plan(plan: Plan) -> bool
-    ensures { result ≡ one_has_plan plan }
-{
-    !matches!(plan, Plan::HoldSlot)
-}
-
-/// Whether form 1 has this question.
+/// Whether form 1 has this question: its plan holds no packet in a cancel slot.
 fn one_has_asked(asked: &Asked) -> bool
-    ensures { result ≡ one_has_asked asked.now }
+    ensures { result ≡ spec.one_has_asked asked.now }
 {
     match *asked {
-        Asked::Dispatch { plan, .. } => one_has_plan(plan),
+        Asked::Dispatch { plan, .. } => !matches!(plan, Plan::HoldSlot),
         _ => true,
     }
 }
 
 /// Whether form 1 has all of these questions.
 fn one_has_each(asked: &[Asked]) -> bool
-    ensures { result ≡ list_all one_has_asked asked.now }
+    ensures { result ≡ list_all spec.one_has_asked asked.now }
 {
     asked.iter().all(|question| one_has_asked(question))
 }
 
 /// Whether form 1 has this entry: its call finishes no packet that was taken from a cancel slot.
 fn one_has_entry(entry: &Entry) -> bool
-    ensures { result ≡ one_has_entry entry.now }
+    ensures { result ≡ spec.one_has_entry entry.now }
 {
     !needs_token(entry.call) && one_has_each(entry.asked.as_slice())
 }
 
-/// Whether form 1 has this step: on a remove lock, and no hand.
-fn one_has_act(act: Act) -> bool
-    ensures { result ≡ one_has_act act }
-{
-    matches!(act, Act::OnLock(_))
-}
-
 /// Whether form 1 has this answer: one of remove locks.
 fn one_has_reply(reply: WordReply) -> bool
-    ensures { result ≡ one_has_reply reply }
+    ensures { result ≡ spec.one_has_reply reply }
 {
     match reply {
         WordReply::Acquired
@@ -73,7 +51,7 @@ fn one_has_reply(reply: WordReply) -> bool
 
 /// Whether the form has this entry.
 pub fn has_entry(form: Form, entry: &Entry) -> bool
-    ensures { result ≡ has_entry form entry.now }
+    ensures { result ≡ spec.has_entry form entry.now }
 {
     match form {
         Form::One => one_has_entry(entry),
@@ -81,12 +59,12 @@ pub fn has_entry(form: Form, entry: &Entry) -> bool
     }
 }
 
-/// Whether the form has this word line.
+/// Whether the form has this word line; form 1 has those of steps on a remove lock, and no hand.
 pub fn has_word(form: Form, line: WordLine) -> bool
-    ensures { result ≡ has_word form line }
+    ensures { result ≡ spec.has_word form line }
 {
     match form {
-        Form::One => one_has_act(line.act) && one_has_reply(line.reply),
+        Form::One => matches!(line.act, Act::OnLock(_)) && one_has_reply(line.reply),
         Form::Two { .. } => true,
     }
 }

@@ -1,17 +1,9 @@
 //! Headers.
 
-ghost use Rattle.std.specs.Prelude.{◌≡◌, ◌∷◌, codes};
+ghost use Rattle.std.specs.Prelude.{◌≡◌};
 ghost use Rattle.serde_json.specs.View.{view};
-ghost use Rattle.irp_forms.specs.Parts.{Gives, has_keys};
-ghost use Rattle.irp_transcript_reader.specs.Lines.{
-  counts_at,
-  form_one_at,
-  form_two_at,
-  header_at,
-  header_form_at,
-  header_keys,
-  list_under,
-};
+ghost use Rattle.irp_forms.specs.Parts.{Gives};
+ghost use Rattle.irp_transcript_reader.specs.Lines as spec;
 
 use irp_forms::{FromJson, Unread, completions_at, form_of, has_keys, list_at, under};
 use irp_shared::{Form, Header};
@@ -20,110 +12,38 @@ use irp_types::{Known, Row};
 use serde_json::Value;
 use std::alloc::Global;
 
-/// A header's numbers but for its form.
-#[derive(Clone, Copy)]
-pub struct Counts {
-    pub completions: Known,
-    pub locks: u32,
-    pub seats: u32,
-}
-
-/// A header's other numbers: the counts of completion routines, the locks and the seats.
-#[tactic(auto, unfolding(crate::specs::Lines::counts_at))]
-fn counts_at(value: &Value) -> Option<Counts>
-    ensures { result ≡ counts_at (view value.now) }
-{
-    let completions = completions_at(value.get("completions")?)?;
-    let locks = under("locks", value)?;
-    let seats = under("seats", value)?;
-    Some(Counts {
-        completions,
-        locks,
-        seats,
-    })
-}
-
 /// The list under a key.
-fn list_under<T: FromJson + Drop>(alloc: Global, key: &str, value: &Value) -> Result<Row<T>, Unread>
-    ensures { Gives result (list_under T.at key.now (view value.now)) }
+pub fn list_under<T: FromJson + Drop>(
+    alloc: Global,
+    key: &str,
+    value: &Value,
+) -> Result<Row<T>, Unread>
+    ensures { Gives result (spec.list_under T.at key.now (view value.now)) }
 {
-    match value.get(key) {
-        Some(list) => list_at(alloc, list),
-        None => Err(Unread::Form),
-    }
+    list_at(alloc, form_of(value.get(key))?)
 }
 
-/// Whether it has the keys of a header of form 1.
-#[tactic(auto, unfolding(crate::specs::Lines::header_keys))]
-fn has_header_keys(value: &Value) -> bool
-    ensures { result ≡ has_keys header_keys (view value.now) }
-{
-    has_keys(
-        value,
-        &[
-            "cancels",
-            "completions",
-            "dispatches",
-            "drivers",
-            "form",
-            "locks",
-            "seats",
-        ],
-    )
-}
-
-/// Whether it has the keys of a header of form 2.
-#[tactic(auto, unfolding(crate::specs::Lines::header_keys))]
-fn has_two_header_keys(value: &Value) -> bool
-    ensures { result ≡ has_keys (codes "slots" ∷ header_keys) (view value.now) }
-{
-    has_keys(
-        value,
-        &[
-            "slots",
-            "cancels",
-            "completions",
-            "dispatches",
-            "drivers",
-            "form",
-            "locks",
-            "seats",
-        ],
-    )
-}
-
-/// Form 1, by its number.
-#[tactic(auto, unfolding(crate::specs::Lines::form_one_at))]
-fn form_one_at(value: &Value) -> Option<Form>
-    ensures { result ≡ form_one_at (view value.now) }
-{
-    let number: u32 = under("form", value)?;
-    if number == 1 { Some(Form::One) } else { None }
-}
-
-/// Form 2, by its number, with its cancel slots.
-#[tactic(auto, unfolding(crate::specs::Lines::form_two_at))]
-fn form_two_at(value: &Value) -> Option<Form>
-    ensures { result ≡ form_two_at (view value.now) }
-{
-    let number: u32 = under("form", value)?;
-    let slots = under("slots", value)?;
-    if number == 2 {
-        Some(Form::Two { slots })
-    } else {
-        None
-    }
-}
-
-/// A header's form, by its keys and its number.
+/// A header's form, by its number and its keys; form 2 has its cancel slots.
 #[tactic(auto, unfolding(crate::specs::Lines::header_form_at))]
 fn header_form_at(value: &Value) -> Option<Form>
-    ensures { result ≡ header_form_at (view value.now) }
+    ensures { result ≡ spec.header_form_at (view value.now) }
 {
-    if has_header_keys(value) {
-        form_one_at(value)
-    } else if has_two_header_keys(value) {
-        form_two_at(value)
+    let number: u32 = under("form", value)?;
+    let keys = &[
+        "slots",
+        "cancels",
+        "completions",
+        "dispatches",
+        "drivers",
+        "form",
+        "locks",
+        "seats",
+    ];
+    if has_keys(value, &keys[1..]) {
+        (number == 1).then_some(Form::One)
+    } else if has_keys(value, keys) {
+        let slots = under("slots", value)?;
+        (number == 2).then_some(Form::Two { slots })
     } else {
         None
     }
@@ -136,13 +56,11 @@ fn header_form_at(value: &Value) -> Option<Form>
 /// `Unread::Form` where the value is no header; `Unread::NoMemory` where memory runs out.
 #[tactic(auto, unfolding(crate::specs::Lines::header_at))]
 pub fn header_at(alloc: Global, value: &Value) -> Result<Header, Unread>
-    ensures { Gives result (header_at (view value.now)) }
+    ensures { Gives result (spec.header_at (view value.now)) }
 {
     let form = form_of(header_form_at(value))?;
-    let counts = form_of(counts_at(value))?;
+    let completions = form_of(value.get("completions").and_then(|it| completions_at(it)))?;
     let cancels = list_under(alloc, "cancels", value)?;
-    let dispatches = list_under(alloc, "dispatches", value)?;
-    let drivers = list_under(alloc, "drivers", value)?;
     let cancel = cancels.as_slice().len();
     if cancel > MOST_ROUTINES as usize {
         return Err(Unread::Form);
@@ -151,12 +69,12 @@ pub fn header_at(alloc: Global, value: &Value) -> Result<Header, Unread>
         cancels,
         completions: Known {
             cancel: cancel as u32,
-            ..counts.completions
+            ..completions
         },
-        dispatches,
-        drivers,
+        dispatches: list_under(alloc, "dispatches", value)?,
+        drivers: list_under(alloc, "drivers", value)?,
         form,
-        locks: counts.locks,
-        seats: counts.seats,
+        locks: form_of(under("locks", value))?,
+        seats: form_of(under("seats", value))?,
     })
 }

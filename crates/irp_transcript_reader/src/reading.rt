@@ -4,20 +4,8 @@ ghost use Rattle.std.specs.Prelude.{◌≡◌};
 ghost use Rattle.serde_json.specs.View.{view};
 ghost use Rattle.irp_forms.specs.Parts.{Gives};
 ghost use Rattle.irp_shared.specs.Transcripts.{no_lines};
-ghost use Rattle.irp_transcript_reader.specs.Reading.{
-  GivesHeader,
-  GivesLine,
-  IsEntryLine,
-  TakesLine,
-  TakesValue,
-  hands_within,
-  seated_word_at,
-  so_far,
-  with_entry,
-  with_entry_at,
-  with_line,
-  with_word,
-};
+ghost use Rattle.irp_transcript_reader.specs.Reading as spec;
+ghost use Rattle.irp_transcript_reader.specs.Reading.{GivesLine, TakesLine, so_far};
 
 use crate::entries::entry_at;
 use crate::forms::{has_entry, has_word};
@@ -45,41 +33,6 @@ pub struct Reading {
     pub words: Vec<WordLine>,
 }
 
-/// Whether a step hands over to one of these seats, if it hands over.
-fn hands_within(seats: u32, act: Act) -> bool
-    ensures { result ≡ hands_within seats act }
-{
-    match act {
-        Act::Hand(hand) => hand.to < seats,
-        _ => true,
-    }
-}
-
-/// A word line of one of these seats, which the form has.
-#[tactic(auto, unfolding(crate::specs::Reading::seated_word_at))]
-fn seated_word_at(form: Form, seats: u32, value: &Value) -> Option<WordLine>
-    ensures { result ≡ seated_word_at form seats (view value.now) }
-{
-    let line = word_line_at(value)?;
-    if line.seat < seats && hands_within(seats, line.act) && has_word(form, line) {
-        Some(line)
-    } else {
-        None
-    }
-}
-
-/// A header that the formats accept.
-fn accepted_header_at(alloc: Global, value: &Value) -> Result<Header, Unread>
-    ensures { GivesHeader result (view value.now) }
-{
-    let header = header_at(alloc, value)?;
-    if header.is_accepted() {
-        Ok(header)
-    } else {
-        Err(Unread::Form)
-    }
-}
-
 impl Reading {
     /// No lines. It takes no memory (this project's own rule).
     pub fn new(alloc: Global) -> Reading
@@ -96,7 +49,7 @@ impl Reading {
     #[tactic(auto, unfolding(crate::specs::Reading::with_entry))]
     fn take_entry(&mut self, form: Form, seats: u32, entry: Entry) -> Result<(), Unread>
         ensures { GivesLine result
-            (with_entry form seats (so_far self.old) entry) (so_far self.new) }
+            (spec.with_entry form seats (so_far self.old) entry) (so_far self.new) }
     {
         if !self.words.is_empty() || self.entries.len() >= MOST_ENTRIES {
             return Err(Unread::Form);
@@ -104,74 +57,46 @@ impl Reading {
         if entry.seat >= seats || !has_entry(form, &entry) {
             return Err(Unread::Form);
         }
-        match self.entries.push(entry) {
-            Ok(()) => Ok(()),
-            Err(_) => Err(Unread::NoMemory),
-        }
+        self.entries.push(entry).map_err(|_| Unread::NoMemory)
     }
 
-    /// Takes the entry that the value is.
-    #[tactic(auto, unfolding(crate::specs::Reading::with_entry_at))]
-    fn take_entry_at(
-        &mut self,
-        alloc: Global,
-        form: Form,
-        seats: u32,
-        value: &Value,
-    ) -> Result<(), Unread>
-        ensures { GivesLine result (with_entry_at form seats (so_far self.old) (view value.now))
-            (so_far self.new) }
-    {
-        let entry = entry_at(alloc, value)?;
-        self.take_entry(form, seats, entry)
-    }
-
-    /// Takes a word line.
+    /// Takes a word line where it may stand: of one of these seats, to one of which it hands over if it does, and which the
+    /// form has.
     #[tactic(auto, unfolding(crate::specs::Reading::with_word))]
     fn take_word(&mut self, form: Form, seats: u32, value: &Value) -> Result<(), Unread>
-        ensures { GivesLine result (with_word form seats (so_far self.old) (view value.now))
+        ensures { GivesLine result (spec.with_word form seats (so_far self.old) (view value.now))
             (so_far self.new) }
     {
-        let line = form_of(seated_word_at(form, seats, value))?;
-        match self.words.push(line) {
-            Ok(()) => Ok(()),
-            Err(_) => Err(Unread::NoMemory),
+        let line = form_of(word_line_at(value))?;
+        let hands_beyond = matches!(line.act, Act::Hand(hand) if hand.to >= seats);
+        if line.seat >= seats || hands_beyond || !has_word(form, line) {
+            return Err(Unread::Form);
         }
+        self.words.push(line).map_err(|_| Unread::NoMemory)
     }
 
-    /// Takes an entry or a word line.
+    /// Takes the value of a header that the formats accept first, and then those of entries and word lines.
     #[tactic(auto, unfolding(crate::specs::Reading::with_line))]
-    fn take_line_of(
-        &mut self,
-        alloc: Global,
-        form: Form,
-        seats: u32,
-        value: &Value,
-    ) -> Result<(), Unread>
-        ensures { GivesLine result (with_line form seats (so_far self.old) (view value.now))
-            (so_far self.new) }
-    {
-        if value.get("call").is_some() {
-            self.take_entry_at(alloc, form, seats, value)
-        } else {
-            self.take_word(form, seats, value)
-        }
-    }
-
-    /// Takes the header's value first, and then those of entries and word lines.
     fn take_value(&mut self, alloc: Global, value: &Value) -> Result<(), Unread>
-        ensures { TakesValue result (so_far self.old) (view value.now) (so_far self.new) }
+        ensures { spec.TakesValue result (so_far self.old) (view value.now) (so_far self.new) }
     {
         match &self.header {
             None => {
-                let header = accepted_header_at(alloc, value)?;
+                let header = header_at(alloc, value)?;
+                if !header.is_accepted() {
+                    return Err(Unread::Form);
+                }
                 self.header = Some(header);
                 Ok(())
             }
             Some(header) => {
-                let form = header.form;
-                let seats = header.seats;
-                self.take_line_of(alloc, form, seats, value)
+                let (form, seats) = (header.form, header.seats);
+                if value.get("call").is_some() {
+                    let entry = entry_at(alloc, value)?;
+                    self.take_entry(form, seats, entry)
+                } else {
+                    self.take_word(form, seats, value)
+                }
             }
         }
     }
@@ -192,13 +117,8 @@ impl Reading {
         }
         match Value::from_slice(alloc, line) {
             Ok(value) => self.take_value(alloc, &value),
-            Err(error) => {
-                if error.is_memory() {
-                    Err(Unread::NoMemory)
-                } else {
-                    Err(Unread::Form)
-                }
-            }
+            Err(error) if error.is_memory() => Err(Unread::NoMemory),
+            Err(_) => Err(Unread::Form),
         }
     }
 
@@ -209,14 +129,13 @@ impl Reading {
     ///
     /// As `take_line`: `Unread::Form` where the line is refused; `Unread::NoMemory` where memory ran out.
     pub fn take_known(&mut self, alloc: Global, entry: Entry, line: &[u8]) -> Result<(), Unread>
-        requires { IsEntryLine line.now entry }
+        requires { spec.IsEntryLine line.now entry }
         ensures { TakesLine result (so_far self.old) line.now (so_far self.new) }
     {
         match &self.header {
             None => self.take_line(alloc, line),
             Some(header) => {
-                let form = header.form;
-                let seats = header.seats;
+                let (form, seats) = (header.form, header.seats);
                 self.take_entry(form, seats, entry)
             }
         }

@@ -2,123 +2,66 @@
 
 ghost use Rattle.std.specs.Prelude.{◌≡◌};
 ghost use Rattle.serde_json.specs.View.{view};
-ghost use Rattle.irp_transcript_reader.specs.Replies.{
-  holder_at,
-  naming_reply_at,
-  owner_at,
-  reply_at,
-  seen_at,
-  telling_reply_at,
-};
+ghost use Rattle.irp_transcript_reader.specs.Replies as spec;
 
 use irp_forms::{FromValue, has_items, has_keys, named, nth, under};
-use irp_types::{Owner, Reply, Seen, Status};
+use irp_types::{Owner, Reply, Seen};
 use serde_json::Value;
-
-/// The first of what Look shows of a packet: who has it, and its status block.
-#[derive(Clone, Copy)]
-pub struct Holder {
-    pub owner: Owner,
-    pub current: u32,
-    pub status: Status,
-    pub information: u64,
-}
 
 /// An owner: `"o"` for the originator, `"ended"`, or the device's number.
 #[tactic(auto, unfolding(crate::specs::Replies::owner_at))]
 fn owner_at(value: &Value) -> Option<Owner>
-    ensures { result ≡ owner_at (view value.now) }
+    ensures { result ≡ spec.owner_at (view value.now) }
 {
     match value {
-        Value::String(name) => {
-            match name.as_str() {
-                "o" => Some(Owner::Originator),
-                "ended" => Some(Owner::Ended),
-                _ => None,
-            }
-        }
+        Value::String(name) => match name.as_str() {
+            "o" => Some(Owner::Originator),
+            "ended" => Some(Owner::Ended),
+            _ => None,
+        },
         _ => Some(Owner::Device(FromValue::from_value(value)?)),
     }
-}
-
-/// The first four things that Look shows of a packet.
-#[tactic(auto, unfolding(crate::specs::Replies::holder_at))]
-fn holder_at(value: &Value) -> Option<Holder>
-    ensures { result ≡ holder_at (view value.now) }
-{
-    let owner = owner_at(value.get(0)?)?;
-    let current = nth(1, value)?;
-    let status = nth(2, value)?;
-    let information = nth(3, value)?;
-    Some(Holder {
-        owner,
-        current,
-        status,
-        information,
-    })
 }
 
 /// What Look shows of a packet, of eight items.
 #[tactic(auto, unfolding(crate::specs::Replies::seen_at))]
 fn seen_at(value: &Value) -> Option<Seen>
-    ensures { result ≡ seen_at (view value.now) }
+    ensures { result ≡ spec.seen_at (view value.now) }
 {
     if !has_items(value, 8) {
         return None;
     }
-    let holder = holder_at(value)?;
-    let cancel = nth(4, value)?;
-    let cancel_routine = nth(5, value)?;
-    let pending_returned = nth(6, value)?;
-    let marked = nth(7, value)?;
     Some(Seen {
-        owner: holder.owner,
-        current: holder.current,
-        status: holder.status,
-        information: holder.information,
-        cancel,
-        cancel_routine,
-        pending_returned,
-        marked,
+        owner: owner_at(value.get(0)?)?,
+        current: nth(1, value)?,
+        status: nth(2, value)?,
+        information: nth(3, value)?,
+        cancel: nth(4, value)?,
+        cancel_routine: nth(5, value)?,
+        pending_returned: nth(6, value)?,
+        marked: nth(7, value)?,
     })
 }
 
-/// A reply that names a thing, by its one key.
-#[tactic(auto, unfolding(crate::specs::Replies::naming_reply_at))]
-fn naming_reply_at(value: &Value) -> Option<Reply>
-    ensures { result ≡ naming_reply_at (view value.now) }
+/// A reply that has a value, which stands under its name.
+#[tactic(auto, unfolding(crate::specs::Replies::valued_reply_at))]
+fn valued_reply_at(value: &Value) -> Option<Reply>
+    ensures { result ≡ spec.valued_reply_at (view value.now) }
 {
     if has_keys(value, &["device"]) {
-        let device = under("device", value)?;
-        Some(Reply::Device(device))
+        Some(Reply::Device(under("device", value)?))
     } else if has_keys(value, &["irp"]) {
-        let irp = under("irp", value)?;
-        Some(Reply::Irp(irp))
+        Some(Reply::Irp(under("irp", value)?))
     } else if has_keys(value, &["previous"]) {
-        let cancel = under("previous", value)?;
-        Some(Reply::Previous(cancel))
-    } else {
-        None
-    }
-}
-
-/// A reply that tells a state, by its one key.
-#[tactic(auto, unfolding(crate::specs::Replies::telling_reply_at))]
-fn telling_reply_at(value: &Value) -> Option<Reply>
-    ensures { result ≡ telling_reply_at (view value.now) }
-{
-    if has_keys(value, &["status"]) {
-        let status = under("status", value)?;
-        Some(Reply::Status(status))
+        Some(Reply::Previous(under("previous", value)?))
+    } else if has_keys(value, &["status"]) {
+        Some(Reply::Status(under("status", value)?))
     } else if has_keys(value, &["cancelled"]) {
-        let cancelled = under("cancelled", value)?;
-        Some(Reply::Cancelled(cancelled))
+        Some(Reply::Cancelled(under("cancelled", value)?))
     } else if has_keys(value, &["seen"]) {
-        let seen = seen_at(value.get("seen")?)?;
-        Some(Reply::Seen(seen))
+        Some(Reply::Seen(seen_at(value.get("seen")?)?))
     } else if has_keys(value, &["refused"]) {
-        let refusal = under("refused", value)?;
-        Some(Reply::Refused(refusal))
+        Some(Reply::Refused(under("refused", value)?))
     } else {
         None
     }
@@ -127,17 +70,10 @@ fn telling_reply_at(value: &Value) -> Option<Reply>
 /// A reply: its name, or its one value under its name.
 #[tactic(auto, unfolding(crate::specs::Replies::reply_at))]
 pub fn reply_at(value: &Value) -> Option<Reply>
-    ensures { result ≡ reply_at (view value.now) }
+    ensures { result ≡ spec.reply_at (view value.now) }
 {
-    if let Value::String(name) = value {
-        return if name.as_str() == "done" {
-            Some(Reply::Done)
-        } else {
-            None
-        };
-    }
-    match naming_reply_at(value) {
-        Some(reply) => Some(reply),
-        None => telling_reply_at(value),
+    match value {
+        Value::String(name) => (name.as_str() == "done").then_some(Reply::Done),
+        _ => valued_reply_at(value),
     }
 }

@@ -2,15 +2,7 @@
 
 ghost use Rattle.std.specs.Prelude.{◌≡◌};
 ghost use Rattle.serde_json.specs.View.{view};
-ghost use Rattle.irp_transcript_reader.specs.WordLines.{
-  act_at,
-  act_named,
-  valued_reply_at,
-  word_line_at,
-  word_reply_at,
-  word_reply_named,
-  word_status,
-};
+ghost use Rattle.irp_transcript_reader.specs.WordLines as spec;
 
 use irp_forms::{hand_at, has_keys, lock_act_named, slot_alone_at, under};
 use irp_shared::{Act, WordLine, WordReply};
@@ -20,7 +12,7 @@ use serde_json::Value;
 /// A step's answer by its name: those of remove locks, then those of cancel slots.
 #[tactic(auto, unfolding(crate::specs::WordLines::word_reply_named))]
 fn word_reply_named(name: &str) -> Option<WordReply>
-    ensures { result ≡ word_reply_named name.now }
+    ensures { result ≡ spec.word_reply_named name.now }
 {
     match name {
         "ok" => Some(WordReply::Done),
@@ -40,27 +32,17 @@ fn word_reply_named(name: &str) -> Option<WordReply>
     }
 }
 
-/// The status of an acquire: success, or that removal has begun.
-#[tactic(auto, unfolding(crate::specs::WordLines::word_status))]
-fn word_status(status: u32) -> Option<WordReply>
-    ensures { result ≡ word_status status }
-{
-    if status == 0 {
-        Some(WordReply::Acquired)
-    } else if status == 0xc0000056 {
-        Some(WordReply::DeletePending)
-    } else {
-        None
-    }
-}
-
-/// A step's answer that has a value, which stands under its name.
+/// A step's answer that has a value, which stands under its name; that of an acquire is a status.
 #[tactic(auto, unfolding(crate::specs::WordLines::valued_reply_at))]
 fn valued_reply_at(value: &Value) -> Option<WordReply>
-    ensures { result ≡ valued_reply_at (view value.now) }
+    ensures { result ≡ spec.valued_reply_at (view value.now) }
 {
     if has_keys(value, &["status"]) {
-        word_status(under("status", value)?)
+        match under("status", value)? {
+            0u32 => Some(WordReply::Acquired),
+            0xc0000056 => Some(WordReply::DeletePending),
+            _ => None,
+        }
     } else if has_keys(value, &["busy"]) {
         let word = under("busy", value)?;
         Some(WordReply::Busy { word })
@@ -75,7 +57,7 @@ fn valued_reply_at(value: &Value) -> Option<WordReply>
 /// What a step was answered: its name, or its one value under its name.
 #[tactic(auto, unfolding(crate::specs::WordLines::word_reply_at))]
 fn word_reply_at(value: &Value) -> Option<WordReply>
-    ensures { result ≡ word_reply_at (view value.now) }
+    ensures { result ≡ spec.word_reply_at (view value.now) }
 {
     match value {
         Value::String(name) => word_reply_named(name.as_str()),
@@ -86,58 +68,37 @@ fn word_reply_at(value: &Value) -> Option<WordReply>
 /// What a step did, by its name.
 #[tactic(auto, unfolding(crate::specs::WordLines::act_named))]
 fn act_named(name: &str, value: &Value) -> Option<Act>
-    ensures { result ≡ act_named name.now (view value.now) }
+    ensures { result ≡ spec.act_named name.now (view value.now) }
 {
     let beside = &["reply", "seat", "step"];
     match name {
-        "hand" => {
-            let hand = hand_at(beside, value)?;
-            Some(Act::Hand(hand))
-        }
-        "publish" => {
-            let slot = slot_alone_at(beside, value)?;
-            Some(Act::OnSlot(SlotAct::Publish { slot }))
-        }
-        "withdraw" => {
-            let slot = slot_alone_at(beside, value)?;
-            Some(Act::OnSlot(SlotAct::Withdraw { slot }))
-        }
-        "request" => {
-            let slot = slot_alone_at(beside, value)?;
-            Some(Act::OnSlot(SlotAct::Request { slot }))
-        }
-        "finish_taken" => {
-            let slot = slot_alone_at(beside, value)?;
-            Some(Act::FinishTaken { slot })
-        }
-        _ => {
-            let on = lock_act_named(name, beside, value)?;
-            Some(Act::OnLock(on))
-        }
+        "hand" => Some(Act::Hand(hand_at(beside, value)?)),
+        "publish" => Some(Act::OnSlot(SlotAct::Publish {
+            slot: slot_alone_at(beside, value)?,
+        })),
+        "withdraw" => Some(Act::OnSlot(SlotAct::Withdraw {
+            slot: slot_alone_at(beside, value)?,
+        })),
+        "request" => Some(Act::OnSlot(SlotAct::Request {
+            slot: slot_alone_at(beside, value)?,
+        })),
+        "finish_taken" => Some(Act::FinishTaken {
+            slot: slot_alone_at(beside, value)?,
+        }),
+        _ => Some(Act::OnLock(lock_act_named(name, beside, value)?)),
     }
 }
 
-/// What a step did, by the name under `do`.
-#[tactic(auto, unfolding(crate::specs::WordLines::act_at))]
-fn act_at(value: &Value) -> Option<Act>
-    ensures { result ≡ act_at (view value.now) }
-{
-    act_named(value.get("do").and_then(Value::as_str)?, value)
-}
-
-/// A word line: what the step did, what it was answered, its seat and its place.
+/// A word line: what the step did, by the name under `do`, what it was answered, its seat and its place.
 #[tactic(auto, unfolding(crate::specs::WordLines::word_line_at))]
 pub fn word_line_at(value: &Value) -> Option<WordLine>
-    ensures { result ≡ word_line_at (view value.now) }
+    ensures { result ≡ spec.word_line_at (view value.now) }
 {
-    let act = act_at(value)?;
-    let reply = word_reply_at(value.get("reply")?)?;
-    let seat = under("seat", value)?;
-    let step = under("step", value)?;
+    let name = value.get("do").and_then(Value::as_str)?;
     Some(WordLine {
-        seat,
-        step,
-        act,
-        reply,
+        act: act_named(name, value)?,
+        reply: word_reply_at(value.get("reply")?)?,
+        seat: under("seat", value)?,
+        step: under("step", value)?,
     })
 }

@@ -10,7 +10,7 @@ use Rattle.serde_json.specs.Written.{compact_text}
 use Rattle.irp_transcript_writer.specs.Out.{counted}
 use Rattle.irp_transcript_writer.specs.Json.{line_text}
 use Rattle.irp_transcript_writer.specs.Lines.{text_of, lines, header_lines, entry_json, word_json}
-use Rattle.irp_transcript_writer.specs.Puts.{told, Sent, Stopped, Begins}
+use Rattle.irp_transcript_writer.specs.Puts.{told, Sent, Stopped}
 use Rattle.irp_types.specs.declared.entry.Entry.{Entry}
 use Rattle.irp_shared.specs.Transcripts.{TranscriptValue}
 use Rattle.irp_shared.specs.declared.header.Header.{Header}
@@ -166,16 +166,6 @@ sent_all form items index before after old new within sent = subst (λ these. Se
 
 -- ---- the three parts of a transcript
 
-begins : (text : List ℕ) (after : ℕ) (old new : Option (List ℕ)) → Stopped text 0 old new after → Begins text old new after
-begins text after old new stopped = record {
-  front = stopped.front;
-  rest = stopped.rest;
-  short = stopped.short;
-  whole = stopped.whole;
-  gone = stopped.gone;
-  count = stopped.count ∙ omega arith;
-}
-
 text_append : (first second : List Data) → text_of (first ++ second) ≡ text_of first ++ text_of second
 unfolding text_of
 text_append [] second = refl
@@ -212,25 +202,25 @@ all_sent t header entries words first second third old one two new a b c p q r =
 
 -- the header's line stopped
 pub first_stopped : (t : TranscriptValue) (header : Option Header) (after : ℕ) (old new : Option (List ℕ)) → header ≡ t.header
-    → Stopped (text_of (header_lines header)) 0 old new after → Begins (text_of (lines t)) old new after
+    → Stopped (text_of (header_lines header)) 0 old new after → Stopped (text_of (lines t)) 0 old new after
 first_stopped t header after old new a p =
-    subst (λ text. Begins text old new after) (sym (parts t))
-    (begins _ after old new (stopped_more _ (entries_text t.entries ++ words_text t.words) 0 after old new (subst (λ these. Stopped (text_of (header_lines these)) 0 old new after) a p)))
+    subst (λ text. Stopped text 0 old new after) (sym (parts t))
+    (stopped_more _ (entries_text t.entries ++ words_text t.words) 0 after old new (subst (λ these. Stopped (text_of (header_lines these)) 0 old new after) a p))
 
 -- the entries' lines stopped
 pub second_stopped : (t : TranscriptValue) (header : Option Header) (entries : List Entry) (first after : ℕ) (old one new : Option (List ℕ)) → header ≡ t.header → entries ≡ t.entries
-    → Sent (text_of (header_lines header)) 0 old one first → Stopped (entries_text entries) first one new after → Begins (text_of (lines t)) old new after
+    → Sent (text_of (header_lines header)) 0 old one first → Stopped (entries_text entries) first one new after → Stopped (text_of (lines t)) 0 old new after
 second_stopped t header entries first after old one new a b p q =
-    subst (λ text. Begins text old new after) (sym (parts t))
-    (begins _ after old new (stopped_then _ _ 0 first after old one new (subst (λ these. Sent (text_of (header_lines these)) 0 old one first) a p)
-    (stopped_more _ (words_text t.words) first after one new (subst (λ these. Stopped (entries_text these) first one new after) b q))))
+    subst (λ text. Stopped text 0 old new after) (sym (parts t))
+    (stopped_then _ _ 0 first after old one new (subst (λ these. Sent (text_of (header_lines these)) 0 old one first) a p)
+    (stopped_more _ (words_text t.words) first after one new (subst (λ these. Stopped (entries_text these) first one new after) b q)))
 
 -- the word lines stopped
 pub third_stopped : (t : TranscriptValue) (header : Option Header) (entries : List Entry) (words : List WordLine) (first second after : ℕ) (old one two new : Option (List ℕ))
     → header ≡ t.header → entries ≡ t.entries → words ≡ t.words
     → Sent (text_of (header_lines header)) 0 old one first → Sent (entries_text entries) first one two second → Stopped (words_text words) second two new after
-    → Begins (text_of (lines t)) old new after
+    → Stopped (text_of (lines t)) 0 old new after
 third_stopped t header entries words first second after old one two new a b c p q r =
-    subst (λ text. Begins text old new after) (sym (parts t))
-    (begins _ after old new (stopped_then _ _ 0 first after old one new (subst (λ these. Sent (text_of (header_lines these)) 0 old one first) a p)
-    (stopped_then _ _ first second after one two new (subst (λ these. Sent (entries_text these) first one two second) b q) (subst (λ these. Stopped (words_text these) second two new after) c r))))
+    subst (λ text. Stopped text 0 old new after) (sym (parts t))
+    (stopped_then _ _ 0 first after old one new (subst (λ these. Sent (text_of (header_lines these)) 0 old one first) a p)
+    (stopped_then _ _ first second after one two new (subst (λ these. Sent (entries_text these) first one two second) b q) (subst (λ these. Stopped (words_text these) second two new after) c r)))

@@ -49,10 +49,6 @@ use Rattle.irp_shared.specs.declared.word_line.WordReply.TheVariants as word_rep
 abbrev pub device_json : DeviceId → Data
 device_json device = natural device.0
 
--- a dispatch routine by its number
-abbrev pub dispatch_json : DispatchId → Data
-dispatch_json dispatch = natural dispatch.0
-
 -- a cancel routine by its number
 abbrev pub cancel_json : CancelId → Data
 cancel_json cancel = natural cancel.0
@@ -130,7 +126,7 @@ shown_json shown =
 -- a question: which closure, what it was shown and what it answered
 abbrev pub asked_json : Asked → Data
 asked_json (asked.Dispatch id shown plan) =
-    fields ((codes "dispatch", dispatch_json id) ∷ (codes "plan", plan_json plan) ∷ (codes "shown", shown_json shown) ∷ [])
+    fields ((codes "dispatch", natural id.0) ∷ (codes "plan", plan_json plan) ∷ (codes "shown", shown_json shown) ∷ [])
 asked_json (asked.Completion id shown answer) =
     fields ((codes "answer", answer_json answer) ∷ (codes "completion", routine_json id) ∷ (codes "shown", shown_json shown) ∷ [])
 asked_json (asked.Cancel id shown answer) =
@@ -220,7 +216,7 @@ known_json known =
 
 -- a major function code and its dispatch
 abbrev pub handler_json : ℕ × DispatchId → Data
-handler_json handler = list (natural handler.0 ∷ dispatch_json handler.1 ∷ [])
+handler_json handler = list (natural handler.0 ∷ natural handler.1.0 ∷ [])
 
 -- the driver that has these dispatches for these major function codes
 abbrev pub driver_json : List (ℕ × DispatchId) → Data

@@ -10,15 +10,6 @@ use Rattle.irp_transcript_writer.specs.declared.write.WriteFault.{WriteFault}
 abbrev pub told : ℕ → ℕ
 told count = min count (2 ^ 64 - 1)
 
--- a beginning of the text went out, which isn't the whole text, and its length is given
-pub record Begins (text : List ℕ) (old new : Option (List ℕ)) (written : ℕ) : Type 0 where
-  pub front : List ℕ
-  pub rest : List ℕ
-  pub whole : text ≡ front ++ rest
-  pub short : 0 < length rest
-  pub gone : Appends old new front
-  pub count : written ≡ told (length front)
-
 -- the count of failures after a fault of this cause: it rises for the output's, and stays for the memory's
 abbrev pub counts_for : Cause → ℕ → ℕ
 counts_for Io count = risen count

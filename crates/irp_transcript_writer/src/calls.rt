@@ -7,7 +7,7 @@ ghost use Rattle.irp_types.specs.Calls.{names_party};
 ghost use Rattle.irp_transcript_writer.specs.Lines.{call_json, irp_json, party_json};
 
 use crate::form::{put, put_one, put_text, put_two};
-use irp_types::{Call, CancelId, DeviceId, IrpRef, LockNo, Party, Setting, Status};
+use irp_types::{Call, DeviceId, IrpRef, LockNo, Party, Setting, Status};
 use std::alloc::AllocError;
 
 /// Writes a call that deletes a device, with its lock and whether that was known to be drained.
@@ -69,22 +69,7 @@ fn put_complete(
 {
     put(out, "{\"by\":", &party)?;
     put(out, ",\"do\":\"complete\",\"information\":", &information)?;
-    put_two(out, ",\"irp\":", &irp, ",\"status\":", &status, "}")
-}
-
-/// Writes a call that sets a cancel routine, or takes it out.
-fn put_set_cancel_routine(
-    out: &mut Vec<u8>,
-    party: Party,
-    irp: IrpRef,
-    cancel: Option<CancelId>,
-) -> Result<(), AllocError>
-    ensures { OnOk result (out.new.items ≡ out.old.items
-        ++ compact_text (call_json (Call.SetCancelRoutine party irp cancel) None false)) }
-{
-    put(out, "{\"by\":", &party)?;
-    put(out, ",\"cancel\":", &cancel)?;
-    put_one(out, ",\"do\":\"set_cancel_routine\",\"irp\":", &irp, "}")
+    put_two(out, ",\"irp\":", &irp, ",\"status\":", &status.0, "}")
 }
 
 /// Writes a call that completes a packet which was taken from a cancel slot.
@@ -101,7 +86,7 @@ fn put_finish_taken(
     put_text(out, "{\"do\":\"finish_taken\"")?;
     put(out, ",\"information\":", &information)?;
     put(out, ",\"irp\":", &irp)?;
-    put_two(out, ",\"status\":", &status, ",\"token\":", &token, "}")
+    put_two(out, ",\"status\":", &status.0, ",\"token\":", &token, "}")
 }
 
 /// Writes a call that sends a packet.
@@ -162,7 +147,9 @@ fn put_party_call(out: &mut Vec<u8>, call: Call) -> Result<(), AllocError>
             information,
         } => put_complete(out, party, irp, status, information),
         Call::SetCancelRoutine { party, irp, cancel } => {
-            put_set_cancel_routine(out, party, irp, cancel)
+            put(out, "{\"by\":", &party)?;
+            put(out, ",\"cancel\":", &cancel)?;
+            put_one(out, ",\"do\":\"set_cancel_routine\",\"irp\":", &irp, "}")
         }
         _ => Ok(()),
     }
@@ -194,7 +181,7 @@ pub fn put_call(
         Call::Free { irp } => put_one(out, "{\"do\":\"free\",\"irp\":", &irp, "}"),
         Call::Reuse { irp, status } => {
             put(out, "{\"do\":\"reuse\",\"irp\":", &irp)?;
-            put_one(out, ",\"status\":", &status, "}")
+            put_one(out, ",\"status\":", &status.0, "}")
         }
         Call::FinishTaken {
             irp,

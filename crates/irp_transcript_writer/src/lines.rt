@@ -18,7 +18,7 @@ impl Written for Asked {
     fn write(&self, out: &mut Vec<u8>) -> Result<(), AllocError> {
         match *self {
             Asked::Dispatch { id, shown, plan } => {
-                put(out, "{\"dispatch\":", &id)?;
+                put(out, "{\"dispatch\":", &id.0)?;
                 put_two(out, ",\"plan\":", &plan, ",\"shown\":", &shown, "}")
             }
             Asked::Completion { id, shown, answer } => {
@@ -49,7 +49,7 @@ impl Written for Reply {
             Reply::Done => put_text(out, "\"done\""),
             Reply::Device(device) => put_one(out, "{\"device\":", &device, "}"),
             Reply::Irp(irp) => put_one(out, "{\"irp\":", &irp, "}"),
-            Reply::Status(status) => put_one(out, "{\"status\":", &status, "}"),
+            Reply::Status(status) => put_one(out, "{\"status\":", &status.0, "}"),
             Reply::Previous(cancel) => put_one(out, "{\"previous\":", &cancel, "}"),
             Reply::Cancelled(cancelled) => put_one(out, "{\"cancelled\":", &cancelled, "}"),
             Reply::Seen(seen) => put_one(out, "{\"seen\":", &seen, "}"),

@@ -1,45 +1,18 @@
 //! The small forms, of which questions, calls and replies are made.
 #![tactic(auto, unfolding(json::specs::Print::escape_byte))]
 
-ghost use Rattle.irp_transcript_writer.specs.Lines.{
-  answer_json,
-  cancel_answer_json,
-  cancel_json,
-  device_json,
-  dispatch_json,
-  handler_json,
-  irp_json,
-  known_json,
-  lock_json,
-  owner_json,
-  party_json,
-  plan_json,
-  replacement_json,
-  routine_json,
-  seen_json,
-  setting_json,
-  shown_json,
-  status_json,
-};
+ghost use Rattle.irp_transcript_writer.specs.Lines as spec;
 
 use crate::form::{Written, put, put_list, put_one, put_text, put_two};
 use crate::names::{letters_of_flags, name_of_answer};
 use irp_types::{
     Answer, CancelAnswer, CancelId, DeviceId, DispatchId, IrpRef, Known, LockNo, Owner, Party,
-    Plan, Replacement, RoutineId, Seen, Setting, Shown, Status,
+    Plan, Replacement, RoutineId, Seen, Setting, Shown,
 };
 use std::alloc::AllocError;
 
 impl Written for DeviceId {
-    ghost json = { device_json };
-
-    fn write(&self, out: &mut Vec<u8>) -> Result<(), AllocError> {
-        self.0.write(out)
-    }
-}
-
-impl Written for DispatchId {
-    ghost json = { dispatch_json };
+    ghost json = { spec.device_json };
 
     fn write(&self, out: &mut Vec<u8>) -> Result<(), AllocError> {
         self.0.write(out)
@@ -47,7 +20,7 @@ impl Written for DispatchId {
 }
 
 impl Written for CancelId {
-    ghost json = { cancel_json };
+    ghost json = { spec.cancel_json };
 
     fn write(&self, out: &mut Vec<u8>) -> Result<(), AllocError> {
         self.0.write(out)
@@ -55,15 +28,7 @@ impl Written for CancelId {
 }
 
 impl Written for LockNo {
-    ghost json = { lock_json };
-
-    fn write(&self, out: &mut Vec<u8>) -> Result<(), AllocError> {
-        self.0.write(out)
-    }
-}
-
-impl Written for Status {
-    ghost json = { status_json };
+    ghost json = { spec.lock_json };
 
     fn write(&self, out: &mut Vec<u8>) -> Result<(), AllocError> {
         self.0.write(out)
@@ -71,7 +36,7 @@ impl Written for Status {
 }
 
 impl Written for IrpRef {
-    ghost json = { irp_json };
+    ghost json = { spec.irp_json };
 
     fn write(&self, out: &mut Vec<u8>) -> Result<(), AllocError> {
         put_two(out, "[", &self.slot, ",", &self.use_no, "]")
@@ -79,7 +44,7 @@ impl Written for IrpRef {
 }
 
 impl Written for Party {
-    ghost json = { party_json };
+    ghost json = { spec.party_json };
 
     fn write(&self, out: &mut Vec<u8>) -> Result<(), AllocError> {
         match *self {
@@ -90,7 +55,7 @@ impl Written for Party {
 }
 
 impl Written for Owner {
-    ghost json = { owner_json };
+    ghost json = { spec.owner_json };
 
     fn write(&self, out: &mut Vec<u8>) -> Result<(), AllocError> {
         match *self {
@@ -102,7 +67,7 @@ impl Written for Owner {
 }
 
 impl Written for RoutineId {
-    ghost json = { routine_json };
+    ghost json = { spec.routine_json };
 
     fn write(&self, out: &mut Vec<u8>) -> Result<(), AllocError> {
         put_two(out, "[", &self.rule, ",", &self.no, "]")
@@ -110,7 +75,7 @@ impl Written for RoutineId {
 }
 
 impl Written for Setting {
-    ghost json = { setting_json };
+    ghost json = { spec.setting_json };
 
     fn write(&self, out: &mut Vec<u8>) -> Result<(), AllocError> {
         put(out, "[", &self.routine.rule)?;
@@ -123,14 +88,14 @@ impl Written for Setting {
 }
 
 impl Written for Plan {
-    ghost json = { plan_json };
+    ghost json = { spec.plan_json };
 
     fn write(&self, out: &mut Vec<u8>) -> Result<(), AllocError> {
         match *self {
             Plan::Finish {
                 status,
                 information,
-            } => put_two(out, "[\"finish\",", &status, ",", &information, "]"),
+            } => put_two(out, "[\"finish\",", &status.0, ",", &information, "]"),
             Plan::Hold { cancel } => put_one(out, "[\"hold\",", &cancel, "]"),
             Plan::HoldSlot => put_text(out, "[\"hold_slot\"]"),
             Plan::Skip => put_text(out, "[\"skip\"]"),
@@ -141,15 +106,15 @@ impl Written for Plan {
 }
 
 impl Written for Replacement {
-    ghost json = { replacement_json };
+    ghost json = { spec.replacement_json };
 
     fn write(&self, out: &mut Vec<u8>) -> Result<(), AllocError> {
-        put_two(out, "[", &self.status, ",", &self.information, "]")
+        put_two(out, "[", &self.status.0, ",", &self.information, "]")
     }
 }
 
 impl Written for Answer {
-    ghost json = { answer_json };
+    ghost json = { spec.answer_json };
 
     fn write(&self, out: &mut Vec<u8>) -> Result<(), AllocError> {
         put_text(out, "[")?;
@@ -159,7 +124,7 @@ impl Written for Answer {
 }
 
 impl Written for CancelAnswer {
-    ghost json = { cancel_answer_json };
+    ghost json = { spec.cancel_answer_json };
 
     fn write(&self, out: &mut Vec<u8>) -> Result<(), AllocError> {
         match *self {
@@ -170,7 +135,7 @@ impl Written for CancelAnswer {
 }
 
 impl Written for Shown {
-    ghost json = { shown_json };
+    ghost json = { spec.shown_json };
 
     fn write(&self, out: &mut Vec<u8>) -> Result<(), AllocError> {
         put(out, "[", &self.device)?;
@@ -179,7 +144,7 @@ impl Written for Shown {
         put(out, ",", &self.major)?;
         put(out, ",", &self.location)?;
         put(out, ",", &self.word)?;
-        put(out, ",", &self.status)?;
+        put(out, ",", &self.status.0)?;
         put(out, ",", &self.information)?;
         put(out, ",", &self.pending_returned)?;
         put(out, ",", &self.cancel)?;
@@ -188,12 +153,12 @@ impl Written for Shown {
 }
 
 impl Written for Seen {
-    ghost json = { seen_json };
+    ghost json = { spec.seen_json };
 
     fn write(&self, out: &mut Vec<u8>) -> Result<(), AllocError> {
         put(out, "[", &self.owner)?;
         put(out, ",", &self.current)?;
-        put(out, ",", &self.status)?;
+        put(out, ",", &self.status.0)?;
         put(out, ",", &self.information)?;
         put(out, ",", &self.cancel)?;
         put(out, ",", &self.cancel_routine)?;
@@ -202,7 +167,7 @@ impl Written for Seen {
 }
 
 impl Written for Known {
-    ghost json = { known_json };
+    ghost json = { spec.known_json };
 
     fn write(&self, out: &mut Vec<u8>) -> Result<(), AllocError> {
         let Known {
@@ -218,9 +183,9 @@ impl Written for Known {
 }
 
 impl Written for (u8, DispatchId) {
-    ghost json = { handler_json };
+    ghost json = { spec.handler_json };
 
     fn write(&self, out: &mut Vec<u8>) -> Result<(), AllocError> {
-        put_two(out, "[", &self.0, ",", &self.1, "]")
+        put_two(out, "[", &self.0, ",", &self.1.0, "]")
     }
 }

@@ -5,7 +5,7 @@ ghost use Rattle.std.specs.Io.KnownBytes.{Appends};
 ghost use Rattle.std.specs.Option.{option_copied};
 ghost use Rattle.irp_transcript_writer.specs.Json.{line_text};
 ghost use Rattle.irp_transcript_writer.specs.Lines.{header_lines, lines, text_of};
-ghost use Rattle.irp_transcript_writer.specs.Puts.{Begins, CountsFault, PutsText};
+ghost use Rattle.irp_transcript_writer.specs.Puts.{CountsFault, PutsText, Stopped};
 
 use crate::form::{Written, write_line};
 use crate::out::{Out, put_all};
@@ -107,7 +107,8 @@ pub fn write_transcript<O: Out>(
     ensures ok { OnOk result
         (Appends (O.gone out.old) (O.gone out.new) (text_of (lines transcript.now))) }
     ensures fault { IfErr result (λ fault.
-        Begins (text_of (lines transcript.now)) (O.gone out.old) (O.gone out.new) fault.written) }
+        Stopped (text_of (lines transcript.now)) 0 (O.gone out.old) (O.gone out.new)
+        fault.written) }
     ensures cause { CountsFault (O.failures out.old) (O.failures out.new) result }
 {
     let mut line = Vec::new(alloc);
