@@ -60,8 +60,8 @@ impl Reading {
         self.entries.push(entry).map_err(|_| Unread::NoMemory)
     }
 
-    /// Takes a word line where it may stand: of one of these seats, to one of which it hands over if it does, and which the
-    /// form has.
+    /// Takes a word line where it may stand: of one of these seats, and to one of them if it hands over, which the form
+    /// has.
     #[tactic(auto, unfolding(crate::specs::Reading::with_word))]
     fn take_word(&mut self, form: Form, seats: u32, value: &Value) -> Result<(), Unread>
         ensures { GivesLine result (spec.with_word form seats (so_far self.old) (view value.now))
