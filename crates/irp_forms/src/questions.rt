@@ -1,7 +1,6 @@
 //! What closures were asked, what they were shown and what they answered.
 
 ghost use Rattle.std.specs.Prelude.{◌≡◌};
-ghost use Rattle.serde_json.specs.View.{view};
 ghost use Rattle.irp_forms.specs.Questions as spec;
 
 use crate::from_value::{FromValue, nth, under};

@@ -2,15 +2,14 @@
 
 ghost use Rattle.std.specs.Prelude.{◌≡◌};
 ghost use Rattle.serde_json.specs.View.{view};
-ghost use Rattle.irp_forms.specs.Names.{cancel_rule_at};
 ghost use Rattle.irp_forms.specs.Values as spec;
 
 use crate::from_value::{FromValue, nth};
 use crate::names::Flags;
 use crate::parts::{has_items, of_items};
 use irp_types::{
-    CancelAnswer, CancelId, CancelRule, DeviceId, DispatchId, DriverId, IrpRef, Known, LockNo,
-    Party, Plan, Replacement, RoutineId, Setting, Status,
+    CancelAnswer, CancelId, DeviceId, DispatchId, DriverId, IrpRef, Known, LockNo, Party, Plan,
+    Replacement, RoutineId, Setting, Status,
 };
 use serde_json::Value;
 
