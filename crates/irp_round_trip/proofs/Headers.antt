@@ -25,7 +25,6 @@ use Rattle.irp_round_trip.proofs.Stands.{Stands}
 -- ---- the parts
 
 rule_back : (kind : CancelRule) → cancel_rule_at (cancel_rule_json kind) ≡ Some kind
-unfolding cancel_rule_at
 rule_back kind = cancel_rule_found kind
 
 rule_stands : (levels : ℕ) (kind : CancelRule) → Stands (cancel_rule_json kind) levels

@@ -1,7 +1,7 @@
 -- What closures were asked is read as it was written, and its form stands.
 use Rattle.std.proofs.Common.{◌≡◌, ℕ, suc, Some, refl}
 use Rattle.irp_forms.specs.Parts.{has_keys}
-use Rattle.irp_forms.specs.Questions.{asked_at, cancel_asked_at, completion_asked_at, dispatch_asked_at, place_at, shown_at}
+use Rattle.irp_forms.specs.Questions.{asked_at, shown_at}
 use Rattle.irp_forms.specs.Values.{dispatch_at}
 use Rattle.irp_types.specs.declared.asked.Asked.{Asked}
 use Rattle.irp_types.specs.declared.asked.Asked.TheVariants as asked
@@ -13,7 +13,7 @@ use Rattle.irp_round_trip.proofs.Values.{answer_back, answer_stands, cancel_answ
 use Rattle.irp_round_trip.specs.Fits.{AskedFits, DeviceFits, ShownFits}
 
 shown_back : (shown : Shown) → ShownFits shown → shown_at (shown_json shown) ≡ Some shown
-unfolding shown_at place_at
+unfolding shown_at
 shown_back shown h =
     rw (
       device_or_null_back shown.device h.0.device,
@@ -48,7 +48,7 @@ shown_stands levels shown h =
 
 -- a question with its answer
 pub asked_back : (question : Asked) → AskedFits question → asked_at (asked_json question) ≡ Some question
-unfolding asked_at has_keys dispatch_asked_at completion_asked_at cancel_asked_at dispatch_at
+unfolding asked_at has_keys dispatch_at
 asked_back (asked.Dispatch id shown plan) h = rw (u32_back id.0 h.0, shown_back shown h.1, plan_back plan h.2)
 asked_back (asked.Completion id shown answer) h = rw (routine_back id h.0, shown_back shown h.1, answer_back answer h.2)
 asked_back (asked.Cancel id shown answer) h = rw (cancel_back id h.0, shown_back shown h.1, cancel_answer_back answer h.2)

@@ -20,7 +20,6 @@ use Rattle.irp_round_trip.specs.Fits.{OwnerFits, ReplyFits, SeenFits}
 
 -- a refusal is read by its name
 refusal_back : (reason : Refusal) → refusal_at (string (refusal_name reason)) ≡ Some reason
-unfolding refusal_at
 refusal_back reason = refusal_found reason
 
 refusal_plain : (reason : Refusal) → are_plain (refusal_name reason) ≡ true

@@ -6,7 +6,7 @@ use Rattle.irp_forms.specs.Found.{rule_found}
 use Rattle.irp_forms.specs.Names.{every_flags, flags_at, rule_at, rule_name, rules}
 use Rattle.irp_forms.specs.Parts.{or_null_at}
 use Rattle.irp_forms.specs.Questions.{answer_at, keep_named}
-use Rattle.irp_forms.specs.Values.{cancel_answer_at, cancel_answer_named, cancel_at, cancel_finish_at, device_at, finish_at, forward_at, forward_pend_at, hold_at, irp_at, lock_at, party_at, plan_at, plan_named, replacement_at, routine_at, setting_at, status_at}
+use Rattle.irp_forms.specs.Values.{cancel_answer_at, cancel_at, device_at, irp_at, lock_at, party_at, plan_at, replacement_at, routine_at, setting_at, status_at}
 use Rattle.irp_types.specs.declared.answer.Answer.{Answer}
 use Rattle.irp_types.specs.declared.answer.CancelAnswer.{CancelAnswer}
 use Rattle.irp_types.specs.declared.answer.CancelAnswer.TheVariants as cancel_answer
@@ -70,7 +70,6 @@ lock_or_null_back None h = refl
 lock_or_null_back (Some lock) h = rw (lock_back lock h)
 
 rule_back : (kind : Rule) → rule_at (string (rule_name kind)) ≡ Some kind
-unfolding rule_at
 rule_back kind = rule_found kind
 
 pub routine_back : (routine : RoutineId) → routine.no < 2 ^ 32 → routine_at (routine_json routine) ≡ Some routine
@@ -102,7 +101,7 @@ setting_or_null_back None h = refl
 setting_or_null_back (Some setting) h = rw (setting_back setting h)
 
 pub plan_back : (chosen : Plan) → PlanFits chosen → plan_at (plan_json chosen) ≡ Some chosen
-unfolding plan_at plan_named finish_at hold_at forward_at forward_pend_at
+unfolding plan_at
 plan_back (plan.Finish status information) h = rw (status_back status h.0, u64_back information h.1)
 plan_back (plan.Hold cancel) h = rw (cancel_or_null_back cancel h)
 plan_back plan.HoldSlot h = refl
@@ -130,7 +129,7 @@ pub answer_back : (answer : Answer) → AnswerFits answer → answer_at (answer_
 answer_back answer h = kept_back answer.keep answer.mark answer.replacement h
 
 pub cancel_answer_back : (answer : CancelAnswer) → CancelAnswerFits answer → cancel_answer_at (cancel_answer_json answer) ≡ Some answer
-unfolding cancel_answer_at cancel_answer_named cancel_finish_at
+unfolding cancel_answer_at
 cancel_answer_back (cancel_answer.Finish information) h = rw (u64_back information h)
 cancel_answer_back cancel_answer.Leave h = refl
 

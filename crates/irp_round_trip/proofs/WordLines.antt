@@ -2,7 +2,7 @@
 use Rattle.std.proofs.Common.{◌≡◌, ℕ, suc, ◌<◌, ◌^◌, codes, false, Some, refl, arith}
 use Rattle.serde_json.specs.Find.{get, as_str}
 use Rattle.irp_forms.specs.Parts.{◌>>=◌, has_keys}
-use Rattle.irp_forms.specs.SeatActs.{drained_at, hand_at, lock_act_named, slot_alone_at, tagged_at}
+use Rattle.irp_forms.specs.SeatActs.{hand_at, lock_act_named, slot_alone_at}
 use Rattle.irp_types.specs.declared.seat_act.LockAct.TheVariants as on_lock
 use Rattle.irp_types.specs.declared.seat_act.SlotAct.TheVariants as on_slot
 use Rattle.irp_shared.specs.declared.word_line.Act.{Act}
@@ -59,7 +59,7 @@ word_reply_stands levels word_reply.NoToken h = refl
 
 act_back : (done : Act) (line : WordLine) → ActFits done
     → (get (codes "do") (line_of_act done line) >>= as_str >>= λ name. act_named name (line_of_act done line)) ≡ Some done
-unfolding act_named lock_act_named drained_at hand_at tagged_at slot_alone_at has_keys
+unfolding act_named lock_act_named hand_at slot_alone_at has_keys
 act_back (act.OnLock (on_lock.Acquire lock tag)) line h = rw (lock_back lock h.0, u32_back tag h.1)
 act_back (act.OnLock (on_lock.Release lock tag)) line h = rw (lock_back lock h.0, u32_back tag h.1)
 act_back (act.OnLock (on_lock.BeginRemove lock tag)) line h = rw (lock_back lock h.0, u32_back tag h.1)
