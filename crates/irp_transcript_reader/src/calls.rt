@@ -4,7 +4,7 @@ ghost use Rattle.std.specs.Prelude.{◌≡◌};
 ghost use Rattle.serde_json.specs.View.{view};
 ghost use Rattle.irp_transcript_reader.specs.Calls as spec;
 
-use irp_forms::{call_named, has_keys, under};
+use irp_forms::{call_named, only_keys, under};
 use irp_types::{Call, LockNo};
 use serde_json::Value;
 
@@ -21,9 +21,7 @@ pub struct EntryCall {
 fn allocate_at(value: &Value) -> Option<Call>
     ensures { result ≡ spec.allocate_at (view value.now) }
 {
-    if !has_keys(value, &["do", "size"]) {
-        return None;
-    }
+    only_keys(value, &["do", "size"], &[])?;
     let size = under("size", value)?;
     Some(Call::Allocate { size })
 }
@@ -33,9 +31,7 @@ fn allocate_at(value: &Value) -> Option<Call>
 fn finish_taken_at(value: &Value) -> Option<Call>
     ensures { result ≡ spec.finish_taken_at (view value.now) }
 {
-    if !has_keys(value, &["do", "information", "irp", "status", "token"]) {
-        return None;
-    }
+    only_keys(value, &["do", "information", "irp", "status", "token"], &[])?;
     Some(Call::FinishTaken {
         irp: under("irp", value)?,
         token: under("token", value)?,
@@ -49,9 +45,7 @@ fn finish_taken_at(value: &Value) -> Option<Call>
 fn delete_at(value: &Value) -> Option<EntryCall>
     ensures { result ≡ spec.delete_at (view value.now) }
 {
-    if !has_keys(value, &["device", "do", "drained", "lock"]) {
-        return None;
-    }
+    only_keys(value, &["device", "do", "drained", "lock"], &[])?;
     let device = under("device", value)?;
     Some(EntryCall {
         call: Call::Delete { device },

@@ -8,7 +8,7 @@ ghost use Rattle.irp_transcript_reader.specs.Lines as spec;
 use crate::calls::entry_call_at;
 use crate::headers::list_under;
 use crate::replies::reply_at;
-use irp_forms::{Unread, form_of, has_keys, under};
+use irp_forms::{Unread, form_of, only_keys, under};
 use irp_types::{Asked, Entry, Questions, Row};
 use serde_json::Value;
 use std::alloc::Global;
@@ -22,9 +22,7 @@ use std::alloc::Global;
 pub fn entry_at(alloc: Global, value: &Value) -> Result<Entry, Unread>
     ensures { Gives result (spec.entry_at (view value.now)) }
 {
-    if !has_keys(value, &["asked", "call", "n", "reply", "seat"]) {
-        return Err(Unread::Form);
-    }
+    form_of(only_keys(value, &["asked", "call", "n", "reply", "seat"], &[]))?;
     let called = form_of(value.get("call").and_then(entry_call_at))?;
     let asked: Row<Asked> = list_under(alloc, "asked", value)?;
     Ok(Entry {

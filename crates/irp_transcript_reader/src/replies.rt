@@ -4,7 +4,7 @@ ghost use Rattle.std.specs.Prelude.{◌≡◌};
 ghost use Rattle.serde_json.specs.View.{view};
 ghost use Rattle.irp_transcript_reader.specs.Replies as spec;
 
-use irp_forms::{FromValue, has_items, has_keys, named, nth, under};
+use irp_forms::{FromValue, has_keys, nth, of_items, under};
 use irp_types::{Owner, Reply, Seen};
 use serde_json::Value;
 
@@ -28,9 +28,7 @@ fn owner_at(value: &Value) -> Option<Owner>
 fn seen_at(value: &Value) -> Option<Seen>
     ensures { result ≡ spec.seen_at (view value.now) }
 {
-    if !has_items(value, 8) {
-        return None;
-    }
+    of_items(value, 8)?;
     Some(Seen {
         owner: owner_at(value.get(0)?)?,
         current: nth(1, value)?,
