@@ -136,8 +136,8 @@ impl<'a, L: Session> Caller<'a, L> {
         self.make(rt, shared, &BUILD)
     }
 
-    /// Begins the removal of the lock, and finds it drained, since nobody holds it any more. Then it detaches the filter,
-    /// and deletes both devices: each Delete would be refused had the lock not been found drained.
+    /// Begins the removal of the lock, and finds it drained, since nobody holds it any more. Then it detaches the
+    /// filter, and deletes both devices: each Delete would be refused had the lock not been found drained.
     pub fn take_away<A: Ask>(&mut self, rt: &impl Wait, shared: &Shared<A, L>) {
         let _ = self.locks.acquire(&mut self.remove, LOCK, TAG);
         let _ = self.locks.begin_remove(&mut self.remove, LOCK, TAG);
