@@ -20,14 +20,14 @@ loop-routine-preserved g c =
     added (λ (routines : List CompletionRoutine). and_routines routines no_tables) (λ (routine : CompletionRoutine) (tables : Tables). with_routine tables routine.rule)
     (routines_grow no_tables) c.as_slice-routines.result.now c.loop-routine.routine-index _ c.loop-routine-test.true
     c.loop-routine.store.tables c.add.new.self.tables c.loop-routine.invariant
-    (c.in-Ok.ensures.added.1 ∙ ap (with_routine c.loop-routine.store.tables) c.new-in-loop-routine.ensures)
+    (c.in-Ok.ensures.added.1 ∙ ap (with_routine c.loop-routine.store.tables) c.new-in-loop-routine.ensures.rule)
 
 pub loop-answer-preserved : goal.loop-answer-preserved
 loop-answer-preserved g c =
     added (λ (answers : List CancelAnswer). and_cancels answers c.loop-routine.store.tables) (λ (answer : CancelAnswer) (tables : Tables). with_cancel tables (cancel_rule_of answer))
     (cancels_grow c.loop-routine.store.tables) c.as_slice-answers.result.now c.loop-answer.answer-index _ c.loop-answer-test.true
     c.loop-answer.store.tables c.add_cancel.new.self.tables c.loop-answer.invariant
-    (c.in-Ok-add_cancel.ensures.added.1 ∙ ap (with_cancel c.loop-answer.store.tables) (c.new-routine.ensures ∙ c.cancel_rule.ensures))
+    (c.in-Ok-add_cancel.ensures.added.1 ∙ ap (with_cancel c.loop-answer.store.tables) (c.new-routine.ensures.rule ∙ c.cancel_rule.ensures))
 
 pub loop-plan-preserved : goal.loop-plan-preserved
 loop-plan-preserved g c =
@@ -35,7 +35,7 @@ loop-plan-preserved g c =
     added (λ (plans : List Plan). and_dispatches plans start) (λ (each : Plan) (tables : Tables). with_dispatch tables start.counts)
     (dispatches_grow start) c.as_slice-plans.result.now c.loop-plan.plan-index plan.Skip c.loop-plan-test.true
     c.loop-plan.store.tables c.add_dispatch.new.self.tables c.loop-plan.invariant
-    (c.in-Ok-add_dispatch.ensures.added.1 ∙ ap (with_dispatch c.loop-plan.store.tables) (c.new-in-loop-plan-2.ensures ∙ (c.counts-known.ensures ∙ ap (λ (tables : Tables). tables.counts) c.tables.ensures)))
+    (c.in-Ok-add_dispatch.ensures.added.1 ∙ ap (with_dispatch c.loop-plan.store.tables) (c.new-in-loop-plan-2.ensures.known ∙ (c.counts-known.ensures ∙ ap (λ (tables : Tables). tables.counts) c.tables.ensures)))
 
 pub invariant_of-planned : goal.invariant_of-planned
 invariant_of-planned g c =
