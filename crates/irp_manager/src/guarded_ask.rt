@@ -11,8 +11,8 @@ use irp_types::{
     Shown, Status,
 };
 
-/// An asker, and the tables that a history is judged by. Each answer that it gives is allowed by these tables. Where they
-/// are the asker's own, as they are of a book that was made with them, each is one that the asker may give (this
+/// An asker, and the tables that a history is judged by. Each answer that it gives is allowed by these tables. Where
+/// they are the asker's own, as they are of a book that was made with them, each is one that the asker may give (this
 /// project's own rule).
 #[derive(Drop)]
 pub struct GuardedAsk<A> {

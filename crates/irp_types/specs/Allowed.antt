@@ -1,4 +1,4 @@
--- What the closures of a store may answer: what its tables allow. A closure that isn't there may answer nothing.
+-- What tables allow a closure to answer. A closure that isn't in them may answer nothing.
 use Rattle.std.specs.Prelude.{◌≡◌, ◌<◌, true, slice_get, Some}
 use Rattle.irp_types.specs.Rules.{count_of_rule, is_allowed, is_plan_allowed, is_cancel_allowed}
 use Rattle.irp_types.specs.State.{Tables, known_of}

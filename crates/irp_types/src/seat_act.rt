@@ -1,4 +1,4 @@
-//! What a seat does on a remove lock or on a cancel slot, as scripts and transcripts tell it.
+//! What a seat does on a remove lock, as scripts and transcripts tell it, or on a cancel slot, as transcripts do.
 
 use crate::names::LockNo;
 
