@@ -15,7 +15,7 @@ pub handed : {K : Type 0} (live : K → Slots) (tables : Tables) (drained : Bool
 handed live tables drained old call is asked reply new same empty stepped =
     subst (λ (given : Call × List Asked). Stepped live tables drained old given.0 given.1 reply new) (λ i. (sym same i, sym empty i)) stepped
 
--- another fact of a reply, where there is one
-pub if_ok : {E : Type 0} (P Q : Reply → Type 0) → ((reply : Reply) → P reply → Q reply) → (result : Result Reply E) → IfOk result P → IfOk result Q
-if_ok P Q turn (Ok reply) holds = turn reply holds
+-- another fact of what is there, where there is something
+pub if_ok : {T E : Type 0} (P Q : T → Type 0) → ((done : T) → P done → Q done) → (result : Result T E) → IfOk result P → IfOk result Q
+if_ok P Q turn (Ok done) holds = turn done holds
 if_ok P Q turn (Err error) holds = tt

@@ -94,7 +94,7 @@ impl<A: Ask> Manager<A> {
             (λ applied. SlotGranted (λ keep wish slot. IsNext keep slot) self.old.state None call
             applied.reply) }
         ensures gave { IfOk result
-            (λ applied. SlotGivenBack (λ keep slot left. IsNext left slot) self.old.state call
+            (λ applied. SlotGivenBack slabbed (λ keep slot left. IsNext left slot) self.old.state call
             applied.reply self.new.state) }
         ensures lock { IfOk result
             (λ applied. applied.lock ≡ lock_of (state_of slabbed self.old.state) call) }

@@ -20,7 +20,7 @@ ghost use Rattle.irp_types.specs.declared.reply.Reply.TheVariants.{Done, Irp};
 ghost use Rattle.irp_routines.specs.Answers.{AreAnswered};
 ghost use Rattle.irp_manager.specs.Notes.{known_by};
 ghost use Rattle.irp_manager.specs.Rooms.{can_ask};
-ghost use Rattle.irp_manager.specs.ManagerStates.{state_of, most_asked, Stepped, SteppedAny, SentStays, SenderStays, SlotGranted, SlotGivenBack, Agrees, KeepsFixed};
+ghost use Rattle.irp_manager.specs.ManagerStates.{state_of, most_asked, Stepped, SteppedAny, SentStays, SenderStays, SlotGranted, SlotGivenBack, WasGivenBack, Agrees, KeepsFixed};
 
 use crate::keep::Keep;
 use crate::note::DrainNote;
@@ -281,7 +281,7 @@ impl<K: Keep> ManagerState<K> {
     #[inline(always)]
     fn free(&mut self, irp: IrpRef) -> Reply
         ensures stepped { SteppedAny K.live self.old (Free irp) [] result self.new }
-        ensures gave { result ≡ Done → K.gave_back self.old.keep irp.slot self.new.keep }
+        ensures gave { result ≡ Done → WasGivenBack K.live K.gave_back self.old irp.slot self.new }
     {
         if let Some(refusal) = self.flight_refusal(irp) {
             return Reply::Refused(refusal);
@@ -392,7 +392,7 @@ impl<K: Keep> ManagerState<K> {
         ensures stays { IfOk result (λ reply. SenderStays K.live self.old call reply self.new) }
         ensures granted { IfOk result (λ reply. SlotGranted K.grants self.old wish call reply) }
         ensures gave { IfOk result
-            (λ reply. SlotGivenBack K.gave_back self.old call reply self.new) }
+            (λ reply. SlotGivenBack K.live K.gave_back self.old call reply self.new) }
         ensures err { OnErr result (state_of K.live self.new ≡ state_of K.live self.old) }
         ensures fixed { OnErr result (KeepsFixed self.old self.new) }
     {
@@ -447,7 +447,7 @@ impl<K: Keep> ManagerState<K> {
         ensures granted { IfOk result
             (λ applied. SlotGranted K.grants self.old wish call applied.reply) }
         ensures gave { IfOk result
-            (λ applied. SlotGivenBack K.gave_back self.old call applied.reply self.new) }
+            (λ applied. SlotGivenBack K.live K.gave_back self.old call applied.reply self.new) }
         ensures lock { IfOk result
             (λ applied. applied.lock ≡ lock_of (state_of K.live self.old) call) }
         ensures drained { IfOk result

@@ -31,11 +31,10 @@ returns-clause-stepped g c tables drained stands =
       fixed = (refl, refl);
     }
 
-pub give_back-requires : goal.give_back-requires
-give_back-requires g c =
+pub returns-clause-gave : goal.returns-clause-gave
+returns-clause-gave g c done =
     let state : StateValue = state_of g.K.Keep.live c.args.self.now in
     let irp = c.args.irp in
-    record {
-      there = passed (is_some (live_at state irp.slot)) ((not ((packet_at state irp.slot).use_no == irp.use_no), Stale) ∷ [])
-          (first_failing (flight_check (packet_of state irp) ∷ [])) (sym c.flight_refusal.ensures ∙ c.in_default.is);
-    }
+    let was = passed (is_some (live_at state irp.slot)) ((not ((packet_at state irp.slot).use_no == irp.use_no), Stale) ∷ [])
+    (first_failing (flight_check (packet_of state irp) ∷ [])) (sym c.flight_refusal.ensures ∙ c.in_default.is) in
+    (was, c.give_back.ensures.gave)
