@@ -37,7 +37,7 @@ use std::alloc::{AllocError, Global};
 /// How many packets may be live.
 const MOST_LIVE: usize = 4096;
 
-/// How many questions a call may ask that may ask any: one to each of 32 devices, and one to each of 32 locations.
+/// How many questions one call can ask at most: one to each of 32 devices, and one to each of 32 locations.
 const MOST_ASKED: usize = 64;
 
 /// How many questions a call may ask: 64 where it sends, completes or cancels a packet, or finishes one
@@ -54,8 +54,8 @@ pub fn most_asked(call: Call) -> usize
     }
 }
 
-/// What a call did: the lock of the device that it deletes, where that one was created; whether the note knew that lock
-/// to be drained; what was asked, in order; and the reply.
+/// What a call did: the lock of the device that a Delete names, where that one was created; whether the note knew that
+/// lock to be drained; what was asked, in order; and the reply.
 #[derive(Drop)]
 pub struct Applied {
     pub lock: Option<LockNo>,
@@ -265,7 +265,7 @@ impl<K: Keep> ManagerState<K> {
         Ok(Reply::Irp(IrpRef { slot, use_no }))
     }
 
-    /// Why the packet of a reference is not given back, if it is not.
+    /// The refusal to give the packet of a reference back; none where it may be given back.
     #[inline]
     fn flight_refusal(&self, irp: IrpRef) -> Option<Refusal>
         ensures { result
@@ -355,7 +355,7 @@ impl<K: Keep> ManagerState<K> {
         packets::finish_taken(live, irp, ask, token, status, information, asked)
     }
 
-    /// The lock of the device that a call deletes, where that device was created.
+    /// The lock of the device that a Delete names, where that device was created.
     #[inline]
     fn lock_of(&self, call: Call) -> Option<LockNo>
         ensures { result ≡ lock_of (state_of K.live self.now) call }

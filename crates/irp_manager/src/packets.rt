@@ -42,7 +42,7 @@ pub(crate) fn is_owner(party: Party, owner: Owner) -> bool
     }
 }
 
-/// Why a call that names the packet by this reference is refused, if it is.
+/// The refusal of a call that names the packet by this reference; none where it names this use.
 #[inline]
 pub fn packet_refusal(live: &Live, irp: IrpRef) -> Option<Refusal>
     ensures { result ≡ packet_refusal_in (Some live.now) irp }
@@ -53,7 +53,7 @@ pub fn packet_refusal(live: &Live, irp: IrpRef) -> Option<Refusal>
     None
 }
 
-/// Why a call of this party on the packet is refused, if it is.
+/// The refusal of a call of this party on the packet; none where the party may make calls on it.
 #[inline]
 pub fn party_refusal(live: &Live, party: Party, irp: IrpRef) -> Option<Refusal>
     ensures refusal { result ≡ party_refusal_in (Some live.now) party irp }
@@ -108,7 +108,7 @@ pub fn copy_to_next(live: &mut Live, party: Party, irp: IrpRef) -> Reply
     }
 }
 
-/// Why an owner has no location of its own to mark or to give away, if it has none.
+/// The refusal of an owner that has no location of its own to mark or to skip; none where it has one.
 #[inline]
 fn location_check(packet: &Packet) -> Option<Refusal>
     ensures { result ≡ mark_pending_refusal packet.now }
@@ -123,7 +123,7 @@ fn location_check(packet: &Packet) -> Option<Refusal>
     None
 }
 
-/// Why an owner does not give its location away, if it does not.
+/// The refusal of a skip; none where the owner may skip its location.
 fn leave_check(packet: &Packet) -> Option<Refusal>
     ensures { result ≡ leave_refusal packet.now }
 {
@@ -170,7 +170,7 @@ pub fn mark_pending(live: &mut Live, party: Party, irp: IrpRef) -> Reply
     }
 }
 
-/// Why a cancel routine is not set, or taken out, where so many are there, if it is not.
+/// The refusal to set a cancel routine, or to take it out, where so many are there; none where it may be done.
 fn cancel_check(packet: &Packet, counts: Known, cancel: Option<CancelId>) -> Option<Refusal>
     ensures { result ≡ cancel_refusal counts packet.now cancel }
 {
@@ -212,7 +212,7 @@ pub fn set_cancel_routine(
     Reply::Previous(previous)
 }
 
-/// Why the packet of a reference is not given back or used again, if it is not.
+/// The refusal to give the packet of a reference back, or to use it again; none where it may be done.
 #[inline]
 pub fn flight_refusal(live: &Live, irp: IrpRef) -> Option<Refusal>
     ensures { result ≡ flight_refusal_in live.now irp }
@@ -226,7 +226,7 @@ pub fn flight_refusal(live: &Live, irp: IrpRef) -> Option<Refusal>
     None
 }
 
-/// Gives the packet another use, of this number, where it may be used again, and answers why it is not, if it is not.
+/// Gives the packet another use, of this number, where it may be used again; else it answers the refusal.
 #[inline]
 pub fn reuse(live: &mut Live, irp: IrpRef, status: Status, use_no: u64) -> Option<Refusal>
     ensures refusal { result ≡ reuse_refusal_in live.old irp use_no }
@@ -243,7 +243,7 @@ pub fn reuse(live: &mut Live, irp: IrpRef, status: Status, use_no: u64) -> Optio
     None
 }
 
-/// Why a completion routine is not set where so many are there, if it is not.
+/// The refusal to set a completion routine where so many are there; none where it may be set.
 fn routine_check(packet: &Packet, counts: Known, setting: Setting) -> Option<Refusal>
     ensures { result ≡ routine_refusal counts packet.now setting }
 {
@@ -285,7 +285,7 @@ pub fn set_routine(
     }
 }
 
-/// Why a device is not sent the packet, if it is not.
+/// The refusal to send the packet to a device; none where it may be sent.
 #[inline]
 fn send_check(packet: &Packet, stacks: &Stacks, party: Party, target: DeviceId) -> Option<Refusal>
     ensures refusal { result ≡ send_refusal stacks.now.devices party packet.now target.0 }
@@ -368,7 +368,7 @@ pub fn send<A: Ask>(
     Reply::Status(sent.status)
 }
 
-/// Why the packet is not completed, if it is not.
+/// The refusal to complete the packet; none where it may be completed.
 #[inline]
 fn complete_check(packet: &Packet, status: Status) -> Option<Refusal>
     ensures refusal { result ≡ complete_refusal packet.now status }
@@ -422,7 +422,7 @@ pub fn complete<A: Ask>(
     Reply::Done
 }
 
-/// Why a packet that was taken from its cancel slot is not completed, if it is not.
+/// The refusal to complete a packet that was taken from its cancel slot; none where it may be completed.
 fn take_check(packet: &Packet, use_no: u64, token: u64, status: Status) -> Option<Refusal>
     ensures refusal { result ≡ take_refusal packet.now use_no token status }
     ensures held { result ≡ None → packet.now.slot_held ≡ true }

@@ -75,7 +75,7 @@ impl Receipt {
         self.call
     }
 
-    /// The lock of the device that the call deletes, where it is one that was created.
+    /// The lock of the device that a Delete names, where it is one that was created.
     pub fn lock(&self) -> Option<LockNo>
         ensures { result ≡ self.now.lock }
     {

@@ -90,7 +90,7 @@ impl Stacks {
     /// project's own rule).
     ///
     /// The error is `Full` exactly where 64 devices were created before, deleted ones among them. It is `Memory` only
-    /// where there was room. Either changes nothing.
+    /// where fewer were. Either changes nothing.
     pub fn create(&mut self, driver: DriverId, lock: LockNo) -> Result<DeviceId, NotCreated>
         ensures created { IfOk result (λ device. (device.0 ≡ length self.old.devices.facts)
             × (first_failing (create_checks self.old.devices) ≡ None)
@@ -257,7 +257,7 @@ impl Stacks {
     }
 
     /// Tells that each device is at one place of one stack, that no stack has more than 32 devices, and that the
-    /// members of longer ones are live. It changes nothing and answers nothing (this project's own rule).
+    /// members of a stack of two or more are live. It changes nothing and answers nothing (this project's own rule).
     pub fn are_stacks(&self)
         ensures { AreStacks self.now.devices }
     {

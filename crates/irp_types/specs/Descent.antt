@@ -155,7 +155,8 @@ abbrev pub setting_below : List Frame → ℕ → Option Setting
 setting_below frames number = option_map_or set_by (last_frame (frames_in frames (number + 1))).plan None
 
 -- a location once the frames have used it: its device is that of the last frame in it, its content that of the first
--- location, its routine the one that was copied to it, and it is marked if it was or if a frame in it pends
+-- location, its routine the one that was copied to it (in the first location the one that was there), and it is marked
+-- if it was or if a frame in it pends
 abbrev pub used_location : PacketValue → List Frame → ℕ → Location
 used_location packet frames number =
     let first = first_location packet in

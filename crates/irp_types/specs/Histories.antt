@@ -12,7 +12,7 @@ use Rattle.irp_types.specs.declared.entry.Entry.{Entry}
 use Rattle.irp_types.specs.Calls.{Call}
 use Rattle.irp_types.specs.declared.call.Call.TheVariants.{Delete}
 
--- the lock of the device that a call deletes, where that device was created
+-- the lock of the device that a Delete names, where that device was created
 abbrev pub lock_of : StateValue → Call → Option LockNo
 lock_of state (Delete device) = option_map (λ (facts : DeviceFacts). facts.lock) (slice_get state.devices.facts device.0)
 lock_of state _ = None

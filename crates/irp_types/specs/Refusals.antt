@@ -71,7 +71,7 @@ party_refusal state party irp =
 abbrev pub leave_refusal : PacketValue → Option Refusal
 leave_refusal packet = or_else (skip_refusal packet) (first_failing ((is_some packet.cancel_routine, CancelRoutineSet) ∷ []))
 
--- why the owner can't set a completion routine where so many are there, or none
+-- the refusal to set a completion routine where there are so many, or none
 abbrev pub routine_refusal : Known → PacketValue → Setting → Option Refusal
 routine_refusal counts packet setting =
     or_else (set_routine_refusal packet) (first_failing ((not (is_known counts setting), NoRoutine) ∷ []))
@@ -101,7 +101,7 @@ complete_refusal packet status = first_failing (
 abbrev pub ended_check : PacketValue → Check
 ended_check packet = (has_ended packet.owner, HasEnded)
 
--- why who took a packet with this token, of this use, can't complete it with a status, or none
+-- the refusal to complete a packet of this use by this token with a status, or none
 abbrev pub take_refusal : PacketValue → ℕ → ℕ → Status → Option Refusal
 take_refusal packet use_no token status = first_failing (
     (not (token == use_no), Stale)
@@ -109,7 +109,7 @@ take_refusal packet use_no token status = first_failing (
     ∷ (not packet.slot_held, NotSlotHeld)
     ∷ (not (is_completable status), BadStatus) ∷ [])
 
--- why the owner can't set a cancel routine, or take it out, where so many are there, or none
+-- the refusal to set a cancel routine, or to take it out, where there are so many, or none
 abbrev pub cancel_refusal : Known → PacketValue → Option CancelId → Option Refusal
 cancel_refusal counts packet cancel = first_failing (
     location_check packet ∷ skip_check packet

@@ -1,5 +1,5 @@
 -- Device stacks. A stack is a list of device numbers, bottom first; beside each device stands the whole stack that
--- it is in, so that equal devices are equal values.
+-- it is in.
 use Rattle.std.specs.Prelude.{ℕ, ◌≡◌, ◌+◌, ◌-◌, ◌<◌, ◌≤◌, ◌==◌, Bool, true, false, not, if◌then◌else◌, nat_lt, nat_le, is_some, List, [], ◌∷◌, ◌++◌, length, take, drop, fold, position, slice_get, slice_set, slice_index_or, Option, None, unwrap_or}
 use Rattle.std.specs.List.{list_any}
 use Rattle.irp_types.specs.declared.limit.Limit.{Limit}
@@ -134,7 +134,8 @@ pub record IsMember (devices : DevicesValue) (device place : ℕ) : Type 0 where
   pub stack : stack_of devices (slice_index_or (stack_of devices device) place device) ≡ stack_of devices device
   pub depth : depth_of devices (slice_index_or (stack_of devices device) place device) ≡ place
 
--- each device that was created is at one place of one stack, stacks are not too deep, and the members of longer ones are live
+-- each device that was created is at one place of one stack, no stack is too deep, and the members of a stack
+-- of two or more are live
 pub record AreStacks (devices : DevicesValue) : Type 0 where
   pub counted : length devices.stacks ≡ length devices.facts
   pub stands : (device : ℕ) → device < length devices.facts → StandsInStack devices device

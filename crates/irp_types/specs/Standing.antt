@@ -1,4 +1,4 @@
--- The standing facts: what holds of each state that a legal history leads through.
+-- The standing facts, which each call of a manager keeps.
 use Rattle.std.specs.Prelude.{ℕ, ◌≡◌, ◌+◌, ◌-◌, ◌<◌, ◌≤◌, Bool, true, false, if◌then◌else◌, is_some, Some, None}
 use Rattle.irp_types.specs.Limits.{most_locations}
 use Rattle.irp_types.specs.Rules.{is_known}

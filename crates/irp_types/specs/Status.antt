@@ -6,7 +6,7 @@ use Rattle.irp_types.specs.declared.status.Status.{Status}
 abbrev pub success : Status
 success = record { 0 = 0 }
 
--- STATUS_PENDING: the answer to a sender whose packet is completed later
+-- STATUS_PENDING: the answer to a sender whose packet is completed later, or was completed where nobody waited for it
 abbrev pub pending : Status
 pending = record { 0 = 0x103 }
 
@@ -14,7 +14,7 @@ pending = record { 0 = 0x103 }
 abbrev pub invalid_device_request : Status
 invalid_device_request = record { 0 = 0xC0000010 }
 
--- STATUS_MORE_PROCESSING_REQUIRED: what a routine that keeps a packet answers; no packet has it
+-- STATUS_MORE_PROCESSING_REQUIRED: what a routine that keeps a packet answers; no packet is completed with it
 abbrev pub more_processing_required : Status
 more_processing_required = record { 0 = 0xC0000016 }
 

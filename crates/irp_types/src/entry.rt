@@ -21,7 +21,7 @@ pub struct Entry {
     pub reply: Reply,
     /// The seat that made the call, from 0.
     pub seat: u32,
-    /// The lock of the device that the call deletes, where it is one that was created.
+    /// The lock of the device that a Delete names, where it is one that was created.
     pub lock: Option<LockNo>,
     /// Whether that lock was known to be drained.
     pub drained: bool,
@@ -66,9 +66,9 @@ impl Entry {
         self.with(Questions::from_vec(asked))
     }
 
-    /// An equal entry, which shares its questions with this one where it may. Else they lie in the room given: an empty
-    /// vector with room for as many as this entry has, and then an empty one without. It takes no memory, and can't
-    /// fail (this project's own rule).
+    /// An equal entry, which shares its questions with this one where it may. Else they are put into the room, which is
+    /// an empty vector with room for as many as this entry has, and the room is left without any. It takes no memory,
+    /// and can't fail (this project's own rule).
     #[inline]
     pub fn shared_copy(&self, room: &mut Vec<Asked>) -> Entry
         requires empty { room.old.items ≡ [] }

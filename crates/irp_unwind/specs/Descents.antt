@@ -21,7 +21,7 @@ pub record Descends (may : Asked → Type 0) (tables : Tables) (irp : IrpRef) (d
   pub given : AllByRecursion may asked
   pub ended : sent.ending ≡ ending_at (last_frame descended.frames) descended.reached descended.unwinding (last_frame descended.frames).plan
 
--- the locations of a packet but those that it stays above when it goes down through so many devices
+-- how many locations there are from the lowest up that a packet can reach when it goes down through so many devices
 abbrev pub within_reach : PacketValue → ℕ → ℕ
 within_reach packet depth = size_of packet - ((packet.current - 1) - depth)
 

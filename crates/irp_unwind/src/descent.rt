@@ -87,9 +87,8 @@ fn descend_from<A: Ask>(
 ///
 /// `irp` is the packet's own reference, which the closures are shown. What is asked goes behind the other questions in
 /// `asked`, into room that is there: it takes no memory. The conditions are those of `can_descend`, and room for one
-/// question for each device from the target down and one for each location that the packet may come to: all but those
-/// that it stays above when it goes down through so many devices. A prepared packet without a cancel routine keeps the
-/// standing facts.
+/// question for each device from the target down and one for each location from the lowest that the packet can reach up.
+/// A prepared packet without a cancel routine keeps the standing facts.
 #[inline]
 pub fn descend<A: Ask>(
     packet: &mut Packet,
