@@ -115,4 +115,4 @@ lost_law key s party o has done some_use none_taken =
 
 pub flag_law : FlagLaw
 flag_law key s slot r inside =
-    ((r.flag_only slot inside, r.flag_set slot inside), λ h. r.flag_set slot inside (r.flag_first slot inside h))
+    ((r.flag_only slot inside, r.flag_set slot inside), λ h. r.flag_set slot inside (r.flag_first slot inside h), r.found slot inside)

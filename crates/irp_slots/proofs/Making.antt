@@ -8,7 +8,7 @@ use Rattle.atomic_table.specs.Table.{State, Splits}
 use Rattle.irp_slots.specs.declared.views.View.{View}
 use Rattle.irp_slots.specs.declared.views.View.TheVariants.{First}
 use Rattle.irp_slots.specs.declared.views.Parties.{Parties}
-use Rattle.irp_slots.specs.Core.{total, one_if, flag, times, owns, published, taken, resting, standing, flagged, ended, canceller_count, Kept, span, at_first, one_owner_less, next_owner, one_canceller_less, new_canceller}
+use Rattle.irp_slots.specs.Core.{total, one_if, flag, times, owns, published, taken, resting, standing, flagged, ended, found_flagged, canceller_count, Kept, span, at_first, one_owner_less, next_owner, one_canceller_less, new_canceller}
 use Rattle.irp_slots.proofs.Totals.{total_set, total_snoc}
 
 abbrev St : Type 0
@@ -23,6 +23,7 @@ record Cut (v left right : View) : Type 0 where
   stood : (k : ℕ) → standing k v ≡ standing k left + standing k right
   asked : (k : ℕ) → flagged k v ≡ flagged k left + flagged k right
   done : (k : ℕ) → ended k v ≡ ended k left + ended k right
+  saw_it : (k : ℕ) → found_flagged k v ≡ found_flagged k left + found_flagged k right
   counted : canceller_count v ≡ canceller_count left + canceller_count right
 
 module _ (key : Parties) (id : ℕ) (v left right : View) (cut : Cut v left right) where
@@ -43,6 +44,7 @@ module _ (key : Parties) (id : ℕ) (v left right : View) (cut : Cut v left righ
     flag_set = λ k less h. let a = split_total s at (flagged k) (cut.asked k) in r.flag_set k less (omega arith);
     flag_only = λ k less odd. let a = split_total s at (flagged k) (cut.asked k) in let was = r.flag_only k less odd in omega arith;
     flag_first = λ k less h. let a = split_total s at (flagged k) (cut.asked k) in let b = split_total s at (ended k) (cut.done k) in let was = r.flag_first k less (omega arith) in omega arith;
+    found = λ k less h. let a = split_total s at (found_flagged k) (cut.saw_it k) in r.found k less (omega arith);
     stands = λ k less h g. let a = split_total s at (standing k) (cut.stood k) in let b = split_total s at (ended k) (cut.done k) in r.stands k less (omega arith) (omega arith);
     all_cancellers = split_total s at canceller_count cut.counted ∙ r.all_cancellers;
     few_slots = r.few_slots;
@@ -63,6 +65,7 @@ owner_made key id slot n os v is = subst (λ (z : View). Splits (Kept key) id z 
       stood = λ k. refl;
       asked = λ k. refl;
       done = λ k. refl;
+      saw_it = λ k. refl;
       counted = omega arith;
     }))
 
@@ -83,6 +86,7 @@ canceller_made key id n os v is some_left = subst (λ (z : View). Splits (Kept k
       rested = λ k. omega arith;
       stood = λ k. refl;
       asked = λ k. let z : flagged k new_canceller ≡ 0 = ap one_if (false_at 64 k) in omega arith;
+      saw_it = λ k. refl;
       done = λ k. let z : ended k new_canceller ≡ 0 = ap one_if (false_at 64 k) in omega arith;
       counted = omega arith;
     }))
@@ -122,6 +126,7 @@ at_opening key words wide zeros few_s few_c = record {
   flag_set = λ k less h. absurd (omega arith);
   flag_only = λ k less odd. let z = zeros (2 * k) in absurd (omega arith);
   flag_first = λ k less h. absurd (omega arith);
+  found = λ k less h. absurd (omega arith);
   stands = λ k less h g. zeros (2 * k + 1);
   all_cancellers = omega arith;
   few_slots = few_s;

@@ -14,7 +14,7 @@ use Rattle.irp_slots.specs.declared.views.Asking.{Asking}
 use Rattle.irp_slots.specs.declared.views.View.{View}
 use Rattle.irp_slots.specs.declared.views.View.TheVariants.{Owner, Canceller}
 use Rattle.irp_slots.specs.declared.views.Parties.{Parties}
-use Rattle.irp_slots.specs.Core.{total, one_if, flag, times, times_of, is_begun, is_resting, owns, published, taken, resting, standing, flagged, ended, canceller_count, Kept, out_of, publishes, owner_published, checks, owning_checked, owner_checked, takes_back, owner_done, flags, slot_flagged, takes_out, slot_ended, owning_of}
+use Rattle.irp_slots.specs.Core.{total, one_if, flag, times, times_of, is_begun, is_resting, owns, published, taken, resting, standing, flagged, ended, found_flagged, canceller_count, Kept, out_of, publishes, owner_published, checks, owning_checked, owner_checked, takes_back, owner_done, flags, slot_flagged, takes_out, slot_ended, owning_of}
 use Rattle.irp_slots.proofs.Totals.{one_if_le, total_set, same_total, part_of_total, rest_or_stand, published_view, alone}
 
 abbrev pub St : Type 0
@@ -85,6 +85,9 @@ module _ (key : Parties) (s : St) (r : Kept key s) (id : ℕ) (o : Owning) (idle
             let t = same_total (flagged k) s.views id v1 w1 at refl in
             let was = r.flag_only k less (subst (λ (z : ℕ). z % 2 ≡ 1) (other_word (2 * k) (λ e. absurd (omega arith))) odd) in omega arith;
         flag_first = λ k less some_end. let t = same_total (ended k) s.views id v1 w1 at refl in let u = same_total (flagged k) s.views id v1 w1 at refl in let was = r.flag_first k less (omega arith) in omega arith;
+        found = λ k less some_found.
+            let t = total_set (found_flagged k) s.views id v1 w1 at in
+            subst (λ (z : ℕ). z % 2 ≡ 1) (sym (other_word (2 * k) (λ e. absurd (omega arith)))) (r.found k less (omega arith));
         stands = λ k less some_stand some_end.
             let t : total (standing k) (set s.views id w1) + standing k v1 ≡ total (standing k) s.views + standing k w1 = total_set (standing k) s.views id v1 w1 at in
             let u = same_total (ended k) s.views id v1 w1 at refl in
@@ -133,6 +136,7 @@ module _ (key : Parties) (s : St) (r : Kept key s) (id : ℕ) (o : Owning) (post
     flag_set = λ k less some_flag. let t = same_total (flagged k) s.views id v2 w2 at refl in r.flag_set k less (omega arith);
     flag_only = λ k less odd. let t = same_total (flagged k) s.views id v2 w2 at refl in let was = r.flag_only k less odd in omega arith;
     flag_first = λ k less some_end. let t = same_total (ended k) s.views id v2 w2 at refl in let u = same_total (flagged k) s.views id v2 w2 at refl in let was = r.flag_first k less (omega arith) in omega arith;
+    found = λ k less some_found. let t = same_total (found_flagged k) s.views id v2 w2 at refl in r.found k less (omega arith);
     stands = λ k less some_stand some_end.
         let t = total_set (standing k) s.views id v2 w2 at in
         let u = same_total (ended k) s.views id v2 w2 at refl in
@@ -152,7 +156,7 @@ module _ (key : Parties) (s : St) (r : Kept key s) (id : ℕ) (o : Owning) (post
   check_keeps = subst (λ (ws : List ℕ). Kept key (record { words = ws; homes = s.homes; views = set s.views id w2 })) (sym (set-get_or s.words (2 * o.slot) 0)) check_kept
 
 -- an owner that has published finds the flag set
-module _ (key : Parties) (s : St) (r : Kept key s) (id : ℕ) (o : Owning) (at : get_elem? s.views id ≡ some (Owner o)) where
+module _ (key : Parties) (s : St) (r : Kept key s) (id : ℕ) (o : Owning) (at : get_elem? s.views id ≡ some (Owner o)) (odd : get_or s.words (2 * o.slot) 0 % 2 ≡ 1) where
   abbrev v_set : View
   v_set = Owner o
 
@@ -172,6 +176,11 @@ module _ (key : Parties) (s : St) (r : Kept key s) (id : ℕ) (o : Owning) (at :
     flag_set = λ k less some_flag. let t = same_total (flagged k) s.views id v_set w_set at refl in r.flag_set k less (omega arith);
     flag_only = λ k less odd. let t = same_total (flagged k) s.views id v_set w_set at refl in let was = r.flag_only k less odd in omega arith;
     flag_first = λ k less some_end. let t = same_total (ended k) s.views id v_set w_set at refl in let u = same_total (flagged k) s.views id v_set w_set at refl in let was = r.flag_first k less (omega arith) in omega arith;
+    found = λ k less some_found.
+        let t = total_set (found_flagged k) s.views id v_set w_set at in
+        dite (ℕ_discrete k o.slot)
+        (λ e. subst (λ (z : ℕ). get_or s.words (2 * z) 0 % 2 ≡ 1) (sym e) odd)
+        (λ ne. let q : found_flagged k w_set ≡ 0 = ap one_if (ne_eqb o.slot k (λ e. ne (sym e))) in r.found k less (omega arith));
     stands = λ k less some_stand some_end.
         let t = same_total (standing k) s.views id v_set w_set at refl in
         let u = same_total (ended k) s.views id v_set w_set at refl in
@@ -246,6 +255,9 @@ module _ (key : Parties) (s : St) (r : Kept key s) (id : ℕ) (o : Owning) (star
             let t = same_total (flagged k) s.views id v3 w3 at refl in
             let was = r.flag_only k less (subst (λ (z : ℕ). z % 2 ≡ 1) (other_word (2 * k) (λ e. absurd (omega arith))) odd) in omega arith;
         flag_first = λ k less some_end. let t = same_total (ended k) s.views id v3 w3 at refl in let u = same_total (flagged k) s.views id v3 w3 at refl in let was = r.flag_first k less (omega arith) in omega arith;
+        found = λ k less some_found.
+            let t = same_total (found_flagged k) s.views id v3 w3 at refl in
+            subst (λ (z : ℕ). z % 2 ≡ 1) (sym (other_word (2 * k) (λ e. absurd (omega arith)))) (r.found k less (omega arith));
         stands = λ k less some_stand some_end.
             let t : total (standing k) (set s.views id w3) + standing k v3 ≡ total (standing k) s.views + standing k w3 = total_set (standing k) s.views id v3 w3 at in
             let u = same_total (ended k) s.views id v3 w3 at refl in
@@ -307,6 +319,11 @@ module _ (key : Parties) (s : St) (r : Kept key s) (id slot : ℕ) (a : Asking) 
             dite (ℕ_discrete k slot)
             (λ e. let q : flagged k w4 ≡ 1 = ap (λ (z : ℕ). flagged z w4) e ∙ flag_here a.flagged slot known in omega arith)
             (λ ne. let q : flagged k w4 ≡ flagged k v4 = flag_other a.flagged slot k ne in omega arith);
+        found = λ k less some_found.
+            let t = same_total (found_flagged k) s.views id v4 w4 at refl in
+            dite (ℕ_discrete k slot)
+            (λ e. let odd : word4 % 2 ≡ 1 = omega arith in subst (λ (z : ℕ). z % 2 ≡ 1) (sym (ap (λ (z : ℕ). get_or (set s.words (2 * slot) word4) (2 * z) 0) e ∙ this_word)) odd)
+            (λ ne. subst (λ (z : ℕ). z % 2 ≡ 1) (sym (other_word (2 * k) (λ e. ne (omega arith)))) (r.found k less (omega arith)));
         stands = λ k less some_stand some_end. let t = same_total (standing k) s.views id v4 w4 at refl in let u = same_total (ended k) s.views id v4 w4 at refl in content k ∙ r.stands k less (omega arith) (omega arith);
         all_cancellers = same_total canceller_count s.views id v4 w4 at refl ∙ r.all_cancellers;
         few_slots = r.few_slots;
@@ -384,6 +401,9 @@ module _ (key : Parties) (s : St) (r : Kept key s) (id slot : ℕ) (a : Asking) 
             dite (ℕ_discrete k slot)
             (λ e. let f : 0 < total (flagged slot) s.views = omega arith in let g : 0 < total (flagged k) s.views = subst (λ (z : ℕ). 0 < total (flagged z) s.views) (sym e) f in omega arith)
             (λ ne. let q : ended k w5 ≡ ended k v5 = flag_other a.ended slot k ne in let was = r.flag_first k less (omega arith) in omega arith);
+        found = λ k less some_found.
+            let t = same_total (found_flagged k) s.views id v5 w5 at refl in
+            subst (λ (z : ℕ). z % 2 ≡ 1) (sym (other_word (2 * k) (λ e. absurd (omega arith)))) (r.found k less (omega arith));
         stands = λ k less some_stand some_end.
             let t = same_total (standing k) s.views id v5 w5 at refl in
             let u = total_set (ended k) s.views id v5 w5 at in
@@ -444,7 +464,7 @@ check_allowed key slots id o m is posted inside s r _ at _ =
         (key, s, id, r, omega arith, at, refl, kept),
       ),
     ))
-    (λ set_already. let kept = found_keeps key s r id o at' in (
+    (λ set_already. let kept = found_keeps key s r id o at' (omega arith) in (
       Owner (record o { found_set = true }),
       keeps,
       tt,

@@ -103,6 +103,12 @@ flagged slot (First owners_left cancellers_left) = 0
 flagged slot (Owner owning) = 0
 flagged slot (Canceller asking) = one_if (flag asking.flagged slot)
 
+-- 1 where the view is that of the slot's owner, which has found the flag set
+abbrev pub found_flagged : ℕ → View → ℕ
+found_flagged slot (First owners_left cancellers_left) = 0
+found_flagged slot (Owner owning) = one_if (owning.found_set && nat_eq owning.slot slot)
+found_flagged slot (Canceller asking) = 0
+
 -- 1 where the view is that of a canceller that has ended a request on the slot
 abbrev pub ended : ℕ → View → ℕ
 ended slot (First owners_left cancellers_left) = 0
@@ -146,6 +152,7 @@ pub record Kept (key : Parties) (s : State (Unit {0}) View) : Type 0 where
   pub flag_set : (slot : ℕ) → slot < key.slots → 0 < total (flagged slot) s.views → flag_of s.words slot % 2 ≡ 1
   pub flag_only : (slot : ℕ) → slot < key.slots → flag_of s.words slot % 2 ≡ 1 → 0 < total (flagged slot) s.views
   pub flag_first : (slot : ℕ) → slot < key.slots → 0 < total (ended slot) s.views → 0 < total (flagged slot) s.views
+  pub found : (slot : ℕ) → slot < key.slots → 0 < total (found_flagged slot) s.views → flag_of s.words slot % 2 ≡ 1
   pub stands : (slot : ℕ) → slot < key.slots → 0 < total (standing slot) s.views → 0 < total (ended slot) s.views
       → content_of s.words slot ≡ 0
   pub all_cancellers : total canceller_count s.views ≡ key.cancellers

@@ -10,7 +10,7 @@ use Rattle.irp_slots.specs.declared.views.Asking.{Asking}
 use Rattle.irp_slots.specs.declared.views.View.{View}
 use Rattle.irp_slots.specs.declared.views.View.TheVariants.{Owner, Canceller}
 use Rattle.irp_slots.specs.declared.views.Parties.{Parties}
-use Rattle.irp_slots.specs.Core.{total, one_if, flag, times, times_of, is_begun, is_resting, published, taken, flagged, ended, flag_of, content_of, Kept, at_first, owner_published, owner_checked, owner_done, slot_flagged, slot_ended}
+use Rattle.irp_slots.specs.Core.{total, one_if, flag, times, times_of, is_begun, is_resting, published, taken, flagged, ended, found_flagged, flag_of, content_of, Kept, at_first, owner_published, owner_checked, owner_done, slot_flagged, slot_ended}
 
 -- a table under this rule keeps `Kept`
 abbrev pub Keeps : (Parties → State (Unit {0}) View → Type 0) → Type 0
@@ -92,9 +92,11 @@ LostLaw =
     → (total (taken owning.slot owning.published) s.views ≡ 1) × IsTakenByCanceller s owning.slot owning.published
     × (content_of s.words owning.slot ≡ 0)
 
--- The flag of a slot is set exactly where a canceller has set it, and it is set where a canceller has ended a request
+-- The flag of a slot is set exactly where a canceller has set it. It is set where a canceller has ended a request, and
+-- where the owner has found it set
 abbrev pub FlagLaw : Type 0
 FlagLaw =
     (key : Parties) (s : State (Unit {0}) View) (slot : ℕ) → Kept key s → slot < key.slots
     → ((flag_of s.words slot % 2 ≡ 1) ↔ (0 < total (flagged slot) s.views))
     × (0 < total (ended slot) s.views → flag_of s.words slot % 2 ≡ 1)
+    × (0 < total (found_flagged slot) s.views → flag_of s.words slot % 2 ≡ 1)
