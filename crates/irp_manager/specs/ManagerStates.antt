@@ -40,15 +40,15 @@ pub record Stepped {K : Type 0} (live : K → Slots) (tables : Tables) (drained 
   pub stands : StandingFacts tables.counts (state_of live new)
   pub fixed : KeepsFixed old new
 
--- so it was with any tables, where the standing facts held
+-- a call was answered by its step, whatever the tables, where the standing facts held
 abbrev pub SteppedAny : {K : Type 0} → (K → Slots) → ManagerState K → Call → List Asked → Reply → ManagerState K → Type 0
 SteppedAny live old call asked reply new = (tables : Tables) (drained : Bool) → StandingFacts tables.counts (state_of live old) → Stepped live tables drained old call asked reply new
 
--- a reply with a status to one who sent this packet: the packet stands as `StaysUp` says
+-- where the reply to the sender of this packet is a status, the packet stands as `StaysUp` says
 abbrev pub SentStays : {K : Type 0} → (K → Slots) → ManagerState K → IrpRef → Reply → ManagerState K → Type 0
 SentStays live old irp reply new = (status : Status) → reply ≡ StatusIs status → StaysUp (packet_of (state_of live old) irp) (packet_of (state_of live new) irp) status
 
--- where the call sends a packet, the packet stands so
+-- where the call sends a packet, that packet stands as `StaysUp` says
 abbrev pub SenderStays : {K : Type 0} → (K → Slots) → ManagerState K → Call → Reply → ManagerState K → Type 0
 SenderStays live old call reply new = (party : Party) (irp : IrpRef) (target : DeviceId) → call ≡ CallDriver party irp target → SentStays live old irp reply new
 

@@ -61,8 +61,8 @@ AreAmong [] parties = Unit {0}
 AreAmong (view ∷ views) parties =
     (before : List View) × (after : List View) × (parties ≡ before ++ view ∷ after) × AreAmong views (before ++ after)
 
--- in each state that keeps the rule, and among whose parties are those of these seats, every word is 0: nobody, not one
--- party that is in none of these seats, began a removal, holds or tries a lock, saw one removed or knows one drained
+-- In each state that keeps the rule, and among whose parties are those of these seats, every word is 0. So no party has
+-- begun a removal, holds or tries a lock, saw one removed or knows one drained, those outside these seats included
 abbrev pub IsAllIdle : Parties → List Holder → Type 0
 IsAllIdle key holders =
     (state : State (Unit {0}) View) → Kept key state → AreAmong (views_of_all holders) state.views → (lock : ℕ)

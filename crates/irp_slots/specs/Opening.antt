@@ -70,8 +70,8 @@ AreAmong [] parties = Unit {0}
 AreAmong (view ∷ views) parties =
     (before : List View) × (after : List View) × (parties ≡ before ++ view ∷ after) × AreAmong views (before ++ after)
 
--- in each state that keeps the rule, and among whose parties are these owners and cancellers, each slot is empty and
--- its flag is clear: nobody, not one party that is none of these, has published or asked
+-- In each state that keeps the rule, and among whose parties are these owners and cancellers, each slot is empty and
+-- its flag is clear. So no party has published or asked, any others included
 abbrev pub IsAllEmpty : Parties → List Publisher → List Asker → Type 0
 IsAllEmpty key publishers askers =
     (state : State (Unit {0}) View) → Kept key state → AreAmong (views_of publishers askers) state.views

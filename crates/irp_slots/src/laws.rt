@@ -35,8 +35,8 @@ pub fn lost_is_taken()
     ensures { LostLaw }
 {}
 
-/// A flag is set exactly where some canceller has set it, and it is set where one has ended a request. (This
-/// project's own rule.)
+/// A flag is set exactly where some canceller has set it. It is set where one has ended a request, and where the slot's
+/// owner has found it set. (This project's own rule.)
 pub fn flag_tells_of_a_request()
     ensures { FlagLaw }
 {}

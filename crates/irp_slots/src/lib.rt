@@ -1,4 +1,4 @@
-//! Cancel slots: a use of a packet that its owner publishes, and that exactly one party takes.
+//! Cancel slots: a use of a packet that its owner publishes, and that one party at most takes.
 //!
 //! Any number of threads may share the [`Slots`], each with the [`SlotOwner`]s and the [`Canceller`] that it was
 //! given. No call but `open` is given an allocator, and none is given a handle to wait with.

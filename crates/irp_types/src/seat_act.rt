@@ -7,16 +7,16 @@ use crate::names::LockNo;
 pub enum LockAct {
     /// Acquires the lock with this tag (WDK: "IoAcquireRemoveLock").
     Acquire { lock: LockNo, tag: u32 },
-    /// Gives back one acquisition with this tag (WDK: "IoReleaseRemoveLock").
+    /// Gives back one reference with this tag (WDK: "IoReleaseRemoveLock").
     Release { lock: LockNo, tag: u32 },
-    /// Begins the removal, and gives back one acquisition with this tag; it doesn't wait
+    /// Begins the removal, and gives back one reference with this tag; it doesn't wait
     /// (WDK: "IoReleaseRemoveLockAndWait").
     BeginRemove { lock: LockNo, tag: u32 },
     /// Asks whether removal has begun and nobody holds the lock (this project's own call).
     Drained { lock: LockNo },
 }
 
-/// One acquisition of a remove lock with this tag, handed to another seat (this project's own call).
+/// One reference to a remove lock with this tag, handed to another seat (this project's own call).
 #[derive(Clone, Copy, PartialEq, Eq, Debug)]
 pub struct Hand {
     pub lock: LockNo,
