@@ -10,7 +10,7 @@ room=$(mktemp -d) || exit 1
 trap 'rm -rf "$room"' EXIT
 cc -shared -fPIC -o "$room/refuse.so" refuse.c || exit 1
 
-# The calls in which each request for memory is refused; `run_workers`, which makes others each time, isn't among them.
+# The calls in which each request for memory is refused. `run_workers` isn't among them.
 calls='AnswerTable::add
 AnswerTable::add_cancel
 AnswerTable::add_dispatch
