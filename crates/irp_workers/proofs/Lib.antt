@@ -8,6 +8,7 @@ pub mod Numbers
 pub mod Outcomes
 pub mod Pairs
 pub mod Places
+pub mod Ran
 pub mod Shares
 pub mod StepCalls
 pub mod Working

@@ -7,6 +7,7 @@ pub mod Made
 pub mod Numbers
 pub mod Outcomes
 pub mod Pairs
+pub mod Ran
 pub mod Seats
 pub mod StepKinds
 pub mod Words

@@ -4,5 +4,6 @@ pub mod Calls
 pub mod CommandLine
 pub mod OneSeat
 pub mod Pieces
+pub mod Ran
 pub mod Runs
 pub mod Telling

@@ -4,6 +4,9 @@ use Rattle.std.specs.Prelude.{
   ◌≡◌,
   ◌<◌,
   ◌+◌,
+  Bool,
+  true,
+  false,
   List,
   ◌++◌,
   length,
@@ -48,6 +51,7 @@ use Rattle.irp_workers.specs.Outcomes.{Outcome, Test, outcomes}
 use Rattle.irp_workers.specs.Words.{AreInOrder, told_by, word_steps}
 use Rattle.irp_transcript_writer.specs.Lines.{lines, text_of}
 use Rattle.irpx.specs.Bytes.{Bytes}
+use Rattle.irp_workers.specs.Ran.{Ran}
 use Rattle.irpx.specs.Writing.{BreaksOff, IsQuiet, Written}
 use Rattle.irpx.specs.declared.running.RunFault.{RunFault}
 use Rattle.irpx.specs.declared.running.RunFault.TheVariants as run_fault
@@ -168,31 +172,33 @@ run_transcript form words transcript = record transcript {
 abbrev pub text_with : TranscriptValue → List ℕ
 text_with transcript = text_of (lines transcript)
 
--- what came of a script with these tables that was run to its end: the transcript of a run was written, which shows
--- each step
-abbrev pub RunsScript : Script → Tables → Bytes → Bytes → ℕ → ℕ → Type 0
-RunsScript script tables old new before after =
+-- what came of a script with these tables that so many workers ran to its end: the transcript of a run was written,
+-- which shows each step
+abbrev pub RunsScript : ℕ → Script → Tables → Bytes → Bytes → ℕ → ℕ → Type 0
+RunsScript workers script tables old new before after =
     (transcript : TranscriptValue) × IsRun script tables transcript × ShowsEach script transcript
-    × Written (text_with transcript) old new before after
+    × Ran workers script transcript false × Written (text_with transcript) old new before after
 
 -- the same where it wasn't: there is no transcript, and nothing went out; or the transcript of a run was written, and
 -- steps may be missing in it; or a beginning of one went out
-abbrev pub BreaksOffRun : Script → Tables → Bytes → Bytes → ℕ → ℕ → Unfinished → Type 0
-BreaksOffRun script tables old new before after (NoTranscript fault) = IsQuiet old new before after
-BreaksOffRun script tables old new before after Stopped =
+abbrev pub BreaksOffRun : ℕ → Script → Tables → Bytes → Bytes → ℕ → ℕ → Unfinished → Type 0
+BreaksOffRun workers script tables old new before after (NoTranscript fault) =
+    IsQuiet old new before after
+BreaksOffRun workers script tables old new before after Stopped =
     (transcript : TranscriptValue) × IsRun script tables transcript
-    × Written (text_with transcript) old new before after
-BreaksOffRun script tables old new before after (Unwritten fault) =
+    × Ran workers script transcript true × Written (text_with transcript) old new before after
+BreaksOffRun workers script tables old new before after (Unwritten fault) =
     (transcript : TranscriptValue) × IsRun script tables transcript
+    × ((stopped : Bool) × Ran workers script transcript stopped)
     × BreaksOff (text_with transcript) old new before after fault
 
--- what came of a script with these tables
-abbrev pub AfterScript : {T : Type 0} → Script → Tables → Bytes → Bytes → ℕ → ℕ
+-- what came of a script with these tables that so many workers were to run
+abbrev pub AfterScript : {T : Type 0} → ℕ → Script → Tables → Bytes → Bytes → ℕ → ℕ
     → Result T Unfinished → Type 0
-AfterScript script tables old new before after (Ok done) =
-    RunsScript script tables old new before after
-AfterScript script tables old new before after (Err fault) =
-    BreaksOffRun script tables old new before after fault
+AfterScript workers script tables old new before after (Ok done) =
+    RunsScript workers script tables old new before after
+AfterScript workers script tables old new before after (Err fault) =
+    BreaksOffRun workers script tables old new before after fault
 
 -- the first step that hands a reference between seats that fall to different of so many workers is this one, or there
 -- is none; and the input holds the script
@@ -205,7 +211,7 @@ HandsFirst workers place input left script =
 abbrev pub Runs : ℕ → Bytes → Bytes → Bytes → Bytes → ℕ → ℕ → Type 0
 Runs workers input left old new before after =
     (script : Script) × HandsFirst workers None input left script
-    × RunsScript script (tables_of script) old new before after
+    × RunsScript workers script (tables_of script) old new before after
 
 -- the same where it wasn't: there is no script, or one that hands a reference between workers, and nothing went out; or
 -- the input holds another, which wasn't run to its end
@@ -217,7 +223,7 @@ Unran workers input left old new before after (run_fault.HandsBetween step) =
     × IsQuiet old new before after
 Unran workers input left old new before after (run_fault.Unfinished fault) =
     (script : Script) × HandsFirst workers None input left script
-    × BreaksOffRun script (tables_of script) old new before after fault
+    × BreaksOffRun workers script (tables_of script) old new before after fault
 
 -- what `run` did: the input holds a script, which was run to its end; or it wasn't
 abbrev pub AfterRun : {T : Type 0} → ℕ → Bytes → Bytes → Bytes → Bytes → ℕ → ℕ

@@ -1,6 +1,6 @@
 //! The word `run`: a script is read and run by workers, and the transcript is written.
 
-ghost use Rattle.std.specs.Prelude.{IfErr, IfOk, List, ◌≡◌, ◌≤◌, ◌<◌, false, true, position};
+ghost use Rattle.std.specs.Prelude.{IfErr, IfOk, ℕ, List, ◌≡◌, ◌≤◌, ◌<◌, false, true, position};
 ghost use Rattle.irp_types.specs.Limits.{most_slots};
 ghost use Rattle.irp_types.specs.Rules.{is_plan_allowed};
 ghost use Rattle.irp_types.specs.State.{Tables};
@@ -15,6 +15,7 @@ ghost use Rattle.irp_workers.specs.Numbers.{EachAsOften};
 ghost use Rattle.irp_workers.specs.Seats.{seats_of};
 ghost use Rattle.irpx.specs.Bytes.{Bytes};
 ghost use Rattle.irpx.specs.Input.{TakesAtMost};
+ghost use Rattle.irp_workers.specs.Ran.{Ran};
 ghost use Rattle.irpx.specs.Running.{
   AfterRun,
   AfterScript,
@@ -310,6 +311,7 @@ fn session<L: Session + Send + Sync, T: Threads + Wait + Sync>(
     requires fixed { L.fixed ≡ fixed_for script.now store.tables }
     ensures run { IfOk result (λ run. IsRun script.now store.tables run.transcript) }
     ensures shows { IfOk result (λ run. run.stopped ≡ false → ShowsEach script.now run.transcript) }
+    ensures ran { IfOk result (λ run. Ran workers script.now run.transcript run.stopped) }
 {
     let form = form_of(script.form);
     let Ok((shared, seats)) = open_with_limit::<Store, L>(
@@ -338,9 +340,11 @@ fn session<L: Session + Send + Sync, T: Threads + Wait + Sync>(
 
 /// Writes the transcript that a run left. `Stopped` where it is written, but a step found no memory or wasn't recorded.
 fn write_finished<O: Out>(alloc: Global, output: &mut O, run: &Finished) -> Result<(), Unfinished>
-    ensures { (script : Script) → (tables : Tables) → IsRun script tables run.now.transcript
+    ensures { (workers : ℕ) → (script : Script) → (tables : Tables)
+        → IsRun script tables run.now.transcript
         → (run.now.stopped ≡ false → ShowsEach script run.now.transcript)
-        → AfterScript script tables (O.gone output.old) (O.gone output.new)
+        → Ran workers script run.now.transcript run.now.stopped
+        → AfterScript workers script tables (O.gone output.old) (O.gone output.new)
         (O.failures output.old) (O.failures output.new) result }
 {
     write(alloc, output, &run.transcript)?;
@@ -359,7 +363,7 @@ fn with_store<O: Out, T: Threads + Wait + Sync>(
     workers: Workers,
     store: Store,
 ) -> Result<(), Unfinished>
-    ensures { AfterScript script.now store.tables (O.gone output.old) (O.gone output.new)
+    ensures { AfterScript workers.number script.now store.tables (O.gone output.old) (O.gone output.new)
         (O.failures output.old) (O.failures output.new) result }
 {
     let blank = Blank::new(u64::from(script.seats));
@@ -376,7 +380,7 @@ fn with_dispatches<O: Out, T: Threads + Wait + Sync>(
     workers: Workers,
     mut store: Store,
 ) -> Result<(), Unfinished>
-    ensures { AfterScript script.now (and_drivers script.now.drivers store.tables)
+    ensures { AfterScript workers.number script.now (and_drivers script.now.drivers store.tables)
         (O.gone output.old) (O.gone output.new)
         (O.failures output.old) (O.failures output.new) result }
 {
@@ -401,7 +405,7 @@ fn run_script<O: Out, T: Threads + Wait + Sync>(
     script: &Script,
     workers: Workers,
 ) -> Result<(), Unfinished>
-    ensures { AfterScript script.now (tables_of script.now)
+    ensures { AfterScript workers.number script.now (tables_of script.now)
         (O.gone output.old) (O.gone output.new)
         (O.failures output.old) (O.failures output.new) result }
 {

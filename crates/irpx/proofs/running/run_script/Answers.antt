@@ -64,6 +64,6 @@ returns g c =
     let dispatches : c.loop-plan.store.tables ≡ and_dispatches script.dispatches c.loop-answer.store.tables =
     all_of (λ (plans : List Plan). and_dispatches plans c.loop-answer.store.tables) _ _ (c.as_slice-plans.ensures ∙ ap (λ (parts : ScriptParts). parts.dispatches) c.parts-parts.ensures.parts) c.loop-plan.plan-index c.loop-plan-test.false c.loop-plan.store.tables c.loop-plan.invariant in
     let after : (parts : ScriptParts) → Tables → Type 0 = λ parts tables.
-    AfterScript parts (and_drivers parts.drivers tables) (g.O.Out.gone c.args.output.now) (g.O.Out.gone c.with_dispatches.new.output) (g.O.Out.failures c.args.output.now) (g.O.Out.failures c.with_dispatches.new.output) c.with_dispatches.result in
+    AfterScript c.args.workers.number parts (and_drivers parts.drivers tables) (g.O.Out.gone c.args.output.now) (g.O.Out.gone c.with_dispatches.new.output) (g.O.Out.failures c.args.output.now) (g.O.Out.failures c.with_dispatches.new.output) c.with_dispatches.result in
     subst (after script) (dispatches ∙ ap (and_dispatches script.dispatches) (cancels ∙ ap (and_cancels script.cancels) routines))
     (subst (λ (parts : ScriptParts). after parts c.loop-plan.store.tables) c.parts-parts.ensures.parts c.with_dispatches.ensures)

@@ -16,7 +16,7 @@ loop-driver-preserved g c =
 
 pub returns : goal.returns
 returns g c =
-    subst (λ (tables : Tables). AfterScript c.args.script.now tables (g.O.Out.gone c.args.output.now) (g.O.Out.gone c.with_store.new.output) (g.O.Out.failures c.args.output.now) (g.O.Out.failures c.with_store.new.output) c.with_store.result)
+    subst (λ (tables : Tables). AfterScript c.args.workers.number c.args.script.now tables (g.O.Out.gone c.args.output.now) (g.O.Out.gone c.with_store.new.output) (g.O.Out.failures c.args.output.now) (g.O.Out.failures c.with_store.new.output) c.with_store.result)
     (all_added (λ (drivers : List (List Entrance)). and_drivers drivers c.args.store.tables) c.as_slice-drivers.result.now c.loop-driver.driver-index c.loop-driver-test.false c.loop-driver.store.tables c.loop-driver.invariant
     ∙ ap (λ (drivers : List (List Entrance)). and_drivers drivers c.args.store.tables) c.as_slice-drivers.ensures)
     c.with_store.ensures
