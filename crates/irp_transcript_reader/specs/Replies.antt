@@ -7,11 +7,9 @@ use Rattle.serde_json.specs.Find.{at, get, as_bool}
 use Rattle.irp_forms.specs.Names.{refusal_at}
 use Rattle.irp_forms.specs.Parts.{◌>>=◌, or_null_at, has_items, has_keys, u32_at, u64_at}
 use Rattle.irp_forms.specs.Values.{cancel_at, device_at, irp_at, status_at}
-use Rattle.irp_types.specs.declared.location.Owner.{Owner}
+use Rattle.irp_types.specs.declared.{location.Owner.Owner, reply.Reply.Reply, reply.Seen.Seen}
 use Rattle.irp_types.specs.declared.location.Owner.TheVariants as owners
-use Rattle.irp_types.specs.declared.reply.Reply.{Reply}
 use Rattle.irp_types.specs.declared.reply.Reply.TheVariants as replies
-use Rattle.irp_types.specs.declared.reply.Seen.{Seen}
 
 -- an owner: "o" for the originator, "ended", or the device's number
 unfoldable pub owner_at : Data → Option Owner

@@ -4,45 +4,28 @@ use Rattle.std.specs.List.{flat_map}
 use Rattle.serde_json.specs.Data.{Data, boolean, string}
 use Rattle.irp_forms.specs.Names.{answer_name, cancel_rule_name, flagged, flags_name, refusal_name, rule_name}
 use Rattle.irp_transcript_writer.specs.Json.{natural, list, fields, or_null, line_text}
-use Rattle.irp_types.specs.declared.answer.Answer.{Answer}
-use Rattle.irp_types.specs.declared.answer.CancelAnswer.{CancelAnswer}
+use Rattle.irp_types.specs.declared.{answer.Answer.Answer, answer.CancelAnswer.CancelAnswer, answer.Plan.Plan}
+use Rattle.irp_types.specs.declared.{answer.Replacement.Replacement, asked.Asked.Asked, call.Party.Party}
+use Rattle.irp_types.specs.declared.{entry.Entry.Entry, location.Owner.Owner, names.CancelId.CancelId}
+use Rattle.irp_types.specs.declared.{names.DeviceId.DeviceId, names.DispatchId.DispatchId, names.IrpRef.IrpRef}
+use Rattle.irp_types.specs.declared.{names.LockNo.LockNo, reply.Reply.Reply, reply.Seen.Seen}
+use Rattle.irp_types.specs.declared.{routine.CancelRule.CancelRule, routine.Known.Known, routine.RoutineId.RoutineId}
+use Rattle.irp_types.specs.declared.{routine.Setting.Setting, shown.Shown.Shown, status.Status.Status}
 use Rattle.irp_types.specs.declared.answer.CancelAnswer.TheVariants as cancel_answer
-use Rattle.irp_types.specs.declared.answer.Plan.{Plan}
 use Rattle.irp_types.specs.declared.answer.Plan.TheVariants as plan
-use Rattle.irp_types.specs.declared.answer.Replacement.{Replacement}
-use Rattle.irp_types.specs.declared.asked.Asked.{Asked}
 use Rattle.irp_types.specs.declared.asked.Asked.TheVariants as asked
 use Rattle.irp_types.specs.Calls.{Call}
 use Rattle.irp_types.specs.declared.call.Call.TheVariants as call
-use Rattle.irp_types.specs.declared.call.Party.{Party}
 use Rattle.irp_types.specs.declared.call.Party.TheVariants as party
-use Rattle.irp_types.specs.declared.entry.Entry.{Entry}
-use Rattle.irp_types.specs.declared.location.Owner.{Owner}
 use Rattle.irp_types.specs.declared.location.Owner.TheVariants as owner
-use Rattle.irp_types.specs.declared.names.CancelId.{CancelId}
-use Rattle.irp_types.specs.declared.names.DeviceId.{DeviceId}
-use Rattle.irp_types.specs.declared.names.DispatchId.{DispatchId}
-use Rattle.irp_types.specs.declared.names.IrpRef.{IrpRef}
-use Rattle.irp_types.specs.declared.names.LockNo.{LockNo}
-use Rattle.irp_types.specs.declared.reply.Reply.{Reply}
 use Rattle.irp_types.specs.declared.reply.Reply.TheVariants as reply
-use Rattle.irp_types.specs.declared.reply.Seen.{Seen}
-use Rattle.irp_types.specs.declared.routine.CancelRule.{CancelRule}
-use Rattle.irp_types.specs.declared.routine.Known.{Known}
-use Rattle.irp_types.specs.declared.routine.RoutineId.{RoutineId}
-use Rattle.irp_types.specs.declared.routine.Setting.{Setting}
 use Rattle.irp_types.specs.declared.seat_act.LockAct.TheVariants as on_lock
 use Rattle.irp_types.specs.declared.seat_act.SlotAct.TheVariants as on_slot
-use Rattle.irp_types.specs.declared.shown.Shown.{Shown}
-use Rattle.irp_types.specs.declared.status.Status.{Status}
 use Rattle.irp_shared.specs.Transcripts.{TranscriptValue}
-use Rattle.irp_shared.specs.declared.header.Header.{Header}
-use Rattle.irp_shared.specs.declared.header.Form.{Form}
+use Rattle.irp_shared.specs.declared.{header.Header.Header, header.Form.Form, word_line.Act.Act}
+use Rattle.irp_shared.specs.declared.{word_line.WordLine.WordLine, word_line.WordReply.WordReply}
 use Rattle.irp_shared.specs.declared.header.Form.TheVariants as form
-use Rattle.irp_shared.specs.declared.word_line.Act.{Act}
 use Rattle.irp_shared.specs.declared.word_line.Act.TheVariants as act
-use Rattle.irp_shared.specs.declared.word_line.WordLine.{WordLine}
-use Rattle.irp_shared.specs.declared.word_line.WordReply.{WordReply}
 use Rattle.irp_shared.specs.declared.word_line.WordReply.TheVariants as word_reply
 
 -- a device by its number
