@@ -5,7 +5,7 @@ use Rattle.std.specs.List.{All}
 use Rattle.irp_forms.specs.Found.{cancel_rule_found}
 use Rattle.irp_forms.specs.Names.{cancel_rule_at, cancel_rule_name, cancel_rules}
 use Rattle.irp_forms.specs.Parts.{has_keys, list_at}
-use Rattle.irp_forms.specs.Values.{completions_at, dispatch_at, first_counts_at, handler_at, known_at}
+use Rattle.irp_forms.specs.Values.{completions_at, first_counts_at, handler_at, known_at}
 use Rattle.irp_types.specs.Limits.{last_major, most_dispatches}
 use Rattle.irp_types.specs.Rules.{IsWithin}
 use Rattle.irp_types.specs.State.{Entrance, IsDriver, Tables, most_known}

@@ -2,7 +2,6 @@
 use Rattle.std.proofs.Common.{◌≡◌, ℕ, suc, Some, refl}
 use Rattle.irp_forms.specs.Parts.{has_keys}
 use Rattle.irp_forms.specs.Questions.{asked_at, shown_at}
-use Rattle.irp_forms.specs.Values.{dispatch_at}
 use Rattle.irp_types.specs.declared.{asked.Asked.Asked, shown.Shown.Shown}
 use Rattle.irp_types.specs.declared.asked.Asked.TheVariants as asked
 use Rattle.irp_transcript_writer.specs.Lines.{asked_json, device_json, shown_json}

@@ -1,5 +1,5 @@
 -- What a step does, by its keys. None where the step has another form.
-use Rattle.std.specs.Prelude.{ℕ, List, [], ◌∷◌, codes, Option, Some, None, if◌then◌else◌}
+use Rattle.std.specs.Prelude.{ℕ, List, [], ◌∷◌, codes, Option, Some, if◌then◌else◌}
 use Rattle.std.specs.Bool.{then_some}
 use Rattle.std.proofs.Common.{bytes_eq}
 use Rattle.serde_json.specs.Data.{Data}

@@ -1,5 +1,5 @@
 -- The completion routines and the cancel routines of a script.
-use Rattle.std.specs.Prelude.{ℕ, ◌+◌, ◌&&◌, List, codes, Bool, true, false, not, nat_lt, Option, Some, None, if◌then◌else◌}
+use Rattle.std.specs.Prelude.{ℕ, ◌+◌, ◌&&◌, codes, Bool, true, false, not, nat_lt, Option, Some, None, if◌then◌else◌}
 use Rattle.std.specs.Bool.{then_some}
 use Rattle.std.proofs.Common.{bytes_eq}
 use Rattle.serde_json.specs.Data.{Data, string}

@@ -13,7 +13,7 @@ use Rattle.irp_script_reader.specs.Members.{takes_cancel, takes_completion, take
 use Rattle.irp_script_reader.specs.Taking.{◌>>=◌, list_at}
 use Rattle.irp_script_reader.specs.declared.{act.Step.Step, read.FormKey.FormKey}
 use Rattle.irp_script_reader.specs.declared.lists.{Cancels.Cancels, Drivers.Drivers, Steps.Steps}
-use Rattle.irp_script_reader.specs.declared.refusal.{Fault.Fault, ScriptFault.ScriptFault, ScriptRefusal.ScriptRefusal, Section.Section}
+use Rattle.irp_script_reader.specs.declared.refusal.{ScriptFault.ScriptFault, ScriptRefusal.ScriptRefusal, Section.Section}
 use Rattle.irp_script_reader.specs.declared.script.{CompletionRoutine.CompletionRoutine, Script.Script, ScriptForm.ScriptForm}
 use Rattle.irp_script_reader.specs.declared.script.ScriptParts.{ScriptParts}
 use Rattle.irp_script_reader.specs.declared.read.FormKey.TheVariants as keys
@@ -37,10 +37,15 @@ abbrev pub beside : FormKey → Keys
 beside keys.One = []
 beside keys.Two = codes "slots" ∷ []
 
--- the keys of a script of this form, and no others
+-- the keys of a script of this form
+abbrev pub its_keys : FormKey → Keys
+its_keys given =
+    codes "cancels" ∷ codes "completions" ∷ codes "dispatches" ∷ codes "drivers" ∷ codes "form" ∷ codes "locks"
+    ∷ codes "seats" ∷ codes "setup" ∷ codes "steps" ∷ beside given
+
+-- its keys, and no others
 unfoldable pub keys_at : FormKey → Data → Result (Unit {0}) ScriptRefusal
-keys_at given whole = ok_or (only_keys (codes "cancels" ∷ codes "completions" ∷ codes "dispatches" ∷ codes "drivers"
-    ∷ codes "form" ∷ codes "locks" ∷ codes "seats" ∷ codes "setup" ∷ codes "steps" ∷ beside given) whole) (At BadField section.Top 0)
+keys_at given whole = ok_or (only_keys (its_keys given) whole) (At BadField section.Top 0)
 
 -- from the least number to 64
 abbrev pub count_of : Section → ℕ → Option ℕ → Result ℕ ScriptRefusal
@@ -59,16 +64,20 @@ with_slots keys.Two whole = count_at section.Slots 0 (codes "slots") whole >>= �
 -- the completion routines, and the cancel routines, which are counted beside them
 unfoldable pub routines_at : Data → Result (List CompletionRoutine × Cancels) ScriptRefusal
 routines_at whole = do
-  completions ← list_at takes_completion section.Completions (codes "completions") (record { routines = []; counts = no_routines }) whole
-  cancels ← list_at takes_cancel section.Cancels (codes "cancels") (record { answers = []; counts = completions.counts }) whole
+  completions ← list_at takes_completion section.Completions (codes "completions")
+      (record { routines = []; counts = no_routines }) whole
+  cancels ← list_at takes_cancel section.Cancels (codes "cancels")
+      (record { answers = []; counts = completions.counts }) whole
   Ok (completions.routines, cancels)
 
 -- the plans of the dispatches in a script of this form, who may name so many routines, and the tables of the drivers, who
 -- may name so many dispatches
 unfoldable pub tables_at : ScriptForm → Known → Data → Result (List Plan × Drivers) ScriptRefusal
 tables_at form known whole = do
-  dispatches ← list_at takes_dispatch section.Dispatches (codes "dispatches") (record { form = form; known = known; plans = [] }) whole
-  drivers ← list_at takes_driver section.Drivers (codes "drivers") (record { dispatches = length dispatches.plans; tables = [] }) whole
+  dispatches ← list_at takes_dispatch section.Dispatches (codes "dispatches")
+      (record { form = form; known = known; plans = [] }) whole
+  drivers ← list_at takes_driver section.Drivers (codes "drivers")
+      (record { dispatches = length dispatches.plans; tables = [] }) whole
   Ok (dispatches.plans, drivers)
 
 -- nothing read yet of `setup`, or else of `steps`, after these labels

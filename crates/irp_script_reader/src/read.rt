@@ -210,16 +210,8 @@ pub fn read_script(alloc: Global, bytes: &[u8]) -> Result<Script, ScriptFault>
         return Err(ScriptFault::Refused(ScriptRefusal::TooLong));
     }
     match Value::from_slice(alloc, bytes) {
-        Ok(value) => {
-            let parts = script_at(alloc, &value)?;
-            Ok(Script::new(parts))
-        }
-        Err(error) => {
-            if error.is_memory() {
-                Err(ScriptFault::NoMemory)
-            } else {
-                Err(ScriptFault::Refused(ScriptRefusal::NotJson))
-            }
-        }
+        Ok(value) => Ok(Script::new(script_at(alloc, &value)?)),
+        Err(error) if error.is_memory() => Err(ScriptFault::NoMemory),
+        Err(_) => Err(ScriptFault::Refused(ScriptRefusal::NotJson)),
     }
 }

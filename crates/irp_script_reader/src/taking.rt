@@ -4,7 +4,8 @@ ghost use Rattle.std.specs.Prelude.{◌≡◌, Result, Ok};
 ghost use Rattle.std.specs.Option.{ok_or};
 ghost use Rattle.serde_json.specs.Data.{Data};
 ghost use Rattle.serde_json.specs.View.{view};
-ghost use Rattle.irp_script_reader.specs.declared.refusal.{Fault.Fault, ScriptFault.TheVariants.Refused, ScriptRefusal.TheVariants.At};
+ghost use Rattle.irp_script_reader.specs.declared.refusal.{Fault.Fault, ScriptRefusal.TheVariants.At};
+ghost use Rattle.irp_script_reader.specs.declared.refusal.ScriptFault.TheVariants.{Refused};
 ghost use Rattle.irp_script_reader.specs.Taking.{Gives, Tells, list_at, unless, with_item};
 
 use crate::refusal::{Fault, ScriptFault, ScriptRefusal, Section};

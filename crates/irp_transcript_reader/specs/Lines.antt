@@ -1,6 +1,5 @@
 -- What a line's JSON value reads as: an entry or a header. None where the value has another form.
 use Rattle.std.specs.Prelude.{ℕ, ◌==◌, List, [], ◌∷◌, length, codes, Option, Some, None, if◌then◌else◌}
-use Rattle.std.specs.Bool.{then_some}
 use Rattle.serde_json.specs.Data.{Data}
 use Rattle.serde_json.specs.Find.{get}
 use Rattle.irp_forms.specs.Parts.{◌>>=◌, has_keys, list_at, only_keys, u32_at, u64_at, up_to}

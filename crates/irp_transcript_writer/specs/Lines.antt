@@ -115,14 +115,14 @@ asked_json (asked.Completion id shown answer) =
 asked_json (asked.Cancel id shown answer) =
     fields ((codes "answer", cancel_answer_json answer) ∷ (codes "cancel", cancel_json id) ∷ (codes "shown", shown_json shown) ∷ [])
 
--- a call on a packet that names nothing else, by its name
-abbrev pub irp_call_json : List ℕ → IrpRef → Data
-irp_call_json word irp = fields ((codes "do", string word) ∷ (codes "irp", irp_json irp) ∷ [])
+-- a call on a packet, by its name and what it names behind the packet
+abbrev pub irp_call_json : List ℕ → IrpRef → List (List ℕ × Data) → Data
+irp_call_json word irp others = fields ((codes "do", string word) ∷ (codes "irp", irp_json irp) ∷ others)
 
--- a call of a party on its packet that names nothing else, by its name
-abbrev pub party_call_json : List ℕ → Party → IrpRef → Data
-party_call_json word party irp =
-    fields ((codes "by", party_json party) ∷ (codes "do", string word) ∷ (codes "irp", irp_json irp) ∷ [])
+-- a call of a party on its packet, by its name and what it names behind the packet
+abbrev pub party_call_json : List ℕ → Party → IrpRef → List (List ℕ × Data) → Data
+party_call_json word party irp others =
+    fields ((codes "by", party_json party) ∷ (codes "do", string word) ∷ (codes "irp", irp_json irp) ∷ others)
 
 -- an entry's call: its name as `do` and its arguments, for a delete also the entry's lock, or null, and whether that was
 -- known to be drained
@@ -136,21 +136,17 @@ call_json (call.Delete device) lock drained =
     fields ((codes "device", device_json device) ∷ (codes "do", string (codes "delete")) ∷ (codes "drained", boolean drained)
     ∷ (codes "lock", or_null lock_json lock) ∷ [])
 call_json (call.Allocate size) _ _ = fields ((codes "do", string (codes "allocate")) ∷ (codes "size", natural size) ∷ [])
-call_json (call.Free irp) _ _ = irp_call_json (codes "free") irp
-call_json (call.Reuse irp status) _ _ =
-    fields ((codes "do", string (codes "reuse")) ∷ (codes "irp", irp_json irp) ∷ (codes "status", status_json status) ∷ [])
+call_json (call.Free irp) _ _ = irp_call_json (codes "free") irp []
+call_json (call.Reuse irp status) _ _ = irp_call_json (codes "reuse") irp ((codes "status", status_json status) ∷ [])
 call_json (call.SetNext party irp major word) _ _ =
-    fields ((codes "by", party_json party) ∷ (codes "do", string (codes "set_next")) ∷ (codes "irp", irp_json irp)
-    ∷ (codes "major", natural major) ∷ (codes "word", natural word) ∷ [])
-call_json (call.CopyToNext party irp) _ _ = party_call_json (codes "copy_to_next") party irp
-call_json (call.Skip party irp) _ _ = party_call_json (codes "skip") party irp
+    party_call_json (codes "set_next") party irp ((codes "major", natural major) ∷ (codes "word", natural word) ∷ [])
+call_json (call.CopyToNext party irp) _ _ = party_call_json (codes "copy_to_next") party irp []
+call_json (call.Skip party irp) _ _ = party_call_json (codes "skip") party irp []
 call_json (call.SetRoutine party irp setting) _ _ =
-    fields ((codes "by", party_json party) ∷ (codes "do", string (codes "set_routine")) ∷ (codes "irp", irp_json irp)
-    ∷ (codes "set", setting_json setting) ∷ [])
-call_json (call.MarkPending party irp) _ _ = party_call_json (codes "mark_pending") party irp
+    party_call_json (codes "set_routine") party irp ((codes "set", setting_json setting) ∷ [])
+call_json (call.MarkPending party irp) _ _ = party_call_json (codes "mark_pending") party irp []
 call_json (call.CallDriver party irp target) _ _ =
-    fields ((codes "by", party_json party) ∷ (codes "do", string (codes "call_driver")) ∷ (codes "irp", irp_json irp)
-    ∷ (codes "target", device_json target) ∷ [])
+    party_call_json (codes "call_driver") party irp ((codes "target", device_json target) ∷ [])
 call_json (call.Complete party irp status information) _ _ =
     fields ((codes "by", party_json party) ∷ (codes "do", string (codes "complete")) ∷ (codes "information", natural information)
     ∷ (codes "irp", irp_json irp) ∷ (codes "status", status_json status) ∷ [])
@@ -160,8 +156,8 @@ call_json (call.FinishTaken irp token status information) _ _ =
 call_json (call.SetCancelRoutine party irp cancel) _ _ =
     fields ((codes "by", party_json party) ∷ (codes "cancel", or_null cancel_json cancel)
     ∷ (codes "do", string (codes "set_cancel_routine")) ∷ (codes "irp", irp_json irp) ∷ [])
-call_json (call.Cancel irp) _ _ = irp_call_json (codes "cancel") irp
-call_json (call.Look irp) _ _ = irp_call_json (codes "look") irp
+call_json (call.Cancel irp) _ _ = irp_call_json (codes "cancel") irp []
+call_json (call.Look irp) _ _ = irp_call_json (codes "look") irp []
 
 -- what Look shows of a packet
 abbrev pub seen_json : Seen → Data
