@@ -1,6 +1,6 @@
 -- What a JSON value reads as: a call of the manager that entries of a transcript and steps of a script tell in the same
--- way. `beside` are the keys that stand beside those of the call, `packet` is what the packet of the call reads as. None
--- where the value has another form.
+-- way. `beside` are the keys that stand beside those of the call, `packet` is what the packet of the call reads as.
+-- None where the value has another form.
 use Rattle.std.specs.Prelude.{ℕ, List, [], ◌∷◌, ◌++◌, codes, Option, Some, None, if◌then◌else◌}
 use Rattle.std.proofs.Common.{bytes_eq}
 use Rattle.serde_json.specs.Data.{Data}
@@ -91,7 +91,7 @@ formed_call name packet form =
       irp ← packet
       call_by name party irp form)))))))
 
--- a call by its name, with exactly its keys and those beside them; none for an allocation, a deletion of a device, and a
--- finish of a taken packet, which entries and steps tell in different ways
+-- a call by its name, with exactly its keys and those beside them; none for an allocation, a deletion of a device, and
+-- a finish of a taken packet, which entries and steps tell in different ways
 unfoldable pub call_named : {P T : Type 0} → List ℕ → Keys → Option P → Data → Option (CallOf P T)
 call_named name beside packet form = only_keys (call_keys name ++ beside) form >>= λ its. formed_call name packet form

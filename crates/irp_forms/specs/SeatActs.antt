@@ -1,6 +1,6 @@
--- What a JSON value reads as: an act on a remove lock, a hand, and the slot of an act on a cancel slot, which word lines
--- of a transcript and steps of a script tell in the same way. `beside` are the keys that stand beside those of the act.
--- None where the value has another form.
+-- What a JSON value reads as: an act on a remove lock, a hand, and the slot of an act on a cancel slot, which word
+-- lines of a transcript and steps of a script tell in the same way. `beside` are the keys that stand beside those of
+-- the act. None where the value has another form.
 use Rattle.std.specs.Prelude.{ℕ, List, ◌∷◌, codes, Option, Some, None, if◌then◌else◌}
 use Rattle.std.proofs.Common.{bytes_eq}
 use Rattle.serde_json.specs.Data.{Data}

@@ -1,5 +1,5 @@
--- Which transcripts are read again as they were written. Most conditions are the ranges of the numbers' types, which every
--- value in a program keeps; the others are a packet's slot below 2 to the 32nd, and what a reader takes.
+-- Which transcripts are read again as they were written. Most conditions are the ranges of the numbers' types, which
+-- every value in a program keeps; the others are a packet's slot below 2 to the 32nd, and what a reader takes.
 use Rattle.std.specs.Prelude.{◌≡◌, ◌<◌, ◌≤◌, ◌^◌, Bool, true, false, IfSome, length, Option, None, ⊤}
 use Rattle.std.specs.List.{All}
 use Rattle.serde_json.specs.Data.{Data}

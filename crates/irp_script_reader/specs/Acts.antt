@@ -17,6 +17,16 @@ use Rattle.irp_script_reader.specs.declared.act.StepAct.TheVariants as act
 abbrev pub beside : Keys
 beside = codes "seat" ∷ []
 
+-- this packet finished, which was taken from a slot
+abbrev pub finish_taken_at : Option Named → Data → Option StepAct
+finish_taken_at packet form = do
+  its ← only_keys (codes "do" ∷ codes "information" ∷ codes "irp" ∷ codes "slot" ∷ codes "status" ∷ beside) form
+  irp ← packet
+  slot ← get (codes "slot") form >>= u32_at
+  status ← get (codes "status") form >>= status_at
+  information ← get (codes "information") form >>= u64_at
+  Some (act.Call (FinishTaken irp slot status information))
+
 -- by its name, where a label that it names has this place, and its packet, if it names one, is this
 abbrev pub act_named : ℕ → List ℕ → Option Named → Data → Option StepAct
 act_named place name packet form =
@@ -35,13 +45,7 @@ act_named place name packet form =
       slot ← get (codes "slot") form >>= u32_at
       irp ← packet
       Some (act.Publish slot irp)) else
-    (if bytes_eq name (codes "finish_taken") then (do
-      its ← only_keys (codes "do" ∷ codes "information" ∷ codes "irp" ∷ codes "slot" ∷ codes "status" ∷ beside) form
-      irp ← packet
-      slot ← get (codes "slot") form >>= u32_at
-      status ← get (codes "status") form >>= status_at
-      information ← get (codes "information") form >>= u64_at
-      Some (act.Call (FinishTaken irp slot status information))) else
+    (if bytes_eq name (codes "finish_taken") then finish_taken_at packet form else
     (if bytes_eq name (codes "withdraw") then (slot_alone_at beside form >>= λ slot. Some (act.Withdraw slot)) else
     (if bytes_eq name (codes "request") then (slot_alone_at beside form >>= λ slot. Some (act.Request slot)) else
     (or_else (lock_act_named name beside form >>= λ on. Some (act.OnLock on))

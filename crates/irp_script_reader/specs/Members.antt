@@ -1,5 +1,5 @@
--- The lists of a script, and what each takes as its next member. A member's form (S4) is looked at before its rule (S5),
--- then what it names (S6, S7), then the limits (S8).
+-- The lists of a script, and what each takes as its next member. A member's form (S4) is looked at before its rule
+-- (S5), then what it names (S6, S7), then the limits (S8).
 use Rattle.std.specs.Prelude.{◌&&◌, ◌||◌, length, Bool, not, nat_lt, Result, Ok}
 use Rattle.std.specs.Option.{ok_or}
 use Rattle.serde_json.specs.Data.{Data}

@@ -1,5 +1,5 @@
--- Whole scripts. The first fault is given: the text's length, whether it is JSON, its form, its keys, and then the parts in
--- order.
+-- Whole scripts. The first fault is given: the text's length, whether it is JSON, its form, its keys, and then the
+-- parts in order.
 use Rattle.std.specs.Prelude.{◌≡◌, ◌⊎◌, ℕ, ◌<◌, ◌≤◌, ◌==◌, ◌&&◌, Bool, List, [], ◌∷◌, length, codes, IsUtf8, true, false, nat_le, Option, Some, None, Result, Ok, Err, if◌then◌else◌}
 use Rattle.std.specs.Option.{ok_or, option_and_then}
 use Rattle.serde_json.specs.Data.{Data}
@@ -70,8 +70,8 @@ routines_at whole = do
       (record { answers = []; counts = completions.counts }) whole
   Ok (completions.routines, cancels)
 
--- the plans of the dispatches in a script of this form, who may name so many routines, and the tables of the drivers, who
--- may name so many dispatches
+-- the plans of the dispatches in a script of this form, who may name so many routines, and the tables of the drivers,
+-- who may name so many dispatches
 unfoldable pub tables_at : ScriptForm → Known → Data → Result (List Plan × Drivers) ScriptRefusal
 tables_at form known whole = do
   dispatches ← list_at takes_dispatch section.Dispatches (codes "dispatches")
@@ -125,9 +125,9 @@ IsNotJson text = (whole : Data) → IsUtf8 text → read text ≡ Some whole →
 abbrev pub IsText : List ℕ → Data → Type 0
 IsText text whole = (length text ≤ 1048576) × IsUtf8 text × (read text ≡ Some whole)
 
--- A script only where its value is read. S1 only where the text is too long; S2 only where it isn't, and no value is read;
--- another refusal only where it is the first fault of the value that is read. Memory runs out only for a text that isn't
--- empty and isn't too long.
+-- A script only where its value is read. S1 only where the text is too long; S2 only where it isn't, and no value is
+-- read; another refusal only where it is the first fault of the value that is read. Memory runs out only for a text
+-- that isn't empty and isn't too long.
 abbrev pub ReadsScript : Result Script ScriptFault → List ℕ → Type 0
 ReadsScript (Ok script) text = (whole : Data) × IsText text whole × (script_at whole ≡ Ok script)
 ReadsScript (Err (Refused refusal)) text =

@@ -4,7 +4,7 @@ ghost use Rattle.std.specs.Prelude.{◌≡◌};
 ghost use Rattle.serde_json.specs.View.{view};
 ghost use Rattle.irp_script_reader.specs.Acts as spec;
 
-use crate::act::{Step, StepAct};
+use crate::act::{Named, Step, StepAct};
 use crate::labels::{is_label, packet_in};
 use irp_forms::{call_named, hand_at, lock_act_named, only_keys, slot_alone_at, under};
 use irp_types::Call;
@@ -12,6 +12,20 @@ use serde_json::Value;
 
 /// The key that stands beside those of an act.
 const BESIDE: &[&str] = &["seat"];
+
+/// This packet finished, which was taken from a slot.
+fn finish_taken_at(packet: Option<Named>, value: &Value) -> Option<StepAct>
+    ensures { result ≡ spec.finish_taken_at packet (view value.now) }
+{
+    let keys = &["do", "information", "irp", "slot", "status"];
+    only_keys(value, keys, BESIDE)?;
+    Some(StepAct::Call(Call::FinishTaken {
+        irp: packet?,
+        token: under("slot", value)?,
+        status: under("status", value)?,
+        information: under("information", value)?,
+    }))
+}
 
 /// What a step does, where a label that it names has this place.
 #[tactic(auto, unfolding(crate::specs::Acts::act_at))]
@@ -37,19 +51,7 @@ fn act_at(place: usize, value: &Value) -> Option<StepAct>
             let slot = under("slot", value)?;
             packet.map(|irp| StepAct::Publish { slot, irp })
         }
-        "finish_taken" => {
-            only_keys(
-                value,
-                &["do", "information", "irp", "slot", "status"],
-                BESIDE,
-            )?;
-            Some(StepAct::Call(Call::FinishTaken {
-                irp: packet?,
-                token: under("slot", value)?,
-                status: under("status", value)?,
-                information: under("information", value)?,
-            }))
-        }
+        "finish_taken" => finish_taken_at(packet, value),
         "withdraw" => slot_alone_at(BESIDE, value).map(|slot| StepAct::Withdraw { slot }),
         "request" => slot_alone_at(BESIDE, value).map(|slot| StepAct::Request { slot }),
         _ => match lock_act_named(name, BESIDE, value) {

@@ -124,8 +124,8 @@ RunsOutAt zero before (line ∷ others) = TakesMemory line
 RunsOutAt (suc place) before (line ∷ others) = (between : TranscriptValue) × Takes before line between × RunsOutAt place between others
 
 -- what is read from the rest, after so many lines that made this transcript: the transcript of all lines, where each is
--- taken and has its newline; or the number, from 1, of the first line that isn't taken; or that memory ran out at a line
--- behind lines that are taken
+-- taken and has its newline; or the number, from 1, of the first line that isn't taken; or that memory ran out at a
+-- line behind lines that are taken
 abbrev pub ReadsFrom : TranscriptValue → ℕ → Result TranscriptValue ReadFault → List (List ℕ) × List ℕ → Type 0
 ReadsFrom before count (Ok transcript) text = (text.1 ≡ []) × TakesAll before text.0 transcript
 ReadsFrom before count (Err (faults.Line line)) text = (place : ℕ) × (line ≡ count + place + 1) × RefusedAt place before text

@@ -1,5 +1,5 @@
--- What a JSON value reads as: a step on a remove lock or a cancel slot, and what it was answered. None where the value has
--- another form.
+-- What a JSON value reads as: a step on a remove lock or a cancel slot, and what it was answered. None where the value
+-- has another form.
 use Rattle.std.specs.Prelude.{ℕ, List, [], ◌∷◌, ◌==◌, codes, Option, Some, None, option_map, if◌then◌else◌}
 use Rattle.std.proofs.Common.{bytes_eq}
 use Rattle.serde_json.specs.Data.{Data, string}

@@ -124,8 +124,8 @@ abbrev pub party_call_json : List ℕ → Party → IrpRef → List (List ℕ ×
 party_call_json word party irp others =
     fields ((codes "by", party_json party) ∷ (codes "do", string word) ∷ (codes "irp", irp_json irp) ∷ others)
 
--- an entry's call: its name as `do` and its arguments, for a delete also the entry's lock, or null, and whether that was
--- known to be drained
+-- an entry's call: its name as `do` and its arguments, for a delete also the entry's lock, or null, and whether that
+-- was known to be drained
 abbrev pub call_json : Call → Option LockNo → Bool → Data
 call_json (call.CreateDevice driver lock) _ _ =
     fields ((codes "do", string (codes "create_device")) ∷ (codes "driver", natural driver.0) ∷ (codes "lock", lock_json lock) ∷ [])
