@@ -1,11 +1,9 @@
 -- Each value that has a name is the first of all that has it: the law of the trait, for each of its types.
 use Rattle.std.proofs.Common.{◌≡◌, Some, refl}
 use Rattle.irp_forms.specs.Names.{cancel_rule_name, cancel_rules, first_named, refusal_name, refusals, rule_name, rules}
-use Rattle.irp_types.specs.declared.refusal.Refusal.{Refusal}
+use Rattle.irp_types.specs.declared.{refusal.Refusal.Refusal, routine.CancelRule.CancelRule, routine.Rule.Rule}
 use Rattle.irp_types.specs.declared.refusal.Refusal.TheVariants as refusal
-use Rattle.irp_types.specs.declared.routine.CancelRule.{CancelRule}
 use Rattle.irp_types.specs.declared.routine.CancelRule.TheVariants as cancel_rule
-use Rattle.irp_types.specs.declared.routine.Rule.{Rule}
 use Rattle.irp_types.specs.declared.routine.Rule.TheVariants as rule
 
 pub rule_found : (one : Rule) → first_named rule_name rules (rule_name one) ≡ Some one

@@ -6,11 +6,9 @@ use Rattle.serde_json.specs.Data.{Data}
 use Rattle.serde_json.specs.Find.{as_str}
 use Rattle.irp_forms.specs.Parts.{◌>>=◌}
 use Rattle.irp_forms.specs.declared.names.Flags.{Flags}
-use Rattle.irp_types.specs.declared.refusal.Refusal.{Refusal}
+use Rattle.irp_types.specs.declared.{refusal.Refusal.Refusal, routine.CancelRule.CancelRule, routine.Rule.Rule}
 use Rattle.irp_types.specs.declared.refusal.Refusal.TheVariants as refusal
-use Rattle.irp_types.specs.declared.routine.CancelRule.{CancelRule}
 use Rattle.irp_types.specs.declared.routine.CancelRule.TheVariants as cancel_rule
-use Rattle.irp_types.specs.declared.routine.Rule.{Rule}
 use Rattle.irp_types.specs.declared.routine.Rule.TheVariants as rule
 
 -- the first of these values that has the given name

@@ -5,10 +5,8 @@ use Rattle.serde_json.specs.Find.{at, get, as_bool, as_str}
 use Rattle.irp_forms.specs.Names.{answer_name, first_named}
 use Rattle.irp_forms.specs.Parts.{◌>>=◌, has_items, has_keys, or_null_at, u8_at, u32_at, u64_at}
 use Rattle.irp_forms.specs.Values.{cancel_answer_at, cancel_at, device_at, dispatch_at, plan_at, replacement_at, routine_at, status_at}
-use Rattle.irp_types.specs.declared.answer.Answer.{Answer}
-use Rattle.irp_types.specs.declared.asked.Asked.{Asked}
+use Rattle.irp_types.specs.declared.{answer.Answer.Answer, asked.Asked.Asked, shown.Shown.Shown}
 use Rattle.irp_types.specs.declared.asked.Asked.TheVariants as questions
-use Rattle.irp_types.specs.declared.shown.Shown.{Shown}
 
 -- whether a completion routine keeps the packet or continues
 unfoldable pub keep_named : List ℕ → Option Bool
@@ -51,33 +49,21 @@ shown_at form = if has_items 12 form then (do
     has_lower = has_lower;
   })) else None
 
--- a dispatch routine's question: its number, its plan and what it was shown
-abbrev pub dispatch_asked_at : Data → Option Asked
-dispatch_asked_at form = do
-  id ← get (codes "dispatch") form >>= dispatch_at
-  shown ← get (codes "shown") form >>= shown_at
-  plan ← get (codes "plan") form >>= plan_at
-  Some (questions.Dispatch id shown plan)
-
--- a completion routine's question: its rule and number, its answer and what it was shown
-abbrev pub completion_asked_at : Data → Option Asked
-completion_asked_at form = do
-  id ← get (codes "completion") form >>= routine_at
-  shown ← get (codes "shown") form >>= shown_at
-  answer ← get (codes "answer") form >>= answer_at
-  Some (questions.Completion id shown answer)
-
--- a cancel routine's question: its number, its answer and what it was shown
-abbrev pub cancel_asked_at : Data → Option Asked
-cancel_asked_at form = do
-  id ← get (codes "cancel") form >>= cancel_at
-  shown ← get (codes "shown") form >>= shown_at
-  answer ← get (codes "answer") form >>= cancel_answer_at
-  Some (questions.Cancel id shown answer)
-
--- a question, by the keys that it has
+-- a question, by the keys that it has: which closure, what it was shown, and its plan or answer
 unfoldable pub asked_at : Data → Option Asked
 asked_at form =
-    if has_keys (codes "dispatch" ∷ codes "plan" ∷ codes "shown" ∷ []) form then dispatch_asked_at form else
-    (if has_keys (codes "answer" ∷ codes "completion" ∷ codes "shown" ∷ []) form then completion_asked_at form else
-    (if has_keys (codes "answer" ∷ codes "cancel" ∷ codes "shown" ∷ []) form then cancel_asked_at form else None))
+    if has_keys (codes "dispatch" ∷ codes "plan" ∷ codes "shown" ∷ []) form then (do
+      id ← get (codes "dispatch") form >>= dispatch_at
+      shown ← get (codes "shown") form >>= shown_at
+      plan ← get (codes "plan") form >>= plan_at
+      Some (questions.Dispatch id shown plan)) else
+    (if has_keys (codes "answer" ∷ codes "completion" ∷ codes "shown" ∷ []) form then (do
+      id ← get (codes "completion") form >>= routine_at
+      shown ← get (codes "shown") form >>= shown_at
+      answer ← get (codes "answer") form >>= answer_at
+      Some (questions.Completion id shown answer)) else
+    (if has_keys (codes "answer" ∷ codes "cancel" ∷ codes "shown" ∷ []) form then (do
+      id ← get (codes "cancel") form >>= cancel_at
+      shown ← get (codes "shown") form >>= shown_at
+      answer ← get (codes "answer") form >>= cancel_answer_at
+      Some (questions.Cancel id shown answer)) else None))

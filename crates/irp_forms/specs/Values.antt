@@ -1,51 +1,41 @@
 -- What a JSON value reads as: references, settings, plans, answers and tables. None where the value has another form.
 use Rattle.std.specs.Prelude.{ℕ, List, codes, Option, Some, None, if◌then◌else◌}
+use Rattle.std.specs.Bool.{then_some}
 use Rattle.std.proofs.Common.{bytes_eq}
 use Rattle.serde_json.specs.Data.{Data, string}
 use Rattle.serde_json.specs.Find.{at, as_str}
-use Rattle.irp_forms.specs.Parts.{◌>>=◌, has_items, u8_at, u32_at, u64_at, or_null_at}
+use Rattle.irp_forms.specs.Parts.{◌>>=◌, has_items, of_items, u8_at, u32_at, u64_at, or_null_at}
 use Rattle.irp_forms.specs.Names.{rule_at, flags_at}
-use Rattle.irp_types.specs.declared.answer.CancelAnswer.{CancelAnswer}
+use Rattle.irp_types.specs.declared.{answer.CancelAnswer.CancelAnswer, answer.Plan.Plan}
+use Rattle.irp_types.specs.declared.{answer.Replacement.Replacement, call.Party.Party, names.CancelId.CancelId}
+use Rattle.irp_types.specs.declared.{names.DeviceId.DeviceId, names.DispatchId.DispatchId, names.DriverId.DriverId}
+use Rattle.irp_types.specs.declared.{names.IrpRef.IrpRef, names.LockNo.LockNo, routine.Known.Known}
+use Rattle.irp_types.specs.declared.{routine.RoutineId.RoutineId, routine.Setting.Setting, status.Status.Status}
 use Rattle.irp_types.specs.declared.answer.CancelAnswer.TheVariants as cancel_answers
-use Rattle.irp_types.specs.declared.answer.Plan.{Plan}
 use Rattle.irp_types.specs.declared.answer.Plan.TheVariants as plans
-use Rattle.irp_types.specs.declared.answer.Replacement.{Replacement}
-use Rattle.irp_types.specs.declared.call.Party.{Party}
 use Rattle.irp_types.specs.declared.call.Party.TheVariants as parties
-use Rattle.irp_types.specs.declared.names.CancelId.{CancelId}
-use Rattle.irp_types.specs.declared.names.DeviceId.{DeviceId}
-use Rattle.irp_types.specs.declared.names.DispatchId.{DispatchId}
-use Rattle.irp_types.specs.declared.names.DriverId.{DriverId}
-use Rattle.irp_types.specs.declared.names.IrpRef.{IrpRef}
-use Rattle.irp_types.specs.declared.names.LockNo.{LockNo}
-use Rattle.irp_types.specs.declared.routine.Known.{Known}
-use Rattle.irp_types.specs.declared.routine.RoutineId.{RoutineId}
-use Rattle.irp_types.specs.declared.routine.Setting.{Setting}
-use Rattle.irp_types.specs.declared.status.Status.{Status}
 
--- a device by its number
-unfoldable pub device_at : Data → Option DeviceId
+-- ---- a device, a cancel routine, a dispatch routine, a driver, a remove lock and a status, each by its number
+
+abbrev pub device_at : Data → Option DeviceId
 device_at form = u32_at form >>= λ given. Some (record { 0 = given })
 
--- a cancel routine by its number
-unfoldable pub cancel_at : Data → Option CancelId
+abbrev pub cancel_at : Data → Option CancelId
 cancel_at form = u32_at form >>= λ given. Some (record { 0 = given })
 
--- a dispatch routine by its number
-unfoldable pub dispatch_at : Data → Option DispatchId
+abbrev pub dispatch_at : Data → Option DispatchId
 dispatch_at form = u32_at form >>= λ given. Some (record { 0 = given })
 
--- a driver by its number
-unfoldable pub driver_at : Data → Option DriverId
+abbrev pub driver_at : Data → Option DriverId
 driver_at form = u32_at form >>= λ given. Some (record { 0 = given })
 
--- a remove lock by its number
-unfoldable pub lock_at : Data → Option LockNo
+abbrev pub lock_at : Data → Option LockNo
 lock_at form = u32_at form >>= λ given. Some (record { 0 = given })
 
--- a status by its number
-unfoldable pub status_at : Data → Option Status
+abbrev pub status_at : Data → Option Status
 status_at form = u32_at form >>= λ given. Some (record { 0 = given })
+
+-- ---- all others
 
 -- a packet by its slot and its use
 unfoldable pub irp_at : Data → Option IrpRef
@@ -88,56 +78,41 @@ replacement_at form = if has_items 2 form then (do
   information ← at 1 form >>= u64_at
   Some (record { status = status; information = information })) else None
 
--- a plan that finishes, with its status and information
-abbrev pub finish_at : Data → Option Plan
-finish_at form = if has_items 3 form then (do
-  status ← at 1 form >>= status_at
-  information ← at 2 form >>= u64_at
-  Some (plans.Finish status information)) else None
-
--- a plan that holds, with its cancel routine or null
-abbrev pub hold_at : Data → Option Plan
-hold_at form = if has_items 2 form then (do
-  cancel ← at 1 form >>= or_null_at cancel_at
-  Some (plans.Hold cancel)) else None
-
--- a plan that forwards, with its setting or null
-abbrev pub forward_at : Data → Option Plan
-forward_at form = if has_items 2 form then (do
-  setting ← at 1 form >>= or_null_at setting_at
-  Some (plans.Forward setting)) else None
-
--- a plan that forwards and pends, with its setting or null
-abbrev pub forward_pend_at : Data → Option Plan
-forward_pend_at form = if has_items 2 form then (do
-  setting ← at 1 form >>= or_null_at setting_at
-  Some (plans.ForwardPend setting)) else None
-
--- a plan by its name
+-- a plan by its name, with what it names
 abbrev pub plan_named : List ℕ → Data → Option Plan
 plan_named name form =
-    if bytes_eq name (codes "finish") then finish_at form else
-    (if bytes_eq name (codes "hold") then hold_at form else
-    (if bytes_eq name (codes "hold_slot") then (if has_items 1 form then Some plans.HoldSlot else None) else
-    (if bytes_eq name (codes "skip") then (if has_items 1 form then Some plans.Skip else None) else
-    (if bytes_eq name (codes "forward") then forward_at form else
-    (if bytes_eq name (codes "forward_pend") then forward_pend_at form else None)))))
+    if bytes_eq name (codes "finish") then (do
+      three ← of_items 3 form
+      status ← at 1 form >>= status_at
+      information ← at 2 form >>= u64_at
+      Some (plans.Finish status information)) else
+    (if bytes_eq name (codes "hold") then (do
+      two ← of_items 2 form
+      cancel ← at 1 form >>= or_null_at cancel_at
+      Some (plans.Hold cancel)) else
+    (if bytes_eq name (codes "hold_slot") then then_some (has_items 1 form) plans.HoldSlot else
+    (if bytes_eq name (codes "skip") then then_some (has_items 1 form) plans.Skip else
+    (if bytes_eq name (codes "forward") then (do
+      two ← of_items 2 form
+      setting ← at 1 form >>= or_null_at setting_at
+      Some (plans.Forward setting)) else
+    (if bytes_eq name (codes "forward_pend") then (do
+      two ← of_items 2 form
+      setting ← at 1 form >>= or_null_at setting_at
+      Some (plans.ForwardPend setting)) else None)))))
 
 -- a plan, also the one that only form 2 has: its name, which stands first, and what it names
 unfoldable pub plan_at : Data → Option Plan
 plan_at form = at 0 form >>= λ first. as_str first >>= λ name. plan_named name form
 
--- an answer that finishes the packet, with its information
-abbrev pub cancel_finish_at : Data → Option CancelAnswer
-cancel_finish_at form = if has_items 2 form then (do
-  information ← at 1 form >>= u64_at
-  Some (cancel_answers.Finish information)) else None
-
--- a cancel routine's answer by its name
+-- a cancel routine's answer by its name, with what it names
 abbrev pub cancel_answer_named : List ℕ → Data → Option CancelAnswer
 cancel_answer_named name form =
-    if bytes_eq name (codes "finish") then cancel_finish_at form else
-    (if bytes_eq name (codes "leave") then (if has_items 1 form then Some cancel_answers.Leave else None) else None)
+    if bytes_eq name (codes "finish") then (do
+      two ← of_items 2 form
+      information ← at 1 form >>= u64_at
+      Some (cancel_answers.Finish information)) else
+    (if bytes_eq name (codes "leave") then then_some (has_items 1 form) cancel_answers.Leave else None)
 
 -- a cancel routine's answer: its name, which stands first, and what it names
 unfoldable pub cancel_answer_at : Data → Option CancelAnswer

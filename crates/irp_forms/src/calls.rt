@@ -10,158 +10,67 @@ use crate::parts::only_keys;
 use irp_types::{Call, Party};
 use serde_json::Value;
 
-/// A call that creates a device.
-fn create_device_at<P: Copy, T: Copy>(beside: &[&str], value: &Value) -> Option<Call<P, T>>
-    ensures { result ≡ spec.create_device_at (keys_in beside.now) (view value.now) }
+/// The keys of the call of this name, but for those beside them. No keys for another name.
+#[tactic(auto, unfolding(crate::specs::Calls::call_keys))]
+fn call_keys(name: &str) -> &'static [&'static str]
+    ensures { keys_in result.now ≡ spec.call_keys name.now }
 {
-    only_keys(value, &["do", "driver", "lock"], beside)?;
-    let driver = under("driver", value)?;
-    let lock = under("lock", value)?;
-    Some(Call::CreateDevice { driver, lock })
+    match name {
+        "create_device" => &["do", "driver", "lock"],
+        "attach" => &["device", "do", "to"],
+        "detach" => &["do", "lower"],
+        "free" => &["do", "irp"],
+        "reuse" => &["do", "irp", "status"],
+        "cancel" => &["do", "irp"],
+        "look" => &["do", "irp"],
+        "copy_to_next" => &["by", "do", "irp"],
+        "skip" => &["by", "do", "irp"],
+        "mark_pending" => &["by", "do", "irp"],
+        "set_next" => &["by", "do", "irp", "major", "word"],
+        "set_routine" => &["by", "do", "irp", "set"],
+        "call_driver" => &["by", "do", "irp", "target"],
+        "complete" => &["by", "do", "irp", "information", "status"],
+        "set_cancel_routine" => &["by", "do", "irp", "cancel"],
+        _ => &[],
+    }
 }
 
-/// A call that puts a device on another's stack.
-fn attach_at<P: Copy, T: Copy>(beside: &[&str], value: &Value) -> Option<Call<P, T>>
-    ensures { result ≡ spec.attach_at (keys_in beside.now) (view value.now) }
+/// The call of this name that the party makes on the packet, whatever keys there are.
+#[tactic(auto, unfolding(crate::specs::Calls::call_by))]
+fn call_by<P: Copy, T: Copy>(name: &str, party: Party, irp: P, value: &Value) -> Option<Call<P, T>>
+    ensures { result ≡ spec.call_by name.now party irp (view value.now) }
 {
-    only_keys(value, &["device", "do", "to"], beside)?;
-    let device = under("device", value)?;
-    let to = under("to", value)?;
-    Some(Call::Attach { device, to })
-}
-
-/// A call that takes the device off that stands on this one.
-fn detach_at<P: Copy, T: Copy>(beside: &[&str], value: &Value) -> Option<Call<P, T>>
-    ensures { result ≡ spec.detach_at (keys_in beside.now) (view value.now) }
-{
-    only_keys(value, &["do", "lower"], beside)?;
-    let lower = under("lower", value)?;
-    Some(Call::Detach { lower })
-}
-
-/// The packet of a call that names nothing else.
-fn packet_alone_at<P: Copy>(beside: &[&str], packet: Option<P>, value: &Value) -> Option<P>
-    ensures { result ≡ spec.packet_alone_at (keys_in beside.now) packet (view value.now) }
-{
-    only_keys(value, &["do", "irp"], beside)?;
-    packet
-}
-
-/// A call that begins another use of a packet.
-fn reuse_at<P: Copy, T: Copy>(
-    beside: &[&str],
-    packet: Option<P>,
-    value: &Value,
-) -> Option<Call<P, T>>
-    ensures { result ≡ spec.reuse_at (keys_in beside.now) packet (view value.now) }
-{
-    only_keys(value, &["do", "irp", "status"], beside)?;
-    let irp = packet?;
-    let status = under("status", value)?;
-    Some(Call::Reuse { irp, status })
-}
-
-/// The party and its packet.
-fn by_party_at<P: Copy>(packet: Option<P>, value: &Value) -> Option<(Party, P)>
-    ensures { result ≡ spec.by_party_at packet (view value.now) }
-{
-    let party = under("by", value)?;
-    let irp = packet?;
-    Some((party, irp))
-}
-
-/// The party and its packet of a call that names nothing else.
-fn party_alone_at<P: Copy>(beside: &[&str], packet: Option<P>, value: &Value) -> Option<(Party, P)>
-    ensures { result ≡ spec.party_alone_at (keys_in beside.now) packet (view value.now) }
-{
-    only_keys(value, &["by", "do", "irp"], beside)?;
-    by_party_at(packet, value)
-}
-
-/// A call that fills the next lower location.
-fn set_next_at<P: Copy, T: Copy>(
-    beside: &[&str],
-    packet: Option<P>,
-    value: &Value,
-) -> Option<Call<P, T>>
-    ensures { result ≡ spec.set_next_at (keys_in beside.now) packet (view value.now) }
-{
-    only_keys(value, &["by", "do", "irp", "major", "word"], beside)?;
-    let (party, irp) = by_party_at(packet, value)?;
-    let major = under("major", value)?;
-    let word = under("word", value)?;
-    Some(Call::SetNext {
-        party,
-        irp,
-        major,
-        word,
-    })
-}
-
-/// A call that sets a completion routine.
-fn set_routine_at<P: Copy, T: Copy>(
-    beside: &[&str],
-    packet: Option<P>,
-    value: &Value,
-) -> Option<Call<P, T>>
-    ensures { result ≡ spec.set_routine_at (keys_in beside.now) packet (view value.now) }
-{
-    only_keys(value, &["by", "do", "irp", "set"], beside)?;
-    let (party, irp) = by_party_at(packet, value)?;
-    let setting = under("set", value)?;
-    Some(Call::SetRoutine {
-        party,
-        irp,
-        setting,
-    })
-}
-
-/// A call that sends a packet.
-fn call_driver_at<P: Copy, T: Copy>(
-    beside: &[&str],
-    packet: Option<P>,
-    value: &Value,
-) -> Option<Call<P, T>>
-    ensures { result ≡ spec.call_driver_at (keys_in beside.now) packet (view value.now) }
-{
-    only_keys(value, &["by", "do", "irp", "target"], beside)?;
-    let (party, irp) = by_party_at(packet, value)?;
-    let target = under("target", value)?;
-    Some(Call::CallDriver { party, irp, target })
-}
-
-/// A call that completes a packet.
-fn complete_at<P: Copy, T: Copy>(
-    beside: &[&str],
-    packet: Option<P>,
-    value: &Value,
-) -> Option<Call<P, T>>
-    ensures { result ≡ spec.complete_at (keys_in beside.now) packet (view value.now) }
-{
-    only_keys(value, &["by", "do", "information", "irp", "status"], beside)?;
-    let (party, irp) = by_party_at(packet, value)?;
-    let status = under("status", value)?;
-    let information = under("information", value)?;
-    Some(Call::Complete {
-        party,
-        irp,
-        status,
-        information,
-    })
-}
-
-/// A call that sets a cancel routine, or takes it out.
-fn set_cancel_routine_at<P: Copy, T: Copy>(
-    beside: &[&str],
-    packet: Option<P>,
-    value: &Value,
-) -> Option<Call<P, T>>
-    ensures { result ≡ spec.set_cancel_routine_at (keys_in beside.now) packet (view value.now) }
-{
-    only_keys(value, &["by", "cancel", "do", "irp"], beside)?;
-    let (party, irp) = by_party_at(packet, value)?;
-    let cancel = under("cancel", value)?;
-    Some(Call::SetCancelRoutine { party, irp, cancel })
+    match name {
+        "copy_to_next" => Some(Call::CopyToNext { party, irp }),
+        "skip" => Some(Call::Skip { party, irp }),
+        "mark_pending" => Some(Call::MarkPending { party, irp }),
+        "set_next" => Some(Call::SetNext {
+            party,
+            irp,
+            major: under("major", value)?,
+            word: under("word", value)?,
+        }),
+        "set_routine" => Some(Call::SetRoutine {
+            party,
+            irp,
+            setting: under("set", value)?,
+        }),
+        "call_driver" => {
+            let target = under("target", value)?;
+            Some(Call::CallDriver { party, irp, target })
+        }
+        "complete" => Some(Call::Complete {
+            party,
+            irp,
+            status: under("status", value)?,
+            information: under("information", value)?,
+        }),
+        "set_cancel_routine" => {
+            let cancel = under("cancel", value)?;
+            Some(Call::SetCancelRoutine { party, irp, cancel })
+        }
+        _ => None,
+    }
 }
 
 /// The call of this name that an object tells with its own keys and those beside them, where this is what its packet
@@ -176,31 +85,24 @@ pub fn call_named<P: Copy, T: Copy>(
 ) -> Option<Call<P, T>>
     ensures { result ≡ spec.call_named name.now (keys_in beside.now) packet (view value.now) }
 {
+    only_keys(value, call_keys(name), beside)?;
     match name {
-        "create_device" => create_device_at(beside, value),
-        "attach" => attach_at(beside, value),
-        "detach" => detach_at(beside, value),
-        "free" => packet_alone_at(beside, packet, value).map(|irp| Call::Free { irp }),
-        "reuse" => reuse_at(beside, packet, value),
-        "cancel" => packet_alone_at(beside, packet, value).map(|irp| Call::Cancel { irp }),
-        "look" => packet_alone_at(beside, packet, value).map(|irp| Call::Look { irp }),
-        "copy_to_next" => party_alone_at(beside, packet, value).map(|(
-            party,
-            irp,
-        )| Call::CopyToNext { party, irp }),
-        "skip" => party_alone_at(beside, packet, value).map(|(party, irp)| Call::Skip {
-            party,
-            irp,
+        "create_device" => Some(Call::CreateDevice {
+            driver: under("driver", value)?,
+            lock: under("lock", value)?,
         }),
-        "mark_pending" => party_alone_at(beside, packet, value).map(|(
-            party,
-            irp,
-        )| Call::MarkPending { party, irp }),
-        "set_next" => set_next_at(beside, packet, value),
-        "set_routine" => set_routine_at(beside, packet, value),
-        "call_driver" => call_driver_at(beside, packet, value),
-        "complete" => complete_at(beside, packet, value),
-        "set_cancel_routine" => set_cancel_routine_at(beside, packet, value),
-        _ => None,
+        "attach" => Some(Call::Attach {
+            device: under("device", value)?,
+            to: under("to", value)?,
+        }),
+        "detach" => under("lower", value).map(|lower| Call::Detach { lower }),
+        "free" => packet.map(|irp| Call::Free { irp }),
+        "reuse" => Some(Call::Reuse {
+            irp: packet?,
+            status: under("status", value)?,
+        }),
+        "cancel" => packet.map(|irp| Call::Cancel { irp }),
+        "look" => packet.map(|irp| Call::Look { irp }),
+        _ => call_by(name, under("by", value)?, packet?, value),
     }
 }

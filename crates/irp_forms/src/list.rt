@@ -51,6 +51,8 @@ impl<T: FromJson + Drop> FromJson for Row<T> {
     }
 }
 
+/// What the value is the form of, with no memory; `Unread::Form` exactly where it has another form (this project's own
+/// format, docs/FORMATS.md).
 impl<T: FromValue> FromJson for T {
     ghost at = { T.form };
 

@@ -46,7 +46,8 @@ pub fn named<T: HasName>(given: &str) -> Option<T>
     None
 }
 
-/// The value that has the name that a text is (this project's own format, docs/FORMATS.md).
+/// The value that has the name that a text is; none for any other text or value (this project's own format,
+/// docs/FORMATS.md).
 impl<T: HasName> FromValue for T {
     ghost form = { spec.value_at T.name T.all };
 

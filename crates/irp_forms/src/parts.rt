@@ -48,7 +48,7 @@ pub fn has_keys(value: &Value, keys: &[&str]) -> bool
     count_members(value) == keys.len() && has_each(value, keys)
 }
 
-/// Some where it has exactly these keys and those beside them, which differ.
+/// Some where it is an object with exactly these keys and those beside them, which differ; else none.
 pub fn only_keys(value: &Value, keys: &[&str], beside: &[&str]) -> Option<()>
     ensures { result ≡ spec.only_keys (keys_in keys.now ++ keys_in beside.now) (view value.now) }
 {
@@ -58,7 +58,7 @@ pub fn only_keys(value: &Value, keys: &[&str], beside: &[&str]) -> Option<()>
     there.then_some(())
 }
 
-/// Some where it is an array of so many items.
+/// Some where it is an array of so many items; else none.
 pub fn of_items(value: &Value, count: usize) -> Option<()>
     ensures { result ≡ spec.of_items count (view value.now) }
 {

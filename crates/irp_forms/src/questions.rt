@@ -29,12 +29,10 @@ impl FromValue for Answer {
     fn from_value(value: &Value) -> Option<Self> {
         of_items(value, 3)?;
         let keep = keep_named(value.get(0).and_then(Value::as_str)?)?;
-        let mark = nth(1, value)?;
-        let replacement = nth(2, value)?;
         Some(Answer {
             keep,
-            mark,
-            replacement,
+            mark: nth(1, value)?,
+            replacement: nth(2, value)?,
         })
     }
 }
@@ -46,33 +44,21 @@ impl FromValue for Shown {
     #[tactic(auto, unfolding(crate::specs::Questions::shown_at))]
     fn from_value(value: &Value) -> Option<Self> {
         of_items(value, 12)?;
-        let device = nth(0, value)?;
-        let slot: u32 = nth(1, value)?;
-        let use_no = nth(2, value)?;
-        let major = nth(3, value)?;
-        let location = nth(4, value)?;
-        let word = nth(5, value)?;
-        let status = nth(6, value)?;
-        let information = nth(7, value)?;
-        let pending_returned = nth(8, value)?;
-        let cancel = nth(9, value)?;
-        let context = nth(10, value)?;
-        let has_lower = nth(11, value)?;
         Some(Shown {
-            device,
+            device: nth(0, value)?,
             irp: IrpRef {
-                slot: slot as usize,
-                use_no,
+                slot: nth::<u32>(1, value)? as usize,
+                use_no: nth(2, value)?,
             },
-            major,
-            location,
-            word,
-            status,
-            information,
-            pending_returned,
-            cancel,
-            context,
-            has_lower,
+            major: nth(3, value)?,
+            location: nth(4, value)?,
+            word: nth(5, value)?,
+            status: nth(6, value)?,
+            information: nth(7, value)?,
+            pending_returned: nth(8, value)?,
+            cancel: nth(9, value)?,
+            context: nth(10, value)?,
+            has_lower: nth(11, value)?,
         })
     }
 }

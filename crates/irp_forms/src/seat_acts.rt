@@ -1,5 +1,5 @@
-//! Acts on remove locks and on cancel slots, which word lines of a transcript and steps of a script tell in the same
-//! way.
+//! Acts on remove locks, hands, and the slots of acts on cancel slots, which word lines of a transcript and steps of a
+//! script tell in the same way.
 
 ghost use Rattle.std.specs.Prelude.{◌≡◌};
 ghost use Rattle.serde_json.specs.View.{view};
@@ -21,15 +21,6 @@ fn tagged_at(beside: &[&str], value: &Value) -> Option<(LockNo, u32)>
     Some((lock, tag))
 }
 
-/// The question whether a lock is drained.
-fn drained_at(beside: &[&str], value: &Value) -> Option<LockAct>
-    ensures { result ≡ spec.drained_at (keys_in beside.now) (view value.now) }
-{
-    only_keys(value, &["do", "lock"], beside)?;
-    let lock = under("lock", value)?;
-    Some(LockAct::Drained { lock })
-}
-
 /// The act on a remove lock of this name that an object tells with its own keys and those beside them. None for another
 /// name or another form (this project's own format, docs/FORMATS.md).
 #[tactic(auto, unfolding(crate::specs::SeatActs::lock_act_named))]
@@ -37,13 +28,23 @@ pub fn lock_act_named(name: &str, beside: &[&str], value: &Value) -> Option<Lock
     ensures { result ≡ spec.lock_act_named name.now (keys_in beside.now) (view value.now) }
 {
     match name {
-        "acquire" => tagged_at(beside, value).map(|(lock, tag)| LockAct::Acquire { lock, tag }),
-        "release" => tagged_at(beside, value).map(|(lock, tag)| LockAct::Release { lock, tag }),
-        "begin_remove" => tagged_at(beside, value).map(|(lock, tag)| LockAct::BeginRemove {
-            lock,
-            tag,
-        }),
-        "drained" => drained_at(beside, value),
+        "acquire" => {
+            let (lock, tag) = tagged_at(beside, value)?;
+            Some(LockAct::Acquire { lock, tag })
+        }
+        "release" => {
+            let (lock, tag) = tagged_at(beside, value)?;
+            Some(LockAct::Release { lock, tag })
+        }
+        "begin_remove" => {
+            let (lock, tag) = tagged_at(beside, value)?;
+            Some(LockAct::BeginRemove { lock, tag })
+        }
+        "drained" => {
+            only_keys(value, &["do", "lock"], beside)?;
+            let lock = under("lock", value)?;
+            Some(LockAct::Drained { lock })
+        }
         _ => None,
     }
 }

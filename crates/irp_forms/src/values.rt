@@ -17,7 +17,6 @@ use serde_json::Value;
 impl FromValue for DeviceId {
     ghost form = { spec.device_at };
 
-    #[tactic(auto, unfolding(crate::specs::Values::device_at))]
     fn from_value(value: &Value) -> Option<Self> {
         Some(DeviceId(u32::from_value(value)?))
     }
@@ -27,7 +26,6 @@ impl FromValue for DeviceId {
 impl FromValue for CancelId {
     ghost form = { spec.cancel_at };
 
-    #[tactic(auto, unfolding(crate::specs::Values::cancel_at))]
     fn from_value(value: &Value) -> Option<Self> {
         Some(CancelId(u32::from_value(value)?))
     }
@@ -37,7 +35,6 @@ impl FromValue for CancelId {
 impl FromValue for DispatchId {
     ghost form = { spec.dispatch_at };
 
-    #[tactic(auto, unfolding(crate::specs::Values::dispatch_at))]
     fn from_value(value: &Value) -> Option<Self> {
         Some(DispatchId(u32::from_value(value)?))
     }
@@ -47,7 +44,6 @@ impl FromValue for DispatchId {
 impl FromValue for DriverId {
     ghost form = { spec.driver_at };
 
-    #[tactic(auto, unfolding(crate::specs::Values::driver_at))]
     fn from_value(value: &Value) -> Option<Self> {
         Some(DriverId(u32::from_value(value)?))
     }
@@ -57,7 +53,6 @@ impl FromValue for DriverId {
 impl FromValue for LockNo {
     ghost form = { spec.lock_at };
 
-    #[tactic(auto, unfolding(crate::specs::Values::lock_at))]
     fn from_value(value: &Value) -> Option<Self> {
         Some(LockNo(u32::from_value(value)?))
     }
@@ -67,7 +62,6 @@ impl FromValue for LockNo {
 impl FromValue for Status {
     ghost form = { spec.status_at };
 
-    #[tactic(auto, unfolding(crate::specs::Values::status_at))]
     fn from_value(value: &Value) -> Option<Self> {
         Some(Status(u32::from_value(value)?))
     }
@@ -80,11 +74,9 @@ impl FromValue for IrpRef {
     #[tactic(auto, unfolding(crate::specs::Values::irp_at))]
     fn from_value(value: &Value) -> Option<Self> {
         of_items(value, 2)?;
-        let slot: u32 = nth(0, value)?;
-        let use_no = nth(1, value)?;
         Some(IrpRef {
-            slot: slot as usize,
-            use_no,
+            slot: nth::<u32>(0, value)? as usize,
+            use_no: nth(1, value)?,
         })
     }
 }
@@ -125,17 +117,13 @@ impl FromValue for Setting {
         let rule = nth(0, value)?;
         let no = nth(1, value)?;
         let context = nth(2, value)?;
-        let Flags {
-            on_success,
-            on_error,
-            on_cancel,
-        } = nth(3, value)?;
+        let flags: Flags = nth(3, value)?;
         Some(Setting {
             routine: RoutineId { rule, no },
             context,
-            on_success,
-            on_error,
-            on_cancel,
+            on_success: flags.on_success,
+            on_error: flags.on_error,
+            on_cancel: flags.on_cancel,
         })
     }
 }
@@ -147,11 +135,9 @@ impl FromValue for Replacement {
     #[tactic(auto, unfolding(crate::specs::Values::replacement_at))]
     fn from_value(value: &Value) -> Option<Self> {
         of_items(value, 2)?;
-        let status = nth(0, value)?;
-        let information = nth(1, value)?;
         Some(Replacement {
-            status,
-            information,
+            status: nth(0, value)?,
+            information: nth(1, value)?,
         })
     }
 }
@@ -166,10 +152,9 @@ impl FromValue for Plan {
         match value.get(0)?.as_str()? {
             "finish" => {
                 of_items(value, 3)?;
-                let status = nth(1, value)?;
-                nth(2, value).map(|information| Plan::Finish {
-                    status,
-                    information,
+                Some(Plan::Finish {
+                    status: nth(1, value)?,
+                    information: nth(2, value)?,
                 })
             }
             "hold" => {
@@ -214,17 +199,12 @@ impl FromValue for CancelAnswer {
 fn first_counts_at(value: &Value) -> Option<Known>
     ensures { result ≡ spec.first_counts_at (view value.now) }
 {
-    let watch = nth(0, value)?;
-    let change = nth(1, value)?;
-    let keeper = nth(2, value)?;
-    let keep_on_error = nth(3, value)?;
-    let free = nth(4, value)?;
     Some(Known {
-        watch,
-        change,
-        keeper,
-        keep_on_error,
-        free,
+        watch: nth(0, value)?,
+        change: nth(1, value)?,
+        keeper: nth(2, value)?,
+        keep_on_error: nth(3, value)?,
+        free: nth(4, value)?,
         cancel: 0,
     })
 }
@@ -259,8 +239,6 @@ impl FromValue for (u8, DispatchId) {
     #[tactic(auto, unfolding(crate::specs::Values::handler_at))]
     fn from_value(value: &Value) -> Option<Self> {
         of_items(value, 2)?;
-        let major = nth(0, value)?;
-        let dispatch = nth(1, value)?;
-        Some((major, dispatch))
+        Some((nth(0, value)?, nth(1, value)?))
     }
 }

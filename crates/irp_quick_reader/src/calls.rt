@@ -1,72 +1,68 @@
 //! Guesses of calls.
 
-use crate::parts::{
-    guess_cancel_after, guess_device_after, guess_irp_after, guess_party, guess_setting,
-    guess_status_after,
-};
-use crate::scan::Scan;
+use crate::scan::{Guess, Scan};
 use irp_transcript_reader::EntryCall;
-use irp_types::{Call, DriverId, IrpRef, LockNo, Party};
+use irp_types::{Call, DriverId, IrpRef, Party};
 
 /// The call of a party on its packet, from behind the packet on.
 fn guess_call_on(scan: &mut Scan, name: &str, party: Party, irp: IrpRef) -> Option<Call> {
-    match name {
-        "set_next" => {
-            Some(Call::SetNext {
-                party,
-                irp,
-                major: u8::try_from(scan.number_after(",\"major\":")?).ok()?,
-                word: scan.wide_after(",\"word\":")?,
-            })
-        }
-        "set_routine" => {
-            scan.pass(",\"set\":")?;
-            Some(Call::SetRoutine {
-                party,
-                irp,
-                setting: guess_setting(scan)?,
-            })
-        }
-        "call_driver" => {
-            let target = guess_device_after(scan, ",\"target\":")?;
-            Some(Call::CallDriver { party, irp, target })
-        }
-        "copy_to_next" => Some(Call::CopyToNext { party, irp }),
-        "skip" => Some(Call::Skip { party, irp }),
-        _ => Some(Call::MarkPending { party, irp }),
-    }
+    let call = match name {
+        "set_next" => Call::SetNext {
+            party,
+            irp,
+            major: scan.after(",\"major\":")?,
+            word: scan.after(",\"word\":")?,
+        },
+        "set_routine" => Call::SetRoutine {
+            party,
+            irp,
+            setting: scan.after(",\"set\":")?,
+        },
+        "call_driver" => Call::CallDriver {
+            party,
+            irp,
+            target: scan.after(",\"target\":")?,
+        },
+        "copy_to_next" => Call::CopyToNext { party, irp },
+        "skip" => Call::Skip { party, irp },
+        _ => Call::MarkPending { party, irp },
+    };
+    Some(call)
 }
 
 /// The call of a party, from the party on.
 fn guess_party_call(scan: &mut Scan) -> Option<Call> {
-    let party = guess_party(scan)?;
+    let party = scan.after("")?;
     if scan.word_after(",\"")? == "cancel" {
-        let cancel = guess_cancel_after(scan, ":")?;
-        let irp = guess_irp_after(scan, ",\"do\":\"set_cancel_routine\",\"irp\":")?;
-        return Some(Call::SetCancelRoutine { party, irp, cancel });
-    }
-    let name = scan.word_after(":\"")?;
-    if name == "complete" {
-        return Some(Call::Complete {
+        return Some(Call::SetCancelRoutine {
             party,
-            information: scan.wide_after(",\"information\":")?,
-            irp: guess_irp_after(scan, ",\"irp\":")?,
-            status: guess_status_after(scan, ",\"status\":")?,
+            cancel: scan.after(":")?,
+            irp: scan.after(",\"do\":\"set_cancel_routine\",\"irp\":")?,
         });
     }
-    let irp = guess_irp_after(scan, ",\"irp\":")?;
-    guess_call_on(scan, name, party, irp)
+    match scan.word_after(":\"")? {
+        "complete" => Some(Call::Complete {
+            party,
+            information: scan.after(",\"information\":")?,
+            irp: scan.after(",\"irp\":")?,
+            status: scan.after(",\"status\":")?,
+        }),
+        name => {
+            let irp = scan.after(",\"irp\":")?;
+            guess_call_on(scan, name, party, irp)
+        }
+    }
 }
 
 /// The call on a packet that no party makes, from behind its name on.
 fn guess_packet_call(scan: &mut Scan, name: &str) -> Option<Call> {
-    let irp = guess_irp_after(scan, ",\"irp\":")?;
+    let irp = scan.after(",\"irp\":")?;
     match name {
         "free" => Some(Call::Free { irp }),
         "cancel" => Some(Call::Cancel { irp }),
         "look" => Some(Call::Look { irp }),
         _ => {
-            let status = guess_status_after(scan, ",\"status\":")?;
+            let status = scan.after(",\"status\":")?;
             Some(Call::Reuse { irp, status })
         }
     }
@@ -74,43 +70,26 @@ fn guess_packet_call(scan: &mut Scan, name: &str) -> Option<Call> {
 
 /// The call whose name comes first, from the name on.
 fn guess_plain_call(scan: &mut Scan) -> Option<Call> {
-    let name = scan.word_after("\"")?;
-    match name {
-        "allocate" => {
-            let size = u8::try_from(scan.number_after(",\"size\":")?).ok()?;
-            Some(Call::Allocate { size })
-        }
-        "create_device" => {
-            let driver = DriverId(scan.number_after(",\"driver\":")?);
-            let lock = LockNo(scan.number_after(",\"lock\":")?);
-            Some(Call::CreateDevice { driver, lock })
-        }
-        "detach" => {
-            let lower = guess_device_after(scan, ",\"lower\":")?;
-            Some(Call::Detach { lower })
-        }
-        "finish_taken" => Some(Call::FinishTaken {
-            information: scan.wide_after(",\"information\":")?,
-            irp: guess_irp_after(scan, ",\"irp\":")?,
-            status: guess_status_after(scan, ",\"status\":")?,
-            token: scan.wide_after(",\"token\":")?,
-        }),
-        _ => guess_packet_call(scan, name),
-    }
-}
-
-/// The call whose device comes first, from the device on.
-fn guess_device_call(scan: &mut Scan) -> Option<EntryCall> {
-    let device = guess_device_after(scan, "")?;
-    if scan.word_after(",\"do\":\"")? == "attach" {
-        let to = guess_device_after(scan, ",\"to\":")?;
-        return Some(without_lock(Call::Attach { device, to }));
-    }
-    Some(EntryCall {
-        call: Call::Delete { device },
-        drained: scan.flag_after(",\"drained\":")?,
-        lock: scan.number_or_null_after(",\"lock\":")?.map(LockNo),
-    })
+    let call = match scan.word_after("\"")? {
+        "allocate" => Call::Allocate {
+            size: scan.after(",\"size\":")?,
+        },
+        "create_device" => Call::CreateDevice {
+            driver: DriverId(scan.after(",\"driver\":")?),
+            lock: scan.after(",\"lock\":")?,
+        },
+        "detach" => Call::Detach {
+            lower: scan.after(",\"lower\":")?,
+        },
+        "finish_taken" => Call::FinishTaken {
+            information: scan.after(",\"information\":")?,
+            irp: scan.after(",\"irp\":")?,
+            status: scan.after(",\"status\":")?,
+            token: scan.after(",\"token\":")?,
+        },
+        name => guess_packet_call(scan, name)?,
+    };
+    Some(call)
 }
 
 /// A call in an entry that tells no lock.
@@ -122,17 +101,30 @@ fn without_lock(call: Call) -> EntryCall {
     }
 }
 
-/// The call that is next.
-pub fn guess_call(scan: &mut Scan) -> Option<EntryCall> {
-    let first = scan.word_after("{\"")?;
-    scan.pass(":")?;
-    let call = if first == "by" {
-        without_lock(guess_party_call(scan)?)
-    } else if first == "do" {
-        without_lock(guess_plain_call(scan)?)
-    } else {
-        guess_device_call(scan)?
-    };
-    scan.pass("}")?;
-    Some(call)
+/// The call whose device comes first, from the device on.
+fn guess_device_call(scan: &mut Scan) -> Option<EntryCall> {
+    let device = scan.after("")?;
+    if scan.word_after(",\"do\":\"")? == "attach" {
+        let to = scan.after(",\"to\":")?;
+        return Some(without_lock(Call::Attach { device, to }));
+    }
+    Some(EntryCall {
+        call: Call::Delete { device },
+        drained: scan.after(",\"drained\":")?,
+        lock: scan.after(",\"lock\":")?,
+    })
+}
+
+impl Guess for EntryCall {
+    fn guess(scan: &mut Scan) -> Option<EntryCall> {
+        let first = scan.word_after("{\"")?;
+        scan.pass(":")?;
+        let told = match first {
+            "by" => without_lock(guess_party_call(scan)?),
+            "do" => without_lock(guess_plain_call(scan)?),
+            _ => guess_device_call(scan)?,
+        };
+        scan.pass("}")?;
+        Some(told)
+    }
 }

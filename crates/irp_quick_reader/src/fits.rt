@@ -4,41 +4,14 @@ ghost use Rattle.std.specs.Prelude.{◌≡◌, ◌<◌, ◌^◌, ◌↔◌, true
 ghost use Rattle.std.specs.List.{All};
 ghost use Rattle.irp_round_trip.specs.Fits as spec;
 
-use irp_types::{Answer, Asked, Call, CancelAnswer, Entry, IrpRef, LockNo, Plan, Reply, Shown};
+use irp_types::{Asked, Call, Entry, IrpRef, LockNo, Reply, Shown};
 
-/// Tells that the number of one of 32 bits is within that range.
-fn in_u32(number: u32)
-    ensures { number < 2 ^ 32 }
+/// Tells that an entry's numbers are within the ranges of their types.
+fn in_range(number: u64, seat: u32)
+    ensures number { number < 2 ^ 64 }
+    ensures seat { seat < 2 ^ 32 }
 {
-    let _ = number;
-}
-
-/// Tells that the number of one of 64 bits is within that range.
-fn in_u64(number: u64)
-    ensures { number < 2 ^ 64 }
-{
-    let _ = number;
-}
-
-/// Tells that a plan's numbers are within the ranges of their types.
-fn plan_in_range(plan: Plan)
-    ensures { spec.PlanFits plan }
-{
-    let _ = plan;
-}
-
-/// Tells that the numbers of a completion routine's answer are within the ranges of their types.
-fn answer_in_range(answer: Answer)
-    ensures { spec.AnswerFits answer }
-{
-    let _ = answer;
-}
-
-/// Tells that the number of a cancel routine's answer is within the range of its type.
-fn cancel_answer_in_range(answer: CancelAnswer)
-    ensures { spec.CancelAnswerFits answer }
-{
-    let _ = answer;
+    let _ = (number, seat);
 }
 
 /// Whether a packet's slot has 32 bits.
@@ -61,21 +34,9 @@ fn question_fits(asked: Asked) -> bool
     ensures { result ≡ true ↔ spec.AskedFits asked }
 {
     match asked {
-        Asked::Dispatch { id, shown, plan } => {
-            in_u32(id.0);
-            plan_in_range(plan);
-            shown_fits(shown)
-        }
-        Asked::Completion { id, shown, answer } => {
-            in_u32(id.no);
-            answer_in_range(answer);
-            shown_fits(shown)
-        }
-        Asked::Cancel { id, shown, answer } => {
-            in_u32(id.0);
-            cancel_answer_in_range(answer);
-            shown_fits(shown)
-        }
+        Asked::Dispatch { shown, .. } => shown_fits(shown),
+        Asked::Completion { shown, .. } => shown_fits(shown),
+        Asked::Cancel { shown, .. } => shown_fits(shown),
     }
 }
 
@@ -132,8 +93,7 @@ fn reply_fits(reply: Reply) -> bool
 pub fn fits(entry: &Entry) -> bool
     ensures { result ≡ true ↔ spec.EntryFits entry.now }
 {
-    in_u64(entry.number);
-    in_u32(entry.seat);
+    in_range(entry.number, entry.seat);
     if !call_fits(entry.call) || !tells_lock(entry.call, entry.lock, entry.drained) {
         return false;
     }

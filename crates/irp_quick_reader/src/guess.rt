@@ -1,56 +1,47 @@
 //! Guesses of entries, and of their replies.
 
-use crate::calls::guess_call;
-use crate::parts::{
-    guess_cancel_after, guess_device_after, guess_irp_after, guess_owner, guess_status_after,
-};
 use crate::questions::guess_asked;
-use crate::scan::Scan;
+use crate::scan::{Guess, Scan};
 use irp_forms::named;
+use irp_transcript_reader::EntryCall;
 use irp_types::{Asked, Entry, Questions, Reply, Seen};
 use std::alloc::Global;
 
-/// What Look shows of a packet.
-fn guess_seen(scan: &mut Scan) -> Option<Seen> {
-    scan.pass("[")?;
-    let seen = Seen {
-        owner: guess_owner(scan)?,
-        current: scan.number_after(",")?,
-        status: guess_status_after(scan, ",")?,
-        information: scan.wide_after(",")?,
-        cancel: scan.flag_after(",")?,
-        cancel_routine: guess_cancel_after(scan, ",")?,
-        pending_returned: scan.flag_after(",")?,
-        marked: scan.flag_after(",")?,
-    };
-    scan.pass("]")?;
-    Some(seen)
-}
-
-/// The reply that has a value, by its name.
-fn guess_valued_reply(scan: &mut Scan, name: &str) -> Option<Reply> {
-    match name {
-        "status" => Some(Reply::Status(guess_status_after(scan, "")?)),
-        "device" => Some(Reply::Device(guess_device_after(scan, "")?)),
-        "irp" => Some(Reply::Irp(guess_irp_after(scan, "")?)),
-        "previous" => Some(Reply::Previous(guess_cancel_after(scan, "")?)),
-        "cancelled" => Some(Reply::Cancelled(scan.flag_after("")?)),
-        "seen" => Some(Reply::Seen(guess_seen(scan)?)),
-        _ => Some(Reply::Refused(named(scan.word_after("\"")?)?)),
+impl Guess for Seen {
+    fn guess(scan: &mut Scan) -> Option<Seen> {
+        let seen = Seen {
+            owner: scan.after("[")?,
+            current: scan.after(",")?,
+            status: scan.after(",")?,
+            information: scan.after(",")?,
+            cancel: scan.after(",")?,
+            cancel_routine: scan.after(",")?,
+            pending_returned: scan.after(",")?,
+            marked: scan.after(",")?,
+        };
+        scan.pass("]")?;
+        Some(seen)
     }
 }
 
-/// The reply that is next.
-fn guess_reply(scan: &mut Scan) -> Option<Reply> {
-    if scan.is_next(b'"') {
-        scan.pass("\"done\"")?;
-        return Some(Reply::Done);
+impl Guess for Reply {
+    fn guess(scan: &mut Scan) -> Option<Reply> {
+        if scan.is_next(b'"') {
+            scan.pass("\"done\"")?;
+            return Some(Reply::Done);
+        }
+        let reply = match scan.word_after("{\"")? {
+            "status" => Reply::Status(scan.after(":")?),
+            "device" => Reply::Device(scan.after(":")?),
+            "irp" => Reply::Irp(scan.after(":")?),
+            "previous" => Reply::Previous(scan.after(":")?),
+            "cancelled" => Reply::Cancelled(scan.after(":")?),
+            "seen" => Reply::Seen(scan.after(":")?),
+            _ => Reply::Refused(named(scan.word_after(":\"")?)?),
+        };
+        scan.pass("}")?;
+        Some(reply)
     }
-    let name = scan.word_after("{\"")?;
-    scan.pass(":")?;
-    let reply = guess_valued_reply(scan, name)?;
-    scan.pass("}")?;
-    Some(reply)
 }
 
 /// The entry that the line tells, if this project wrote it; else any entry, or none. None also where memory ran out.
@@ -59,12 +50,10 @@ pub fn guess_entry(alloc: Global, line: &[u8], asked: &mut Vec<Asked>) -> Option
     let mut scan = Scan::new(line);
     scan.pass("{\"asked\":[")?;
     guess_asked(&mut scan, asked)?;
-    scan.pass("],\"call\":")?;
-    let called = guess_call(&mut scan)?;
-    let number = scan.wide_after(",\"n\":")?;
-    scan.pass(",\"reply\":")?;
-    let reply = guess_reply(&mut scan)?;
-    let seat = scan.number_after(",\"seat\":")?;
+    let called: EntryCall = scan.after("],\"call\":")?;
+    let number = scan.after(",\"n\":")?;
+    let reply = scan.after(",\"reply\":")?;
+    let seat = scan.after(",\"seat\":")?;
     let asked = Vec::from_slice(alloc, asked.as_slice()).ok()?;
     Some(Entry {
         number,

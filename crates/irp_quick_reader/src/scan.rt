@@ -3,10 +3,17 @@
 use std::str;
 
 /// What is left of a line whose entry is guessed. It knows no JSON: it passes over so many bytes whatever they are, and
-/// takes numbers and words where the line of an entry has them.
+/// takes values and words where the line of an entry has them.
 #[derive(Drop)]
 pub struct Scan<'a> {
     rest: &'a [u8],
+}
+
+/// A value that is guessed from what is next in a line. Any value, or none, is guessed where this project didn't write
+/// the line.
+pub trait Guess: Sized {
+    /// The value that is next.
+    fn guess(scan: &mut Scan) -> Option<Self>;
 }
 
 impl<'a> Scan<'a> {
@@ -31,63 +38,15 @@ impl<'a> Scan<'a> {
         Some(())
     }
 
-    /// The number whose digits are next. None where there are none, where it has more than 64 bits, and where the line
-    /// ends with it.
-    pub fn wide(&mut self) -> Option<u64> {
-        let digits = self.rest;
-        let mut number = 0u64;
-        for (place, &byte) in digits.iter().enumerate() {
-            if !byte.is_ascii_digit() {
-                self.rest = &digits[place..];
-                return if place > 0 { Some(number) } else { None };
-            }
-            number = number.checked_mul(10)?.checked_add(u64::from(byte - b'0'))?;
-        }
-        None
-    }
-
-    /// The number whose digits are next, in 32 bits.
-    pub fn number(&mut self) -> Option<u32> {
-        u32::try_from(self.wide()?).ok()
-    }
-
-    /// The number behind as many bytes as the text has.
-    pub fn wide_after(&mut self, text: &str) -> Option<u64> {
+    /// The value behind as many bytes as the text has.
+    pub fn after<T: Guess>(&mut self, text: &str) -> Option<T> {
         self.pass(text)?;
-        self.wide()
+        T::guess(self)
     }
 
-    /// The number behind as many bytes as the text has, in 32 bits.
-    pub fn number_after(&mut self, text: &str) -> Option<u32> {
+    /// What stands up to the next quotation mark behind as many bytes as the text has. It passes over the mark, too.
+    pub fn word_after(&mut self, text: &str) -> Option<&'a str> {
         self.pass(text)?;
-        self.number()
-    }
-
-    /// The number behind as many bytes as the text has, in 32 bits, or none for `null`.
-    pub fn number_or_null_after(&mut self, text: &str) -> Option<Option<u32>> {
-        self.pass(text)?;
-        if self.is_null() {
-            return Some(None);
-        }
-        Some(Some(self.number()?))
-    }
-
-    /// Whether an n is next, as in `null`, over which it passes then.
-    pub fn is_null(&mut self) -> bool {
-        self.is_next(b'n') && self.pass("null").is_some()
-    }
-
-    /// Whether a t is next, as in `true`, behind as many bytes as the text has. It passes over `true`, or else over
-    /// `false`.
-    pub fn flag_after(&mut self, text: &str) -> Option<bool> {
-        self.pass(text)?;
-        let is_true = self.is_next(b't');
-        self.pass(if is_true { "true" } else { "false" })?;
-        Some(is_true)
-    }
-
-    /// What stands up to the next quotation mark, over which it passes, too.
-    pub fn word(&mut self) -> Option<&'a str> {
         let rest = self.rest;
         for (place, &byte) in rest.iter().enumerate() {
             if byte == b'"' {
@@ -97,10 +56,53 @@ impl<'a> Scan<'a> {
         }
         None
     }
+}
 
-    /// The word behind as many bytes as the text has.
-    pub fn word_after(&mut self, text: &str) -> Option<&'a str> {
-        self.pass(text)?;
-        self.word()
+/// The number whose digits are next. None where there are none, where it has more than 64 bits, and where the line ends
+/// with it.
+impl Guess for u64 {
+    fn guess(scan: &mut Scan) -> Option<u64> {
+        let digits = scan.rest;
+        let mut number = 0u64;
+        for (place, &byte) in digits.iter().enumerate() {
+            if !byte.is_ascii_digit() {
+                scan.rest = &digits[place..];
+                return if place > 0 { Some(number) } else { None };
+            }
+            number = number.checked_mul(10)?.checked_add(u64::from(byte - b'0'))?;
+        }
+        None
+    }
+}
+
+impl Guess for u32 {
+    fn guess(scan: &mut Scan) -> Option<u32> {
+        u32::try_from(u64::guess(scan)?).ok()
+    }
+}
+
+impl Guess for u8 {
+    fn guess(scan: &mut Scan) -> Option<u8> {
+        u8::try_from(u64::guess(scan)?).ok()
+    }
+}
+
+/// `true` where a t is next, and else `false`.
+impl Guess for bool {
+    fn guess(scan: &mut Scan) -> Option<bool> {
+        let is_true = scan.is_next(b't');
+        scan.pass(if is_true { "true" } else { "false" })?;
+        Some(is_true)
+    }
+}
+
+/// `null` where an n is next, and else the value.
+impl<T: Guess> Guess for Option<T> {
+    fn guess(scan: &mut Scan) -> Option<Option<T>> {
+        if scan.is_next(b'n') {
+            scan.pass("null")?;
+            return Some(None);
+        }
+        Some(Some(T::guess(scan)?))
     }
 }

@@ -1,12 +1,11 @@
 -- An entry's call is read as it was written, and its form stands.
 use Rattle.std.proofs.Common.{◌≡◌, ℕ, suc, Bool, Option, Some, refl}
 use Rattle.irp_forms.specs.Parts.{has_keys}
-use Rattle.irp_forms.specs.Values.{driver_at}
 use Rattle.irp_types.specs.Calls.{Call}
 use Rattle.irp_types.specs.declared.call.Call.TheVariants as call
 use Rattle.irp_types.specs.declared.names.LockNo.{LockNo}
-use Rattle.irp_forms.specs.Calls.{call_named}
-use Rattle.irp_transcript_reader.specs.Calls.{allocate_at, delete_at, entry_call_at, finish_taken_at}
+use Rattle.irp_forms.specs.Calls.{call_by, call_keys, call_named}
+use Rattle.irp_transcript_reader.specs.Calls.{delete_at, entry_call_at}
 use Rattle.irp_transcript_writer.specs.Lines.{call_json, lock_json}
 use Rattle.irp_round_trip.proofs.Numbers.{u8_back, u32_back, u64_back, byte_wide, wide, or_null_stands}
 use Rattle.irp_round_trip.proofs.Stands.{Stands}
@@ -16,7 +15,7 @@ use Rattle.irp_round_trip.specs.Fits.{CallFits, LockFits, TellsLock}
 -- a call, with the lock that its entry tells
 pub call_back : (made : Call) (lock : Option LockNo) (drained : Bool) → CallFits made → TellsLock made lock drained
     → entry_call_at (call_json made lock drained) ≡ Some (record { call = made; lock = lock; drained = drained })
-unfolding entry_call_at call_named delete_at allocate_at finish_taken_at has_keys driver_at
+unfolding entry_call_at call_named call_keys call_by delete_at has_keys
 call_back (call.CreateDevice driver lock) own drained h told = rw (told.0, told.1, u32_back driver.0 h.0, lock_back lock h.1)
 call_back (call.Attach device to) own drained h told = rw (told.0, told.1, device_back device h.0, device_back to h.1)
 call_back (call.Detach lower) own drained h told = rw (told.0, told.1, device_back lower h)

@@ -5,17 +5,15 @@ use Rattle.std.specs.List.{All}
 use Rattle.irp_forms.specs.Found.{cancel_rule_found}
 use Rattle.irp_forms.specs.Names.{cancel_rule_at, cancel_rule_name, cancel_rules}
 use Rattle.irp_forms.specs.Parts.{has_keys, list_at}
-use Rattle.irp_forms.specs.Values.{completions_at, dispatch_at, first_counts_at, handler_at, known_at}
+use Rattle.irp_forms.specs.Values.{completions_at, first_counts_at, handler_at, known_at}
 use Rattle.irp_types.specs.Limits.{last_major, most_dispatches}
 use Rattle.irp_types.specs.Rules.{IsWithin}
 use Rattle.irp_types.specs.State.{Entrance, IsDriver, Tables, most_known}
-use Rattle.irp_types.specs.declared.routine.CancelRule.{CancelRule}
-use Rattle.irp_types.specs.declared.routine.Known.{Known}
+use Rattle.irp_types.specs.declared.{routine.CancelRule.CancelRule, routine.Known.Known}
 use Rattle.irp_shared.specs.Headers.{IsHeader, fixed_of, slots_of}
-use Rattle.irp_shared.specs.declared.header.Form.{Form}
+use Rattle.irp_shared.specs.declared.{header.Form.Form, header.Header.Header}
 use Rattle.irp_shared.specs.declared.header.Form.TheVariants as form
-use Rattle.irp_shared.specs.declared.header.Header.{Header}
-use Rattle.irp_transcript_reader.specs.Lines.{header_at, header_form_at, header_keys}
+use Rattle.irp_transcript_reader.specs.Lines.{header_at, header_form_at, header_keys_at}
 use Rattle.irp_transcript_writer.specs.Json.{list}
 use Rattle.irp_transcript_writer.specs.Lines.{cancel_rule_json, completions_json, driver_json, handler_json, header_json, known_json, line_of_form}
 use Rattle.irp_round_trip.proofs.Names.{found_plain}
@@ -113,7 +111,7 @@ abbrev pub IsHandler : Entrance → Type 0
 IsHandler entrance = (entrance.0 ≤ last_major) × (entrance.1.0 < most_dispatches)
 
 handler_back : (entrance : Entrance) → IsHandler entrance → handler_at (handler_json entrance) ≡ Some entrance
-unfolding handler_at dispatch_at
+unfolding handler_at
 handler_back entrance h = rw (u8_back entrance.0 (omega (arith, h.0)), u32_back entrance.1.0 (omega (arith, h.1)))
 
 handler_stands : (levels : ℕ) (entrance : Entrance) → IsHandler entrance → Stands (handler_json entrance) (suc levels)
@@ -162,7 +160,7 @@ lists_back header is =
 
 form_back : (kind : Form) (header : Header) → slots_of kind < 2 ^ 32 → header.locks < 2 ^ 32 → header.seats < 2 ^ 32 → ListsBack header
     → header_at (line_of_form kind header) ≡ Some (counted kind header)
-unfolding header_at header_form_at header_keys has_keys
+unfolding header_at header_form_at header_keys_at has_keys
 form_back form.One header slots_small locks_small seats_small lists =
     rw (
       u32_back 1 (omega arith),

@@ -2,10 +2,8 @@
 use Rattle.std.proofs.Common.{◌≡◌, ℕ, suc, Some, refl}
 use Rattle.irp_forms.specs.Parts.{has_keys}
 use Rattle.irp_forms.specs.Questions.{asked_at, shown_at}
-use Rattle.irp_forms.specs.Values.{dispatch_at}
-use Rattle.irp_types.specs.declared.asked.Asked.{Asked}
+use Rattle.irp_types.specs.declared.{asked.Asked.Asked, shown.Shown.Shown}
 use Rattle.irp_types.specs.declared.asked.Asked.TheVariants as asked
-use Rattle.irp_types.specs.declared.shown.Shown.{Shown}
 use Rattle.irp_transcript_writer.specs.Lines.{asked_json, device_json, shown_json}
 use Rattle.irp_round_trip.proofs.Numbers.{u8_back, u32_back, u64_back, byte_wide, wide, or_null_stands}
 use Rattle.irp_round_trip.proofs.Stands.{Stands}
@@ -48,7 +46,7 @@ shown_stands levels shown h =
 
 -- a question with its answer
 pub asked_back : (question : Asked) → AskedFits question → asked_at (asked_json question) ≡ Some question
-unfolding asked_at has_keys dispatch_at
+unfolding asked_at has_keys
 asked_back (asked.Dispatch id shown plan) h = rw (u32_back id.0 h.0, shown_back shown h.1, plan_back plan h.2)
 asked_back (asked.Completion id shown answer) h = rw (routine_back id h.0, shown_back shown h.1, answer_back answer h.2)
 asked_back (asked.Cancel id shown answer) h = rw (cancel_back id h.0, shown_back shown h.1, cancel_answer_back answer h.2)

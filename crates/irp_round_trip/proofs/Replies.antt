@@ -4,12 +4,10 @@ use Rattle.serde_json.specs.Data.{string}
 use Rattle.irp_forms.specs.Found.{refusal_found}
 use Rattle.irp_forms.specs.Names.{refusal_at, refusal_name, refusals}
 use Rattle.irp_forms.specs.Parts.{has_keys}
-use Rattle.irp_types.specs.declared.location.Owner.{Owner}
-use Rattle.irp_types.specs.declared.location.Owner.TheVariants as owner
-use Rattle.irp_types.specs.declared.refusal.Refusal.{Refusal}
-use Rattle.irp_types.specs.declared.reply.Reply.{Reply}
-use Rattle.irp_types.specs.declared.reply.Reply.TheVariants as reply
+use Rattle.irp_types.specs.declared.{location.Owner.Owner, refusal.Refusal.Refusal, reply.Reply.Reply}
 use Rattle.irp_types.specs.declared.reply.Seen.{Seen}
+use Rattle.irp_types.specs.declared.location.Owner.TheVariants as owner
+use Rattle.irp_types.specs.declared.reply.Reply.TheVariants as reply
 use Rattle.irp_transcript_reader.specs.Replies.{owner_at, reply_at, seen_at, valued_reply_at}
 use Rattle.irp_transcript_writer.specs.Lines.{owner_json, reply_json, seen_json}
 use Rattle.irp_round_trip.proofs.Names.{found_plain}

@@ -7,22 +7,14 @@ use Rattle.irp_forms.specs.Names.{every_flags, flags_at, rule_at, rule_name, rul
 use Rattle.irp_forms.specs.Parts.{or_null_at}
 use Rattle.irp_forms.specs.Questions.{answer_at, keep_named}
 use Rattle.irp_forms.specs.Values.{cancel_answer_at, cancel_at, device_at, irp_at, lock_at, party_at, plan_at, replacement_at, routine_at, setting_at, status_at}
-use Rattle.irp_types.specs.declared.answer.Answer.{Answer}
-use Rattle.irp_types.specs.declared.answer.CancelAnswer.{CancelAnswer}
-use Rattle.irp_types.specs.declared.answer.CancelAnswer.TheVariants as cancel_answer
-use Rattle.irp_types.specs.declared.answer.Plan.{Plan}
-use Rattle.irp_types.specs.declared.answer.Plan.TheVariants as plan
-use Rattle.irp_types.specs.declared.answer.Replacement.{Replacement}
-use Rattle.irp_types.specs.declared.call.Party.{Party}
-use Rattle.irp_types.specs.declared.call.Party.TheVariants as party
-use Rattle.irp_types.specs.declared.names.CancelId.{CancelId}
-use Rattle.irp_types.specs.declared.names.DeviceId.{DeviceId}
-use Rattle.irp_types.specs.declared.names.IrpRef.{IrpRef}
-use Rattle.irp_types.specs.declared.names.LockNo.{LockNo}
-use Rattle.irp_types.specs.declared.routine.RoutineId.{RoutineId}
-use Rattle.irp_types.specs.declared.routine.Rule.{Rule}
-use Rattle.irp_types.specs.declared.routine.Setting.{Setting}
+use Rattle.irp_types.specs.declared.{answer.Answer.Answer, answer.CancelAnswer.CancelAnswer, answer.Plan.Plan}
+use Rattle.irp_types.specs.declared.{answer.Replacement.Replacement, call.Party.Party, names.CancelId.CancelId}
+use Rattle.irp_types.specs.declared.{names.DeviceId.DeviceId, names.IrpRef.IrpRef, names.LockNo.LockNo}
+use Rattle.irp_types.specs.declared.{routine.RoutineId.RoutineId, routine.Rule.Rule, routine.Setting.Setting}
 use Rattle.irp_types.specs.declared.status.Status.{Status}
+use Rattle.irp_types.specs.declared.answer.CancelAnswer.TheVariants as cancel_answer
+use Rattle.irp_types.specs.declared.answer.Plan.TheVariants as plan
+use Rattle.irp_types.specs.declared.call.Party.TheVariants as party
 use Rattle.irp_transcript_writer.specs.Json.{or_null}
 use Rattle.irp_transcript_writer.specs.Lines.{answer_json, cancel_answer_json, cancel_json, device_json, irp_json, lock_json, party_json, plan_json, replacement_json, routine_json, setting_json, status_json}
 use Rattle.irp_round_trip.proofs.Names.{found_plain}
@@ -33,19 +25,15 @@ use Rattle.irp_round_trip.specs.Fits.{AnswerFits, CancelAnswerFits, CancelFits, 
 -- ---- what is read
 
 pub device_back : (device : DeviceId) → DeviceFits device → device_at (device_json device) ≡ Some device
-unfolding device_at
 device_back device h = rw (u32_back device.0 h)
 
 pub cancel_back : (cancel : CancelId) → CancelFits cancel → cancel_at (cancel_json cancel) ≡ Some cancel
-unfolding cancel_at
 cancel_back cancel h = rw (u32_back cancel.0 h)
 
 pub lock_back : (lock : LockNo) → LockFits lock → lock_at (lock_json lock) ≡ Some lock
-unfolding lock_at
 lock_back lock h = rw (u32_back lock.0 h)
 
 pub status_back : (status : Status) → StatusFits status → status_at (status_json status) ≡ Some status
-unfolding status_at
 status_back status h = rw (u32_back status.0 h)
 
 pub irp_back : (irp : IrpRef) → IrpFits irp → irp_at (irp_json irp) ≡ Some irp

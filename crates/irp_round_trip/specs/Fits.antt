@@ -1,43 +1,30 @@
--- Which transcripts are read again as they were written. Most conditions are the ranges of the numbers' types, which every
--- value in a program keeps; the others are a packet's slot below 2 to the 32nd, and what a reader takes.
+-- Which transcripts are read again as they were written. Most conditions are the ranges of the numbers' types, which
+-- every value in a program keeps; the others are a packet's slot below 2 to the 32nd, and what a reader takes.
 use Rattle.std.specs.Prelude.{◌≡◌, ◌<◌, ◌≤◌, ◌^◌, Bool, true, false, IfSome, length, Option, None, ⊤}
 use Rattle.std.specs.List.{All}
 use Rattle.serde_json.specs.Data.{Data}
 use Rattle.serde_json.specs.Written.{compact_text}
 use Rattle.irp_types.specs.Rules.{CanShow}
-use Rattle.irp_types.specs.declared.answer.Answer.{Answer}
-use Rattle.irp_types.specs.declared.answer.CancelAnswer.{CancelAnswer}
+use Rattle.irp_types.specs.declared.{answer.Answer.Answer, answer.CancelAnswer.CancelAnswer, answer.Plan.Plan}
+use Rattle.irp_types.specs.declared.{answer.Replacement.Replacement, asked.Asked.Asked, call.Party.Party}
+use Rattle.irp_types.specs.declared.{entry.Entry.Entry, location.Owner.Owner, names.CancelId.CancelId}
+use Rattle.irp_types.specs.declared.{names.DeviceId.DeviceId, names.IrpRef.IrpRef, names.LockNo.LockNo}
+use Rattle.irp_types.specs.declared.{reply.Reply.Reply, reply.Seen.Seen, routine.Setting.Setting, shown.Shown.Shown}
+use Rattle.irp_types.specs.declared.status.Status.{Status}
 use Rattle.irp_types.specs.declared.answer.CancelAnswer.TheVariants as cancel_answer
-use Rattle.irp_types.specs.declared.answer.Plan.{Plan}
 use Rattle.irp_types.specs.declared.answer.Plan.TheVariants as plan
-use Rattle.irp_types.specs.declared.answer.Replacement.{Replacement}
-use Rattle.irp_types.specs.declared.asked.Asked.{Asked}
 use Rattle.irp_types.specs.declared.asked.Asked.TheVariants as asked
 use Rattle.irp_types.specs.Calls.{Call}
 use Rattle.irp_types.specs.declared.call.Call.TheVariants as call
-use Rattle.irp_types.specs.declared.call.Party.{Party}
 use Rattle.irp_types.specs.declared.call.Party.TheVariants as party
-use Rattle.irp_types.specs.declared.entry.Entry.{Entry}
-use Rattle.irp_types.specs.declared.location.Owner.{Owner}
 use Rattle.irp_types.specs.declared.location.Owner.TheVariants as owner
-use Rattle.irp_types.specs.declared.names.CancelId.{CancelId}
-use Rattle.irp_types.specs.declared.names.DeviceId.{DeviceId}
-use Rattle.irp_types.specs.declared.names.IrpRef.{IrpRef}
-use Rattle.irp_types.specs.declared.names.LockNo.{LockNo}
-use Rattle.irp_types.specs.declared.reply.Reply.{Reply}
 use Rattle.irp_types.specs.declared.reply.Reply.TheVariants as reply
-use Rattle.irp_types.specs.declared.reply.Seen.{Seen}
-use Rattle.irp_types.specs.declared.routine.Setting.{Setting}
 use Rattle.irp_types.specs.declared.seat_act.LockAct.TheVariants as on_lock
 use Rattle.irp_types.specs.declared.seat_act.SlotAct.TheVariants as on_slot
-use Rattle.irp_types.specs.declared.shown.Shown.{Shown}
-use Rattle.irp_types.specs.declared.status.Status.{Status}
 use Rattle.irp_shared.specs.Transcripts.{TranscriptValue}
-use Rattle.irp_shared.specs.declared.header.Header.{Header}
-use Rattle.irp_shared.specs.declared.word_line.Act.{Act}
-use Rattle.irp_shared.specs.declared.word_line.Act.TheVariants as act
-use Rattle.irp_shared.specs.declared.word_line.WordLine.{WordLine}
+use Rattle.irp_shared.specs.declared.{header.Header.Header, word_line.Act.Act, word_line.WordLine.WordLine}
 use Rattle.irp_shared.specs.declared.word_line.WordReply.{WordReply}
+use Rattle.irp_shared.specs.declared.word_line.Act.TheVariants as act
 use Rattle.irp_shared.specs.declared.word_line.WordReply.TheVariants as word_reply
 use Rattle.irp_transcript_reader.specs.Forms.{has_entry, has_word}
 use Rattle.irp_transcript_reader.specs.Reading.{hands_within, most_bytes, most_entries}

@@ -1,2 +1,3 @@
 pub mod Rests
 pub mod Sounds
+pub mod Tells

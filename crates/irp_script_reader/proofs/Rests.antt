@@ -9,8 +9,7 @@ use Rattle.irp_types.specs.declared.names.DispatchId.{DispatchId}
 use Rattle.irp_script_reader.specs.Labels.{place_of}
 use Rattle.irp_script_reader.specs.Plans.{has_major, is_driver, is_handler}
 use Rattle.irp_script_reader.specs.Taking.{members_at, told}
-use Rattle.irp_script_reader.specs.declared.refusal.Fault.{Fault}
-use Rattle.irp_script_reader.specs.declared.refusal.Section.{Section}
+use Rattle.irp_script_reader.specs.declared.{refusal.Fault.Fault, refusal.Section.Section}
 
 pub handlers_at : (dispatches : ℕ) (handlers : List (ℕ × DispatchId)) (i : ℕ) (handler : ℕ × DispatchId) → i < length handlers
     → is_driver dispatches (drop i handlers)

@@ -2,7 +2,7 @@
 use Rattle.std.proofs.Common.{◌≡◌, ℕ, ◌+◌, ◌≤◌, List, [], ◌∷◌, ◌++◌, length, Bool, true, false, not, ◌&&◌, ◌||◌, nat_le, nat_lt, Option, Some, None, Result, Ok, Err, refl, sym, ap, ◌∙◌, subst, arith, if◌then◌else◌, codes, inr}
 use Rattle.std.specs.Prelude.{IfOk, IsUtf8}
 use Rattle.std.specs.List.{All}
-use Rattle.std.specs.Option.{option_and_then}
+use Rattle.std.specs.Option.{ok_or, option_and_then}
 use Rattle.std.proofs.lemmas.List.Elements.{All-nil, All-push}
 use Rattle.std.proofs.lemmas.Bool.{and_parts, leb-true, ltb-true}
 use Rattle.std.proofs.lemmas.Grind.{common_steps}
@@ -13,36 +13,27 @@ use Rattle.irp_forms.specs.Parts as parts
 use Rattle.irp_forms.proofs.Texts.{some_text}
 use Rattle.irp_forms.specs.Values.{cancel_answer_at, handler_at, plan_at}
 use Rattle.irp_types.specs.State.{no_routines}
-use Rattle.irp_types.specs.declared.routine.Known.{Known}
-use Rattle.irp_types.specs.declared.routine.Rule.{Rule}
+use Rattle.irp_types.specs.declared.{routine.Known.Known, answer.Plan.Plan, routine.Rule.Rule}
 use Rattle.irp_types.specs.declared.routine.Rule.TheVariants.{Watch, Change, Keeper, KeepOnError, Free}
 use Rattle.irp_script_reader.specs.Acts.{step_at}
 use Rattle.irp_script_reader.specs.Forms.{may_do, may_plan, slots_of, suits_setup}
 use Rattle.irp_script_reader.specs.Labels.{label_at, place_among, with_labels}
-use Rattle.irp_script_reader.specs.Members.{in_room, may_have, takes_cancel, takes_completion, takes_dispatch, takes_driver, takes_step}
+use Rattle.irp_script_reader.specs.Members.{may_have, takes_cancel, takes_completion, takes_dispatch, takes_driver, takes_step}
 use Rattle.irp_script_reader.specs.Plans.{is_driver, is_plan_sound, names_known}
 use Rattle.irp_script_reader.specs.Routines.{completion_at, counted, obeys_its_rule, one_more}
-use Rattle.irp_script_reader.specs.Scripts.{cancels_at, completions_at, count_at, dispatches_at, drivers_at, form_at, keys_at, ReadsScript, list_at, script_at, steps_at, under, with_slots, count_of, no_steps}
+use Rattle.irp_script_reader.specs.Scripts.{count_at, form_at, keys_at, ReadsScript, routines_at, script_at, steps_at, tables_at, with_slots, count_of, no_steps}
 use Rattle.irp_script_reader.specs.Sound.{IsPlan, IsSound, IsStep, with_all, with_one}
-use Rattle.irp_script_reader.specs.Taking.{◌>>=◌, Tells, formed, if_list, list_of, members_at, told, unless}
-use Rattle.irp_script_reader.specs.declared.act.Step.{Step}
-use Rattle.irp_script_reader.specs.declared.lists.Cancels.{Cancels}
-use Rattle.irp_script_reader.specs.declared.lists.Completions.{Completions}
-use Rattle.irp_script_reader.specs.declared.lists.Dispatches.{Dispatches}
-use Rattle.irp_script_reader.specs.declared.lists.Drivers.{Drivers}
-use Rattle.irp_script_reader.specs.declared.lists.Steps.{Steps}
-use Rattle.irp_script_reader.specs.declared.refusal.Fault.{Fault}
+use Rattle.irp_script_reader.specs.Taking.{◌>>=◌, Tells, if_list, list_at, members_at, told, unless}
+use Rattle.irp_script_reader.specs.declared.{act.Step.Step, lists.Cancels.Cancels, lists.Completions.Completions}
+use Rattle.irp_script_reader.specs.declared.{lists.Dispatches.Dispatches, lists.Drivers.Drivers, lists.Steps.Steps}
+use Rattle.irp_script_reader.specs.declared.{refusal.Fault.Fault, refusal.ScriptFault.ScriptFault}
+use Rattle.irp_script_reader.specs.declared.{refusal.ScriptRefusal.ScriptRefusal, refusal.Section.Section}
+use Rattle.irp_script_reader.specs.declared.{script.CompletionRoutine.CompletionRoutine, script.ScriptForm.ScriptForm}
+use Rattle.irp_script_reader.specs.declared.{script.ScriptParts.ScriptParts, read.FormKey.FormKey}
 use Rattle.irp_script_reader.specs.declared.refusal.Fault.TheVariants.{BadField, RuleBroken, NoRoutine, BadDispatch, TooMany}
-use Rattle.irp_script_reader.specs.declared.refusal.ScriptFault.{ScriptFault}
 use Rattle.irp_script_reader.specs.declared.refusal.ScriptFault.TheVariants.{Refused, NoMemory}
-use Rattle.irp_script_reader.specs.declared.refusal.ScriptRefusal.{ScriptRefusal}
 use Rattle.irp_script_reader.specs.declared.refusal.ScriptRefusal.TheVariants.{At}
-use Rattle.irp_script_reader.specs.declared.refusal.Section.{Section}
 use Rattle.irp_script_reader.specs.declared.refusal.Section.TheVariants as section
-use Rattle.irp_script_reader.specs.declared.script.CompletionRoutine.{CompletionRoutine}
-use Rattle.irp_script_reader.specs.declared.script.ScriptForm.{ScriptForm}
-use Rattle.irp_script_reader.specs.declared.script.ScriptParts.{ScriptParts}
-use Rattle.irp_script_reader.specs.declared.read.FormKey.{FormKey}
 use Rattle.irp_script_reader.specs.declared.read.FormKey.TheVariants as keys
 
 -- ---- one after another
@@ -83,10 +74,9 @@ given_kept takes part P each empty (Some members) has = members_kept takes part 
 
 list_kept : {L : Type 0} (takes : L → Data → Result L Fault) (part : Section) (P : L → Type 0)
     → ((list : L) (form : Data) → P list → IfOk (takes list form) P)
-    → (empty : L) (found : Option Data) → P empty → IfOk (under takes part empty found) P
-unfolding list_of
-list_kept takes part P each empty None has = tt
-list_kept takes part P each empty (Some form) has = given_kept takes part P each empty (as_array form) has
+    → (key : List ℕ) (empty : L) (whole : Data) → P empty → IfOk (list_at takes part key empty whole) P
+unfolding list_at
+list_kept takes part P each key empty whole has = given_kept takes part P each empty (option_and_then as_array (get key whole)) has
 
 -- ---- completion routines
 
@@ -108,11 +98,11 @@ all_cancel counts [] = refl
 all_cancel counts (first ∷ others) = all_cancel (with_one counts first.rule) others ∙ one_cancel counts first.rule
 
 more_kept : (holds : Bool) (count : ℕ) (make : ℕ → Known) (P : Known → Type 0)
-    → P (make count) → IfOk (in_room (parts.◌>>=◌ (if holds then Some count else None) (λ n. Some (make n)))) P
+    → P (make count) → IfOk (ok_or (parts.◌>>=◌ (if holds then Some count else None) (λ n. Some (make n))) TooMany) P
 more_kept true count make P has = has
 more_kept false count make P has = tt
 
-counted_kept : (counts : Known) (rule : Rule) (P : Known → Type 0) → P (with_one counts rule) → IfOk (in_room (counted counts rule)) P
+counted_kept : (counts : Known) (rule : Rule) (P : Known → Type 0) → P (with_one counts rule) → IfOk (ok_or (counted counts rule) TooMany) P
 unfolding counted
 counted_kept counts Watch P has = more_kept (nat_lt counts.watch 256) (counts.watch + 1) (λ n. record counts { watch = n }) P has
 counted_kept counts Change P has = more_kept (nat_lt counts.change 256) (counts.change + 1) (λ n. record counts { change = n }) P has
@@ -126,9 +116,9 @@ AreCompletions list = (list.counts ≡ with_all no_routines list.routines) × Al
 completion_kept : (list : Completions) (form : Data) → AreCompletions list → IfOk (takes_completion list form) AreCompletions
 unfolding takes_completion
 completion_kept list form has =
-    then_any (formed (completion_at form)) _ AreCompletions (λ routine read.
+    then_any (ok_or (completion_at form) BadField) _ AreCompletions (λ routine read.
     then_if (obeys_its_rule routine) RuleBroken _ AreCompletions (λ obeys.
-    then_from (in_room (counted list.counts routine.rule)) _ (λ counts. counts ≡ with_one list.counts routine.rule) AreCompletions
+    then_from (ok_or (counted list.counts routine.rule) TooMany) _ (λ counts. counts ≡ with_one list.counts routine.rule) AreCompletions
     (counted_kept list.counts routine.rule (λ counts. counts ≡ with_one list.counts routine.rule) refl)
     (λ counts is. (
       is ∙ ap (λ given. with_one given routine.rule) has.0 ∙ sym (with_all_more no_routines list.routines routine),
@@ -140,7 +130,7 @@ completion_kept list form has =
 abbrev AreCancels : Known → Cancels → Type 0
 AreCancels counts list = list.counts ≡ record counts { cancel = counts.cancel + length list.answers }
 
-room_kept : (holds : Bool) (count : ℕ) (P : ℕ → Type 0) → P count → IfOk (in_room (if holds then Some count else None)) P
+room_kept : (holds : Bool) (count : ℕ) (P : ℕ → Type 0) → P count → IfOk (ok_or (if holds then Some count else None) TooMany) P
 room_kept true count P has = has
 room_kept false count P has = tt
 
@@ -156,8 +146,8 @@ longer items added n = grind (arith, common_steps)
 cancel_kept : (counts : Known) (list : Cancels) (form : Data) → AreCancels counts list → IfOk (takes_cancel list form) (AreCancels counts)
 unfolding takes_cancel
 cancel_kept counts list form has =
-    then_any (formed (cancel_answer_at form)) _ (AreCancels counts) (λ answer read.
-    then_from (in_room (one_more list.counts.cancel)) _ (λ count. count ≡ list.counts.cancel + 1) (AreCancels counts)
+    then_any (ok_or (cancel_answer_at form) BadField) _ (AreCancels counts) (λ answer read.
+    then_from (ok_or (one_more list.counts.cancel) TooMany) _ (λ count. count ≡ list.counts.cancel + 1) (AreCancels counts)
     (room_kept (nat_lt list.counts.cancel 256) (list.counts.cancel + 1) (λ count. count ≡ list.counts.cancel + 1) refl)
     (λ count is.
     ap (λ (given : Known). record given { cancel = count }) has
@@ -172,7 +162,7 @@ dispatch_kept : (form : ScriptForm) (known : Known) (list : Dispatches) (given :
     → IfOk (takes_dispatch list given) (ArePlans form known)
 unfolding takes_dispatch
 dispatch_kept form known list given has =
-    then_any (formed (plan_at given)) _ (ArePlans form known) (λ plan read.
+    then_any (ok_or (plan_at given) BadField) _ (ArePlans form known) (λ plan read.
     then_if (may_plan list.form plan) BadField _ (ArePlans form known) (λ may.
     then_if (is_plan_sound plan) RuleBroken _ (ArePlans form known) (λ sound.
     then_if (names_known list.known plan) NoRoutine _ (ArePlans form known) (λ names.
@@ -194,7 +184,7 @@ AreDrivers dispatches list = (list.dispatches ≡ dispatches) × All (λ handler
 driver_kept : (dispatches : ℕ) (list : Drivers) (form : Data) → AreDrivers dispatches list → IfOk (takes_driver list form) (AreDrivers dispatches)
 unfolding takes_driver
 driver_kept dispatches list form has =
-    then_any (formed (parts.list_at handler_at form)) _ (AreDrivers dispatches) (λ handlers read.
+    then_any (ok_or (parts.list_at handler_at form) BadField) _ (AreDrivers dispatches) (λ handlers read.
     then_if (is_driver list.dispatches handlers) BadDispatch _ (AreDrivers dispatches) (λ there.
     then_if (nat_lt (length list.tables) 64) TooMany _ (AreDrivers dispatches) (λ room. (
       has.0,
@@ -222,7 +212,7 @@ step_kept : (form : ScriptForm) (seats : ℕ) (in_setup : Bool) (list : Steps) (
     → IfOk (takes_step list given) (AreSteps form seats in_setup)
 unfolding takes_step
 step_kept form seats in_setup list given has =
-    then_any (formed (step_at (place_among list.labels (label_at given)) given)) _ (AreSteps form seats in_setup) (λ step read.
+    then_any (ok_or (step_at (place_among list.labels (label_at given)) given) BadField) _ (AreSteps form seats in_setup) (λ step read.
     then_if (may_have list step) BadField _ (AreSteps form seats in_setup) (λ may.
     then_any (with_labels list.labels (label_at given)) _ (AreSteps form seats in_setup) (λ labels named. (
       has.0,
@@ -236,17 +226,17 @@ step_kept form seats in_setup list given has =
 
 steps_kept : (form : ScriptForm) (seats : ℕ) (whole : Data)
     → IfOk (steps_at form seats whole) (λ steps. All (IsListed form seats true) steps.0 × AreSteps form seats false steps.1)
-unfolding steps_at list_at
+unfolding steps_at
 steps_kept form seats whole =
-    then_from (under takes_step section.Setup (no_steps form seats true []) (get (codes "setup") whole)) _
+    then_from (list_at takes_step section.Setup (codes "setup") (no_steps form seats true []) whole) _
     (AreSteps form seats true) _
     (list_kept takes_step section.Setup (AreSteps form seats true) (step_kept form seats true)
-    (no_steps form seats true []) (get (codes "setup") whole) (refl, refl, refl, All-nil _))
+    (codes "setup") (no_steps form seats true []) whole (refl, refl, refl, All-nil _))
     (λ setup seated.
-    then_from (under takes_step section.Steps (no_steps form seats false setup.labels) (get (codes "steps") whole)) _
+    then_from (list_at takes_step section.Steps (codes "steps") (no_steps form seats false setup.labels) whole) _
     (AreSteps form seats false) _
     (list_kept takes_step section.Steps (AreSteps form seats false) (step_kept form seats false)
-    (no_steps form seats false setup.labels) (get (codes "steps") whole) (refl, refl, refl, All-nil _))
+    (codes "steps") (no_steps form seats false setup.labels) whole (refl, refl, refl, All-nil _))
     (λ steps others. (seated.3, others)))
 
 -- ---- cancel slots
@@ -269,10 +259,60 @@ slots_kept keys.Two whole =
     (count_kept section.Slots 0 (option_and_then parts.u32_at (get (codes "slots") whole)))
     (λ count few. few)
 
+-- ---- routines and tables
+
+-- the routines keep their rules, and the counts are those of what the script has
+abbrev AreRoutines : List CompletionRoutine × Cancels → Type 0
+AreRoutines routines =
+    All (λ routine. obeys_its_rule routine ≡ true) routines.0
+    × (routines.1.counts ≡ record (with_all no_routines routines.0) { cancel = length routines.1.answers })
+
+-- the cancel routines are counted beside the completion routines
+counts_are : (routines : List CompletionRoutine) (counts : Known) (cancels : Cancels)
+    → counts ≡ with_all no_routines routines → AreCancels counts cancels
+    → cancels.counts ≡ record (with_all no_routines routines) { cancel = length cancels.answers }
+counts_are routines counts cancels same counted =
+    counted
+    ∙ ap (λ (given : Known). record given { cancel = given.cancel + length cancels.answers }) same
+    ∙ ap (λ n. record (with_all no_routines routines) { cancel = n + length cancels.answers }) (all_cancel no_routines routines)
+    ∙ ap (λ n. record (with_all no_routines routines) { cancel = n }) (none_plus (length cancels.answers))
+
+routines_kept : (whole : Data) → IfOk (routines_at whole) AreRoutines
+unfolding routines_at
+routines_kept whole =
+    then_from (list_at takes_completion section.Completions (codes "completions") (record { routines = []; counts = no_routines }) whole) _
+    AreCompletions AreRoutines
+    (list_kept takes_completion section.Completions AreCompletions completion_kept
+    (codes "completions") (record { routines = []; counts = no_routines }) whole (refl, All-nil _))
+    (λ completions obey.
+    then_from (list_at takes_cancel section.Cancels (codes "cancels") (record { answers = []; counts = completions.counts }) whole) _
+    (AreCancels completions.counts) AreRoutines
+    (list_kept takes_cancel section.Cancels (AreCancels completions.counts) (cancel_kept completions.counts)
+    (codes "cancels") (record { answers = []; counts = completions.counts }) whole
+    (ap (λ n. record completions.counts { cancel = n }) (plus_none completions.counts.cancel)))
+    (λ cancels counted. (obey.1, counts_are completions.routines completions.counts cancels obey.0 counted)))
+
+abbrev AreTables : ScriptForm → Known → List Plan × Drivers → Type 0
+AreTables form known tables = All (IsPlan form known) tables.0 × AreDrivers (length tables.0) tables.1
+
+tables_kept : (form : ScriptForm) (known : Known) (whole : Data) → IfOk (tables_at form known whole) (AreTables form known)
+unfolding tables_at
+tables_kept form known whole =
+    then_from (list_at takes_dispatch section.Dispatches (codes "dispatches") (record { form = form; known = known; plans = [] }) whole) _
+    (ArePlans form known) (AreTables form known)
+    (list_kept takes_dispatch section.Dispatches (ArePlans form known) (dispatch_kept form known)
+    (codes "dispatches") (record { form = form; known = known; plans = [] }) whole (refl, refl, All-nil _))
+    (λ dispatches plans.
+    then_from (list_at takes_driver section.Drivers (codes "drivers") (record { dispatches = length dispatches.plans; tables = [] }) whole) _
+    (AreDrivers (length dispatches.plans)) (AreTables form known)
+    (list_kept takes_driver section.Drivers (AreDrivers (length dispatches.plans)) (driver_kept (length dispatches.plans))
+    (codes "drivers") (record { dispatches = length dispatches.plans; tables = [] }) whole (refl, All-nil _))
+    (λ drivers tables. (plans.2, tables)))
+
 -- ---- the whole
 
 script_sound : (whole : Data) → IfOk (script_at whole) IsSound
-unfolding script_at completions_at cancels_at dispatches_at drivers_at list_at
+unfolding script_at
 script_sound whole =
     then_any (form_at whole) _ IsSound (λ given read.
     then_any (keys_at given whole) _ IsSound (λ its there.
@@ -280,39 +320,22 @@ script_sound whole =
     then_any (count_at section.Locks 1 (codes "locks") whole) _ IsSound (λ locks second.
     then_from (with_slots given whole) _ (λ form. slots_of form ≤ 64) IsSound (slots_kept given whole)
     (λ form few.
-    then_from (completions_at whole) _ AreCompletions IsSound
-    (list_kept takes_completion section.Completions AreCompletions completion_kept
-    (record { routines = []; counts = no_routines }) (get (codes "completions") whole) (refl, All-nil _))
-    (λ completions obey.
-    then_from (cancels_at completions.counts whole) _ (AreCancels completions.counts) IsSound
-    (list_kept takes_cancel section.Cancels (AreCancels completions.counts) (cancel_kept completions.counts)
-    (record { answers = []; counts = completions.counts }) (get (codes "cancels") whole)
-    (ap (λ n. record completions.counts { cancel = n }) (plus_none completions.counts.cancel)))
-    (λ cancels counted.
-    then_from (dispatches_at form cancels.counts whole) _ (ArePlans form cancels.counts) IsSound
-    (list_kept takes_dispatch section.Dispatches (ArePlans form cancels.counts) (dispatch_kept form cancels.counts)
-    (record { form = form; known = cancels.counts; plans = [] }) (get (codes "dispatches") whole) (refl, refl, All-nil _))
-    (λ dispatches plans.
-    then_from (drivers_at (length dispatches.plans) whole) _ (AreDrivers (length dispatches.plans)) IsSound
-    (list_kept takes_driver section.Drivers (AreDrivers (length dispatches.plans)) (driver_kept (length dispatches.plans))
-    (record { dispatches = length dispatches.plans; tables = [] }) (get (codes "drivers") whole) (refl, All-nil _))
-    (λ drivers tables.
+    then_from (routines_at whole) _ AreRoutines IsSound (routines_kept whole)
+    (λ routines obey.
+    then_from (tables_at form routines.1.counts whole) _ (AreTables form routines.1.counts) IsSound
+    (tables_kept form routines.1.counts whole)
+    (λ tables named.
     then_from (steps_at form seats whole) _
     (λ steps. All (IsListed form seats true) steps.0 × AreSteps form seats false steps.1) IsSound
     (steps_kept form seats whole)
     (λ steps seated. record {
       slots = few;
-      completions = obey.1;
-      dispatches = subst (λ known. All (IsPlan form known) dispatches.plans)
-          (counted
-          ∙ ap (λ (given : Known). record given { cancel = given.cancel + length cancels.answers }) obey.0
-          ∙ ap (λ n. record (with_all no_routines completions.routines) { cancel = n + length cancels.answers }) (all_cancel no_routines completions.routines)
-          ∙ ap (λ n. record (with_all no_routines completions.routines) { cancel = n }) (none_plus (length cancels.answers)))
-          plans.2;
-      drivers = tables.1;
+      completions = obey.0;
+      dispatches = subst (λ known. All (IsPlan form known) tables.0) obey.1 named.0;
+      drivers = named.1.1;
       setup = seated.0;
       steps = λ k step within. (seated.1.3 k step within).0;
-    }))))))))))
+    }))))))))
 
 pub told_sound : (result : Result ScriptParts ScriptFault) (whole : Data) → Tells result (script_at whole) → IfOk result IsSound
 told_sound (Ok script) whole is = subst (λ given. IfOk given IsSound) is (script_sound whole)

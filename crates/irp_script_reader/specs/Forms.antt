@@ -3,9 +3,8 @@ use Rattle.std.specs.Prelude.{ℕ, ◌%◌, ◌==◌, ◌&&◌, Bool, true, fals
 use Rattle.irp_types.specs.declared.answer.Plan.{Plan}
 use Rattle.irp_types.specs.declared.answer.Plan.TheVariants.{HoldSlot}
 use Rattle.irp_types.specs.declared.call.Call.TheVariants.{FinishTaken}
-use Rattle.irp_script_reader.specs.declared.act.StepAct.{StepAct}
+use Rattle.irp_script_reader.specs.declared.{act.StepAct.StepAct, script.ScriptForm.ScriptForm}
 use Rattle.irp_script_reader.specs.declared.act.StepAct.TheVariants as act
-use Rattle.irp_script_reader.specs.declared.script.ScriptForm.{ScriptForm}
 use Rattle.irp_script_reader.specs.declared.script.ScriptForm.TheVariants.{One, Two}
 
 -- how many cancel slots there are

@@ -1,14 +1,14 @@
 -- The labels of a script, and how a step names a packet.
 use Rattle.std.specs.Prelude.{ℕ, suc, ◌==◌, ◌&&◌, ◌||◌, List, [], ◌∷◌, ◌++◌, length, codes, Bool, nat_le, nat_lt, Option, Some, None, Result, Ok, Err, if◌then◌else◌}
 use Rattle.std.specs.List.{list_all}
+use Rattle.std.specs.Char.{is_ascii_alphanumeric}
 use Rattle.std.proofs.Common.{bytes_eq}
 use Rattle.serde_json.specs.Data.{Data, string}
 use Rattle.serde_json.specs.Find.{get, as_str}
 use Rattle.irp_forms.specs.Parts.{◌>>=◌}
 use Rattle.irp_forms.specs.Values.{irp_at}
-use Rattle.irp_script_reader.specs.declared.act.Named.{Named}
+use Rattle.irp_script_reader.specs.declared.{act.Named.Named, refusal.Fault.Fault}
 use Rattle.irp_script_reader.specs.declared.act.Named.TheVariants as named
-use Rattle.irp_script_reader.specs.declared.refusal.Fault.{Fault}
 use Rattle.irp_script_reader.specs.declared.refusal.Fault.TheVariants.{TooMany}
 
 -- the most labels of a script
@@ -17,8 +17,7 @@ most_labels = 4096
 
 -- an ASCII letter, a digit or an underscore
 abbrev pub is_label_byte : ℕ → Bool
-is_label_byte byte =
-    (nat_le 48 byte && nat_le byte 57) || ((nat_le 65 byte && nat_le byte 90) || ((nat_le 97 byte && nat_le byte 122) || (byte == 95)))
+is_label_byte byte = is_ascii_alphanumeric byte || (byte == 95)
 
 -- 1 to 32 of these
 unfoldable pub is_label : List ℕ → Bool

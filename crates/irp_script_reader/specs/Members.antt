@@ -1,6 +1,7 @@
--- The lists of a script, and what each takes as its next member. A member's form (S4) is looked at before its rule (S5),
--- then what it names (S6, S7), then the limits (S8).
-use Rattle.std.specs.Prelude.{◌&&◌, ◌||◌, length, Bool, not, nat_lt, Option, Some, None, Result, Ok, Err}
+-- The lists of a script, and what each takes as its next member. A member's form (S4) is looked at before its rule
+-- (S5), then what it names (S6, S7), then the limits (S8).
+use Rattle.std.specs.Prelude.{◌&&◌, ◌||◌, length, Bool, not, nat_lt, Result, Ok}
+use Rattle.std.specs.Option.{ok_or}
 use Rattle.serde_json.specs.Data.{Data}
 use Rattle.irp_forms.specs.Parts.{list_at}
 use Rattle.irp_forms.specs.Values.{cancel_answer_at, handler_at, plan_at}
@@ -10,40 +11,31 @@ use Rattle.irp_script_reader.specs.Forms.{may_do, may_plan, suits_setup}
 use Rattle.irp_script_reader.specs.Labels.{label_at, place_among, with_labels}
 use Rattle.irp_script_reader.specs.Plans.{is_driver, is_plan_sound, names_known}
 use Rattle.irp_script_reader.specs.Routines.{completion_at, counted, obeys_its_rule, one_more}
-use Rattle.irp_script_reader.specs.Taking.{◌>>=◌, formed, unless, with_item}
-use Rattle.irp_script_reader.specs.declared.act.Step.{Step}
-use Rattle.irp_script_reader.specs.declared.lists.Cancels.{Cancels}
-use Rattle.irp_script_reader.specs.declared.lists.Completions.{Completions}
-use Rattle.irp_script_reader.specs.declared.lists.Dispatches.{Dispatches}
-use Rattle.irp_script_reader.specs.declared.lists.Drivers.{Drivers}
-use Rattle.irp_script_reader.specs.declared.lists.Steps.{Steps}
+use Rattle.irp_script_reader.specs.Taking.{◌>>=◌, unless, with_item}
+use Rattle.irp_script_reader.specs.declared.{act.Step.Step, lists.Cancels.Cancels, lists.Completions.Completions}
+use Rattle.irp_script_reader.specs.declared.{lists.Dispatches.Dispatches, lists.Drivers.Drivers, lists.Steps.Steps}
 use Rattle.irp_script_reader.specs.declared.refusal.Fault.{Fault}
 use Rattle.irp_script_reader.specs.declared.refusal.Fault.TheVariants.{BadField, RuleBroken, NoRoutine, BadDispatch, TooMany}
-
--- what there is, else S8
-abbrev pub in_room : {T : Type 0} → Option T → Result T Fault
-in_room (Some value) = Ok value
-in_room None = Err TooMany
 
 -- a completion routine, whose behaviours are those of its rule, and of which there is room for one more
 unfoldable pub takes_completion : Completions → Data → Result Completions Fault
 takes_completion list form = do
-  routine ← formed (completion_at form)
+  routine ← ok_or (completion_at form) BadField
   obeys ← unless (obeys_its_rule routine) RuleBroken
-  counts ← in_room (counted list.counts routine.rule)
+  counts ← ok_or (counted list.counts routine.rule) TooMany
   Ok (record { routines = with_item list.routines routine; counts = counts })
 
 -- what a cancel routine answers, where there is room for one more
 unfoldable pub takes_cancel : Cancels → Data → Result Cancels Fault
 takes_cancel list form = do
-  answer ← formed (cancel_answer_at form)
-  count ← in_room (one_more list.counts.cancel)
+  answer ← ok_or (cancel_answer_at form) BadField
+  count ← ok_or (one_more list.counts.cancel) TooMany
   Ok (record { answers = with_item list.answers answer; counts = record list.counts { cancel = count } })
 
 -- a plan that the form has, which is sound and names no routine that isn't there
 unfoldable pub takes_dispatch : Dispatches → Data → Result Dispatches Fault
 takes_dispatch list form = do
-  plan ← formed (plan_at form)
+  plan ← ok_or (plan_at form) BadField
   may ← unless (may_plan list.form plan) BadField
   sound ← unless (is_plan_sound plan) RuleBroken
   known ← unless (names_known list.known plan) NoRoutine
@@ -53,7 +45,7 @@ takes_dispatch list form = do
 -- a driver's major function codes and dispatches
 unfoldable pub takes_driver : Drivers → Data → Result Drivers Fault
 takes_driver list form = do
-  handlers ← formed (list_at handler_at form)
+  handlers ← ok_or (list_at handler_at form) BadField
   there ← unless (is_driver list.dispatches handlers) BadDispatch
   room ← unless (nat_lt (length list.tables) most_drivers) TooMany
   Ok (record { dispatches = list.dispatches; tables = with_item list.tables handlers })
@@ -66,7 +58,7 @@ may_have list step =
 -- a step, and the label that it names
 unfoldable pub takes_step : Steps → Data → Result Steps Fault
 takes_step list form = do
-  step ← formed (step_at (place_among list.labels (label_at form)) form)
+  step ← ok_or (step_at (place_among list.labels (label_at form)) form) BadField
   may ← unless (may_have list step) BadField
   labels ← with_labels list.labels (label_at form)
   Ok (record { form = list.form; seats = list.seats; in_setup = list.in_setup; labels = labels; steps = with_item list.steps step })

@@ -5,12 +5,9 @@ use Rattle.std.specs.Option.{option_map_or}
 use Rattle.irp_types.specs.Limits.{last_major}
 use Rattle.irp_types.specs.Rules.{is_known, is_watch}
 use Rattle.irp_types.specs.Status.{is_completable}
-use Rattle.irp_types.specs.declared.answer.Plan.{Plan}
+use Rattle.irp_types.specs.declared.{answer.Plan.Plan, names.CancelId.CancelId, names.DispatchId.DispatchId}
+use Rattle.irp_types.specs.declared.{routine.Known.Known, routine.Setting.Setting}
 use Rattle.irp_types.specs.declared.answer.Plan.TheVariants.{Finish, Hold, HoldSlot, Skip, Forward, ForwardPend}
-use Rattle.irp_types.specs.declared.names.CancelId.{CancelId}
-use Rattle.irp_types.specs.declared.names.DispatchId.{DispatchId}
-use Rattle.irp_types.specs.declared.routine.Known.{Known}
-use Rattle.irp_types.specs.declared.routine.Setting.{Setting}
 
 -- a plan finishes with a status that is completable; one that forwards and isn't pending sets a routine of rule watch
 abbrev pub is_plan_sound : Plan → Bool

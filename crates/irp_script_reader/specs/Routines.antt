@@ -1,40 +1,33 @@
 -- The completion routines and the cancel routines of a script.
-use Rattle.std.specs.Prelude.{ℕ, ◌+◌, ◌&&◌, List, codes, Bool, true, false, not, nat_lt, Option, Some, None, if◌then◌else◌}
+use Rattle.std.specs.Prelude.{ℕ, ◌+◌, ◌&&◌, codes, Bool, true, false, not, nat_lt, Option, Some, None, if◌then◌else◌}
+use Rattle.std.specs.Bool.{then_some}
 use Rattle.std.proofs.Common.{bytes_eq}
 use Rattle.serde_json.specs.Data.{Data, string}
 use Rattle.serde_json.specs.Find.{at, as_str}
-use Rattle.irp_forms.specs.Parts.{◌>>=◌, has_items, u64_at}
+use Rattle.irp_forms.specs.Parts.{◌>>=◌, has_items, of_items, u64_at}
 use Rattle.irp_forms.specs.Names.{rule_at}
 use Rattle.irp_forms.specs.Values.{status_at}
 use Rattle.irp_types.specs.Limits.{most_routines}
 use Rattle.irp_types.specs.Status.{is_completable}
-use Rattle.irp_types.specs.declared.routine.Known.{Known}
-use Rattle.irp_types.specs.declared.routine.Rule.{Rule}
+use Rattle.irp_types.specs.declared.{routine.Known.Known, routine.Rule.Rule}
 use Rattle.irp_types.specs.declared.routine.Rule.TheVariants.{Watch, Change, Keeper, KeepOnError, Free}
-use Rattle.irp_script_reader.specs.declared.script.Behaviour.{Behaviour}
+use Rattle.irp_script_reader.specs.declared.{script.Behaviour.Behaviour, script.CompletionRoutine.CompletionRoutine}
 use Rattle.irp_script_reader.specs.declared.script.Behaviour.TheVariants.{Continue, Keep, Replace}
-use Rattle.irp_script_reader.specs.declared.script.CompletionRoutine.{CompletionRoutine}
-
--- a behaviour that has a name
-abbrev pub behaviour_named : List ℕ → Option Behaviour
-behaviour_named name =
-    if bytes_eq name (codes "continue") then Some Continue else
-    (if bytes_eq name (codes "keep") then Some Keep else None)
 
 -- `["replace",status,information]`
-abbrev pub replace_named : List ℕ → Data → Option Behaviour
-replace_named name form = if bytes_eq name (codes "replace") then (do
+abbrev pub replace_at : Data → Option Behaviour
+replace_at form = do
+  three ← of_items 3 form
+  name ← at 0 form >>= as_str
   status ← at 1 form >>= status_at
   information ← at 2 form >>= u64_at
-  Some (Replace (record { status = status; information = information }))) else None
+  then_some (bytes_eq name (codes "replace")) (Replace (record { status = status; information = information }))
 
-abbrev pub replace_at : Data → Option Behaviour
-replace_at form =
-    if has_items 3 form then (at 0 form >>= λ first. as_str first >>= λ name. replace_named name form) else None
-
--- a behaviour
+-- a behaviour: its name, or a replacement
 unfoldable pub behaviour_at : Data → Option Behaviour
-behaviour_at (string name) = behaviour_named name
+behaviour_at (string name) =
+    if bytes_eq name (codes "continue") then Some Continue else
+    (if bytes_eq name (codes "keep") then Some Keep else None)
 behaviour_at form = replace_at form
 
 -- a completion routine: its rule, what it does on a success, and what it does else

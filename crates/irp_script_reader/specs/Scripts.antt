@@ -1,5 +1,5 @@
--- Whole scripts. The first fault is given: the text's length, whether it is JSON, its form, its keys, and then the parts in
--- order.
+-- Whole scripts. The first fault is given: the text's length, whether it is JSON, its form, its keys, and then the
+-- parts in order.
 use Rattle.std.specs.Prelude.{◌≡◌, ◌⊎◌, ℕ, ◌<◌, ◌≤◌, ◌==◌, ◌&&◌, Bool, List, [], ◌∷◌, length, codes, IsUtf8, true, false, nat_le, Option, Some, None, Result, Ok, Err, if◌then◌else◌}
 use Rattle.std.specs.Option.{ok_or, option_and_then}
 use Rattle.serde_json.specs.Data.{Data}
@@ -8,29 +8,20 @@ use Rattle.serde_json.specs.Read.{read}
 use Rattle.irp_forms.specs.Calls.{Keys}
 use Rattle.irp_forms.specs.Parts.{only_keys, u32_at}
 use Rattle.irp_types.specs.State.{no_routines}
-use Rattle.irp_types.specs.declared.routine.Known.{Known}
+use Rattle.irp_types.specs.declared.{answer.Plan.Plan, routine.Known.Known}
 use Rattle.irp_script_reader.specs.Members.{takes_cancel, takes_completion, takes_dispatch, takes_driver, takes_step}
-use Rattle.irp_script_reader.specs.Taking.{◌>>=◌, list_of}
-use Rattle.irp_script_reader.specs.declared.act.Step.{Step}
-use Rattle.irp_script_reader.specs.declared.lists.Cancels.{Cancels}
-use Rattle.irp_script_reader.specs.declared.lists.Completions.{Completions}
-use Rattle.irp_script_reader.specs.declared.lists.Dispatches.{Dispatches}
-use Rattle.irp_script_reader.specs.declared.lists.Drivers.{Drivers}
-use Rattle.irp_script_reader.specs.declared.lists.Steps.{Steps}
-use Rattle.irp_script_reader.specs.declared.read.FormKey.{FormKey}
-use Rattle.irp_script_reader.specs.declared.read.FormKey.TheVariants as keys
-use Rattle.irp_script_reader.specs.declared.refusal.Fault.{Fault}
-use Rattle.irp_script_reader.specs.declared.refusal.Fault.TheVariants.{BadField}
-use Rattle.irp_script_reader.specs.declared.refusal.ScriptFault.{ScriptFault}
-use Rattle.irp_script_reader.specs.declared.refusal.ScriptFault.TheVariants.{Refused, NoMemory}
-use Rattle.irp_script_reader.specs.declared.refusal.ScriptRefusal.{ScriptRefusal}
-use Rattle.irp_script_reader.specs.declared.refusal.ScriptRefusal.TheVariants.{TooLong, NotJson, BadForm, At}
-use Rattle.irp_script_reader.specs.declared.refusal.Section.{Section}
-use Rattle.irp_script_reader.specs.declared.refusal.Section.TheVariants as section
-use Rattle.irp_script_reader.specs.declared.script.Script.{Script}
-use Rattle.irp_script_reader.specs.declared.script.ScriptForm.{ScriptForm}
-use Rattle.irp_script_reader.specs.declared.script.ScriptForm.TheVariants as forms
+use Rattle.irp_script_reader.specs.Taking.{◌>>=◌, list_at}
+use Rattle.irp_script_reader.specs.declared.{act.Step.Step, read.FormKey.FormKey}
+use Rattle.irp_script_reader.specs.declared.lists.{Cancels.Cancels, Drivers.Drivers, Steps.Steps}
+use Rattle.irp_script_reader.specs.declared.refusal.{ScriptFault.ScriptFault, ScriptRefusal.ScriptRefusal, Section.Section}
+use Rattle.irp_script_reader.specs.declared.script.{CompletionRoutine.CompletionRoutine, Script.Script, ScriptForm.ScriptForm}
 use Rattle.irp_script_reader.specs.declared.script.ScriptParts.{ScriptParts}
+use Rattle.irp_script_reader.specs.declared.read.FormKey.TheVariants as keys
+use Rattle.irp_script_reader.specs.declared.refusal.Fault.TheVariants.{BadField}
+use Rattle.irp_script_reader.specs.declared.refusal.ScriptFault.TheVariants.{Refused, NoMemory}
+use Rattle.irp_script_reader.specs.declared.refusal.ScriptRefusal.TheVariants.{TooLong, NotJson, BadForm, At}
+use Rattle.irp_script_reader.specs.declared.refusal.Section.TheVariants as section
+use Rattle.irp_script_reader.specs.declared.script.ScriptForm.TheVariants as forms
 
 -- the form that has this number
 abbrev pub form_of : Option ℕ → Result FormKey ScriptRefusal
@@ -41,16 +32,20 @@ form_of (Some given) = if given == 1 then Ok keys.One else (if given == 2 then O
 unfoldable pub form_at : Data → Result FormKey ScriptRefusal
 form_at whole = form_of (option_and_then u32_at (get (codes "form") whole))
 
--- some where there are the keys of both forms and those beside them, and no others
-unfoldable pub its_keys : Keys → Data → Option (Unit {0})
-its_keys beside whole =
-    only_keys (codes "cancels" ∷ codes "completions" ∷ codes "dispatches" ∷ codes "drivers" ∷ codes "form" ∷ codes "locks"
-    ∷ codes "seats" ∷ codes "setup" ∷ codes "steps" ∷ beside) whole
+-- the key that a script of this form has beside those of both forms
+abbrev pub beside : FormKey → Keys
+beside keys.One = []
+beside keys.Two = codes "slots" ∷ []
 
--- the keys of a script of this form, and no others
+-- the keys of a script of this form
+abbrev pub its_keys : FormKey → Keys
+its_keys given =
+    codes "cancels" ∷ codes "completions" ∷ codes "dispatches" ∷ codes "drivers" ∷ codes "form" ∷ codes "locks"
+    ∷ codes "seats" ∷ codes "setup" ∷ codes "steps" ∷ beside given
+
+-- its keys, and no others
 unfoldable pub keys_at : FormKey → Data → Result (Unit {0}) ScriptRefusal
-keys_at keys.One whole = ok_or (its_keys [] whole) (At BadField section.Top 0)
-keys_at keys.Two whole = ok_or (its_keys (codes "slots" ∷ []) whole) (At BadField section.Top 0)
+keys_at given whole = ok_or (only_keys (its_keys given) whole) (At BadField section.Top 0)
 
 -- from the least number to 64
 abbrev pub count_of : Section → ℕ → Option ℕ → Result ℕ ScriptRefusal
@@ -66,32 +61,24 @@ unfoldable pub with_slots : FormKey → Data → Result ScriptForm ScriptRefusal
 with_slots keys.One whole = Ok forms.One
 with_slots keys.Two whole = count_at section.Slots 0 (codes "slots") whole >>= λ slots. Ok (forms.Two slots)
 
--- the list under a key that is there
-abbrev pub under : {L : Type 0} → (L → Data → Result L Fault) → Section → L → Option Data → Result L ScriptRefusal
-under takes part empty None = Err (At BadField section.Top 0)
-under takes part empty (Some form) = list_of takes part empty form
+-- the completion routines, and the cancel routines, which are counted beside them
+unfoldable pub routines_at : Data → Result (List CompletionRoutine × Cancels) ScriptRefusal
+routines_at whole = do
+  completions ← list_at takes_completion section.Completions (codes "completions")
+      (record { routines = []; counts = no_routines }) whole
+  cancels ← list_at takes_cancel section.Cancels (codes "cancels")
+      (record { answers = []; counts = completions.counts }) whole
+  Ok (completions.routines, cancels)
 
-unfoldable pub list_at : {L : Type 0} → (L → Data → Result L Fault) → Section → List ℕ → L → Data → Result L ScriptRefusal
-list_at takes part key empty whole = under takes part empty (get key whole)
-
--- the completion routines
-unfoldable pub completions_at : Data → Result Completions ScriptRefusal
-completions_at whole =
-    list_at takes_completion section.Completions (codes "completions") (record { routines = []; counts = no_routines }) whole
-
--- the cancel routines, beside so many completion routines
-unfoldable pub cancels_at : Known → Data → Result Cancels ScriptRefusal
-cancels_at counts whole =
-    list_at takes_cancel section.Cancels (codes "cancels") (record { answers = []; counts = counts }) whole
-
--- the dispatches in a script of this form, who may name so many routines
-unfoldable pub dispatches_at : ScriptForm → Known → Data → Result Dispatches ScriptRefusal
-dispatches_at form known whole =
-    list_at takes_dispatch section.Dispatches (codes "dispatches") (record { form = form; known = known; plans = [] }) whole
-
--- the drivers, who may name so many dispatches
-unfoldable pub drivers_at : ℕ → Data → Result Drivers ScriptRefusal
-drivers_at dispatches whole = list_at takes_driver section.Drivers (codes "drivers") (record { dispatches = dispatches; tables = [] }) whole
+-- the plans of the dispatches in a script of this form, who may name so many routines, and the tables of the drivers,
+-- who may name so many dispatches
+unfoldable pub tables_at : ScriptForm → Known → Data → Result (List Plan × Drivers) ScriptRefusal
+tables_at form known whole = do
+  dispatches ← list_at takes_dispatch section.Dispatches (codes "dispatches")
+      (record { form = form; known = known; plans = [] }) whole
+  drivers ← list_at takes_driver section.Drivers (codes "drivers")
+      (record { dispatches = length dispatches.plans; tables = [] }) whole
+  Ok (dispatches.plans, drivers)
 
 -- nothing read yet of `setup`, or else of `steps`, after these labels
 abbrev pub no_steps : ScriptForm → ℕ → Bool → List (List ℕ) → Steps
@@ -112,19 +99,17 @@ script_at whole = do
   seats ← count_at section.Seats 1 (codes "seats") whole
   locks ← count_at section.Locks 1 (codes "locks") whole
   form ← with_slots given whole
-  completions ← completions_at whole
-  cancels ← cancels_at completions.counts whole
-  dispatches ← dispatches_at form cancels.counts whole
-  drivers ← drivers_at (length dispatches.plans) whole
+  routines ← routines_at whole
+  tables ← tables_at form routines.1.counts whole
   steps ← steps_at form seats whole
   Ok (record {
     form = form;
     seats = seats;
     locks = locks;
-    completions = completions.routines;
-    cancels = cancels.answers;
-    dispatches = dispatches.plans;
-    drivers = drivers.tables;
+    completions = routines.0;
+    cancels = routines.1.answers;
+    dispatches = tables.0;
+    drivers = tables.1.tables;
     setup = steps.0;
     steps = steps.1.steps;
     labels = length steps.1.labels;
@@ -140,9 +125,9 @@ IsNotJson text = (whole : Data) → IsUtf8 text → read text ≡ Some whole →
 abbrev pub IsText : List ℕ → Data → Type 0
 IsText text whole = (length text ≤ 1048576) × IsUtf8 text × (read text ≡ Some whole)
 
--- A script only where its value is read. S1 only where the text is too long; S2 only where it isn't, and no value is read;
--- another refusal only where it is the first fault of the value that is read. Memory runs out only for a text that isn't
--- empty and isn't too long.
+-- A script only where its value is read. S1 only where the text is too long; S2 only where it isn't, and no value is
+-- read; another refusal only where it is the first fault of the value that is read. Memory runs out only for a text
+-- that isn't empty and isn't too long.
 abbrev pub ReadsScript : Result Script ScriptFault → List ℕ → Type 0
 ReadsScript (Ok script) text = (whole : Data) × IsText text whole × (script_at whole ≡ Ok script)
 ReadsScript (Err (Refused refusal)) text =

@@ -2,18 +2,14 @@
 use Rattle.std.specs.Prelude.{◌≡◌, ℕ, ◌+◌, ◌<◌, ◌≤◌, List, [], ◌∷◌, length, true}
 use Rattle.std.specs.List.{All}
 use Rattle.irp_types.specs.State.{no_routines}
-use Rattle.irp_types.specs.declared.answer.Plan.{Plan}
-use Rattle.irp_types.specs.declared.routine.Known.{Known}
-use Rattle.irp_types.specs.declared.routine.Rule.{Rule}
+use Rattle.irp_types.specs.declared.{answer.Plan.Plan, routine.Known.Known, routine.Rule.Rule}
 use Rattle.irp_types.specs.declared.routine.Rule.TheVariants.{Watch, Change, Keeper, KeepOnError, Free}
 use Rattle.irp_script_reader.specs.Forms.{may_do, may_plan, slots_of, suits_setup}
 use Rattle.irp_types.specs.Limits.{most_slots}
 use Rattle.irp_script_reader.specs.Plans.{is_driver, is_plan_sound, names_known}
 use Rattle.irp_script_reader.specs.Routines.{obeys_its_rule}
-use Rattle.irp_script_reader.specs.declared.act.Step.{Step}
-use Rattle.irp_script_reader.specs.declared.script.CompletionRoutine.{CompletionRoutine}
-use Rattle.irp_script_reader.specs.declared.script.ScriptForm.{ScriptForm}
-use Rattle.irp_script_reader.specs.declared.script.ScriptParts.{ScriptParts}
+use Rattle.irp_script_reader.specs.declared.{act.Step.Step, script.CompletionRoutine.CompletionRoutine}
+use Rattle.irp_script_reader.specs.declared.{script.ScriptForm.ScriptForm, script.ScriptParts.ScriptParts}
 
 -- the counts with one more completion routine of a rule
 abbrev pub with_one : Known → Rule → Known

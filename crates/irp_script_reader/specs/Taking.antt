@@ -1,15 +1,14 @@
 -- A script's lists are read member by member, each into what was read of the list before it.
 use Rattle.std.specs.Prelude.{◌≡◌, ℕ, ◌+◌, List, ◌∷◌, [], ◌++◌, Bool, Option, Some, None, Result, Ok, Err, if◌then◌else◌}
+use Rattle.std.specs.Option.{option_and_then}
 use Rattle.serde_json.specs.Data.{Data, Items, no_items, item}
-use Rattle.serde_json.specs.Find.{as_array}
-use Rattle.irp_script_reader.specs.declared.refusal.Fault.{Fault}
-use Rattle.irp_script_reader.specs.declared.refusal.Fault.TheVariants.{BadField}
-use Rattle.irp_script_reader.specs.declared.refusal.Section.{Section}
-use Rattle.irp_script_reader.specs.declared.refusal.ScriptRefusal.{ScriptRefusal}
-use Rattle.irp_script_reader.specs.declared.refusal.ScriptRefusal.TheVariants.{At}
-use Rattle.irp_script_reader.specs.declared.refusal.ScriptFault.{ScriptFault}
-use Rattle.irp_script_reader.specs.declared.refusal.ScriptFault.TheVariants as script_fault
+use Rattle.serde_json.specs.Find.{as_array, get}
+use Rattle.irp_script_reader.specs.declared.{refusal.Fault.Fault, refusal.Section.Section}
+use Rattle.irp_script_reader.specs.declared.{refusal.ScriptRefusal.ScriptRefusal, refusal.ScriptFault.ScriptFault}
 use Rattle.irp_script_reader.specs.declared.taking.Stop.{Stop}
+use Rattle.irp_script_reader.specs.declared.refusal.Fault.TheVariants.{BadField}
+use Rattle.irp_script_reader.specs.declared.refusal.ScriptRefusal.TheVariants.{At}
+use Rattle.irp_script_reader.specs.declared.refusal.ScriptFault.TheVariants as script_fault
 use Rattle.irp_script_reader.specs.declared.taking.Stop.TheVariants as stop
 
 -- go on with what there is; the first fault or refusal is the whole's
@@ -29,11 +28,6 @@ abbrev pub Tells : {T : Type 0} → Result T ScriptFault → Result T ScriptRefu
 Tells (Ok value) given = given ≡ Ok value
 Tells (Err (script_fault.Refused refusal)) given = given ≡ Err refusal
 Tells (Err script_fault.NoMemory) given = Unit {0}
-
--- what has its form, else S4
-abbrev pub formed : {T : Type 0} → Option T → Result T Fault
-formed (Some value) = Ok value
-formed None = Err BadField
 
 -- a fault, unless this holds
 abbrev pub unless : Bool → Fault → Result (Unit {0}) Fault
@@ -58,6 +52,6 @@ abbrev pub if_list : {L : Type 0} → (L → Data → Result L Fault) → Sectio
 if_list takes section empty None = Err (At BadField section 0)
 if_list takes section empty (Some members) = members_at takes section 0 empty members
 
--- a list, from nothing read of it; what is no list is S4 with the index 0
-unfoldable pub list_of : {L : Type 0} → (L → Data → Result L Fault) → Section → L → Data → Result L ScriptRefusal
-list_of takes section empty form = if_list takes section empty (as_array form)
+-- the list under a key, from nothing read of it; where there is no list it is S4 with the index 0
+unfoldable pub list_at : {L : Type 0} → (L → Data → Result L Fault) → Section → List ℕ → L → Data → Result L ScriptRefusal
+list_at takes section key empty whole = if_list takes section empty (option_and_then as_array (get key whole))

@@ -25,6 +25,7 @@ pub enum StepAct {
     Allocate { size: u8, label: usize },
     /// An act on a remove lock, in the step's own seat alone.
     OnLock(LockAct),
+    /// Hands a reference that the step's own seat has on a remove lock over to another seat (this project's own call).
     /// Only form 2 has it.
     Hand(Hand),
     /// Puts the use of a packet into a cancel slot (this project's own call). Only form 2 has it.

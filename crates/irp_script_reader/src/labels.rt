@@ -71,11 +71,14 @@ impl Labels {
         }
     }
 
-    /// These and the label, where it is none of them. The 4,097th is `TooMany`.
+    /// These and the label that a step names, where it names one that is none of them. The 4,097th is `TooMany`.
     #[tactic(auto, unfolding(crate::specs::Labels::with_label))]
-    fn with_label(self, alloc: Global, label: &str) -> Result<Labels, Stop>
-        ensures { Gives result (spec.with_label self label.now) }
+    pub fn with_label_in(self, alloc: Global, value: &Value) -> Result<Labels, Stop>
+        ensures { Gives result (spec.with_labels self (spec.label_at (view value.now))) }
     {
+        let Some(label) = label_at(value) else {
+            return Ok(self);
+        };
         if self.place_of(label) < self.len() {
             return Ok(self);
         }
@@ -91,16 +94,6 @@ impl Labels {
         }
         Ok(Labels { texts })
     }
-
-    /// These and the label that a step names, where it names one that is none of them. The 4,097th is `TooMany`.
-    pub fn with_label_in(self, alloc: Global, value: &Value) -> Result<Labels, Stop>
-        ensures { Gives result (spec.with_labels self (spec.label_at (view value.now))) }
-    {
-        match label_at(value) {
-            Some(label) => self.with_label(alloc, label),
-            None => Ok(self),
-        }
-    }
 }
 
 /// The text under `as`, or else under `irp`.
@@ -114,21 +107,13 @@ fn label_at(value: &Value) -> Option<&str>
     }
 }
 
-/// Whether a byte is an ASCII letter, a digit or an underscore.
-fn is_label_byte(byte: u8) -> bool
-    ensures { result ≡ spec.is_label_byte byte }
-{
-    (byte >= b'0' && byte <= b'9')
-        || (byte >= b'A' && byte <= b'Z')
-        || (byte >= b'a' && byte <= b'z')
-        || byte == b'_'
-}
-
-/// Whether there are no other bytes.
+/// Whether each byte is an ASCII letter, a digit or an underscore.
 fn are_label_bytes(bytes: &[u8]) -> bool
     ensures { result ≡ list_all spec.is_label_byte bytes.now }
 {
-    bytes.iter().all(|byte| is_label_byte(*byte))
+    bytes
+        .iter()
+        .all(|byte| byte.is_ascii_alphanumeric() || *byte == b'_')
 }
 
 /// Whether a text is a label: 1 to 32 ASCII letters, digits or underscores.

@@ -1,11 +1,13 @@
 //! The lists of a script, as far as they were read.
 
 ghost use Rattle.std.specs.Prelude.{◌≡◌};
+ghost use Rattle.std.specs.Option.{ok_or};
 ghost use Rattle.serde_json.specs.View.{view};
 ghost use Rattle.irp_forms.specs.Parts.{list_at};
 ghost use Rattle.irp_forms.specs.Values.{handler_at};
 ghost use Rattle.irp_script_reader.specs.Members as spec;
-ghost use Rattle.irp_script_reader.specs.Taking.{Gives, formed};
+ghost use Rattle.irp_script_reader.specs.Taking.{Gives};
+ghost use Rattle.irp_script_reader.specs.declared.refusal.Fault.TheVariants.{BadField};
 
 use crate::act::Step;
 use crate::acts::step_at;
@@ -14,7 +16,7 @@ use crate::plans::{is_driver, is_plan_sound, names_known};
 use crate::refusal::Fault;
 use crate::routines::{completion_at, counted, one_more};
 use crate::script::{CompletionRoutine, ScriptForm};
-use crate::taking::{Stop, Taking, formed, unless, with_item};
+use crate::taking::{Stop, Taking, or_fault, unless, with_item};
 use irp_forms::{FromValue, Unread, list_at};
 use irp_types::limits::{MOST_DISPATCHES, MOST_DRIVERS};
 use irp_types::{CancelAnswer, DispatchId, Known, Plan, Row};
@@ -61,13 +63,6 @@ pub struct Steps {
     pub steps: Row<Step>,
 }
 
-/// What there is, or `TooMany`.
-fn in_room<T>(room: Option<T>) -> Result<T, Stop>
-    ensures { Gives result (spec.in_room room) }
-{
-    room.ok_or(Stop::Fault(Fault::TooMany))
-}
-
 impl Taking for Completions {
     ghost takes = { spec.takes_completion };
 
@@ -75,9 +70,9 @@ impl Taking for Completions {
     /// `TooMany` where there are as many of the rule as there may be.
     #[tactic(auto, unfolding(crate::specs::Members::takes_completion))]
     fn take(self, _alloc: Global, value: &Value) -> Result<Self, Stop> {
-        let routine = formed(completion_at(value))?;
+        let routine = or_fault(completion_at(value), Fault::BadField)?;
         unless(routine.obeys_its_rule(), Fault::RuleBroken)?;
-        let counts = in_room(counted(self.counts, routine.rule))?;
+        let counts = or_fault(counted(self.counts, routine.rule), Fault::TooMany)?;
         let routines = with_item(self.routines, routine)?;
         Ok(Completions { routines, counts })
     }
@@ -89,9 +84,9 @@ impl Taking for Cancels {
     /// `BadField` where it is no cancel routine's answer, `TooMany` where there are as many as there may be.
     #[tactic(auto, unfolding(crate::specs::Members::takes_cancel))]
     fn take(self, _alloc: Global, value: &Value) -> Result<Self, Stop> {
-        let answer = formed(CancelAnswer::from_value(value))?;
+        let answer = or_fault(CancelAnswer::from_value(value), Fault::BadField)?;
         let counts = self.counts;
-        let cancel = in_room(one_more(counts.cancel))?;
+        let cancel = or_fault(one_more(counts.cancel), Fault::TooMany)?;
         let answers = with_item(self.answers, answer)?;
         Ok(Cancels {
             answers,
@@ -107,7 +102,7 @@ impl Taking for Dispatches {
     /// `NoRoutine` where it names a routine that isn't there, `TooMany` where there are as many as there may be.
     #[tactic(auto, unfolding(crate::specs::Members::takes_dispatch))]
     fn take(self, _alloc: Global, value: &Value) -> Result<Self, Stop> {
-        let plan = formed(Plan::from_value(value))?;
+        let plan = or_fault(Plan::from_value(value), Fault::BadField)?;
         let Dispatches { form, known, plans } = self;
         unless(form.may_plan(plan), Fault::BadField)?;
         unless(is_plan_sound(plan), Fault::RuleBroken)?;
@@ -120,7 +115,7 @@ impl Taking for Dispatches {
 
 /// A driver's table.
 fn table_at(alloc: Global, value: &Value) -> Result<Row<(u8, DispatchId)>, Stop>
-    ensures { Gives result (formed (list_at handler_at (view value.now))) }
+    ensures { Gives result (ok_or (list_at handler_at (view value.now)) BadField) }
 {
     match list_at(alloc, value) {
         Ok(table) => Ok(table),
@@ -163,7 +158,7 @@ impl Taking for Steps {
     /// many.
     #[tactic(auto, unfolding(crate::specs::Members::takes_step))]
     fn take(self, alloc: Global, value: &Value) -> Result<Self, Stop> {
-        let step = formed(step_at(self.labels.place_in(value), value))?;
+        let step = or_fault(step_at(self.labels.place_in(value), value), Fault::BadField)?;
         unless(self.may_have(step), Fault::BadField)?;
         let labels = self.labels.with_label_in(alloc, value)?;
         let steps = with_item(self.steps, step)?;

@@ -2,7 +2,6 @@
 
 ghost use Rattle.std.specs.Prelude.{◌≡◌, IfOk};
 ghost use Rattle.serde_json.specs.View.{view};
-ghost use Rattle.irp_forms.specs.Parts.{keys_in};
 ghost use Rattle.irp_script_reader.specs.Scripts as spec;
 ghost use Rattle.irp_script_reader.specs.Sound.{IsSound};
 ghost use Rattle.irp_script_reader.specs.Taking.{Tells};
@@ -11,10 +10,10 @@ use crate::act::Step;
 use crate::labels::Labels;
 use crate::lists::{Cancels, Completions, Dispatches, Drivers, Steps};
 use crate::refusal::{Fault, ScriptFault, ScriptRefusal, Section};
-use crate::script::{Script, ScriptForm, ScriptParts};
-use crate::taking::{Taking, list_of, refused};
+use crate::script::{CompletionRoutine, Script, ScriptForm, ScriptParts};
+use crate::taking::{list_at, refused};
 use irp_forms::{only_keys, under};
-use irp_types::{Known, Row};
+use irp_types::{Known, Plan, Row};
 use serde_json::Value;
 use std::alloc::Global;
 
@@ -42,9 +41,10 @@ fn form_at(value: &Value) -> Result<FormKey, ScriptFault>
     }
 }
 
-/// Some where it has the keys of both forms and those beside them.
-fn its_keys(beside: &[&str], value: &Value) -> Option<()>
-    ensures { result ≡ spec.its_keys (keys_in beside.now) (view value.now) }
+/// The keys of a script of this form, and no others.
+#[tactic(auto, unfolding(crate::specs::Scripts::keys_at))]
+fn keys_at(given: FormKey, value: &Value) -> Result<(), ScriptFault>
+    ensures { Tells result (spec.keys_at given (view value.now)) }
 {
     let keys = &[
         "cancels",
@@ -57,19 +57,11 @@ fn its_keys(beside: &[&str], value: &Value) -> Option<()>
         "setup",
         "steps",
     ];
-    only_keys(value, keys, beside)
-}
-
-/// The keys of a script of this form.
-#[tactic(auto, unfolding(crate::specs::Scripts::keys_at))]
-fn keys_at(given: FormKey, value: &Value) -> Result<(), ScriptFault>
-    ensures { Tells result (spec.keys_at given (view value.now)) }
-{
-    let there = match given {
-        FormKey::One => its_keys(&[], value),
-        FormKey::Two => its_keys(&["slots"], value),
-    };
-    there.ok_or(refused(Fault::BadField, Section::Top, 0))
+    let fault = refused(Fault::BadField, Section::Top, 0);
+    match given {
+        FormKey::One => only_keys(value, keys, &[]).ok_or(fault),
+        FormKey::Two => only_keys(value, keys, &["slots"]).ok_or(fault),
+    }
 }
 
 /// The number under a key, from the least one to 64.
@@ -97,75 +89,51 @@ fn with_slots(given: FormKey, value: &Value) -> Result<ScriptForm, ScriptFault>
     }
 }
 
-/// The list under a key, from nothing read of it.
-#[tactic(auto, unfolding(crate::specs::Scripts::list_at))]
-fn list_at<L: Taking + Drop>(
+/// The completion routines, and the cancel routines, which are counted beside them.
+#[tactic(auto, unfolding(crate::specs::Scripts::routines_at, crate::specs::Taking::list_at))]
+fn routines_at(
     alloc: Global,
-    section: Section,
-    key: &str,
-    empty: L,
     value: &Value,
-) -> Result<L, ScriptFault>
-    ensures { Tells result (spec.list_at L.takes section key.now empty (view value.now)) }
-{
-    match value.get(key) {
-        Some(list) => list_of(alloc, section, empty, list),
-        None => Err(refused(Fault::BadField, Section::Top, 0)),
-    }
-}
-
-/// The completion routines.
-#[tactic(auto, unfolding(crate::specs::Scripts::completions_at))]
-fn completions_at(alloc: Global, value: &Value) -> Result<Completions, ScriptFault>
-    ensures { Tells result (spec.completions_at (view value.now)) }
+) -> Result<(Row<CompletionRoutine>, Cancels), ScriptFault>
+    ensures { Tells result (spec.routines_at (view value.now)) }
 {
     let empty = Completions {
         routines: Row::from_vec(Vec::new(alloc)),
         counts: Known::NONE,
     };
-    list_at(alloc, Section::Completions, "completions", empty, value)
-}
-
-/// The cancel routines, beside so many completion routines.
-#[tactic(auto, unfolding(crate::specs::Scripts::cancels_at))]
-fn cancels_at(alloc: Global, counts: Known, value: &Value) -> Result<Cancels, ScriptFault>
-    ensures { Tells result (spec.cancels_at counts (view value.now)) }
-{
+    let completions = list_at(alloc, Section::Completions, "completions", empty, value)?;
+    let Completions { routines, counts } = completions;
     let empty = Cancels {
         answers: Row::from_vec(Vec::new(alloc)),
         counts,
     };
-    list_at(alloc, Section::Cancels, "cancels", empty, value)
+    let cancels = list_at(alloc, Section::Cancels, "cancels", empty, value)?;
+    Ok((routines, cancels))
 }
 
-/// The dispatches in a script of this form, who may name so many routines.
-#[tactic(auto, unfolding(crate::specs::Scripts::dispatches_at))]
-fn dispatches_at(
+/// The plans of the dispatches in a script of this form, who may name so many routines, and the tables of the drivers,
+/// who may name so many dispatches.
+#[tactic(auto, unfolding(crate::specs::Scripts::tables_at))]
+fn tables_at(
     alloc: Global,
     form: ScriptForm,
     known: Known,
     value: &Value,
-) -> Result<Dispatches, ScriptFault>
-    ensures { Tells result (spec.dispatches_at form known (view value.now)) }
+) -> Result<(Row<Plan>, Drivers), ScriptFault>
+    ensures { Tells result (spec.tables_at form known (view value.now)) }
 {
     let empty = Dispatches {
         form,
         known,
         plans: Row::from_vec(Vec::new(alloc)),
     };
-    list_at(alloc, Section::Dispatches, "dispatches", empty, value)
-}
-
-/// The drivers, who may name so many dispatches.
-#[tactic(auto, unfolding(crate::specs::Scripts::drivers_at))]
-fn drivers_at(alloc: Global, dispatches: usize, value: &Value) -> Result<Drivers, ScriptFault>
-    ensures { Tells result (spec.drivers_at dispatches (view value.now)) }
-{
+    let dispatches = list_at(alloc, Section::Dispatches, "dispatches", empty, value)?;
     let empty = Drivers {
-        dispatches,
+        dispatches: dispatches.plans.as_slice().len(),
         tables: Row::from_vec(Vec::new(alloc)),
     };
-    list_at(alloc, Section::Drivers, "drivers", empty, value)
+    let drivers = list_at(alloc, Section::Drivers, "drivers", empty, value)?;
+    Ok((dispatches.plans, drivers))
 }
 
 /// The steps of `setup` and those of `steps`, in a script of this form with so many seats.
@@ -208,18 +176,16 @@ fn script_at(alloc: Global, value: &Value) -> Result<ScriptParts, ScriptFault>
     let seats = count_at(Section::Seats, 1, "seats", value)?;
     let locks = count_at(Section::Locks, 1, "locks", value)?;
     let form = with_slots(given, value)?;
-    let completions = completions_at(alloc, value)?;
-    let cancels = cancels_at(alloc, completions.counts, value)?;
-    let dispatches = dispatches_at(alloc, form, cancels.counts, value)?;
-    let drivers = drivers_at(alloc, dispatches.plans.as_slice().len(), value)?;
+    let (completions, cancels) = routines_at(alloc, value)?;
+    let (dispatches, drivers) = tables_at(alloc, form, cancels.counts, value)?;
     let (setup, steps) = steps_at(alloc, form, seats, value)?;
     Ok(ScriptParts {
         form,
         seats,
         locks,
-        completions: completions.routines,
+        completions,
         cancels: cancels.answers,
-        dispatches: dispatches.plans,
+        dispatches,
         drivers: drivers.tables,
         setup,
         labels: steps.labels.len(),
@@ -244,16 +210,8 @@ pub fn read_script(alloc: Global, bytes: &[u8]) -> Result<Script, ScriptFault>
         return Err(ScriptFault::Refused(ScriptRefusal::TooLong));
     }
     match Value::from_slice(alloc, bytes) {
-        Ok(value) => {
-            let parts = script_at(alloc, &value)?;
-            Ok(Script::new(parts))
-        }
-        Err(error) => {
-            if error.is_memory() {
-                Err(ScriptFault::NoMemory)
-            } else {
-                Err(ScriptFault::Refused(ScriptRefusal::NotJson))
-            }
-        }
+        Ok(value) => Ok(Script::new(script_at(alloc, &value)?)),
+        Err(error) if error.is_memory() => Err(ScriptFault::NoMemory),
+        Err(_) => Err(ScriptFault::Refused(ScriptRefusal::NotJson)),
     }
 }

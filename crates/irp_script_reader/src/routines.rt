@@ -10,31 +10,17 @@ use irp_types::limits::MOST_ROUTINES;
 use irp_types::{Known, Replacement, Rule};
 use serde_json::Value;
 
-/// A behaviour that has a name.
-fn behaviour_named(name: &str) -> Option<Behaviour>
-    ensures { result ≡ spec.behaviour_named name.now }
-{
-    match name {
-        "continue" => Some(Behaviour::Continue),
-        "keep" => Some(Behaviour::Keep),
-        _ => None,
-    }
-}
-
 /// A replacement.
 fn replace_at(value: &Value) -> Option<Behaviour>
     ensures { result ≡ spec.replace_at (view value.now) }
 {
     of_items(value, 3)?;
-    if value.get(0).and_then(Value::as_str)? != "replace" {
-        return None;
-    }
-    let status = nth(1, value)?;
-    let information = nth(2, value)?;
-    Some(Behaviour::Replace(Replacement {
-        status,
-        information,
-    }))
+    let name = value.get(0).and_then(Value::as_str)?;
+    let replacement = Replacement {
+        status: nth(1, value)?,
+        information: nth(2, value)?,
+    };
+    (name == "replace").then_some(Behaviour::Replace(replacement))
 }
 
 /// A behaviour.
@@ -43,7 +29,11 @@ fn behaviour_at(value: &Value) -> Option<Behaviour>
     ensures { result ≡ spec.behaviour_at (view value.now) }
 {
     match value {
-        Value::String(name) => behaviour_named(name.as_str()),
+        Value::String(name) => match name.as_str() {
+            "continue" => Some(Behaviour::Continue),
+            "keep" => Some(Behaviour::Keep),
+            _ => None,
+        },
         _ => replace_at(value),
     }
 }
@@ -54,13 +44,10 @@ pub fn completion_at(value: &Value) -> Option<CompletionRoutine>
     ensures { result ≡ spec.completion_at (view value.now) }
 {
     of_items(value, 3)?;
-    let rule = nth(0, value)?;
-    let on_ok = behaviour_at(value.get(1)?)?;
-    let on_err = behaviour_at(value.get(2)?)?;
     Some(CompletionRoutine {
-        rule,
-        on_ok,
-        on_err,
+        rule: nth(0, value)?,
+        on_ok: behaviour_at(value.get(1)?)?,
+        on_err: behaviour_at(value.get(2)?)?,
     })
 }
 

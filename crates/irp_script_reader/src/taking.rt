@@ -1,12 +1,12 @@
 //! Lists of a script, read member by member.
 
 ghost use Rattle.std.specs.Prelude.{◌≡◌, Result, Ok};
+ghost use Rattle.std.specs.Option.{ok_or};
 ghost use Rattle.serde_json.specs.Data.{Data};
 ghost use Rattle.serde_json.specs.View.{view};
-ghost use Rattle.irp_script_reader.specs.declared.refusal.Fault.{Fault};
+ghost use Rattle.irp_script_reader.specs.declared.refusal.{Fault.Fault, ScriptRefusal.TheVariants.At};
 ghost use Rattle.irp_script_reader.specs.declared.refusal.ScriptFault.TheVariants.{Refused};
-ghost use Rattle.irp_script_reader.specs.declared.refusal.ScriptRefusal.TheVariants.{At};
-ghost use Rattle.irp_script_reader.specs.Taking.{Gives, Tells, formed, list_of, unless, with_item};
+ghost use Rattle.irp_script_reader.specs.Taking.{Gives, Tells, list_at, unless, with_item};
 
 use crate::refusal::{Fault, ScriptFault, ScriptRefusal, Section};
 use irp_types::Row;
@@ -31,11 +31,11 @@ pub trait Taking {
         ensures { Gives result (takes self (view value.now)) };
 }
 
-/// What was read, or `BadField` where nothing was.
-pub fn formed<T>(read: Option<T>) -> Result<T, Stop>
-    ensures { Gives result (formed read) }
+/// What there is, or the fault where there is nothing.
+pub fn or_fault<T>(given: Option<T>, fault: Fault) -> Result<T, Stop>
+    ensures { Gives result (ok_or given fault) }
 {
-    read.ok_or(Stop::Fault(Fault::BadField))
+    given.ok_or(Stop::Fault(fault))
 }
 
 /// The fault, unless this holds.
@@ -71,21 +71,23 @@ pub fn refused(fault: Fault, section: Section, index: usize) -> ScriptFault
     })
 }
 
-/// A list that a JSON value is, from nothing read of it.
+/// The list under a key, from nothing read of it.
 ///
 /// # Errors
 ///
-/// `Refused` with the first fault and its place: `BadField` at 0 where it is no list. `NoMemory` where memory runs out.
-#[tactic(auto, unfolding(crate::specs::Taking::list_of))]
-pub fn list_of<L: Taking + Drop>(
+/// `Refused` with the first fault and its place: `BadField` at 0 where there is no list. `NoMemory` where memory runs
+/// out.
+#[tactic(auto, unfolding(crate::specs::Taking::list_at))]
+pub fn list_at<L: Taking + Drop>(
     alloc: Global,
     section: Section,
+    key: &str,
     empty: L,
     value: &Value,
 ) -> Result<L, ScriptFault>
-    ensures { Tells result (list_of L.takes section empty (view value.now)) }
+    ensures { Tells result (list_at L.takes section key.now empty (view value.now)) }
 {
-    let Some(items) = value.as_array() else {
+    let Some(items) = value.get(key).and_then(|list| list.as_array()) else {
         return Err(refused(Fault::BadField, section, 0));
     };
     let mut list = empty;

@@ -3,25 +3,12 @@ use Rattle.std.specs.Prelude.{ℕ, List, [], ◌∷◌, codes, false, Option, So
 use Rattle.std.proofs.Common.{bytes_eq}
 use Rattle.serde_json.specs.Data.{Data}
 use Rattle.serde_json.specs.Find.{get, as_bool, as_str}
-use Rattle.irp_forms.specs.Parts.{◌>>=◌, or_null_at, has_keys, u8_at, u64_at}
+use Rattle.irp_forms.specs.Parts.{◌>>=◌, or_null_at, has_keys, only_keys, u8_at, u64_at}
 use Rattle.irp_forms.specs.Values.{device_at, irp_at, lock_at, status_at}
 use Rattle.irp_forms.specs.Calls.{call_named}
 use Rattle.irp_types.specs.Calls.{Call}
 use Rattle.irp_types.specs.declared.call.Call.TheVariants as calls
 use Rattle.irp_transcript_reader.specs.declared.calls.EntryCall.{EntryCall}
-
-unfoldable pub allocate_at : Data → Option Call
-allocate_at form = if has_keys (codes "do" ∷ codes "size" ∷ []) form then (do
-  size ← get (codes "size") form >>= u8_at
-  Some (calls.Allocate size)) else None
-
-unfoldable pub finish_taken_at : Data → Option Call
-finish_taken_at form = if has_keys (codes "do" ∷ codes "information" ∷ codes "irp" ∷ codes "status" ∷ codes "token" ∷ []) form then (do
-  irp ← get (codes "irp") form >>= irp_at
-  token ← get (codes "token") form >>= u64_at
-  status ← get (codes "status") form >>= status_at
-  information ← get (codes "information") form >>= u64_at
-  Some (calls.FinishTaken irp token status information)) else None
 
 -- a delete, with the entry's lock, or null, and whether that was known to be drained
 unfoldable pub delete_at : Data → Option EntryCall
@@ -34,8 +21,17 @@ delete_at form = if has_keys (codes "device" ∷ codes "do" ∷ codes "drained" 
 -- a call by its name, but for a delete: with no keys beside its own, and its packet is a reference
 abbrev pub other_call_named : List ℕ → Data → Option Call
 other_call_named name form =
-    if bytes_eq name (codes "allocate") then allocate_at form else
-    (if bytes_eq name (codes "finish_taken") then finish_taken_at form else
+    if bytes_eq name (codes "allocate") then (do
+      its ← only_keys (codes "do" ∷ codes "size" ∷ []) form
+      size ← get (codes "size") form >>= u8_at
+      Some (calls.Allocate size)) else
+    (if bytes_eq name (codes "finish_taken") then (do
+      its ← only_keys (codes "do" ∷ codes "information" ∷ codes "irp" ∷ codes "status" ∷ codes "token" ∷ []) form
+      irp ← get (codes "irp") form >>= irp_at
+      token ← get (codes "token") form >>= u64_at
+      status ← get (codes "status") form >>= status_at
+      information ← get (codes "information") form >>= u64_at
+      Some (calls.FinishTaken irp token status information)) else
     call_named name [] (get (codes "irp") form >>= irp_at) form)
 
 -- an entry's call, by the name under `do`, with the entry's lock and whether that was known to be drained, which only a

@@ -1,15 +1,14 @@
 -- What a line's JSON value reads as: an entry or a header. None where the value has another form.
 use Rattle.std.specs.Prelude.{ℕ, ◌==◌, List, [], ◌∷◌, length, codes, Option, Some, None, if◌then◌else◌}
-use Rattle.std.specs.Bool.{then_some}
 use Rattle.serde_json.specs.Data.{Data}
 use Rattle.serde_json.specs.Find.{get}
-use Rattle.irp_forms.specs.Parts.{◌>>=◌, has_keys, list_at, u32_at, u64_at, up_to}
+use Rattle.irp_forms.specs.Parts.{◌>>=◌, has_keys, list_at, only_keys, u32_at, u64_at, up_to}
+use Rattle.irp_forms.specs.Calls.{Keys}
 use Rattle.irp_forms.specs.Names.{cancel_rule_at}
 use Rattle.irp_forms.specs.Values.{completions_at, handler_at, known_at}
 use Rattle.irp_types.specs.Limits.{most_routines}
 use Rattle.irp_types.specs.declared.entry.Entry.{Entry}
-use Rattle.irp_shared.specs.declared.header.Header.{Header}
-use Rattle.irp_shared.specs.declared.header.Form.{Form}
+use Rattle.irp_shared.specs.declared.{header.Header.Header, header.Form.Form}
 use Rattle.irp_shared.specs.declared.header.Form.TheVariants as forms
 use Rattle.irp_transcript_reader.specs.Calls.{entry_call_at}
 use Rattle.irp_forms.specs.Questions.{asked_at}
@@ -37,18 +36,24 @@ entry_at form = if has_keys (codes "asked" ∷ codes "call" ∷ codes "n" ∷ co
     reply = reply;
   })) else None
 
--- the keys of a header of form 1
-unfoldable pub header_keys : List (List ℕ)
-header_keys = codes "cancels" ∷ codes "completions" ∷ codes "dispatches" ∷ codes "drivers" ∷ codes "form" ∷ codes "locks" ∷ codes "seats" ∷ []
+-- some where there are the keys of both forms and those beside them, and no others
+unfoldable pub header_keys_at : Keys → Data → Option (Unit {0})
+header_keys_at beside form =
+    only_keys (codes "cancels" ∷ codes "completions" ∷ codes "dispatches" ∷ codes "drivers" ∷ codes "form" ∷ codes "locks"
+    ∷ codes "seats" ∷ beside) form
 
--- a header's form, by its number and its keys: those of form 1; or these and `slots`, in form 2
+-- the form of a header that has this number, by its keys: form 2 has `slots`, too
+abbrev pub form_numbered : ℕ → Data → Option Form
+form_numbered number form =
+    if number == 1 then (header_keys_at [] form >>= λ its. Some forms.One) else
+    (if number == 2 then (do
+      its ← header_keys_at (codes "slots" ∷ []) form
+      slots ← get (codes "slots") form >>= u32_at
+      Some (forms.Two slots)) else None)
+
+-- a header's form, by its number and its keys
 unfoldable pub header_form_at : Data → Option Form
-header_form_at form = do
-  count ← get (codes "form") form >>= u32_at
-  if has_keys header_keys form then then_some (count == 1) forms.One else
-      (if has_keys (codes "slots" ∷ header_keys) form then (do
-        slots ← get (codes "slots") form >>= u32_at
-        then_some (count == 2) (forms.Two slots)) else None)
+header_form_at form = get (codes "form") form >>= u32_at >>= λ number. form_numbered number form
 
 -- a header: its form, the rules of at most 256 cancel routines, which it counts by their list, the other counts, what
 -- each dispatch may name, and each driver's dispatches

@@ -9,16 +9,13 @@ use Rattle.irp_forms.specs.declared.unread.Unread.TheVariants as unread
 use Rattle.irp_types.specs.declared.entry.Entry.{Entry}
 use Rattle.irp_shared.specs.Headers.{IsHeader}
 use Rattle.irp_shared.specs.Transcripts.{TranscriptValue}
-use Rattle.irp_shared.specs.declared.header.Header.{Header}
-use Rattle.irp_shared.specs.declared.header.Form.{Form}
-use Rattle.irp_shared.specs.declared.word_line.Act.{Act}
+use Rattle.irp_shared.specs.declared.{header.Header.Header, header.Form.Form, word_line.Act.Act}
 use Rattle.irp_shared.specs.declared.word_line.Act.TheVariants as acts
 use Rattle.irp_transcript_reader.specs.Forms.{has_entry, has_word}
 use Rattle.irp_transcript_reader.specs.Lines.{entry_at, header_at}
 use Rattle.irp_transcript_reader.specs.WordLines.{word_line_at}
-use Rattle.irp_transcript_reader.specs.declared.read_fault.ReadFault.{ReadFault}
+use Rattle.irp_transcript_reader.specs.declared.{read_fault.ReadFault.ReadFault, reading.Reading.Reading}
 use Rattle.irp_transcript_reader.specs.declared.read_fault.ReadFault.TheVariants as faults
-use Rattle.irp_transcript_reader.specs.declared.reading.Reading.{Reading}
 
 -- ---- values
 
@@ -127,8 +124,8 @@ RunsOutAt zero before (line ∷ others) = TakesMemory line
 RunsOutAt (suc place) before (line ∷ others) = (between : TranscriptValue) × Takes before line between × RunsOutAt place between others
 
 -- what is read from the rest, after so many lines that made this transcript: the transcript of all lines, where each is
--- taken and has its newline; or the number, from 1, of the first line that isn't taken; or that memory ran out at a line
--- behind lines that are taken
+-- taken and has its newline; or the number, from 1, of the first line that isn't taken; or that memory ran out at a
+-- line behind lines that are taken
 abbrev pub ReadsFrom : TranscriptValue → ℕ → Result TranscriptValue ReadFault → List (List ℕ) × List ℕ → Type 0
 ReadsFrom before count (Ok transcript) text = (text.1 ≡ []) × TakesAll before text.0 transcript
 ReadsFrom before count (Err (faults.Line line)) text = (place : ℕ) × (line ≡ count + place + 1) × RefusedAt place before text

@@ -1,17 +1,16 @@
 -- What a JSON value reads as: what a call was answered. None where the value has another form.
-use Rattle.std.specs.Prelude.{[], ◌∷◌, codes, Option, Some, None, if◌then◌else◌}
+use Rattle.std.specs.Prelude.{[], ◌∷◌, codes, Option, Some, None, option_map, if◌then◌else◌}
 use Rattle.std.specs.Bool.{then_some}
 use Rattle.std.proofs.Common.{bytes_eq}
 use Rattle.serde_json.specs.Data.{Data, string}
-use Rattle.serde_json.specs.Find.{at, get, as_bool}
+use Rattle.serde_json.specs.Find.{at, as_bool}
+use Rattle.irp_forms.specs.Fields.{field}
 use Rattle.irp_forms.specs.Names.{refusal_at}
 use Rattle.irp_forms.specs.Parts.{◌>>=◌, or_null_at, has_items, has_keys, u32_at, u64_at}
 use Rattle.irp_forms.specs.Values.{cancel_at, device_at, irp_at, status_at}
-use Rattle.irp_types.specs.declared.location.Owner.{Owner}
+use Rattle.irp_types.specs.declared.{location.Owner.Owner, reply.Reply.Reply, reply.Seen.Seen}
 use Rattle.irp_types.specs.declared.location.Owner.TheVariants as owners
-use Rattle.irp_types.specs.declared.reply.Reply.{Reply}
 use Rattle.irp_types.specs.declared.reply.Reply.TheVariants as replies
-use Rattle.irp_types.specs.declared.reply.Seen.{Seen}
 
 -- an owner: "o" for the originator, "ended", or the device's number
 unfoldable pub owner_at : Data → Option Owner
@@ -45,13 +44,13 @@ seen_at form = if has_items 8 form then (do
 -- a reply that has a value, which stands under its name
 unfoldable pub valued_reply_at : Data → Option Reply
 valued_reply_at form =
-    if has_keys (codes "device" ∷ []) form then (get (codes "device") form >>= device_at >>= λ device. Some (replies.Device device)) else
-    (if has_keys (codes "irp" ∷ []) form then (get (codes "irp") form >>= irp_at >>= λ irp. Some (replies.Irp irp)) else
-    (if has_keys (codes "previous" ∷ []) form then (get (codes "previous") form >>= or_null_at cancel_at >>= λ cancel. Some (replies.Previous cancel)) else
-    (if has_keys (codes "status" ∷ []) form then (get (codes "status") form >>= status_at >>= λ status. Some (replies.Status status)) else
-    (if has_keys (codes "cancelled" ∷ []) form then (get (codes "cancelled") form >>= as_bool >>= λ cancelled. Some (replies.Cancelled cancelled)) else
-    (if has_keys (codes "seen" ∷ []) form then (get (codes "seen") form >>= seen_at >>= λ seen. Some (replies.Seen seen)) else
-    (if has_keys (codes "refused" ∷ []) form then (get (codes "refused") form >>= refusal_at >>= λ refusal. Some (replies.Refused refusal)) else None))))))
+    if has_keys (codes "device" ∷ []) form then option_map replies.Device (field (codes "device") device_at form) else
+    (if has_keys (codes "irp" ∷ []) form then option_map replies.Irp (field (codes "irp") irp_at form) else
+    (if has_keys (codes "previous" ∷ []) form then option_map replies.Previous (field (codes "previous") (or_null_at cancel_at) form) else
+    (if has_keys (codes "status" ∷ []) form then option_map replies.Status (field (codes "status") status_at form) else
+    (if has_keys (codes "cancelled" ∷ []) form then option_map replies.Cancelled (field (codes "cancelled") as_bool form) else
+    (if has_keys (codes "seen" ∷ []) form then option_map replies.Seen (field (codes "seen") seen_at form) else
+    (if has_keys (codes "refused" ∷ []) form then option_map replies.Refused (field (codes "refused") refusal_at form) else None))))))
 
 -- a reply: its name, or its one value under its name
 unfoldable pub reply_at : Data → Option Reply

@@ -1,17 +1,16 @@
--- What a JSON value reads as: a step on a remove lock or a cancel slot, and what it was answered. None where the value has
--- another form.
-use Rattle.std.specs.Prelude.{ℕ, List, [], ◌∷◌, ◌==◌, codes, Option, Some, None, if◌then◌else◌}
+-- What a JSON value reads as: a step on a remove lock or a cancel slot, and what it was answered. None where the value
+-- has another form.
+use Rattle.std.specs.Prelude.{ℕ, List, [], ◌∷◌, ◌==◌, codes, Option, Some, None, option_map, if◌then◌else◌}
 use Rattle.std.proofs.Common.{bytes_eq}
 use Rattle.serde_json.specs.Data.{Data, string}
 use Rattle.serde_json.specs.Find.{get, as_str}
 use Rattle.irp_forms.specs.Parts.{◌>>=◌, has_keys, u32_at, u64_at}
 use Rattle.irp_forms.specs.Calls.{Keys}
+use Rattle.irp_forms.specs.Fields.{field}
 use Rattle.irp_forms.specs.SeatActs.{hand_at, lock_act_named, slot_alone_at}
 use Rattle.irp_types.specs.declared.seat_act.SlotAct.TheVariants.{Publish, Withdraw, Request}
-use Rattle.irp_shared.specs.declared.word_line.Act.{Act}
+use Rattle.irp_shared.specs.declared.{word_line.Act.Act, word_line.WordLine.WordLine, word_line.WordReply.WordReply}
 use Rattle.irp_shared.specs.declared.word_line.Act.TheVariants as acts
-use Rattle.irp_shared.specs.declared.word_line.WordLine.{WordLine}
-use Rattle.irp_shared.specs.declared.word_line.WordReply.{WordReply}
 use Rattle.irp_shared.specs.declared.word_line.WordReply.TheVariants as word_replies
 
 -- a step's answer by its name: those of remove locks, then those of cancel slots
@@ -41,8 +40,8 @@ word_status status =
 unfoldable pub valued_reply_at : Data → Option WordReply
 valued_reply_at form =
     if has_keys (codes "status" ∷ []) form then get (codes "status") form >>= u32_at >>= word_status else
-    (if has_keys (codes "busy" ∷ []) form then (get (codes "busy") form >>= u64_at >>= λ word. Some (word_replies.Busy word)) else
-    (if has_keys (codes "taken" ∷ []) form then (get (codes "taken") form >>= u64_at >>= λ use_no. Some (word_replies.Taken use_no)) else None))
+    (if has_keys (codes "busy" ∷ []) form then option_map word_replies.Busy (field (codes "busy") u64_at form) else
+    (if has_keys (codes "taken" ∷ []) form then option_map word_replies.Taken (field (codes "taken") u64_at form) else None))
 
 -- what a step was answered: its name, or its one value under its name
 unfoldable pub word_reply_at : Data → Option WordReply
@@ -56,12 +55,12 @@ beside = codes "reply" ∷ codes "seat" ∷ codes "step" ∷ []
 -- what a step did, by its name
 unfoldable pub act_named : List ℕ → Data → Option Act
 act_named name form =
-    if bytes_eq name (codes "hand") then (hand_at beside form >>= λ hand. Some (acts.Hand hand)) else
-    (if bytes_eq name (codes "publish") then (slot_alone_at beside form >>= λ slot. Some (acts.OnSlot (Publish slot))) else
-    (if bytes_eq name (codes "withdraw") then (slot_alone_at beside form >>= λ slot. Some (acts.OnSlot (Withdraw slot))) else
-    (if bytes_eq name (codes "request") then (slot_alone_at beside form >>= λ slot. Some (acts.OnSlot (Request slot))) else
-    (if bytes_eq name (codes "finish_taken") then (slot_alone_at beside form >>= λ slot. Some (acts.FinishTaken slot)) else
-    (lock_act_named name beside form >>= λ on. Some (acts.OnLock on))))))
+    if bytes_eq name (codes "hand") then option_map acts.Hand (hand_at beside form) else
+    (if bytes_eq name (codes "publish") then option_map (λ slot. acts.OnSlot (Publish slot)) (slot_alone_at beside form) else
+    (if bytes_eq name (codes "withdraw") then option_map (λ slot. acts.OnSlot (Withdraw slot)) (slot_alone_at beside form) else
+    (if bytes_eq name (codes "request") then option_map (λ slot. acts.OnSlot (Request slot)) (slot_alone_at beside form) else
+    (if bytes_eq name (codes "finish_taken") then option_map acts.FinishTaken (slot_alone_at beside form) else
+    option_map acts.OnLock (lock_act_named name beside form)))))
 
 -- a word line: what the step did, by the name under `do`, what it was answered, its seat and its place
 unfoldable pub word_line_at : Data → Option WordLine

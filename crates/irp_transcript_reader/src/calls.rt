@@ -16,30 +16,6 @@ pub struct EntryCall {
     pub drained: bool,
 }
 
-/// A call that allocates a packet.
-#[tactic(auto, unfolding(crate::specs::Calls::allocate_at))]
-fn allocate_at(value: &Value) -> Option<Call>
-    ensures { result ≡ spec.allocate_at (view value.now) }
-{
-    only_keys(value, &["do", "size"], &[])?;
-    let size = under("size", value)?;
-    Some(Call::Allocate { size })
-}
-
-/// A call that finishes a packet which was taken from a cancel slot.
-#[tactic(auto, unfolding(crate::specs::Calls::finish_taken_at))]
-fn finish_taken_at(value: &Value) -> Option<Call>
-    ensures { result ≡ spec.finish_taken_at (view value.now) }
-{
-    only_keys(value, &["do", "information", "irp", "status", "token"], &[])?;
-    Some(Call::FinishTaken {
-        irp: under("irp", value)?,
-        token: under("token", value)?,
-        status: under("status", value)?,
-        information: under("information", value)?,
-    })
-}
-
 /// A delete, with the entry's lock, or null, and whether that was known to be drained.
 #[tactic(auto, unfolding(crate::specs::Calls::delete_at))]
 fn delete_at(value: &Value) -> Option<EntryCall>
@@ -62,8 +38,20 @@ pub fn entry_call_at(value: &Value) -> Option<EntryCall>
     let name = value.get("do").and_then(Value::as_str)?;
     let call = match name {
         "delete" => return delete_at(value),
-        "allocate" => allocate_at(value)?,
-        "finish_taken" => finish_taken_at(value)?,
+        "allocate" => {
+            only_keys(value, &["do", "size"], &[])?;
+            let size = under("size", value)?;
+            Call::Allocate { size }
+        }
+        "finish_taken" => {
+            only_keys(value, &["do", "information", "irp", "status", "token"], &[])?;
+            Call::FinishTaken {
+                irp: under("irp", value)?,
+                token: under("token", value)?,
+                status: under("status", value)?,
+                information: under("information", value)?,
+            }
+        }
         _ => call_named(name, &[], under("irp", value), value)?,
     };
     Some(EntryCall {

@@ -2,10 +2,10 @@
 
 ghost use Rattle.std.specs.Prelude.{◌≡◌};
 ghost use Rattle.serde_json.specs.View.{view};
-ghost use Rattle.irp_forms.specs.Parts.{Gives};
+ghost use Rattle.irp_forms.specs.Parts.{Gives, keys_in};
 ghost use Rattle.irp_transcript_reader.specs.Lines as spec;
 
-use irp_forms::{FromJson, Unread, completions_at, form_of, has_keys, list_at, under};
+use irp_forms::{FromJson, Unread, completions_at, form_of, list_at, only_keys, under};
 use irp_shared::{Form, Header};
 use irp_types::limits::MOST_ROUTINES;
 use irp_types::{Known, Row};
@@ -13,6 +13,10 @@ use serde_json::Value;
 use std::alloc::Global;
 
 /// The list under a key.
+///
+/// # Errors
+///
+/// `Unread::Form` where there is no such key, or no list of these forms; `Unread::NoMemory` where memory runs out.
 pub fn list_under<T: FromJson + Drop>(
     alloc: Global,
     key: &str,
@@ -23,14 +27,11 @@ pub fn list_under<T: FromJson + Drop>(
     list_at(alloc, form_of(value.get(key))?)
 }
 
-/// A header's form, by its number and its keys; form 2 has its cancel slots.
-#[tactic(auto, unfolding(crate::specs::Lines::header_form_at))]
-fn header_form_at(value: &Value) -> Option<Form>
-    ensures { result ≡ spec.header_form_at (view value.now) }
+/// Some where it is an object with exactly the keys of both forms and those beside them; else none.
+fn header_keys_at(beside: &[&str], value: &Value) -> Option<()>
+    ensures { result ≡ spec.header_keys_at (keys_in beside.now) (view value.now) }
 {
-    let number: u32 = under("form", value)?;
     let keys = &[
-        "slots",
         "cancels",
         "completions",
         "dispatches",
@@ -39,13 +40,22 @@ fn header_form_at(value: &Value) -> Option<Form>
         "locks",
         "seats",
     ];
-    if has_keys(value, &keys[1..]) {
-        (number == 1).then_some(Form::One)
-    } else if has_keys(value, keys) {
-        let slots = under("slots", value)?;
-        (number == 2).then_some(Form::Two { slots })
-    } else {
-        None
+    only_keys(value, keys, beside)
+}
+
+/// A header's form, by its number and its keys; form 2 has its cancel slots.
+#[tactic(auto, unfolding(crate::specs::Lines::header_form_at))]
+fn header_form_at(value: &Value) -> Option<Form>
+    ensures { result ≡ spec.header_form_at (view value.now) }
+{
+    match under::<u32>("form", value)? {
+        1 => header_keys_at(&[], value).map(|_| Form::One),
+        2 => {
+            header_keys_at(&["slots"], value)?;
+            let slots = under("slots", value)?;
+            Some(Form::Two { slots })
+        }
+        _ => None,
     }
 }
 

@@ -38,8 +38,8 @@ fn valued_reply_at(value: &Value) -> Option<WordReply>
     ensures { result ≡ spec.valued_reply_at (view value.now) }
 {
     if has_keys(value, &["status"]) {
-        match under("status", value)? {
-            0u32 => Some(WordReply::Acquired),
+        match under::<u32>("status", value)? {
+            0 => Some(WordReply::Acquired),
             0xc0000056 => Some(WordReply::DeletePending),
             _ => None,
         }
@@ -71,20 +71,13 @@ fn act_named(name: &str, value: &Value) -> Option<Act>
     ensures { result ≡ spec.act_named name.now (view value.now) }
 {
     let beside = &["reply", "seat", "step"];
+    let slot = slot_alone_at(beside, value);
     match name {
         "hand" => Some(Act::Hand(hand_at(beside, value)?)),
-        "publish" => Some(Act::OnSlot(SlotAct::Publish {
-            slot: slot_alone_at(beside, value)?,
-        })),
-        "withdraw" => Some(Act::OnSlot(SlotAct::Withdraw {
-            slot: slot_alone_at(beside, value)?,
-        })),
-        "request" => Some(Act::OnSlot(SlotAct::Request {
-            slot: slot_alone_at(beside, value)?,
-        })),
-        "finish_taken" => Some(Act::FinishTaken {
-            slot: slot_alone_at(beside, value)?,
-        }),
+        "publish" => Some(Act::OnSlot(SlotAct::Publish { slot: slot? })),
+        "withdraw" => Some(Act::OnSlot(SlotAct::Withdraw { slot: slot? })),
+        "request" => Some(Act::OnSlot(SlotAct::Request { slot: slot? })),
+        "finish_taken" => Some(Act::FinishTaken { slot: slot? }),
         _ => Some(Act::OnLock(lock_act_named(name, beside, value)?)),
     }
 }

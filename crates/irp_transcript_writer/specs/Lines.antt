@@ -4,45 +4,28 @@ use Rattle.std.specs.List.{flat_map}
 use Rattle.serde_json.specs.Data.{Data, boolean, string}
 use Rattle.irp_forms.specs.Names.{answer_name, cancel_rule_name, flagged, flags_name, refusal_name, rule_name}
 use Rattle.irp_transcript_writer.specs.Json.{natural, list, fields, or_null, line_text}
-use Rattle.irp_types.specs.declared.answer.Answer.{Answer}
-use Rattle.irp_types.specs.declared.answer.CancelAnswer.{CancelAnswer}
+use Rattle.irp_types.specs.declared.{answer.Answer.Answer, answer.CancelAnswer.CancelAnswer, answer.Plan.Plan}
+use Rattle.irp_types.specs.declared.{answer.Replacement.Replacement, asked.Asked.Asked, call.Party.Party}
+use Rattle.irp_types.specs.declared.{entry.Entry.Entry, location.Owner.Owner, names.CancelId.CancelId}
+use Rattle.irp_types.specs.declared.{names.DeviceId.DeviceId, names.DispatchId.DispatchId, names.IrpRef.IrpRef}
+use Rattle.irp_types.specs.declared.{names.LockNo.LockNo, reply.Reply.Reply, reply.Seen.Seen}
+use Rattle.irp_types.specs.declared.{routine.CancelRule.CancelRule, routine.Known.Known, routine.RoutineId.RoutineId}
+use Rattle.irp_types.specs.declared.{routine.Setting.Setting, shown.Shown.Shown, status.Status.Status}
 use Rattle.irp_types.specs.declared.answer.CancelAnswer.TheVariants as cancel_answer
-use Rattle.irp_types.specs.declared.answer.Plan.{Plan}
 use Rattle.irp_types.specs.declared.answer.Plan.TheVariants as plan
-use Rattle.irp_types.specs.declared.answer.Replacement.{Replacement}
-use Rattle.irp_types.specs.declared.asked.Asked.{Asked}
 use Rattle.irp_types.specs.declared.asked.Asked.TheVariants as asked
 use Rattle.irp_types.specs.Calls.{Call}
 use Rattle.irp_types.specs.declared.call.Call.TheVariants as call
-use Rattle.irp_types.specs.declared.call.Party.{Party}
 use Rattle.irp_types.specs.declared.call.Party.TheVariants as party
-use Rattle.irp_types.specs.declared.entry.Entry.{Entry}
-use Rattle.irp_types.specs.declared.location.Owner.{Owner}
 use Rattle.irp_types.specs.declared.location.Owner.TheVariants as owner
-use Rattle.irp_types.specs.declared.names.CancelId.{CancelId}
-use Rattle.irp_types.specs.declared.names.DeviceId.{DeviceId}
-use Rattle.irp_types.specs.declared.names.DispatchId.{DispatchId}
-use Rattle.irp_types.specs.declared.names.IrpRef.{IrpRef}
-use Rattle.irp_types.specs.declared.names.LockNo.{LockNo}
-use Rattle.irp_types.specs.declared.reply.Reply.{Reply}
 use Rattle.irp_types.specs.declared.reply.Reply.TheVariants as reply
-use Rattle.irp_types.specs.declared.reply.Seen.{Seen}
-use Rattle.irp_types.specs.declared.routine.CancelRule.{CancelRule}
-use Rattle.irp_types.specs.declared.routine.Known.{Known}
-use Rattle.irp_types.specs.declared.routine.RoutineId.{RoutineId}
-use Rattle.irp_types.specs.declared.routine.Setting.{Setting}
 use Rattle.irp_types.specs.declared.seat_act.LockAct.TheVariants as on_lock
 use Rattle.irp_types.specs.declared.seat_act.SlotAct.TheVariants as on_slot
-use Rattle.irp_types.specs.declared.shown.Shown.{Shown}
-use Rattle.irp_types.specs.declared.status.Status.{Status}
 use Rattle.irp_shared.specs.Transcripts.{TranscriptValue}
-use Rattle.irp_shared.specs.declared.header.Header.{Header}
-use Rattle.irp_shared.specs.declared.header.Form.{Form}
+use Rattle.irp_shared.specs.declared.{header.Header.Header, header.Form.Form, word_line.Act.Act}
+use Rattle.irp_shared.specs.declared.{word_line.WordLine.WordLine, word_line.WordReply.WordReply}
 use Rattle.irp_shared.specs.declared.header.Form.TheVariants as form
-use Rattle.irp_shared.specs.declared.word_line.Act.{Act}
 use Rattle.irp_shared.specs.declared.word_line.Act.TheVariants as act
-use Rattle.irp_shared.specs.declared.word_line.WordLine.{WordLine}
-use Rattle.irp_shared.specs.declared.word_line.WordReply.{WordReply}
 use Rattle.irp_shared.specs.declared.word_line.WordReply.TheVariants as word_reply
 
 -- a device by its number
@@ -132,17 +115,17 @@ asked_json (asked.Completion id shown answer) =
 asked_json (asked.Cancel id shown answer) =
     fields ((codes "answer", cancel_answer_json answer) ∷ (codes "cancel", cancel_json id) ∷ (codes "shown", shown_json shown) ∷ [])
 
--- a call on a packet that names nothing else, by its name
-abbrev pub irp_call_json : List ℕ → IrpRef → Data
-irp_call_json word irp = fields ((codes "do", string word) ∷ (codes "irp", irp_json irp) ∷ [])
+-- a call on a packet, by its name and what it names behind the packet
+abbrev pub irp_call_json : List ℕ → IrpRef → List (List ℕ × Data) → Data
+irp_call_json word irp others = fields ((codes "do", string word) ∷ (codes "irp", irp_json irp) ∷ others)
 
--- a call of a party on its packet that names nothing else, by its name
-abbrev pub party_call_json : List ℕ → Party → IrpRef → Data
-party_call_json word party irp =
-    fields ((codes "by", party_json party) ∷ (codes "do", string word) ∷ (codes "irp", irp_json irp) ∷ [])
+-- a call of a party on its packet, by its name and what it names behind the packet
+abbrev pub party_call_json : List ℕ → Party → IrpRef → List (List ℕ × Data) → Data
+party_call_json word party irp others =
+    fields ((codes "by", party_json party) ∷ (codes "do", string word) ∷ (codes "irp", irp_json irp) ∷ others)
 
--- an entry's call: its name as `do` and its arguments, for a delete also the entry's lock, or null, and whether that was
--- known to be drained
+-- an entry's call: its name as `do` and its arguments, for a delete also the entry's lock, or null, and whether that
+-- was known to be drained
 abbrev pub call_json : Call → Option LockNo → Bool → Data
 call_json (call.CreateDevice driver lock) _ _ =
     fields ((codes "do", string (codes "create_device")) ∷ (codes "driver", natural driver.0) ∷ (codes "lock", lock_json lock) ∷ [])
@@ -153,21 +136,17 @@ call_json (call.Delete device) lock drained =
     fields ((codes "device", device_json device) ∷ (codes "do", string (codes "delete")) ∷ (codes "drained", boolean drained)
     ∷ (codes "lock", or_null lock_json lock) ∷ [])
 call_json (call.Allocate size) _ _ = fields ((codes "do", string (codes "allocate")) ∷ (codes "size", natural size) ∷ [])
-call_json (call.Free irp) _ _ = irp_call_json (codes "free") irp
-call_json (call.Reuse irp status) _ _ =
-    fields ((codes "do", string (codes "reuse")) ∷ (codes "irp", irp_json irp) ∷ (codes "status", status_json status) ∷ [])
+call_json (call.Free irp) _ _ = irp_call_json (codes "free") irp []
+call_json (call.Reuse irp status) _ _ = irp_call_json (codes "reuse") irp ((codes "status", status_json status) ∷ [])
 call_json (call.SetNext party irp major word) _ _ =
-    fields ((codes "by", party_json party) ∷ (codes "do", string (codes "set_next")) ∷ (codes "irp", irp_json irp)
-    ∷ (codes "major", natural major) ∷ (codes "word", natural word) ∷ [])
-call_json (call.CopyToNext party irp) _ _ = party_call_json (codes "copy_to_next") party irp
-call_json (call.Skip party irp) _ _ = party_call_json (codes "skip") party irp
+    party_call_json (codes "set_next") party irp ((codes "major", natural major) ∷ (codes "word", natural word) ∷ [])
+call_json (call.CopyToNext party irp) _ _ = party_call_json (codes "copy_to_next") party irp []
+call_json (call.Skip party irp) _ _ = party_call_json (codes "skip") party irp []
 call_json (call.SetRoutine party irp setting) _ _ =
-    fields ((codes "by", party_json party) ∷ (codes "do", string (codes "set_routine")) ∷ (codes "irp", irp_json irp)
-    ∷ (codes "set", setting_json setting) ∷ [])
-call_json (call.MarkPending party irp) _ _ = party_call_json (codes "mark_pending") party irp
+    party_call_json (codes "set_routine") party irp ((codes "set", setting_json setting) ∷ [])
+call_json (call.MarkPending party irp) _ _ = party_call_json (codes "mark_pending") party irp []
 call_json (call.CallDriver party irp target) _ _ =
-    fields ((codes "by", party_json party) ∷ (codes "do", string (codes "call_driver")) ∷ (codes "irp", irp_json irp)
-    ∷ (codes "target", device_json target) ∷ [])
+    party_call_json (codes "call_driver") party irp ((codes "target", device_json target) ∷ [])
 call_json (call.Complete party irp status information) _ _ =
     fields ((codes "by", party_json party) ∷ (codes "do", string (codes "complete")) ∷ (codes "information", natural information)
     ∷ (codes "irp", irp_json irp) ∷ (codes "status", status_json status) ∷ [])
@@ -177,8 +156,8 @@ call_json (call.FinishTaken irp token status information) _ _ =
 call_json (call.SetCancelRoutine party irp cancel) _ _ =
     fields ((codes "by", party_json party) ∷ (codes "cancel", or_null cancel_json cancel)
     ∷ (codes "do", string (codes "set_cancel_routine")) ∷ (codes "irp", irp_json irp) ∷ [])
-call_json (call.Cancel irp) _ _ = irp_call_json (codes "cancel") irp
-call_json (call.Look irp) _ _ = irp_call_json (codes "look") irp
+call_json (call.Cancel irp) _ _ = irp_call_json (codes "cancel") irp []
+call_json (call.Look irp) _ _ = irp_call_json (codes "look") irp []
 
 -- what Look shows of a packet
 abbrev pub seen_json : Seen → Data

@@ -2,9 +2,8 @@
 use Rattle.std.specs.Prelude.{◌≡◌, ℕ, ◌+◌, ◌-◌, ◌<◌, ◌^◌, min, List, ◌++◌, length, Option, Result, Ok, Err}
 use Rattle.std.specs.Io.KnownBytes.{Appends}
 use Rattle.irp_transcript_writer.specs.Out.{risen}
-use Rattle.irp_transcript_writer.specs.declared.write.Cause.{Cause}
+use Rattle.irp_transcript_writer.specs.declared.{write.Cause.Cause, write.WriteFault.WriteFault}
 use Rattle.irp_transcript_writer.specs.declared.write.Cause.TheVariants.{Io, Memory}
-use Rattle.irp_transcript_writer.specs.declared.write.WriteFault.{WriteFault}
 
 -- a number of bytes, counted up to the greatest `u64`
 abbrev pub told : ℕ → ℕ

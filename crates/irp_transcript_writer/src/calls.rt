@@ -69,7 +69,7 @@ fn put_complete(
 {
     put(out, "{\"by\":", &party)?;
     put(out, ",\"do\":\"complete\",\"information\":", &information)?;
-    put_two(out, ",\"irp\":", &irp, ",\"status\":", &status.0, "}")
+    put_two(out, ",\"irp\":", &irp, ",\"status\":", &status, "}")
 }
 
 /// Writes a call that completes a packet which was taken from a cancel slot.
@@ -86,7 +86,7 @@ fn put_finish_taken(
     put_text(out, "{\"do\":\"finish_taken\"")?;
     put(out, ",\"information\":", &information)?;
     put(out, ",\"irp\":", &irp)?;
-    put_two(out, ",\"status\":", &status.0, ",\"token\":", &token, "}")
+    put_two(out, ",\"status\":", &status, ",\"token\":", &token, "}")
 }
 
 /// Writes a call that sends a packet.
@@ -181,7 +181,7 @@ pub fn put_call(
         Call::Free { irp } => put_one(out, "{\"do\":\"free\",\"irp\":", &irp, "}"),
         Call::Reuse { irp, status } => {
             put(out, "{\"do\":\"reuse\",\"irp\":", &irp)?;
-            put_one(out, ",\"status\":", &status.0, "}")
+            put_one(out, ",\"status\":", &status, "}")
         }
         Call::FinishTaken {
             irp,

@@ -49,7 +49,7 @@ impl Written for Reply {
             Reply::Done => put_text(out, "\"done\""),
             Reply::Device(device) => put_one(out, "{\"device\":", &device, "}"),
             Reply::Irp(irp) => put_one(out, "{\"irp\":", &irp, "}"),
-            Reply::Status(status) => put_one(out, "{\"status\":", &status.0, "}"),
+            Reply::Status(status) => put_one(out, "{\"status\":", &status, "}"),
             Reply::Previous(cancel) => put_one(out, "{\"previous\":", &cancel, "}"),
             Reply::Cancelled(cancelled) => put_one(out, "{\"cancelled\":", &cancelled, "}"),
             Reply::Seen(seen) => put_one(out, "{\"seen\":", &seen, "}"),

@@ -7,7 +7,7 @@ use crate::form::{Written, put, put_list, put_one, put_text, put_two};
 use crate::names::{letters_of_flags, name_of_answer};
 use irp_types::{
     Answer, CancelAnswer, CancelId, DeviceId, DispatchId, IrpRef, Known, LockNo, Owner, Party,
-    Plan, Replacement, RoutineId, Seen, Setting, Shown,
+    Plan, Replacement, RoutineId, Seen, Setting, Shown, Status,
 };
 use std::alloc::AllocError;
 
@@ -29,6 +29,14 @@ impl Written for CancelId {
 
 impl Written for LockNo {
     ghost json = { spec.lock_json };
+
+    fn write(&self, out: &mut Vec<u8>) -> Result<(), AllocError> {
+        self.0.write(out)
+    }
+}
+
+impl Written for Status {
+    ghost json = { spec.status_json };
 
     fn write(&self, out: &mut Vec<u8>) -> Result<(), AllocError> {
         self.0.write(out)
@@ -95,7 +103,7 @@ impl Written for Plan {
             Plan::Finish {
                 status,
                 information,
-            } => put_two(out, "[\"finish\",", &status.0, ",", &information, "]"),
+            } => put_two(out, "[\"finish\",", &status, ",", &information, "]"),
             Plan::Hold { cancel } => put_one(out, "[\"hold\",", &cancel, "]"),
             Plan::HoldSlot => put_text(out, "[\"hold_slot\"]"),
             Plan::Skip => put_text(out, "[\"skip\"]"),
@@ -109,7 +117,7 @@ impl Written for Replacement {
     ghost json = { spec.replacement_json };
 
     fn write(&self, out: &mut Vec<u8>) -> Result<(), AllocError> {
-        put_two(out, "[", &self.status.0, ",", &self.information, "]")
+        put_two(out, "[", &self.status, ",", &self.information, "]")
     }
 }
 
@@ -144,7 +152,7 @@ impl Written for Shown {
         put(out, ",", &self.major)?;
         put(out, ",", &self.location)?;
         put(out, ",", &self.word)?;
-        put(out, ",", &self.status.0)?;
+        put(out, ",", &self.status)?;
         put(out, ",", &self.information)?;
         put(out, ",", &self.pending_returned)?;
         put(out, ",", &self.cancel)?;
@@ -158,7 +166,7 @@ impl Written for Seen {
     fn write(&self, out: &mut Vec<u8>) -> Result<(), AllocError> {
         put(out, "[", &self.owner)?;
         put(out, ",", &self.current)?;
-        put(out, ",", &self.status.0)?;
+        put(out, ",", &self.status)?;
         put(out, ",", &self.information)?;
         put(out, ",", &self.cancel)?;
         put(out, ",", &self.cancel_routine)?;

@@ -16,10 +16,8 @@ impl Written for WordReply {
 
     fn write(&self, out: &mut Vec<u8>) -> Result<(), AllocError> {
         match *self {
-            WordReply::Acquired => put_one(out, "{\"status\":", &Status::SUCCESS.0, "}"),
-            WordReply::DeletePending => {
-                put_one(out, "{\"status\":", &Status::DELETE_PENDING.0, "}")
-            }
+            WordReply::Acquired => put_one(out, "{\"status\":", &Status::SUCCESS, "}"),
+            WordReply::DeletePending => put_one(out, "{\"status\":", &Status::DELETE_PENDING, "}"),
             WordReply::Done => put_text(out, "\"ok\""),
             WordReply::SeatFull => put_text(out, "\"seat_full\""),
             WordReply::NotHeld => put_text(out, "\"not_held\""),

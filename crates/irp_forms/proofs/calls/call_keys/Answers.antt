@@ -1,16 +1,12 @@
 -- A name that is none of these is that of no call.
-use Rattle.std.proofs.Common.{◌≡◌, ℕ, List, codes, false, bytes_eq, refl}
-use Rattle.std.proofs.lemmas.Bool.{false_from_ne_true}
-use Rattle.std.proofs.lemmas.Slice.Eq.{bytes_eq-Decides}
-use Rattle.irp_forms.specs.Calls.{call_named}
-use Rattle.irp_forms.proofs.calls.call_named.Goals as goal
-
-other : {name : List ℕ} (given : List ℕ) → (name ≡ given → ⊥) → bytes_eq name given ≡ false
-other given differs = false_from_ne_true _ (λ is. differs ((bytes_eq-Decides _ given).0 is))
+use Rattle.std.proofs.Common.{codes, refl}
+use Rattle.irp_forms.specs.Calls.{call_keys}
+use Rattle.irp_forms.proofs.Others.{other}
+use Rattle.irp_forms.proofs.calls.call_keys.Goals as goal
 
 pub returns-in_default : goal.returns-in_default
-unfolding call_named
-returns-in_default g c =
+unfolding call_keys
+returns-in_default c =
     rw (
       other (codes "create_device") c.in_default.not-create_device,
       other (codes "attach") c.in_default.not-attach,
