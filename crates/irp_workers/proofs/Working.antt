@@ -152,12 +152,6 @@ made_at (Some x) f seats at new old lines longer count place step lt there named
   others = map-set f seats at new;
 }
 
--- a hand of the worker is its step
-pub hand_is_made : {T : Type 0} (result : Option T) (count place : ℕ) (step : Step) (hand : Hand) (before after : Working) → kind_of step.act ≡ Hands hand
-    → MatchOption result (after ≡ before) (λ _. MakesHand count place step hand before after) → MatchOption result (after ≡ before) (λ _. Makes count place step before after)
-hand_is_made None count place step hand before after is made = made
-hand_is_made (Some one) count place step hand before after is made = subst (λ kind. MakesBy count place step kind before after) (sym is) made
-
 -- a turn of the worker: it makes the step if it is its own
 pub turn_skips : (count number workers place : ℕ) (step : Step) (work : Working) → (step.seat % workers == number) ≡ false → MakesEach count (if_own number workers place step) work work
 turn_skips count number workers place step work other = subst (λ b. MakesEach count (cond b ((place, step) ∷ []) []) work work) (sym other) refl
