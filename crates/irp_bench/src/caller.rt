@@ -70,7 +70,7 @@ impl Caller for Alone {
 
 /// A seat, whose calls of a shared book are recorded.
 #[derive(Drop)]
-pub struct Recorder<'a, R, A, L: Session> {
+pub struct Recorder<'a, R, A: Ask, L: Session> {
     pub rt: &'a R,
     pub shared: &'a Shared<A, L>,
     pub seat: Seat<L>,

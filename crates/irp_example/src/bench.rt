@@ -3,11 +3,13 @@
 ghost use Rattle.std.specs.Prelude.{◌≡◌, All, IfSome};
 ghost use Rattle.irp_types.specs.declared.limit.Limit.TheVariants.{ThirtyTwo};
 ghost use Rattle.irp_remove.specs.Pairing.{IsSeatOf};
+ghost use Rattle.irp_routines.specs.Answers.{IsAnswered};
+ghost use Rattle.irp_shared.specs.Answered.{AnswersSo, EachAnswered};
 ghost use Rattle.irp_example.specs.Bench.{HasLegalHistory};
 
 use crate::caller::Caller;
 use irp_remove::{Locks, RemoveSeat};
-use irp_routines::{Ask, Store};
+use irp_routines::Ask;
 use irp_shared::{Seat, Session, Shared, Transcript, open};
 use std::alloc::{AllocError, Global};
 use std::marker::Brand;
@@ -68,18 +70,20 @@ fn work<A: Ask + Send, L: Session + Send + Sync, R: Threads + Wait + Sync>(
 }
 
 /// The transcript of a session with one remove lock and two seats. None where memory ran out.
-fn session<L: Session + Send + Sync, R: Threads + Wait + Sync>(
+fn session<A: Ask + Send + Drop, L: Session + Send + Sync, R: Threads + Wait + Sync>(
     rt: &R,
     alloc: Global,
     blank: Blank,
-    store: Store,
+    ask: A,
 ) -> Option<Transcript>
     requires blank { (blank.name ≡ L.name) × (blank.parts ≡ L.parts) }
     requires seats { (L.parts ≡ 2) × (L.seats ≡ 2) }
-    requires fixed { L.fixed ≡ record { locks = 1; tables = store.tables; limit = ThirtyTwo } }
-    ensures { IfSome result HasLegalHistory }
+    requires fixed { L.fixed ≡ record { locks = 1; tables = A.tables ask; limit = ThirtyTwo } }
+    requires may { AnswersSo (A.may_plan ask) (A.may_answer ask) (A.may_cancel ask) L.may }
+    ensures legal { IfSome result HasLegalHistory }
+    ensures answered { IfSome result (λ transcript. EachAnswered L.may transcript.entries) }
 {
-    let Ok((shared, seats)) = open::<Store, L>(alloc, blank, store, 1, 2) else {
+    let Ok((shared, seats)) = open::<A, L>(alloc, blank, ask, 1, 2) else {
         return None;
     };
     let seats = work(rt, alloc, &shared, seats)?;
@@ -89,9 +93,16 @@ fn session<L: Session + Send + Sync, R: Threads + Wait + Sync>(
     }
 }
 
-/// Runs the bench with this store. The transcript, whose history is legal. None where memory ran out.
-pub fn run<R: Threads + Wait + Sync>(rt: &R, alloc: Global, store: Store) -> Option<Transcript>
-    ensures { IfSome result HasLegalHistory }
+/// Runs the bench, where this one is asked. The transcript: its history is legal, and each answer in it is one that the
+/// asked may give. None where memory ran out.
+pub fn run<A: Ask + Send + Drop, R: Threads + Wait + Sync>(
+    rt: &R,
+    alloc: Global,
+    ask: A,
+) -> Option<Transcript>
+    ensures legal { IfSome result HasLegalHistory }
+    ensures answered { IfSome result (λ transcript. EachAnswered
+        (IsAnswered (A.may_plan ask) (A.may_answer ask) (A.may_cancel ask)) transcript.entries) }
 {
-    session::<Brand, R>(rt, alloc, Blank::new(2), store)
+    session::<A, Brand, R>(rt, alloc, Blank::new(2), ask)
 }

@@ -70,7 +70,7 @@ impl Drivers {
     /// Puts these closures and both drivers into a store, and runs the bench over it. The transcript, whose history is
     /// legal. None where memory ran out.
     pub fn run<R: Threads + Wait + Sync>(self, rt: &R, alloc: Global) -> Option<Transcript>
-        ensures { IfSome result HasLegalHistory }
+        ensures legal { IfSome result HasLegalHistory }
     {
         let Drivers {
             watch,

@@ -154,7 +154,7 @@ fn play_in_session<R: Wait>(
 ) -> Result<(), Halt> {
     let (seats, limit) = (example.seats.wrapping_add(1), example.limit);
     let blank = Blank::new(u64::from(seats));
-    let transcript = session::<Brand, R>(
+    let transcript = session::<Asker, Brand, R>(
         rt, alloc, blank, ask, 1, seats, limit, asked, example, tried,
     )?;
     put_transcript(alloc, out, transcript, example.seats, tried)
@@ -219,7 +219,7 @@ fn grow(alloc: Global, growth: Growth, tried: &mut Tried) -> Result<(), Halt> {
         Growth::Seat => fill_seat::<Brand>(alloc, Blank::new(1), tried),
         Growth::Pairs => {
             let table = AnswerTable::new(alloc);
-            seat_pairs::<Brand>(alloc, Blank::new(9), table, 1, 9, tried)
+            seat_pairs::<AnswerTable, Brand>(alloc, Blank::new(9), table, 1, 9, tried)
         }
     }
 }

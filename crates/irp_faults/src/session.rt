@@ -1,8 +1,8 @@
 //! Examples in a session.
 
 ghost use Rattle.std.specs.Prelude.{◌≡◌};
+ghost use Rattle.irp_shared.specs.Answered.{AnswersSo};
 
-use crate::counting::Asker;
 use crate::example::{Act, Example};
 use crate::place::{Lack, Place, told};
 use crate::playing::play;
@@ -10,6 +10,7 @@ use crate::removes::Removes;
 use crate::taking::taken;
 use crate::tried::{Halt, Tried, carried, made_or};
 use irp_manager::{NotRecorded, Receipt};
+use irp_routines::Ask;
 use irp_shared::{OpenRefused, Seat, Session, Shared, Transcript, needs_token, open_with_limit};
 use irp_slots::Token;
 use irp_types::{Call, Limit, Reply};
@@ -21,9 +22,9 @@ use std::sync::ledger::Blank;
 /// The seats of a session, the last of which looks on; their remove lock; the token of the first packet's use, until it
 /// is spent; and how many entries the history has.
 #[derive(Drop)]
-struct Room<'a, R, L: Session> {
+struct Room<'a, R, A: Ask, L: Session> {
     rt: &'a R,
-    shared: &'a Shared<Asker, L>,
+    shared: &'a Shared<A, L>,
     seats: &'a mut [Seat<L>],
     removes: Removes,
     token: Option<Token>,
@@ -31,9 +32,9 @@ struct Room<'a, R, L: Session> {
 }
 
 /// Completes a packet with the token. A refused call has to hand the token back.
-fn finished<L: Session>(
+fn finished<A: Ask, L: Session>(
     rt: &impl Wait,
-    shared: &Shared<Asker, L>,
+    shared: &Shared<A, L>,
     seat: &mut Seat<L>,
     token: &mut Option<Token>,
     call: Call,
@@ -62,7 +63,7 @@ fn finished<L: Session>(
     }
 }
 
-impl<R: Wait, L: Session> Place for Room<'_, R, L> {
+impl<R: Wait, A: Ask, L: Session> Place for Room<'_, R, A, L> {
     fn make(&mut self, seat: u32, call: Call) -> Result<Reply, Lack> {
         let Some(own) = self.seats.get_mut(seat as usize) else {
             return Err(Lack::Wrong("there is no such seat"));
@@ -100,10 +101,10 @@ fn not_opened(reason: OpenRefused, tried: &mut Tried) -> Halt {
 }
 
 /// Plays an example in a session with these seats.
-fn played<L: Session, R: Wait>(
+fn played<A: Ask, L: Session, R: Wait>(
     rt: &R,
     alloc: Global,
-    shared: &Shared<Asker, L>,
+    shared: &Shared<A, L>,
     seats: &mut [Seat<L>],
     asked: &AtomicU32,
     example: &Example,
@@ -124,11 +125,11 @@ fn played<L: Session, R: Wait>(
 
 /// The transcript of a session with one lock and these many seats, the last of which looks on while the others make the
 /// steps of the example. Where the session can't be opened, who would have been asked is gone.
-pub fn session<L: Session, R: Wait>(
+pub fn session<A: Ask + Drop, L: Session, R: Wait>(
     rt: &R,
     alloc: Global,
     blank: Blank,
-    ask: Asker,
+    ask: A,
     locks: u32,
     seats: u32,
     limit: Limit,
@@ -138,9 +139,10 @@ pub fn session<L: Session, R: Wait>(
 ) -> Result<Transcript, Halt>
     requires blank { (blank.name ≡ L.name) × (blank.parts ≡ L.parts) }
     requires seats { (L.parts ≡ seats) × (L.seats ≡ seats) }
-    requires fixed { L.fixed ≡ record { locks = locks; tables = ask.ask.tables; limit = limit } }
+    requires fixed { L.fixed ≡ record { locks = locks; tables = A.tables ask; limit = limit } }
+    requires may { AnswersSo (A.may_plan ask) (A.may_answer ask) (A.may_cancel ask) L.may }
 {
-    let opened = open_with_limit::<Asker, L>(alloc, blank, ask, locks, seats, limit);
+    let opened = open_with_limit::<A, L>(alloc, blank, ask, locks, seats, limit);
     let (shared, mut places) = match opened {
         Ok(parts) => parts,
         Err(reason) => return Err(not_opened(reason, tried)),

@@ -6,3 +6,4 @@ mod Appended
 mod Gathering
 mod Opened
 mod OwnPlaces
+mod Answering

@@ -29,7 +29,8 @@ IsKept history seat = own_entries history seat.number ≡ seat.entries
 abbrev pub entry_at : List Entry → Option ℕ → Option Entry
 entry_at history place = option_and_then (slice_get history) place
 
--- what the history has at that place (none where there is no place) is another than what was kept (none where nothing was)
+-- what the history has at that place (none where there is no place) is another than what was kept (none where nothing
+-- was)
 abbrev pub IsOther : List Entry → Option Entry → Option ℕ → Type 0
 IsOther history kept place = kept ≡ entry_at history place → ⊥
 
@@ -76,8 +77,8 @@ abbrev pub AreSeated : ℕ → List Entry → Type 0
 AreSeated seats history = All (λ (entry : Entry). entry.seat < seats) history
 
 -- closing gives a transcript: its header tells what the session had fixed, how many seats it had, and no cancel slots;
--- its history is legal and completes each use at most once, each entry is of one of the seats, each seat kept the history's
--- entries of its own, and the counts add up
+-- its history is legal and completes each use at most once, each entry is of one of the seats, each seat kept the
+-- history's entries of its own, and the counts add up
 pub record Closes (fixed : Fixed) (expected : ℕ) (seats : List Seated) (transcript : TranscriptValue) : Type 0 where
   pub header : Header
   pub told : transcript.header ≡ Some header

@@ -3,19 +3,20 @@
 ghost use Rattle.std.specs.Prelude.{◌≡◌, ◌<◌, ◌+◌, ◌++◌, ◌∷◌, [], ℕ, length, IfOk, OnErr, Err};
 ghost use mathlib.Core.Logic.{◌↔◌};
 ghost use Rattle.irp_manager.specs.declared.not_recorded.NotRecorded.TheVariants.{Behind, HistoryFull};
+ghost use Rattle.irp_shared.specs.Answered.{AnswersSo, EachAnswered};
 ghost use Rattle.irp_shared.specs.Sharing.{Called, CalledIn, IsAsBefore, IsBehind, IsFull};
 
 use crate::session::Session;
 use irp_manager::{Book, DrainNote, NotRecorded, Receipt, Seat};
 use irp_routines::Ask;
 use irp_types::Call;
-use std::sync::ledger::{Book as Total, Ledger, Share};
+use std::sync::ledger::{Book as Total, Share};
 
 /// What lies under the lock: the book; the total of what all seats count, which by this type is the length of the
 /// history; and what is left of the ledger's shares, which counts nothing. The book was made with what its session
-/// fixes.
+/// fixes, for an asker with these tables that answers as its session says, and so was all answered that was asked.
 #[derive(Drop)]
-pub struct Locked<A, L: Session> {
+pub struct Locked<A: Ask, L: Session> {
     pub book: Book<A>,
     pub total: Total<L>,
     pub spare: Share<L>,
@@ -23,6 +24,10 @@ pub struct Locked<A, L: Session> {
     pub ghost no_amount: { spare.amount ≡ 0 },
     pub ghost counted: { total.total ≡ length book.history },
     pub ghost fixed: { book.fixed ≡ L.fixed },
+    pub ghost tables: { A.tables book.ask ≡ book.fixed.tables },
+    pub ghost answers: { AnswersSo (A.may_plan book.ask) (A.may_answer book.ask)
+        (A.may_cancel book.ask) L.may },
+    pub ghost answered: { EachAnswered L.may book.history },
 }
 
 impl<A: Ask, L: Session> Locked<A, L> {
@@ -53,7 +58,7 @@ impl<A: Ask, L: Session> Locked<A, L> {
 }
 
 /// Makes a call, records it, and has the seat keep and count a copy of its entry.
-fn keep<A: Ask, L: Ledger, N: DrainNote>(
+fn keep<A: Ask, L: Session, N: DrainNote>(
     book: &mut Book<A>,
     total: &mut Total<L>,
     seat: &mut Seat<L>,
@@ -64,7 +69,11 @@ fn keep<A: Ask, L: Ledger, N: DrainNote>(
     ensures called { IfOk result (λ receipt. CalledIn book.old.history book.new.history
         seat.old call (N.knows_drained note.now) receipt seat.new) }
     ensures total { IfOk result (λ receipt. total.new.total ≡ total.old.total + 1) }
-    ensures fixed { book.new.fixed ≡ book.old.fixed }
+    ensures kept { (book.new.ask ≡ book.old.ask) × (book.new.fixed ≡ book.old.fixed) }
+    ensures answered { A.tables book.old.ask ≡ book.old.fixed.tables
+        → AnswersSo (A.may_plan book.old.ask) (A.may_answer book.old.ask)
+        (A.may_cancel book.old.ask) L.may
+        → EachAnswered L.may book.old.history → EachAnswered L.may book.new.history }
     ensures err { OnErr result ((book.new ≡ book.old) × (total.new.total ≡ total.old.total)
         × IsAsBefore seat.old seat.new) }
     ensures behind { (told : ℕ) → (result ≡ Err (Behind told))

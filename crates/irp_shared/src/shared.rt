@@ -7,6 +7,7 @@ ghost use Rattle.irp_types.specs.declared.limit.Limit.TheVariants.{ThirtyTwo};
 ghost use Rattle.irp_types.specs.declared.entry.Entry.{Entry};
 ghost use Rattle.irp_manager.specs.Seats.{Seated};
 ghost use Rattle.irp_manager.specs.declared.not_recorded.NotRecorded.TheVariants.{Behind};
+ghost use Rattle.irp_shared.specs.Answered.{AnswersSo, EachAnswered};
 ghost use Rattle.irp_shared.specs.Opening.{IsBadCount, IsGoodCount, AreNew};
 ghost use Rattle.irp_types.specs.declared.call.Call.TheVariants.{FinishTaken};
 ghost use Rattle.irp_slots.specs.declared.answers.Token.{Token};
@@ -37,7 +38,7 @@ use std::sync::{Mutex, Wait};
 ///
 /// However many threads call, the history kept under the lock is one that the sequential manager could have made.
 #[derive(Drop)]
-pub struct Shared<A, L: Session> {
+pub struct Shared<A: Ask, L: Session> {
     seats: u32,
     alloc: Global,
     lock: Mutex<Locked<A, L>>,
@@ -61,7 +62,7 @@ fn seats_of<L: Ledger>(alloc: Global, share: &mut Share<L>, count: u32) -> Optio
 /// Opens a session: a book over a manager in its opening state, with packets of 32 locations and stacks of 32 devices
 /// at most. It has 1 to 64 remove locks and 1 to 64 seats, numbered from 0 in the order of the answer, that have seen
 /// nothing and have no entries. The blank names the ledger in which the seats count, and has a part for each seat; what
-/// `L` says of the session is so (this project's own rule).
+/// `L` says of the session is so, and whoever is asked answers each question as `L` says (this project's own rule).
 ///
 /// # Errors
 ///
@@ -77,6 +78,7 @@ pub fn open<A: Ask + Drop, L: Session>(
     requires blank { (blank.name ≡ L.name) × (blank.parts ≡ L.parts) }
     requires seats { (L.parts ≡ seats) × (L.seats ≡ seats) }
     requires fixed { L.fixed ≡ record { locks = locks; tables = A.tables ask; limit = ThirtyTwo } }
+    requires may { AnswersSo (A.may_plan ask) (A.may_answer ask) (A.may_cancel ask) L.may }
     ensures bad_count { (result ≡ Err BadCount) ↔ IsBadCount locks seats }
     ensures seats { IfOk result (λ opened. AreNew seats opened.1.items) }
 {
@@ -99,6 +101,7 @@ pub fn open_with_limit<A: Ask + Drop, L: Session>(
     requires blank { (blank.name ≡ L.name) × (blank.parts ≡ L.parts) }
     requires seats { (L.parts ≡ seats) × (L.seats ≡ seats) }
     requires fixed { L.fixed ≡ record { locks = locks; tables = A.tables ask; limit = limit } }
+    requires may { AnswersSo (A.may_plan ask) (A.may_answer ask) (A.may_cancel ask) L.may }
     ensures bad_count { (result ≡ Err BadCount) ↔ IsBadCount locks seats }
     ensures seats { IfOk result (λ opened. AreNew seats opened.1.items) }
 {
@@ -284,11 +287,12 @@ fn mismatch_of<L: Ledger>(difference: Difference, history: Vec<Entry>) -> Mismat
     }
 }
 
-impl<A: Drop, L: Session> Shared<A, L> {
+impl<A: Ask + Drop, L: Session> Shared<A, L> {
     /// Ends a session, with the seats that were opened with it: compares what they kept with the history, and gives the
     /// transcript, without word lines. Its header has the tables of the `ask` that `open` was given, and no cancel
     /// slots. Each entry is of one of the seats; each seat's entries are the history's entries with its number, in
-    /// order; and their counts add up to the history's length. It takes no memory (this project's own rule).
+    /// order; and their counts add up to the history's length. Each answer in it is as `L` says that it may be. It takes
+    /// no memory (this project's own rule).
     ///
     /// # Errors
     ///
@@ -298,6 +302,7 @@ impl<A: Drop, L: Session> Shared<A, L> {
     pub fn close(self, seats: Vec<Seat<L>>) -> Result<Transcript, Mismatch<L>>
         requires { L.seats ≡ L.parts }
         ensures closes { IfOk result (Closes L.fixed L.seats seats.items) }
+        ensures answered { IfOk result (λ transcript. EachAnswered L.may transcript.entries) }
         ensures seats { (AllHere seats.items L.seats → ⊥)
             → result ≡ Err (OtherSeats L.seats seats) }
         ensures only_seats { (expected : ℕ) (given : _) → result ≡ Err (OtherSeats expected given)

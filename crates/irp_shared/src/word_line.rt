@@ -5,8 +5,11 @@ use irp_types::{Hand, LockAct, SlotAct};
 /// What a step did on a remove lock or on a cancel slot (this project's own format, docs/FORMATS.md).
 #[derive(Clone, Copy, PartialEq, Eq, Debug)]
 pub enum Act {
+    /// A step on a remove lock that takes or gives a reference, begins removal, or asks whether the lock is drained.
     OnLock(LockAct),
+    /// Hands a reference that the seat holds on a remove lock to another seat.
     Hand(Hand),
+    /// A step on a cancel slot: its owner publishes a use or withdraws it, or any seat requests it.
     OnSlot(SlotAct),
     /// Finishes a packet with the token that the seat took from the slot, where it has none: with one, the call is an
     /// entry (this project's own call).

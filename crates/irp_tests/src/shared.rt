@@ -2,10 +2,11 @@
 
 ghost use Rattle.std.specs.Prelude.{◌≡◌};
 ghost use Rattle.irp_types.specs.declared.limit.Limit.TheVariants.{ThirtyTwo};
+ghost use Rattle.irp_shared.specs.Answered.{AnswersSo};
 
 use super::stores::{Step, last_receipt};
 use irp_manager::{KnowsNothing, NotRecorded, Receipt};
-use irp_routines::{AnswerTable, Store};
+use irp_routines::{AnswerTable, Ask, Store};
 use irp_shared::{Seat, Session, Shared, learn, open};
 use irp_types::{Call, IrpRef, Reply};
 use std::alloc::Global;
@@ -34,9 +35,9 @@ const CALLS: [(usize, Result<u64, NotRecorded>); 5] = [
 ];
 
 /// Makes the calls. Whether each is answered as it has to be.
-fn are_answered<L: Session>(
+fn are_answered<A: Ask, L: Session>(
     rt: &impl Wait,
-    shared: &Shared<AnswerTable, L>,
+    shared: &Shared<A, L>,
     seats: &mut [Seat<L>],
 ) -> bool {
     for (place, expected) in CALLS.iter() {
@@ -53,18 +54,19 @@ fn are_answered<L: Session>(
 
 /// A session of two seats, the first of which learns of the receipt. How many entries its transcript has; none where a
 /// call is answered otherwise.
-fn behind<L: Session>(
+fn behind<A: Ask + Drop, L: Session>(
     rt: &impl Wait,
     alloc: Global,
     blank: Blank,
-    table: AnswerTable,
+    ask: A,
     receipt: &Receipt,
 ) -> Option<usize>
     requires blank { (blank.name ≡ L.name) × (blank.parts ≡ L.parts) }
     requires seats { (L.parts ≡ 2) × (L.seats ≡ 2) }
-    requires fixed { L.fixed ≡ record { locks = 1; tables = table.tables; limit = ThirtyTwo } }
+    requires fixed { L.fixed ≡ record { locks = 1; tables = A.tables ask; limit = ThirtyTwo } }
+    requires may { AnswersSo (A.may_plan ask) (A.may_answer ask) (A.may_cancel ask) L.may }
 {
-    let (shared, mut seats) = open::<AnswerTable, L>(alloc, blank, table, 1, 2).ok()?;
+    let (shared, mut seats) = open::<A, L>(alloc, blank, ask, 1, 2).ok()?;
     learn(seats.first_mut()?, receipt);
     if !are_answered(rt, &shared, seats.as_mut_slice()) {
         return None;
@@ -78,7 +80,7 @@ fn a_seat_is_behind_what_it_learned(rt: HostRuntime) -> Result<(), Fail> {
     let alloc = rt.alloc();
     let receipt = last_receipt(alloc, Store::new(alloc), &ELSEWHERE).ok_or("a receipt")?;
     let table = AnswerTable::new(alloc);
-    let entries = behind::<Brand>(&rt, alloc, Blank::new(2), table, &receipt);
+    let entries = behind::<AnswerTable, Brand>(&rt, alloc, Blank::new(2), table, &receipt);
     assert!(rt; entries == Some(4));
     Ok(())
 }

@@ -3,6 +3,7 @@
 
 ghost use Rattle.std.specs.Prelude.{◌≡◌, true};
 ghost use Rattle.irp_types.specs.declared.limit.Limit.TheVariants.{ThirtyTwo};
+ghost use Rattle.irp_shared.specs.Answered.{AnswersSo};
 ghost use Rattle.irp_types.specs.Rules.{is_plan_allowed};
 ghost use Rattle.irp_types.specs.State.{no_routines};
 ghost use Rattle.irp_remove.specs.Pairing.{IsSeatOf};
@@ -176,19 +177,20 @@ fn meets<A: Ask + Send, L: Session + Send + Sync, R: Threads + Wait + Sync>(
 }
 
 /// The same, in a session of one seat. None where memory was missing.
-fn session<L: Session + Send + Sync, R: Threads + Wait + Sync>(
+fn session<A: Ask + Send + Drop, L: Session + Send + Sync, R: Threads + Wait + Sync>(
     rt: &R,
     alloc: Global,
     blank: Blank,
-    store: Store,
+    ask: A,
     takers: &mut Takers,
     meeting: &Meeting,
 ) -> Option<(bool, bool)>
     requires blank { (blank.name ≡ L.name) × (blank.parts ≡ L.parts) }
     requires seats { (L.parts ≡ 1) × (L.seats ≡ 1) }
-    requires fixed { L.fixed ≡ record { locks = 1; tables = store.tables; limit = ThirtyTwo } }
+    requires fixed { L.fixed ≡ record { locks = 1; tables = A.tables ask; limit = ThirtyTwo } }
+    requires may { AnswersSo (A.may_plan ask) (A.may_answer ask) (A.may_cancel ask) L.may }
 {
-    let (shared, mut seats) = open::<Store, L>(alloc, blank, store, 1, 1).ok()?;
+    let (shared, mut seats) = open::<A, L>(alloc, blank, ask, 1, 1).ok()?;
     match seats.pop() {
         Some(seat) => Some(meets(rt, &shared, seat, takers, meeting)),
         None => None,
@@ -213,7 +215,7 @@ fn met<R: Threads + Wait + Sync>(
     meeting: &Meeting,
 ) -> bool {
     let has_begun = takers.begins();
-    let met = session::<Brand, R>(rt, alloc, Blank::new(1), store, takers, meeting);
+    let met = session::<Store, Brand, R>(rt, alloc, Blank::new(1), store, takers, meeting);
     has_begun && met == Some((true, true))
 }
 

@@ -4,8 +4,9 @@ mod working;
 
 ghost use Rattle.std.specs.Prelude.{◌<◌, ◌≡◌, IfOk};
 ghost use Rattle.irp_types.specs.declared.limit.Limit.TheVariants.{ThirtyTwo};
+ghost use Rattle.irp_shared.specs.Answered.{AnswersSo};
 
-use irp_routines::AnswerTable;
+use irp_routines::{AnswerTable, Ask};
 use irp_script::{Gate, ScriptSeat, Worked, run_workers, script_seats};
 use irp_script_reader::{Named, ScriptForm, ScriptParts, Step, StepAct};
 use irp_shared::{Session, WordLine, open};
@@ -80,11 +81,16 @@ fn count_of<L: Session>(seats: Vec<ScriptSeat<'_, L>>) -> usize {
 }
 
 /// Has so many workers run the script in a session of its seats.
-fn session<L: Session + Send + Sync, G: Gate + Sync, R: Threads + Wait + Sync>(
+fn session<
+    A: Ask + Send + Drop,
+    L: Session + Send + Sync,
+    G: Gate + Sync,
+    R: Threads + Wait + Sync,
+>(
     rt: &R,
     alloc: Global,
     blank: Blank,
-    ask: AnswerTable,
+    ask: A,
     script: &ScriptParts,
     gate: &G,
     workers: u32,
@@ -93,9 +99,10 @@ fn session<L: Session + Send + Sync, G: Gate + Sync, R: Threads + Wait + Sync>(
     requires blank { (blank.name ≡ L.name) × (blank.parts ≡ L.parts) }
     requires seats { (L.parts ≡ script.now.seats) × (L.seats ≡ script.now.seats) }
     requires fixed { L.fixed
-        ≡ record { locks = script.now.locks; tables = ask.tables; limit = ThirtyTwo } }
+        ≡ record { locks = script.now.locks; tables = A.tables ask; limit = ThirtyTwo } }
+    requires may { AnswersSo (A.may_plan ask) (A.may_answer ask) (A.may_cancel ask) L.may }
 {
-    let (shared, seats) = open::<AnswerTable, L>(alloc, blank, ask, script.locks, script.seats)?;
+    let (shared, seats) = open::<A, L>(alloc, blank, ask, script.locks, script.seats)?;
     let (locks, removes) = irp_remove::open(alloc, script.locks, script.seats)?;
     let (slots, owners, cancellers) = irp_slots::open(alloc, 0, script.seats)?;
     let pairs = script_seats(alloc, &locks, &slots, seats, removes, cancellers, owners)?;
@@ -131,5 +138,5 @@ fn worked<G: Gate + Sync, R: Threads + Wait + Sync>(
     }
     let script = script(alloc, seats, setup, steps)?;
     let blank = Blank::new(u64::from(script.seats));
-    session::<Brand, G, R>(rt, alloc, blank, ask, &script, gate, workers)
+    session::<AnswerTable, Brand, G, R>(rt, alloc, blank, ask, &script, gate, workers)
 }

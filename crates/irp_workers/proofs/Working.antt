@@ -10,7 +10,6 @@ use Rattle.std.proofs.lemmas.List.Sums.{sum_by-append, sum_by-cons}
 use Rattle.std.proofs.lemmas.Option.{get_or_from_slice_get, none-some, slice_get-get_or, slice_get-map, slice_get_within}
 use Rattle.irp_types.specs.declared.names.IrpRef.{IrpRef}
 use Rattle.irp_types.specs.declared.names.LockNo.{LockNo}
-use Rattle.irp_types.specs.declared.seat_act.Hand.{Hand}
 use Rattle.irp_types.specs.declared.status.Status.{Status}
 use Rattle.irp_types.specs.Calls.{Call}
 use Rattle.irp_types.specs.declared.call.Call.TheVariants.{FinishTaken}
@@ -28,7 +27,7 @@ use Rattle.irp_slot_parties.specs.AtSlots.{AtSlots, fresh}
 use Rattle.irp_workers.specs.Calling.{CallsFor, found_drained}
 use Rattle.irp_workers.specs.StepKinds.{IsNamed, kind_of}
 use Rattle.irp_workers.specs.Outcomes.{is_own_placed, own_placed}
-use Rattle.irp_workers.specs.Working.{AtWork, Does, FinishesTaken, IsOwn, Left, Makes, MakesAlone, MakesBy, MakesCall, MakesEach, MakesHand, MakesOwn, Stays, WorkApart, Working, at_work, if_own, roomless, working}
+use Rattle.irp_workers.specs.Working.{AtWork, Does, FinishesTaken, IsOwn, Left, Makes, MakesAlone, MakesBy, MakesCall, MakesEach, MakesOwn, Stays, WorkApart, Working, at_work, if_own, roomless, working}
 use Rattle.irp_workers.proofs.Chains.{enumerate-append}
 use Rattle.irp_workers.proofs.Numbers.{count_map, map_set_same}
 
@@ -151,12 +150,6 @@ made_at (Some x) f seats at new old lines longer count place step lt there named
   did = did;
   others = map-set f seats at new;
 }
-
--- a hand of the worker is its step
-pub hand_is_made : {T : Type 0} (result : Option T) (count place : ℕ) (step : Step) (hand : Hand) (before after : Working) → kind_of step.act ≡ Hands hand
-    → MatchOption result (after ≡ before) (λ _. MakesHand count place step hand before after) → MatchOption result (after ≡ before) (λ _. Makes count place step before after)
-hand_is_made None count place step hand before after is made = made
-hand_is_made (Some one) count place step hand before after is made = subst (λ kind. MakesBy count place step kind before after) (sym is) made
 
 -- a turn of the worker: it makes the step if it is its own
 pub turn_skips : (count number workers place : ℕ) (step : Step) (work : Working) → (step.seat % workers == number) ≡ false → MakesEach count (if_own number workers place step) work work

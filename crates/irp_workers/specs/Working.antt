@@ -186,7 +186,8 @@ pub record HandsBetween (count : ℕ) (lock : LockNo) (tag from_at to_at : ℕ)
   pub others : after ≡ slice_set (slice_set before from_at giver_after) to_at taker_after
 
 -- the seat that the step names handed to another one, which has that number, and there is one line more
-pub record MakesHand (count place : ℕ) (step : Step) (hand : Hand) (before after : Working) : Type 0 where
+pub record MakesHand (count place : ℕ) (step : Step) (hand : Hand)
+    (before after : Working) : Type 0 where
   pub from_at : ℕ
   pub to_at : ℕ
   pub apart : from_at ≢ to_at

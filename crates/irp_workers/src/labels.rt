@@ -68,7 +68,8 @@ impl Labels {
         }
     }
 
-    /// The packet that an act names; where it names none, one that is never live. Its clause speaks of references alone.
+    /// The packet that an act names; where it names none, one that is never live. Its clause speaks of references
+    /// alone.
     pub fn packet_of(&self, rt: &impl Wait, act: StepAct) -> IrpRef
         ensures { IsNamed act result }
     {

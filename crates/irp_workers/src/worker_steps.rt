@@ -229,6 +229,7 @@ impl<'a, L: Session> Worker<'a, L> {
                 return self;
             }
         }
+        // A worker that is handed in may have stopped before. What is answered tells of this run alone.
         self.stopped = false;
         meeting.leave();
         self

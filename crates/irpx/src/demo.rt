@@ -2,6 +2,7 @@
 
 ghost use Rattle.std.specs.Prelude.{◌≡◌, [], ◌∷◌, ◌++◌, IfErr, IfSome, OnErr, OnOk, false};
 ghost use Rattle.irp_types.specs.declared.limit.Limit.TheVariants.{Sixteen};
+ghost use Rattle.irp_shared.specs.Answered.{AnswersSo};
 ghost use Rattle.irp_shared.specs.Sharing.{needs_token};
 ghost use Rattle.irpx.specs.Demo.{
   calls_of,
@@ -88,20 +89,20 @@ fn make_calls<A: Ask, L: Session>(
 
 /// The transcript of a session with one lock and one seat that makes the calls of the demonstration. None where memory
 /// ran out, where a call was not recorded, or was answered otherwise than it should be.
-fn session<L: Session>(
+fn session<A: Ask + Drop, L: Session>(
     rt: &impl Wait,
     alloc: Global,
     blank: Blank,
-    store: Store,
+    ask: A,
 ) -> Option<Transcript>
     requires blank { (blank.name ≡ L.name) × (blank.parts ≡ L.parts) }
     requires seats { (L.parts ≡ 1) × (L.seats ≡ 1) }
-    requires fixed { L.fixed ≡ record { locks = 1; tables = store.tables; limit = Sixteen } }
+    requires fixed { L.fixed ≡ record { locks = 1; tables = A.tables ask; limit = Sixteen } }
+    requires may { AnswersSo (A.may_plan ask) (A.may_answer ask) (A.may_cancel ask) L.may }
     ensures { IfSome result IsDemoTranscript }
 {
     let limit = Limit::Sixteen;
-    let Ok((shared, mut seats)) = open_with_limit::<Store, L>(alloc, blank, store, 1, 1, limit)
-    else {
+    let Ok((shared, mut seats)) = open_with_limit::<A, L>(alloc, blank, ask, 1, 1, limit) else {
         return None;
     };
     let mut seat = seats.pop()?;
@@ -126,7 +127,7 @@ fn transcript(rt: &impl Wait, alloc: Global, dispatch: Dispatch) -> Option<Trans
     let Ok(_driver) = store.add_driver(read_pair(alloc, id).ok()?) else {
         return None;
     };
-    session::<Brand>(rt, alloc, Blank::new(1), store)
+    session::<Store, Brand>(rt, alloc, Blank::new(1), store)
 }
 
 /// Makes the calls of the demonstration, and writes the transcript: one device whose driver finishes reads with success

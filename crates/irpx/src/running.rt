@@ -5,6 +5,7 @@ ghost use Rattle.irp_types.specs.Limits.{most_slots};
 ghost use Rattle.irp_types.specs.Rules.{is_plan_allowed};
 ghost use Rattle.irp_types.specs.State.{Tables};
 ghost use Rattle.irp_manager.specs.Seats.{Seated};
+ghost use Rattle.irp_shared.specs.Answered.{AnswersSo};
 ghost use Rattle.irp_shared.specs.Closing.{Closes};
 ghost use Rattle.irp_shared.specs.Headers.{slots_of};
 ghost use Rattle.irp_shared.specs.Transcripts.{IsTranscript, TranscriptValue};
@@ -33,7 +34,7 @@ ghost use Rattle.irpx.specs.Running.{
 
 use crate::input::{InputFault, read_up_to};
 use crate::writing::{Unwritten, write};
-use irp_routines::{CancelRoutine, Dispatch, Routine, Store};
+use irp_routines::{Ask, CancelRoutine, Dispatch, Routine, Store};
 use irp_script::hand_between;
 use irp_script_reader::{Script, ScriptFault, ScriptForm, ScriptParts, ScriptRefusal, read_script};
 use irp_shared::{
@@ -269,9 +270,9 @@ fn run_transcript(
 
 /// Ends a session whose seats have worked, and gives its transcript, in the form of the script and with the word lines.
 /// The form has at most 64 slots.
-fn finish<L: Session>(
+fn finish<A: Ask + Drop, L: Session>(
     alloc: Global,
-    shared: Shared<Store, L>,
+    shared: Shared<A, L>,
     worked: Worked<'_, L>,
     form: ScriptForm,
 ) -> Result<Finished, Unrun>
@@ -297,27 +298,28 @@ fn finish<L: Session>(
 }
 
 /// So many workers run the script in a session of its locks, seats and cancel slots.
-fn session<L: Session + Send + Sync, T: Threads + Wait + Sync>(
+fn session<A: Ask + Send + Drop, L: Session + Send + Sync, T: Threads + Wait + Sync>(
     rt: &T,
     alloc: Global,
     blank: Blank,
-    store: Store,
+    ask: A,
     script: &ScriptParts,
     workers: u32,
 ) -> Result<Finished, Unrun>
     requires workers { 0 < workers }
     requires blank { (blank.name ≡ L.name) × (blank.parts ≡ L.parts) }
     requires seats { (L.parts ≡ script.now.seats) × (L.seats ≡ script.now.seats) }
-    requires fixed { L.fixed ≡ fixed_for script.now store.tables }
-    ensures run { IfOk result (λ run. IsRun script.now store.tables run.transcript) }
+    requires fixed { L.fixed ≡ fixed_for script.now (A.tables ask) }
+    requires may { AnswersSo (A.may_plan ask) (A.may_answer ask) (A.may_cancel ask) L.may }
+    ensures run { IfOk result (λ run. IsRun script.now (A.tables ask) run.transcript) }
     ensures shows { IfOk result (λ run. run.stopped ≡ false → ShowsEach script.now run.transcript) }
     ensures ran { IfOk result (λ run. Ran workers script.now run.transcript run.stopped) }
 {
     let form = form_of(script.form);
-    let Ok((shared, seats)) = open_with_limit::<Store, L>(
+    let Ok((shared, seats)) = open_with_limit::<A, L>(
         alloc,
         blank,
-        store,
+        ask,
         script.locks,
         script.seats,
         form.limit(),
@@ -367,7 +369,7 @@ fn with_store<O: Out, T: Threads + Wait + Sync>(
         (O.failures output.old) (O.failures output.new) result }
 {
     let blank = Blank::new(u64::from(script.seats));
-    let run = session::<Brand, T>(rt, alloc, blank, store, script, workers.number)?;
+    let run = session::<Store, Brand, T>(rt, alloc, blank, store, script, workers.number)?;
     write_finished(alloc, output, &run)
 }
 

@@ -1,5 +1,6 @@
 use Rattle.std.proofs.Common.{rules, ◌≡◌, ap, ◌∙◌}
 use Rattle.irp_manager.specs.Booked.{Receipted}
+use Rattle.irp_shared.proofs.Answering.{answered_more}
 use Rattle.irp_shared.proofs.Appended.{stands_last}
 use Rattle.irp_shared.proofs.locked.keep.Goals as goal
 
@@ -27,3 +28,8 @@ returns-clause-called g c =
         seen = search rules;
       };
     }
+
+pub returns-clause-answered : goal.returns-clause-answered
+returns-clause-answered g c = λ own answers before.
+    let recorded = c.in_ok-made.ensures.recorded in
+    answered_more _ _ _ _ _ _ c.args.book.now.history c.record_copied.new.self.history recorded.entry recorded.appended recorded.answered own answers before

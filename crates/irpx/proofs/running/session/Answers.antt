@@ -34,10 +34,10 @@ use Rattle.irpx.proofs.running.session.Goals as goal
 pub returns-clause-run : goal.returns-clause-run
 returns-clause-run g c =
     let accounts = c.in_ok-worked.ensures.accounts in
-    IfOk-weaker c.finish.result _ (λ (run : Finished). IsRun c.args.script.now c.args.store.tables run.transcript)
+    IfOk-weaker c.finish.result _ (λ (run : Finished). IsRun c.args.script.now (g.A.Ask.tables c.args.ask) run.transcript)
     (λ run ends.
-    subst (IsRun c.args.script.now c.args.store.tables) (sym ends.4)
-    (closed_is_run c.args.script.now c.args.store.tables g.L.Session.fixed g.L.Session.seats ends.0 ends.2 c.in_ok-worked.worked.words.items
+    subst (IsRun c.args.script.now (g.A.Ask.tables c.args.ask)) (sym ends.4)
+    (closed_is_run c.args.script.now (g.A.Ask.tables c.args.ask) g.L.Session.fixed g.L.Session.seats ends.0 ends.2 c.in_ok-worked.worked.words.items
     ends.3 c.requires.fixed c.requires.seats.1
     (subst (λ (this : TranscriptValue). IfSome this.header IsHeader) ends.4 ends.5.accepted)
     c.in_ok-worked.ensures.words accounts.tokenless accounts.told))

@@ -5,4 +5,4 @@ abbrev pub ghosts-session-L-Ledger : goal.ghosts-session-L-Ledger
 ghosts-session-L-Ledger g a = record { name = a.blank.name; parts = a.blank.parts }
 
 abbrev pub ghosts-session-L-Session : goal.ghosts-session-L-Session
-ghosts-session-L-Session g a = record { seats = a.script.now.seats; fixed = fixed_for a.script.now a.store.tables }
+ghosts-session-L-Session g a = record { seats = a.script.now.seats; fixed = fixed_for a.script.now a.ask.tables; may = λ asked. Unit {0} }
