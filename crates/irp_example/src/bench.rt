@@ -69,7 +69,8 @@ fn work<A: Ask + Send, L: Session + Send + Sync, R: Threads + Wait + Sync>(
     Some(seats)
 }
 
-/// The transcript of a session with one remove lock and two seats. None where memory ran out.
+/// The transcript of a session with one remove lock and two seats. None where memory ran out, or the seats' entries
+/// aren't the history's.
 fn session<A: Ask + Send + Drop, L: Session + Send + Sync, R: Threads + Wait + Sync>(
     rt: &R,
     alloc: Global,
@@ -94,7 +95,7 @@ fn session<A: Ask + Send + Drop, L: Session + Send + Sync, R: Threads + Wait + S
 }
 
 /// Runs the bench, where this one is asked. The transcript: its history is legal, and each answer in it is one that the
-/// asked may give. None where memory ran out.
+/// asked may give. None where memory ran out, or the seats' entries aren't the history's.
 pub fn run<A: Ask + Send + Drop, R: Threads + Wait + Sync>(
     rt: &R,
     alloc: Global,

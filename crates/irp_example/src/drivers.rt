@@ -68,7 +68,7 @@ pub struct Drivers {
 
 impl Drivers {
     /// Puts these closures and both drivers into a store, and runs the bench over it. The transcript, whose history is
-    /// legal. None where memory ran out.
+    /// legal. None where memory ran out, or the seats' entries aren't the history's.
     pub fn run<R: Threads + Wait + Sync>(self, rt: &R, alloc: Global) -> Option<Transcript>
         ensures legal { IfSome result HasLegalHistory }
     {

@@ -11,9 +11,9 @@ pub const IRP: IrpRef = IrpRef { slot: 0, use_no: 1 };
 pub enum Act {
     /// Acquires it with this tag.
     Acquire(u32, Result<(), AcquireRefusal>),
-    /// Gives back one acquisition with this tag.
+    /// Gives back one reference with this tag.
     Release(u32, Result<(), ReleaseRefusal>),
-    /// Begins the removal, and gives back one acquisition with this tag.
+    /// Begins the removal, and gives back one reference with this tag.
     BeginRemove(u32, Result<(), BeginRefusal>),
     /// Asks whether it is drained.
     Drained(Result<(), DrainRefusal>),

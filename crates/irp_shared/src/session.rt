@@ -14,9 +14,9 @@ use std::sync::ledger::Ledger;
 /// be answered in it. A `Shared` and the seats that were opened with it have the same such type, so a seat of another
 /// session can't be handed in (this project's own rule).
 ///
-/// A caller writes a function that is generic in `A: Ask` and `L: Session` for all that it does with a session, and calls
-/// it once, at the type of whoever is asked and at [`Brand`]. The proof of that call says what `L` stands for, in the
-/// `Invariants.antt` of the function that makes it (as in `crates/irp_example/proofs/bench/run`).
+/// A caller writes a function that is generic in `A: Ask` and `L: Session` for all that it does with a session, and
+/// calls it once, at the type of whoever is asked and at [`Brand`]. The proof of that call says what `L` stands for, in
+/// the `Invariants.antt` of the function that makes it (as in `crates/irp_example/proofs/bench/run`).
 pub trait Session: Ledger {
     /// How many seats there are.
     ghost seats: { ℕ };

@@ -291,8 +291,8 @@ impl<A: Ask + Drop, L: Session> Shared<A, L> {
     /// Ends a session, with the seats that were opened with it: compares what they kept with the history, and gives the
     /// transcript, without word lines. Its header has the tables of the `ask` that `open` was given, and no cancel
     /// slots. Each entry is of one of the seats; each seat's entries are the history's entries with its number, in
-    /// order; and their counts add up to the history's length. Each answer in it is as `L` says that it may be. It takes
-    /// no memory (this project's own rule).
+    /// order; and their counts add up to the history's length. Each answer in it is as `L` says that it may be. It
+    /// takes no memory (this project's own rule).
     ///
     /// # Errors
     ///

@@ -26,9 +26,9 @@ pub enum WordReply {
     DeletePending,
     /// It was done.
     Done,
-    /// The seat has no room for another acquisition.
+    /// The seat has no room for another reference.
     SeatFull,
-    /// The seat has no acquisition with this tag.
+    /// The seat has no reference with this tag.
     NotHeld,
     /// Removal had begun before.
     AlreadyRemoving,

@@ -163,7 +163,7 @@ pub record MakesAlone (count place : ℕ) (step : Step) (kind : StepKind) (befor
   pub did : Does count place step kind old new before.lines after.lines
   pub others : after.seats ≡ slice_set before.seats at new
 
--- one of so many locks' acquisitions went from the one seat to the other, or was refused
+-- a reference to one of so many locks went from the one seat to the other, or was refused
 pub record HandsOver (count : ℕ) (lock : LockNo) (tag : ℕ)
     (giver giver_after taker taker_after : AtWork) (reply : WordReply) : Type 0 where
   pub did : HandActs count lock.0 tag giver.remove giver_after.remove

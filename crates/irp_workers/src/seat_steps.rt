@@ -128,7 +128,7 @@ impl<'a, L: Session> ScriptSeat<'a, L> {
         }
     }
 
-    /// Hands one acquisition to another seat at the same locks, and answers what a word line tells of it.
+    /// Hands one reference to another seat at the same locks, and answers what a word line tells of it.
     pub fn hand(&mut self, taker: &mut ScriptSeat<'a, L>, lock: LockNo, tag: u32) -> WordReply
         requires { taker.old.remove.table ≡ self.old.remove.table }
         ensures { HandsOver L.fixed.locks lock tag

@@ -56,7 +56,7 @@ fn once_removed(at: usize, removed: usize) -> usize
     at - 1
 }
 
-/// The seat at the one place hands one acquisition to the one at the other. All are at these locks.
+/// The seat at the one place hands one reference to the one at the other. All are at these locks.
 fn hand_between<'a, L: Session>(
     locks: &'a Locks,
     seats: &mut Vec<ScriptSeat<'a, L>>,
