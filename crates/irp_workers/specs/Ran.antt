@@ -1,5 +1,5 @@
--- What ran of a script: the chains of steps that its workers made, from the seats as they were opened to the entries and
--- word lines that the transcript has.
+-- What ran of a script: the chains of steps that its workers made, from the seats as they were opened to the entries
+-- and word lines that the transcript has.
 use Rattle.std.specs.Prelude.{ℕ, ◌≡◌, All, Bool, List, [], map}
 use Rattle.std.specs.List.{flat_map}
 use Rattle.atomic_table.specs.Seated.{TableId}
@@ -40,22 +40,25 @@ owners_in all = flat_map (λ own. own.parties.owners) all
 -- ---- all of it
 
 -- The seats of a script as they are opened. They are numbered by their places, have no entries and have seen nothing.
--- Their remove seats hold nothing and know nothing, their cancellers have asked nothing. Each slot has an owner, which has
--- published nothing and is with the seat that owns the slot. No seat has taken a token out of a slot
+-- Their remove seats hold nothing and know nothing, their cancellers have asked nothing. Each has all slots of the
+-- script before it. Each slot has an owner, which has published nothing and is with the seat that owns the slot. No seat
+-- has taken a token out of a slot
 pub record AreOpened (script : Script) (all : List AtWork) : Type 0 where
   pub new : AreNew script.seats (seats_in all)
-  pub locks : TableId
-  pub idle : AreFresh locks script.seats (removes_in all)
-  pub slots : TableId
-  pub unasked : All (IsFreshCanceller slots) (cancellers_in all)
+  pub lock_table : TableId
+  pub idle : AreFresh lock_table script.seats (removes_in all)
+  pub slot_table : TableId
+  pub counted : All (λ own. own.parties.slots ≡ slots_of script.form) all
+  pub unasked : All (IsFreshCanceller slot_table) (cancellers_in all)
   pub owners : List Publisher
-  pub unpublished : AreFreshOwners slots (slots_of script.form) owners
+  pub unpublished : AreFreshOwners slot_table (slots_of script.form) owners
   pub given : EachAsOften owners (owners_in all)
   pub own : OwnTheirSlots script.seats (parties_in all)
   pub untaken : All (λ own. own.parties.taken ≡ []) all
 
--- What ran: so many workers made the script's steps, one after the other, beginning with the seats as they are opened.
--- The transcript has the word lines that came of it, and for each seat just the entries that it had in the end
+-- What ran: one worker made the setup, and then so many made their own steps, each in the script's order, beginning
+-- with the seats as they are opened; all steps, where nothing stopped. The transcript has the word lines that came of
+-- it, and for each seat just the entries that it had in the end
 pub record Ran (workers : ℕ) (script : Script) (transcript : TranscriptValue) (stopped : Bool)
     : Type 0 where
   pub before : List AtWork

@@ -173,14 +173,14 @@ abbrev pub text_with : TranscriptValue → List ℕ
 text_with transcript = text_of (lines transcript)
 
 -- what came of a script with these tables that so many workers ran to its end: the transcript of a run was written,
--- which shows each step
+-- which shows each step, and comes of what ran
 abbrev pub RunsScript : ℕ → Script → Tables → Bytes → Bytes → ℕ → ℕ → Type 0
 RunsScript workers script tables old new before after =
     (transcript : TranscriptValue) × IsRun script tables transcript × ShowsEach script transcript
     × Ran workers script transcript false × Written (text_with transcript) old new before after
 
--- the same where it wasn't: there is no transcript, and nothing went out; or the transcript of a run was written, and
--- steps may be missing in it; or a beginning of one went out
+-- the same where it wasn't: there is no transcript, and nothing went out; or the transcript of a run was written, which
+-- comes of what ran, and steps may be missing in it; or a beginning of such a one went out
 abbrev pub BreaksOffRun : ℕ → Script → Tables → Bytes → Bytes → ℕ → ℕ → Unfinished → Type 0
 BreaksOffRun workers script tables old new before after (NoTranscript fault) =
     IsQuiet old new before after

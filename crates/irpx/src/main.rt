@@ -6,6 +6,7 @@ mod demo;
 mod ending;
 mod input;
 mod orders;
+mod planned;
 mod running;
 mod words;
 mod writing;

@@ -1,8 +1,7 @@
 //! The word `run`: a script is read and run by workers, and the transcript is written.
 
-ghost use Rattle.std.specs.Prelude.{IfErr, IfOk, ℕ, List, ◌≡◌, ◌≤◌, ◌<◌, false, true, position};
+ghost use Rattle.std.specs.Prelude.{IfErr, IfOk, ℕ, List, ◌≡◌, ◌≤◌, ◌<◌, false, position};
 ghost use Rattle.irp_types.specs.Limits.{most_slots};
-ghost use Rattle.irp_types.specs.Rules.{is_plan_allowed};
 ghost use Rattle.irp_types.specs.State.{Tables};
 ghost use Rattle.irp_manager.specs.Seats.{Seated};
 ghost use Rattle.irp_shared.specs.Answered.{AnswersSo};
@@ -10,8 +9,6 @@ ghost use Rattle.irp_shared.specs.Closing.{Closes};
 ghost use Rattle.irp_shared.specs.Headers.{slots_of};
 ghost use Rattle.irp_shared.specs.Transcripts.{IsTranscript, TranscriptValue};
 ghost use Rattle.irp_script.specs.Between.{hands_between};
-ghost use Rattle.irp_script_reader.specs.Plans.{is_plan_sound, names_known};
-ghost use Rattle.irp_workers.specs.Behaviours.{plan_of};
 ghost use Rattle.irp_workers.specs.Numbers.{EachAsOften};
 ghost use Rattle.irp_workers.specs.Seats.{seats_of};
 ghost use Rattle.irpx.specs.Bytes.{Bytes};
@@ -33,6 +30,7 @@ ghost use Rattle.irpx.specs.Running.{
 };
 
 use crate::input::{InputFault, read_up_to};
+use crate::planned::Planned;
 use crate::writing::{Unwritten, write};
 use irp_routines::{Ask, CancelRoutine, Dispatch, Routine, Store};
 use irp_script::hand_between;
@@ -41,10 +39,10 @@ use irp_shared::{
     Form, Seat, Session, Shared, Transcript, TranscriptParts, WordLine, open_with_limit,
 };
 use irp_transcript_writer::Out;
-use irp_types::{Known, Plan, Row, Shown};
+use irp_types::{Row, Shown};
 use irp_workers::{
     AlwaysOpen, ScriptSeat, Worked, cancel_rule, run_workers, script_seats, table_answer,
-    table_cancel, table_plan,
+    table_cancel,
 };
 use std::alloc::{AllocError, AllocFailed, Global};
 use std::io::Read;
@@ -174,25 +172,6 @@ impl From<Unfinished> for RunFault {
 struct Workers {
     number: u32,
     ghost some: { 0 < number },
-}
-
-/// A plan of a script, for a dispatch that may name these routines: it is sound, and its routine is one of them.
-#[derive(Clone, Copy)]
-struct Planned {
-    known: Known,
-    plan: Plan,
-    ghost sound: { is_plan_sound plan ≡ true },
-    ghost named: { names_known known plan ≡ true },
-}
-
-impl Planned {
-    /// What the dispatch answers to what it is shown. It is allowed, as the plan is by its type.
-    fn answer(self, shown: Shown) -> Plan
-        ensures answer { result ≡ plan_of self.plan shown }
-        ensures allowed { is_plan_allowed self.known shown result ≡ true }
-    {
-        table_plan(self.plan, shown)
-    }
 }
 
 /// What a run left: the transcript, and whether a step found no memory or wasn't recorded.
@@ -365,7 +344,8 @@ fn with_store<O: Out, T: Threads + Wait + Sync>(
     workers: Workers,
     store: Store,
 ) -> Result<(), Unfinished>
-    ensures { AfterScript workers.number script.now store.tables (O.gone output.old) (O.gone output.new)
+    ensures { AfterScript workers.number script.now store.tables
+        (O.gone output.old) (O.gone output.new)
         (O.failures output.old) (O.failures output.new) result }
 {
     let blank = Blank::new(u64::from(script.seats));

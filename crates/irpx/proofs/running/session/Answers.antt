@@ -1,34 +1,28 @@
 -- The transcript that was closed, with the script's form and the word lines put in.
-use Rattle.std.proofs.Common.{rules, ◌≡◌, ◌<◌, ◌++◌, All, Bool, List, [], false, IfSome, map, sym, subst, ap, ◌∙◌}
-use Rattle.std.specs.Vec.{vec_len}
-use Rattle.std.proofs.lemmas.List.Folds.{flat_map-map}
-use Rattle.irp_remove.specs.Opening.{AreFresh}
-use Rattle.irp_slots.specs.Opening.{AreFreshOwners, IsFreshCanceller}
-use Rattle.irp_slots.specs.Pairing.{table_of}
-use Rattle.irp_shared.specs.Headers.{slots_of as slots_in}
+use Rattle.std.proofs.Common.{rules, ◌≡◌, ◌<◌, ◌++◌, Bool, List, false, IfSome, map, sym, subst, ap, ◌∙◌}
 use Rattle.std.specs.List.{count_by}
+use Rattle.std.specs.Vec.{vec_len}
 use Rattle.std.proofs.lemmas.Result.{IfOk-weaker}
 use Rattle.std.proofs.lemmas.Simd.{map-map}
+use Rattle.irp_types.specs.State.{Fixed}
 use Rattle.irp_manager.specs.Seats.{Seated}
 use Rattle.irp_shared.specs.Closing.{AllHere, Closes}
-use Rattle.irp_shared.specs.Headers.{IsHeader}
+use Rattle.irp_shared.specs.Headers.{IsHeader, slots_of as slots_in}
 use Rattle.irp_shared.specs.Transcripts.{TranscriptValue}
+use Rattle.irp_script_reader.specs.Forms.{slots_of}
 use Rattle.irp_workers.specs.Accounts.{calls_at, pair_at}
 use Rattle.irp_workers.specs.Made.{NoneTwice, once_made, seat_calls}
 use Rattle.irp_workers.specs.Numbers.{EachAsOften}
 use Rattle.irp_workers.specs.Outcomes.{Outcome, outcomes}
-use Rattle.irp_workers.specs.Seats.{pairs_of, seat_at_work, seats_at_work, seats_of}
+use Rattle.irp_workers.specs.Ran.{AreOpened, Ran}
+use Rattle.irp_workers.specs.Seats.{pairs_of, seat_at_work, seats_at_work}
+use Rattle.irp_workers.specs.Working.{RunsScript}
+use Rattle.irp_workers.proofs.Ran.{all_opened, closed_ran}
 use Rattle.irpx.specs.Running.{IsRun, MakesCalls, ShowsEach, run_transcript}
 use Rattle.irpx.specs.declared.running.Finished.{Finished}
 use Rattle.irpx.proofs.Calls.{each_made}
-use Rattle.std.proofs.lemmas.List.Elements.{All-map}
-use Rattle.irp_types.specs.State.{Fixed}
-use Rattle.irp_shared.specs.Opening.{AreNew}
-use Rattle.irp_workers.specs.Working.{RunsScript, roomless}
-use Rattle.irpx.proofs.Ran.{all_back, all_kept, all_new, slots_same}
+use Rattle.irpx.proofs.Ran.{slots_same}
 use Rattle.irpx.proofs.Runs.{closed_is_run}
-use Rattle.irp_workers.specs.Ran.{AreOpened, Ran}
-use Rattle.irp_workers.proofs.Ran.{own_slots}
 use Rattle.irpx.proofs.running.session.Goals as goal
 
 pub returns-clause-run : goal.returns-clause-run
@@ -82,37 +76,20 @@ returns-clause-ran g c =
     let worked = c.in_ok-worked.worked in
     let many : vec_len c.in-Ok.seats ≡ script.seats = search rules in
     let some : 0 < vec_len c.in-Ok.seats = subst (λ count. 0 < count) (sym many) c.in-Ok-open.ensures.counts.2 in
-    let opened : AreOpened script (seats_at_work pairs) = record {
-      new = subst (AreNew script.seats)
-          (sym (map-map (λ own. own.seat) seat_at_work pairs ∙ sym (map-map roomless (λ own. own.seat) pairs) ∙ ap (map roomless) made.seats))
-          (all_new script.seats c.in-Ok.seats.items c.in-Ok.ensures.seats);
-      locks = c.in-Ok-open.locks.table.shared.table_id;
-      idle = subst (AreFresh c.in-Ok-open.locks.table.shared.table_id script.seats) (sym (map-map (λ own. own.remove) seat_at_work pairs ∙ made.removes)) c.in-Ok-open.ensures.seats.1;
-      slots = table_of c.in-Ok-open-2.slots;
-      unasked = subst (All (IsFreshCanceller (table_of c.in-Ok-open-2.slots))) (sym (map-map (λ own. own.parties.canceller) seat_at_work pairs ∙ made.cancellers)) c.in-Ok-open-2.ensures.asking;
-      owners = c.in-Ok-open-2.owners.items;
-      unpublished = subst (λ count. AreFreshOwners (table_of c.in-Ok-open-2.slots) count c.in-Ok-open-2.owners.items)
-          (c.slots.ensures ∙ ap slots_in c.form_of-form.ensures ∙ slots_same script.form) c.in-Ok-open-2.ensures.owners;
-      given = λ test. ap (count_by test) (flat_map-map (λ own. own.parties.owners) seat_at_work pairs) ∙ made.all_owners some test;
-      own = own_slots pairs (vec_len c.in-Ok.seats) script.seats many made.owners;
-      untaken = All-map (λ own. own.parties.taken ≡ []) seat_at_work pairs made.taken;
-    } in
+    let opened : AreOpened script (seats_at_work pairs) =
+    all_opened script pairs c.in-Ok.seats.items c.in-Ok-open.removes.items c.in-Ok-open-2.cancellers.items c.in-Ok-open-2.owners.items
+    c.in-Ok-open.locks.table.shared.table_id c.in-Ok-open-2.slots.table.shared.table_id (vec_len c.in-Ok.seats) c.slots.result
+    c.in-Ok.ensures.seats made.seats c.in-Ok-open.ensures.seats.1 made.removes c.in-Ok-open-2.ensures.asking made.cancellers
+    (c.slots.ensures ∙ ap slots_in c.form_of-form.ensures ∙ slots_same script.form)
+    (λ k d lt. made.counted k d lt ∙ ap (λ key. key.slots) c.in-Ok-open-2.ensures.parties)
+    c.in-Ok-open-2.ensures.owners (made.all_owners some) many made.owners made.taken in
+    let chains : RunsScript script.locks c.args.workers script.setup script.steps (seats_at_work pairs) (seats_at_work worked.seats.items) worked.words.items worked.stopped =
+    subst (λ locks. RunsScript locks c.args.workers script.setup script.steps (seats_at_work pairs) (seats_at_work worked.seats.items) worked.words.items worked.stopped)
+    (ap (λ (fixed : Fixed). fixed.locks) c.requires.fixed) c.in_ok-worked.ensures.ran in
     IfOk-weaker c.finish.result _ (λ (run : Finished). Ran c.args.workers script run.transcript run.stopped)
     (λ run ends.
-    let seats : List Seated = ends.0 in
-    let closed : TranscriptValue = ends.2 in
-    let closes : Closes g.L.Session.fixed g.L.Session.seats seats closed = ends.3 in
+    let closed : TranscriptValue = run_transcript script.form worked.words.items ends.2 in
     subst (λ (transcript : TranscriptValue). Ran c.args.workers script transcript run.stopped) (sym ends.4)
-    (subst (λ (stopped : Bool). Ran c.args.workers script (run_transcript script.form worked.words.items closed) stopped) (sym ends.6)
-    (record {
-      before = seats_at_work pairs;
-      after = seats_at_work worked.seats.items;
-      opened = opened;
-      made = subst (λ locks. RunsScript locks c.args.workers script.setup script.steps (seats_at_work pairs) (seats_at_work worked.seats.items) worked.words.items worked.stopped)
-          (ap (λ (fixed : Fixed). fixed.locks) c.requires.fixed) c.in_ok-worked.ensures.ran;
-      closed = map roomless seats;
-      back = λ test. all_back (seats_of worked.seats.items) seats ends.1 test
-          ∙ sym (ap (count_by test) (map-map (λ own. own.seat) seat_at_work worked.seats.items ∙ sym (map-map roomless (λ own. own.seat) worked.seats.items)));
-      kept = all_kept closed.entries seats closes.own;
-    })))
+    (subst (λ (stopped : Bool). Ran c.args.workers script closed stopped) (sym ends.6)
+    (closed_ran c.args.workers script pairs worked.seats.items ends.0 closed worked.stopped opened chains ends.1 ends.3.own)))
     c.finish.ensures
