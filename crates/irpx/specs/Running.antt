@@ -174,8 +174,8 @@ text_with transcript = text_of (lines transcript)
 
 -- what came of a script with these tables that so many workers ran to its end: the transcript of a run was written,
 -- which shows each step, and comes of what ran
-abbrev pub RunsScript : ℕ → Script → Tables → Bytes → Bytes → ℕ → ℕ → Type 0
-RunsScript workers script tables old new before after =
+abbrev pub RunsToItsEnd : ℕ → Script → Tables → Bytes → Bytes → ℕ → ℕ → Type 0
+RunsToItsEnd workers script tables old new before after =
     (transcript : TranscriptValue) × IsRun script tables transcript × ShowsEach script transcript
     × Ran workers script transcript false × Written (text_with transcript) old new before after
 
@@ -196,7 +196,7 @@ BreaksOffRun workers script tables old new before after (Unwritten fault) =
 abbrev pub AfterScript : {T : Type 0} → ℕ → Script → Tables → Bytes → Bytes → ℕ → ℕ
     → Result T Unfinished → Type 0
 AfterScript workers script tables old new before after (Ok done) =
-    RunsScript workers script tables old new before after
+    RunsToItsEnd workers script tables old new before after
 AfterScript workers script tables old new before after (Err fault) =
     BreaksOffRun workers script tables old new before after fault
 
@@ -211,7 +211,7 @@ HandsFirst workers place input left script =
 abbrev pub Runs : ℕ → Bytes → Bytes → Bytes → Bytes → ℕ → ℕ → Type 0
 Runs workers input left old new before after =
     (script : Script) × HandsFirst workers None input left script
-    × RunsScript workers script (tables_of script) old new before after
+    × RunsToItsEnd workers script (tables_of script) old new before after
 
 -- the same where it wasn't: there is no script, or one that hands a reference between workers, and nothing went out; or
 -- the input holds another, which wasn't run to its end
