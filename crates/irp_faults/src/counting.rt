@@ -1,7 +1,5 @@
 //! An asker that counts how often it is asked.
 
-ghost use Rattle.std.specs.Prelude.{◌≡◌};
-
 use irp_routines::{AnswerTable, Ask};
 use irp_types::{
     Answer, CancelAnswer, CancelId, CancelRule, DispatchId, DriverId, Known, Plan, RoutineId, Shown,

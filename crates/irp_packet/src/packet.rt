@@ -5,12 +5,12 @@ mod steps;
 ghost use Rattle.std.specs.Prelude.{◌≡◌, ◌+◌, ◌<◌, ◌≤◌, ◌==◌, ◌||◌, if◌then◌else◌, nat_lt, false, replicate};
 ghost use Rattle.irp_types.specs.Limits.{most_locations};
 ghost use Rattle.irp_types.specs.Checks.{answer_unless, value_unless};
-ghost use Rattle.irp_types.specs.Packet.{size_of, cleared, location_at, found_location, with_location, with_status, new_packet, is_nothing, set_next_refusal, copy_to_next_refusal, skip_refusal, set_routine_refusal, mark_pending_refusal, after_set_next, after_copy, after_skip, after_set_routine, after_mark, after_enter, after_rise, after_reset};
+ghost use Rattle.irp_types.specs.Packet.{size_of, cleared, location_at, found_location, new_packet, is_nothing, set_next_refusal, copy_to_next_refusal, skip_refusal, set_routine_refusal, mark_pending_refusal, after_set_next, after_copy, after_skip, after_set_routine, after_mark};
 ghost use Rattle.irp_types.specs.declared.refusal.Refusal.TheVariants.{BadSize};
 
 use arrayvec::ArrayVec;
 use irp_types::limits::LAST_MAJOR;
-use irp_types::{CancelId, DeviceId, Location, Owner, Preparation, Refusal, Setting, Status};
+use irp_types::{CancelId, Location, Owner, Preparation, Refusal, Setting, Status};
 use std::alloc::Global;
 use std::marker::Model;
 

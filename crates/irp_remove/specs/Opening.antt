@@ -61,8 +61,9 @@ AreAmong [] parties = Unit {0}
 AreAmong (view ∷ views) parties =
     (before : List View) × (after : List View) × (parties ≡ before ++ view ∷ after) × AreAmong views (before ++ after)
 
--- In each state that keeps the rule, and among whose parties are those of these seats, every word is 0. So no party has
--- begun a removal, holds or tries a lock, saw one removed or knows one drained, those outside these seats included
+-- In each state that keeps the rule, and among whose parties are those of these seats, every word is 0. So no party at
+-- all has begun a removal, holds or tries a lock, saw one removed or knows one drained, whether or not it is one of
+-- these
 abbrev pub IsAllIdle : Parties → List Holder → Type 0
 IsAllIdle key holders =
     (state : State (Unit {0}) View) → Kept key state → AreAmong (views_of_all holders) state.views → (lock : ℕ)

@@ -1,11 +1,11 @@
 //! How locks and their seats are made.
-ghost use Rattle.std.specs.Prelude.{◌≡◌, ◌<◌, ◌≤◌, ◌*◌, ◌-◌, All, Err, IfOk, MatchResult, length, map, replicate, vec_len};
-ghost use Rattle.irp_remove.specs.Core.{observers, stakes, new_stake};
+ghost use Rattle.std.specs.Prelude.{◌≡◌, ◌<◌, ◌≤◌, ◌*◌, ◌-◌, All, Err, IfOk, MatchResult, length, vec_len};
+ghost use Rattle.irp_remove.specs.Core.{observers, stakes};
 ghost use Rattle.irp_remove.specs.Opening.{IsBadCount, IsGoodCount, OpenRefused, IsFresh, AreFresh, parties_of, IsAllIdle};
 ghost use Rattle.irp_remove.specs.declared.refusal.OpenRefusal.TheVariants.{BadCount};
 ghost use mathlib.Core.Logic.{◌↔◌};
 ghost use Rattle.irp_remove.specs.Pairing.{lock_count};
-ghost use Rattle.irp_remove.specs.Seats.{IsNew, view_of};
+ghost use Rattle.irp_remove.specs.Seats.{IsNew};
 ghost use Rattle.irp_remove.specs.declared.views.View.TheVariants.{First};
 
 use crate::plays::{NewObserver, NewStake};

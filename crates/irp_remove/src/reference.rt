@@ -1,5 +1,4 @@
 //! A stake with the lock and the tag that it holds.
-ghost use Rattle.std.specs.Prelude.{◌≡◌, []};
 
 use crate::views::View;
 use atomic_table::Badge;

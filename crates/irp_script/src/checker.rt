@@ -1,6 +1,6 @@
 //! Whether a recorded history is legal.
 
-ghost use Rattle.std.specs.Prelude.{◌≡◌, IfOk};
+ghost use Rattle.std.specs.Prelude.{IfOk};
 ghost use Rattle.irp_types.specs.State.{AreTables};
 ghost use Rattle.irp_shared.specs.Headers.{fixed_of};
 ghost use Rattle.irp_script.specs.Checked.{IsVerdict, IsVerdictOn};

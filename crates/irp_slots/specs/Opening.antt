@@ -71,7 +71,7 @@ AreAmong (view ∷ views) parties =
     (before : List View) × (after : List View) × (parties ≡ before ++ view ∷ after) × AreAmong views (before ++ after)
 
 -- In each state that keeps the rule, and among whose parties are these owners and cancellers, each slot is empty and
--- its flag is clear. So no party has published or asked, any others included
+-- its flag is clear. So no party at all has published or asked, whether or not it is one of these
 abbrev pub IsAllEmpty : Parties → List Publisher → List Asker → Type 0
 IsAllEmpty key publishers askers =
     (state : State (Unit {0}) View) → Kept key state → AreAmong (views_of publishers askers) state.views

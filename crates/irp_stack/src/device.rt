@@ -1,6 +1,6 @@
 //! The record that is kept of a device, and the changes that calls make to records.
 
-ghost use Rattle.std.specs.Prelude.{◌≡◌, ℕ, ◌+◌, ◌-◌, ◌<◌, ◌≤◌, length};
+ghost use Rattle.std.specs.Prelude.{◌≡◌, ◌+◌, ◌-◌, ◌<◌, ◌≤◌, length};
 ghost use Rattle.std.specs.List.{AllByRecursion};
 ghost use Rattle.irp_types.specs.Limits.{most_locations};
 ghost use Rattle.irp_stack.specs.Records.{FoundLive, walk, renumbered, put_above, cut_between, dead, edit, record_of, names_neighbour};

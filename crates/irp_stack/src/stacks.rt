@@ -1,6 +1,6 @@
 //! The devices and their stacks.
 
-ghost use Rattle.std.specs.Prelude.{◌≡◌, ℕ, ◌+◌, ◌<◌, ◌≤◌, length, IfOk, IfErr, OnErr, Some, None, unwrap_or, slice_get};
+ghost use Rattle.std.specs.Prelude.{◌≡◌, ◌+◌, ◌<◌, ◌≤◌, length, IfOk, IfErr, OnErr, Some, None, slice_get};
 ghost use Rattle.std.specs.Option.{option_map};
 ghost use Rattle.irp_types.specs.Limits.{most_locations};
 ghost use Rattle.irp_types.specs.Checks.{first_failing, answer_unless, value_unless};
@@ -90,7 +90,7 @@ impl Stacks {
     /// project's own rule).
     ///
     /// The error is `Full` exactly where 64 devices were created before, deleted ones among them. It is `Memory` only
-    /// where fewer were. Either changes nothing.
+    /// where fewer were created. Either changes nothing.
     pub fn create(&mut self, driver: DriverId, lock: LockNo) -> Result<DeviceId, NotCreated>
         ensures created { IfOk result (λ device. (device.0 ≡ length self.old.devices.facts)
             × (first_failing (create_checks self.old.devices) ≡ None)

@@ -1,6 +1,5 @@
 //! Entries.
 
-ghost use Rattle.std.specs.Prelude.{◌≡◌};
 ghost use Rattle.serde_json.specs.View.{view};
 ghost use Rattle.irp_forms.specs.Parts.{Gives};
 ghost use Rattle.irp_transcript_reader.specs.Lines as spec;

@@ -2,7 +2,6 @@
 
 ghost use Rattle.std.specs.Prelude.{◌≡◌};
 ghost use Rattle.serde_json.specs.View.{view};
-ghost use Rattle.irp_forms.specs.Parts.{Gives};
 ghost use Rattle.irp_shared.specs.Transcripts.{no_lines};
 ghost use Rattle.irp_transcript_reader.specs.Reading as spec;
 ghost use Rattle.irp_transcript_reader.specs.Reading.{GivesLine, TakesLine, so_far};

@@ -2,7 +2,6 @@
 #![tactic(auto, unfolding(json::specs::Print::escape_byte))]
 
 ghost use Rattle.std.specs.Prelude.{◌≡◌, ◌++◌, OnOk};
-ghost use Rattle.serde_json.specs.Written.{compact_text};
 ghost use Rattle.irp_transcript_writer.specs.Lines.{word_json, word_reply_json};
 ghost use Rattle.irp_transcript_writer.specs.Texts.{locked_text, slot_text};
 

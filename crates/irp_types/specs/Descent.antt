@@ -112,7 +112,8 @@ abbrev pub IsPlanOf : Tables → DispatchId → Shown → Option Plan → Type 0
 IsPlanOf tables dispatch shown plan =
     (known : Known) × (answer : Plan) × (known_of tables dispatch ≡ Some known) × (plan ≡ Some answer) × (is_plan_allowed known shown answer ≡ true)
 
--- a frame has no plan exactly where its driver has no dispatch for the major function code, and else one that is allowed
+-- a frame has no plan exactly where its driver has no dispatch for the major function code, and else one that is
+-- allowed
 abbrev pub IsPlannedAs : Tables → DevicesValue → Frame → Shown → Type 0
 IsPlannedAs tables devices frame shown =
     MatchOption (dispatch_at tables devices frame.device shown.major) (frame.plan ≡ None) (λ dispatch. IsPlanOf tables dispatch shown frame.plan)

@@ -61,7 +61,7 @@ packet_refusal state irp = first_failing (packet_checks state irp)
 abbrev pub slot_check : PacketValue → Check
 slot_check packet = (packet.slot_held, SlotHeld)
 
--- the checks of a call that names a packet and a party
+-- why a party can't call on a packet, or none
 abbrev pub party_refusal : StateValue → Party → IrpRef → Option Refusal
 party_refusal state party irp =
     let owner = (packet_of state irp).owner in
@@ -71,7 +71,7 @@ party_refusal state party irp =
 abbrev pub leave_refusal : PacketValue → Option Refusal
 leave_refusal packet = or_else (skip_refusal packet) (first_failing ((is_some packet.cancel_routine, CancelRoutineSet) ∷ []))
 
--- the refusal to set a completion routine where there are so many, or none
+-- why the owner can't set a completion routine, where there are so many of each rule, or none
 abbrev pub routine_refusal : Known → PacketValue → Setting → Option Refusal
 routine_refusal counts packet setting =
     or_else (set_routine_refusal packet) (first_failing ((not (is_known counts setting), NoRoutine) ∷ []))
@@ -101,7 +101,7 @@ complete_refusal packet status = first_failing (
 abbrev pub ended_check : PacketValue → Check
 ended_check packet = (has_ended packet.owner, HasEnded)
 
--- the refusal to complete a packet of this use by this token with a status, or none
+-- why a packet of this use can't be completed by this token with a status, or none
 abbrev pub take_refusal : PacketValue → ℕ → ℕ → Status → Option Refusal
 take_refusal packet use_no token status = first_failing (
     (not (token == use_no), Stale)
@@ -109,7 +109,7 @@ take_refusal packet use_no token status = first_failing (
     ∷ (not packet.slot_held, NotSlotHeld)
     ∷ (not (is_completable status), BadStatus) ∷ [])
 
--- the refusal to set a cancel routine, or to take it out, where there are so many, or none
+-- why the owner can't set a cancel routine, or take it out, where there are so many, or none
 abbrev pub cancel_refusal : Known → PacketValue → Option CancelId → Option Refusal
 cancel_refusal counts packet cancel = first_failing (
     location_check packet ∷ skip_check packet
@@ -138,7 +138,7 @@ is_in_flight state device = list_any (λ (live : LivePacket). has_packet device 
 abbrev pub use_check : StateValue → Check
 use_check state = (nat_le use_limit state.next_use, Full)
 
--- the refusal that a call is answered, or none
+-- why a call is refused, or none
 abbrev pub first_refusal : Fixed → StateValue → Bool → Call → Option Refusal
 first_refusal fixed state drained (CreateDevice driver lock) = first_failing (
     (nat_le (length fixed.tables.drivers) driver.0, NoDriver) ∷ (nat_le fixed.locks lock.0, NoLock) ∷ create_checks state.devices)

@@ -6,7 +6,7 @@ use Rattle.irp_types.specs.declared.status.Status.{Status}
 abbrev pub success : Status
 success = record { 0 = 0 }
 
--- STATUS_PENDING: the answer to a sender whose packet is completed later, or was completed where nobody waited for it
+-- STATUS_PENDING: the answer to a sender where a device on the way down answered so; no packet is completed with it
 abbrev pub pending : Status
 pending = record { 0 = 0x103 }
 

@@ -14,7 +14,7 @@ pub struct Replacement {
 /// What a completion routine answers (WDK: "Implementing an IoCompletion Routine").
 #[derive(Clone, Copy, PartialEq, Eq, Debug)]
 pub struct Answer {
-    /// STATUS_MORE_PROCESSING_REQUIRED: unwinding stops, and the packet is again of whoever set the routine.
+    /// STATUS_MORE_PROCESSING_REQUIRED: unwinding stops, and the packet belongs again to whoever set the routine.
     pub keep: bool,
     /// Whether the routine called IoMarkIrpPending.
     pub mark: bool,

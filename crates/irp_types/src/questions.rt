@@ -51,8 +51,8 @@ impl Questions {
         }
     }
 
-    /// The same questions, in the same place. None where they can't be shared: where some lie with their entry alone, or
-    /// the place has as many owners as it may have. It takes no memory.
+    /// The same questions, in the same place. None where they can't be shared: where some lie with their entry alone,
+    /// or the place has as many owners as it may have. It takes no memory.
     #[inline]
     pub(crate) fn shared(&self) -> Option<Questions>
         ensures { IfSome result (λ same. same ≡ self.now) }

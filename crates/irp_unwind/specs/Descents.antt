@@ -21,7 +21,8 @@ pub record Descends (may : Asked → Type 0) (tables : Tables) (irp : IrpRef) (d
   pub given : AllByRecursion may asked
   pub ended : sent.ending ≡ ending_at (last_frame descended.frames) descended.reached descended.unwinding (last_frame descended.frames).plan
 
--- how many locations there are from the lowest up that a packet can reach when it goes down through so many devices
+-- how many locations a packet can come to on its way down through so many devices, and up again: those from the lowest
+-- that it reaches
 abbrev pub within_reach : PacketValue → ℕ → ℕ
 within_reach packet depth = size_of packet - ((packet.current - 1) - depth)
 
