@@ -16,16 +16,17 @@ pub trait FromJson {
     /// What the value is the form of, or none.
     ghost at: { Data → Option Self };
 
-    /// Reads it. `Unread::Form` exactly where the value has another form, unless memory runs out.
+    /// Reads it. `Unread::Form` comes only where the value has another form; `Unread::NoMemory` may come for any value.
     fn from_json(alloc: Global, value: &Value) -> Result<Self, Unread>
         ensures { Gives result (at (view value.now)) };
 }
 
-/// Reads the array of these forms, in order (this project's own format, docs/FORMATS.md).
+/// What the items of an array are the forms of, in order (this project's own format, docs/FORMATS.md).
 ///
 /// # Errors
 ///
-/// `Unread::Form` where it is no array, or an item has another form; `Unread::NoMemory` where memory runs out.
+/// `Unread::Form` only where the value is no array, or an item has another form; `Unread::NoMemory` where memory runs
+/// out before such an item is met.
 #[tactic(auto, unfolding(crate::specs::Parts::list_at))]
 pub fn list_at<T: FromJson + Drop>(alloc: Global, value: &Value) -> Result<Row<T>, Unread>
     ensures { Gives result (list_at T.at (view value.now)) }
@@ -51,8 +52,8 @@ impl<T: FromJson + Drop> FromJson for Row<T> {
     }
 }
 
-/// What the value is the form of, with no memory; `Unread::Form` exactly where it has another form (this project's own
-/// format, docs/FORMATS.md).
+/// What the value is the form of. It takes no memory, and answers `Unread::Form` exactly where the value has another
+/// form (this project's own format, docs/FORMATS.md).
 impl<T: FromValue> FromJson for T {
     ghost at = { T.form };
 

@@ -1,4 +1,4 @@
-//! Values that texts have by their names: rules, flags and refusals.
+//! Values that a text names: rules, flags and refusals.
 #![tactic(auto, unfolding(json::specs::Print::escape_byte))]
 
 ghost use Rattle.std.specs.Prelude.{◌≡◌, ℕ, List, ◌++◌, Some, codes};
@@ -12,28 +12,29 @@ use crate::from_value::FromValue;
 use irp_types::{CancelRule, Refusal, Rule};
 use serde_json::Value;
 
-/// A value that a text has by its name (this project's own format, docs/FORMATS.md).
+/// A value that a text names (this project's own format, docs/FORMATS.md).
 pub trait HasName: Copy + 'static {
     /// Its name.
     ghost name: { Self → List ℕ };
 
-    /// Every value, once.
+    /// Every value, in the order in which a reader compares their names. That each is there, `found` says; that none is
+    /// there twice, no clause says.
     ghost all: { List Self };
 
-    /// Every value, once, in the order in which a reader compares their names.
+    /// Every value, in that order.
     fn all() -> &'static [Self]
         ensures { result.now ≡ all };
 
-    /// Its name, which JSON writes as it stands between quotation marks.
+    /// Its name. JSON writes it as it stands, between quotation marks.
     fn name(self) -> &'static str
         ensures name { result.now ≡ name self }
         ensures as_it_stands { quoted result.now ≡ codes "\"" ++ (result.now ++ codes "\"") };
 
-    /// Each value is the first of all that has its name. So all values are there, and no two have the same name.
+    /// Each value is the first in `all` that has its name. So each value is there, and no two have the same name.
     ghost found: { (one : Self) → spec.first_named name all (name one) ≡ Some one };
 }
 
-/// The value that has this name, or none (this project's own format, docs/FORMATS.md).
+/// The value that has this name; none where no value has it (this project's own format, docs/FORMATS.md).
 pub fn named<T: HasName>(given: &str) -> Option<T>
     ensures first { result ≡ spec.first_named T.name T.all given.now }
     ensures found { (one : T) → (result ≡ Some one) ↔ (given.now ≡ T.name one) }
@@ -46,7 +47,7 @@ pub fn named<T: HasName>(given: &str) -> Option<T>
     None
 }
 
-/// The value that has the name that a text is; none for any other text or value (this project's own format,
+/// The value whose name the text is; none for another text, and for what is no text (this project's own format,
 /// docs/FORMATS.md).
 impl<T: HasName> FromValue for T {
     ghost form = { spec.value_at T.name T.all };
@@ -113,15 +114,16 @@ impl HasName for CancelRule {
 /// When a completion routine is called, as a setting's letters say (this project's own format, docs/FORMATS.md).
 #[derive(Clone, Copy, Debug, PartialEq, Eq)]
 pub struct Flags {
-    /// Where the packet succeeded: the letter s.
+    /// Where the packet's status is a success: the letter s.
     pub on_success: bool,
-    /// Where it failed: the letter e.
+    /// Where its status isn't a success: the letter e.
     pub on_error: bool,
-    /// Where it was cancelled: the letter c.
+    /// Where its cancel flag is set: the letter c.
     pub on_cancel: bool,
 }
 
-/// The flags that have these letters: some of s, e, c in this order (this project's own format, docs/FORMATS.md).
+/// The flags that these letters set: of s, e and c none, some or all, each once and in this order. None for any other
+/// text (this project's own format, docs/FORMATS.md).
 #[tactic(auto, unfolding(crate::specs::Names::every_flags))]
 pub fn flags_named(letters: &str) -> Option<Flags>
     ensures { result ≡ spec.first_named spec.flags_name spec.every_flags letters.now }
@@ -144,7 +146,8 @@ pub fn flags_named(letters: &str) -> Option<Flags>
     })
 }
 
-/// The flags by their letters: some of s, e, c in this order (this project's own format, docs/FORMATS.md).
+/// The flags that the letters of a text set, as `flags_named` tells; none for what is no text (this project's own
+/// format, docs/FORMATS.md).
 impl FromValue for Flags {
     ghost form = { spec.flags_at };
 

@@ -44,8 +44,8 @@ receipt_of entry = record {
 }
 
 -- an entry is this seat's and this call's, its number is below the limit and after all that the seat had seen, its
--- `drained` is what the note knows of its lock (and it knew that it was drained, where a deletion is done), it has no more
--- questions than such a call may ask, and the receipt tells of it
+-- `drained` is what the note knows of its lock (and it knew that it was drained, where a deletion is done), it has no
+-- more questions than such a call may ask, and the receipt tells of it
 pub record IsCallOf (seat : Seated) (call : Call) (knows : LockNo → Bool) (receipt : Receipted) (entry : Entry) : Type 0 where
   pub within : entry.number < most_entries
   pub after : seat.seen ≤ entry.number

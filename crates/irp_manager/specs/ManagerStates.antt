@@ -56,13 +56,19 @@ SenderStays live old call reply new = (party : Party) (irp : IrpRef) (target : D
 abbrev pub SlotGranted : {K : Type 0} → (K → Option ℕ → ℕ → Type 0) → ManagerState K → Option ℕ → Call → Reply → Type 0
 SlotGranted grants old wish call reply = (size : ℕ) (irp : IrpRef) → call ≡ Allocate size → reply ≡ Irp irp → grants old.keep wish irp.slot
 
--- a packet's slot was live, and the keep is then as it promises after giving back
-abbrev pub WasGivenBack : {K : Type 0} → (K → Slots) → (K → ℕ → K → Type 0) → ManagerState K → ℕ → ManagerState K → Type 0
-WasGivenBack live gave_back old slot new = (is_some (fin.get (live old.keep) slot) ≡ true) × gave_back old.keep slot new.keep
+-- the old keep has a packet at this slot; and what the keep promises of giving back holds of the old keep, the slot and
+-- the new keep
+abbrev pub WasGivenBack :
+    {K : Type 0} → (K → Slots) → (K → ℕ → K → Type 0) → ManagerState K → ℕ → ManagerState K → Type 0
+WasGivenBack live gave_back old slot new =
+    (is_some (fin.get (live old.keep) slot) ≡ true) × gave_back old.keep slot new.keep
 
--- where the call gives a packet back, its slot was, and is as the keep promises
-abbrev pub SlotGivenBack : {K : Type 0} → (K → Slots) → (K → ℕ → K → Type 0) → ManagerState K → Call → Reply → ManagerState K → Type 0
-SlotGivenBack live gave_back old call reply new = (irp : IrpRef) → call ≡ Free irp → reply ≡ Done → WasGivenBack live gave_back old irp.slot new
+-- where the call is the Free of a packet and the reply is Done: the old keep has a packet at the slot that the call
+-- names; and what the keep promises of giving back holds of the old keep, that slot and the new keep
+abbrev pub SlotGivenBack :
+    {K : Type 0} → (K → Slots) → (K → ℕ → K → Type 0) → ManagerState K → Call → Reply → ManagerState K → Type 0
+SlotGivenBack live gave_back old call reply new =
+    (irp : IrpRef) → call ≡ Free irp → reply ≡ Done → WasGivenBack live gave_back old irp.slot new
 
 -- how many questions a call may ask: one to each device and one to each location where it sends, completes or cancels
 abbrev pub most_asked : Call → ℕ

@@ -94,8 +94,8 @@ impl<A: Ask> Manager<A> {
             (λ applied. SlotGranted (λ keep wish slot. IsNext keep slot) self.old.state None call
             applied.reply) }
         ensures gave { IfOk result
-            (λ applied. SlotGivenBack slabbed (λ keep slot left. IsNext left slot) self.old.state call
-            applied.reply self.new.state) }
+            (λ applied. SlotGivenBack slabbed (λ keep slot left. IsNext left slot) self.old.state
+            call applied.reply self.new.state) }
         ensures lock { IfOk result
             (λ applied. applied.lock ≡ lock_of (state_of slabbed self.old.state) call) }
         ensures drained { IfOk result

@@ -3,16 +3,16 @@
 mod owner_calls;
 pub(crate) mod room;
 
-ghost use Rattle.std.specs.Prelude.{◌≡◌, ℕ, ◌+◌, ◌<◌, ◌≤◌, ◌^◌, Option, Some, None, length, false, true, List, [], ◌∷◌, Bool, vec_len, vec_capacity, IfOk, OnErr, IfErr};
+ghost use Rattle.std.specs.Prelude.{◌≡◌, ◌+◌, ◌<◌, ◌≤◌, ◌^◌, Option, Some, None, length, false, [], ◌∷◌, Bool, vec_len, vec_capacity, IfOk, OnErr};
 ghost use Rattle.std.specs.FinMap as fin;
 ghost use Rattle.irp_types.specs.declared.limit.Limit.TheVariants.{ThirtyTwo};
 ghost use Rattle.irp_types.specs.Limits.{most_locations};
 ghost use Rattle.irp_types.specs.Checks.{first_failing, or_else};
 ghost use Rattle.irp_types.specs.Stacks.{create_checks};
-ghost use Rattle.irp_types.specs.State.{Fixed, Tables, LivePacket, opening_state, live_at, packet_of};
+ghost use Rattle.irp_types.specs.State.{Fixed, Tables, opening_state, packet_of};
 ghost use Rattle.irp_types.specs.Refusals.{flight_check, packet_refusal, first_refusal};
 ghost use Rattle.irp_types.specs.Histories.{lock_of};
-ghost use Rattle.irp_types.specs.declared.call.Call.TheVariants.{CreateDevice, Attach, Detach, Delete, Allocate, Free, Reuse, SetNext, CopyToNext, Skip, SetRoutine, MarkPending, CallDriver, Complete, FinishTaken, SetCancelRoutine, Cancel, Look};
+ghost use Rattle.irp_types.specs.declared.call.Call.TheVariants.{CreateDevice, Attach, Detach, Delete, Allocate, Free, Reuse, CallDriver, Complete, FinishTaken, Cancel, Look};
 ghost use Rattle.irp_types.specs.Standing.{StandingFacts};
 ghost use Rattle.irp_types.specs.declared.routine.Known.{Known};
 ghost use Rattle.irp_types.specs.declared.names.IrpRef.{IrpRef};
@@ -20,7 +20,7 @@ ghost use Rattle.irp_types.specs.declared.reply.Reply.TheVariants.{Done, Irp};
 ghost use Rattle.irp_routines.specs.Answers.{AreAnswered};
 ghost use Rattle.irp_manager.specs.Notes.{known_by};
 ghost use Rattle.irp_manager.specs.Rooms.{can_ask};
-ghost use Rattle.irp_manager.specs.ManagerStates.{state_of, most_asked, Stepped, SteppedAny, SentStays, SenderStays, SlotGranted, SlotGivenBack, WasGivenBack, Agrees, KeepsFixed};
+ghost use Rattle.irp_manager.specs.ManagerStates.{state_of, most_asked, Stepped, SteppedAny, SenderStays, SlotGranted, SlotGivenBack, WasGivenBack, Agrees, KeepsFixed};
 
 use crate::keep::Keep;
 use crate::note::DrainNote;

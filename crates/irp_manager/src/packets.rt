@@ -57,7 +57,7 @@ pub fn packet_refusal(live: &Live, irp: IrpRef) -> Option<Refusal>
 #[inline]
 pub fn party_refusal(live: &Live, party: Party, irp: IrpRef) -> Option<Refusal>
     ensures refusal { result ≡ party_refusal_in (Some live.now) party irp }
-    ensures free { result ≡ None → live.now.packet.slot_held ≡ false }
+    ensures unheld { result ≡ None → live.now.packet.slot_held ≡ false }
 {
     if live.use_no != irp.use_no {
         return Some(Refusal::Stale);
@@ -78,8 +78,7 @@ pub fn party_refusal(live: &Live, party: Party, irp: IrpRef) -> Option<Refusal>
 /// Fills the next lower location, where the party may.
 #[inline]
 pub fn set_next(live: &mut Live, party: Party, irp: IrpRef, major: u8, word: u64) -> Reply
-    ensures goes { Goes
-        (or_else (party_refusal_in (Some live.old) party irp)
+    ensures goes { Goes (or_else (party_refusal_in (Some live.old) party irp)
         (set_next_refusal live.old.packet major))
         (Fills major word [] result live.old.packet) live.old live.new [] result }
 {
@@ -94,8 +93,7 @@ pub fn set_next(live: &mut Live, party: Party, irp: IrpRef, major: u8, word: u64
 
 /// Copies the current location to the next lower one, where the party may.
 pub fn copy_to_next(live: &mut Live, party: Party, irp: IrpRef) -> Reply
-    ensures goes { Goes
-        (or_else (party_refusal_in (Some live.old) party irp)
+    ensures goes { Goes (or_else (party_refusal_in (Some live.old) party irp)
         (copy_to_next_refusal live.old.packet))
         (Copies [] result live.old.packet) live.old live.new [] result }
 {
@@ -138,8 +136,8 @@ fn leave_check(packet: &Packet) -> Option<Refusal>
 
 /// Gives the current location to the next lower device, where the party may.
 pub fn skip(live: &mut Live, party: Party, irp: IrpRef) -> Reply
-    ensures goes { Goes
-        (or_else (party_refusal_in (Some live.old) party irp) (leave_refusal live.old.packet))
+    ensures goes { Goes (or_else (party_refusal_in (Some live.old) party irp)
+        (leave_refusal live.old.packet))
         (Leaves [] result live.old.packet) live.old live.new [] result }
 {
     if let Some(refusal) = party_refusal(live, party, irp) {
@@ -156,8 +154,7 @@ pub fn skip(live: &mut Live, party: Party, irp: IrpRef) -> Reply
 
 /// Marks the current location pending, where the party may.
 pub fn mark_pending(live: &mut Live, party: Party, irp: IrpRef) -> Reply
-    ensures goes { Goes
-        (or_else (party_refusal_in (Some live.old) party irp)
+    ensures goes { Goes (or_else (party_refusal_in (Some live.old) party irp)
         (mark_pending_refusal live.old.packet))
         (Marks [] result live.old.packet) live.old live.new [] result }
 {
@@ -196,8 +193,7 @@ pub fn set_cancel_routine(
     irp: IrpRef,
     cancel: Option<CancelId>,
 ) -> Reply
-    ensures goes { Goes
-        (or_else (party_refusal_in (Some live.old) party irp)
+    ensures goes { Goes (or_else (party_refusal_in (Some live.old) party irp)
         (cancel_refusal counts live.old.packet cancel))
         (SetsCancel cancel [] result live.old.packet) live.old live.new [] result }
 {
@@ -268,8 +264,7 @@ pub fn set_routine(
     irp: IrpRef,
     setting: Setting,
 ) -> Reply
-    ensures goes { Goes
-        (or_else (party_refusal_in (Some live.old) party irp)
+    ensures goes { Goes (or_else (party_refusal_in (Some live.old) party irp)
         (routine_refusal counts live.old.packet setting))
         (Sets setting [] result live.old.packet) live.old live.new [] result }
 {
@@ -346,8 +341,7 @@ pub fn send<A: Ask>(
     requires room { vec_len asked.old + can_ask_down stacks.now.devices live.old.packet target.0
         ≤ vec_capacity asked.old }
     ensures capacity { vec_capacity asked.new ≡ vec_capacity asked.old }
-    ensures goes { Goes
-        (or_else (party_refusal_in (Some live.old) party irp)
+    ensures goes { Goes (or_else (party_refusal_in (Some live.old) party irp)
         (send_refusal stacks.now.devices party live.old.packet target.0))
         (Sends (A.tables ask.now) irp stacks.now.devices target.0 asked.new.items result
         live.old.packet) live.old live.new asked.new.items result }
@@ -402,8 +396,7 @@ pub fn complete<A: Ask>(
     requires empty { asked.old.items ≡ [] }
     requires room { vec_len asked.old + can_ask_up live.old.packet ≤ vec_capacity asked.old }
     ensures capacity { vec_capacity asked.new ≡ vec_capacity asked.old }
-    ensures goes { Goes
-        (or_else (party_refusal_in (Some live.old) party irp)
+    ensures goes { Goes (or_else (party_refusal_in (Some live.old) party irp)
         (complete_refusal live.old.packet status))
         (Finishes irp status information asked.new.items result live.old.packet) live.old live.new
         asked.new.items result }
@@ -457,8 +450,7 @@ pub fn finish_taken<A: Ask>(
     requires empty { asked.old.items ≡ [] }
     requires room { vec_len asked.old + can_ask_up live.old.packet ≤ vec_capacity asked.old }
     ensures capacity { vec_capacity asked.new ≡ vec_capacity asked.old }
-    ensures goes { Goes
-        (or_else (packet_refusal_in (Some live.old) irp)
+    ensures goes { Goes (or_else (packet_refusal_in (Some live.old) irp)
         (take_refusal live.old.packet irp.use_no token status))
         (Takes irp status information asked.new.items result live.old.packet) live.old live.new
         asked.new.items result }

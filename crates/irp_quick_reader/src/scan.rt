@@ -1,4 +1,4 @@
-//! A line, from its front to its end.
+//! A line, which is passed over from its front to its end.
 
 use std::str;
 
@@ -12,12 +12,13 @@ pub struct Scan<'a> {
 /// A value that is guessed from what is next in a line. Any value, or none, is guessed where this project didn't write
 /// the line.
 pub trait Guess: Sized {
-    /// The value that is next.
+    /// Guesses the value that is next, and passes over it. None where it guesses none; then it may have passed over a
+    /// part of it.
     fn guess(scan: &mut Scan) -> Option<Self>;
 }
 
 impl<'a> Scan<'a> {
-    /// All of the line.
+    /// The whole line, of which nothing was passed over yet.
     pub fn new(line: &'a [u8]) -> Scan<'a> {
         Scan { rest: line }
     }
@@ -32,19 +33,21 @@ impl<'a> Scan<'a> {
         self.rest.first() == Some(&byte)
     }
 
-    /// Passes over as many bytes as the text has, whatever they are. None where fewer are left.
+    /// Passes over as many bytes as the text has, whatever they are. None where fewer are left, which stay.
     pub fn pass(&mut self, text: &str) -> Option<()> {
         self.rest = self.rest.get(text.len()..)?;
         Some(())
     }
 
-    /// The value behind as many bytes as the text has.
+    /// Passes over as many bytes as the text has, and guesses the value behind them.
     pub fn after<T: Guess>(&mut self, text: &str) -> Option<T> {
         self.pass(text)?;
         T::guess(self)
     }
 
-    /// What stands up to the next quotation mark behind as many bytes as the text has. It passes over the mark, too.
+    /// Passes over as many bytes as the text has, and gives what stands from there up to the next quotation mark. It
+    /// passes over the mark, too. None where fewer bytes are left, where there is no mark, and where what stands before
+    /// it is no UTF-8.
     pub fn word_after(&mut self, text: &str) -> Option<&'a str> {
         self.pass(text)?;
         let rest = self.rest;
@@ -87,7 +90,7 @@ impl Guess for u8 {
     }
 }
 
-/// `true` where a t is next, and else `false`.
+/// `true` where a t is next, and else `false`. It passes over as many bytes as that word has. None where fewer are left.
 impl Guess for bool {
     fn guess(scan: &mut Scan) -> Option<bool> {
         let is_true = scan.is_next(b't');
@@ -96,7 +99,7 @@ impl Guess for bool {
     }
 }
 
-/// `null` where an n is next, and else the value.
+/// No value where an n is next: it passes over as many bytes as `null` has. Else the value that is next.
 impl<T: Guess> Guess for Option<T> {
     fn guess(scan: &mut Scan) -> Option<Option<T>> {
         if scan.is_next(b'n') {

@@ -27,7 +27,8 @@ finish_taken_at packet form = do
   information ← get (codes "information") form >>= u64_at
   Some (act.Call (FinishTaken irp slot status information))
 
--- by its name, where a label that it names has this place, and its packet, if it names one, is this
+-- what a step whose `do` is this name does, where a label that it names has this place, and its `irp` is read as this
+-- packet, or as none. None for another name, and for other keys or values than those of the name.
 abbrev pub act_named : ℕ → List ℕ → Option Named → Data → Option StepAct
 act_named place name packet form =
     if bytes_eq name (codes "delete") then (do
@@ -51,7 +52,7 @@ act_named place name packet form =
     (or_else (lock_act_named name beside form >>= λ on. Some (act.OnLock on))
     (call_named name beside packet form >>= λ call. Some (act.Call call)))))))))
 
--- by the name under `do`, where a label that it names has this place
+-- what a step does, by the name under `do`, where a label that it names has this place
 unfoldable pub act_at : ℕ → Data → Option StepAct
 act_at place form = get (codes "do") form >>= as_str >>= λ name.
     act_named place name (get (codes "irp") form >>= named_at place) form

@@ -52,6 +52,7 @@ abbrev pub if_list : {L : Type 0} → (L → Data → Result L Fault) → Sectio
 if_list takes section empty None = Err (At BadField section 0)
 if_list takes section empty (Some members) = members_at takes section 0 empty members
 
--- the list under a key, from nothing read of it; where there is no list it is S4 with the index 0
+-- what is read of the list under a key, from what is given as empty on; where no array is under the key it is S4 with
+-- the index 0
 unfoldable pub list_at : {L : Type 0} → (L → Data → Result L Fault) → Section → List ℕ → L → Data → Result L ScriptRefusal
 list_at takes section key empty whole = if_list takes section empty (option_and_then as_array (get key whole))

@@ -25,8 +25,8 @@ pub enum StepAct {
     Allocate { size: u8, label: usize },
     /// An act on a remove lock, in the step's own seat alone.
     OnLock(LockAct),
-    /// Hands a reference that the step's own seat has on a remove lock over to another seat (this project's own call).
-    /// Only form 2 has it.
+    /// The step's own seat gives one of its references to a remove lock, by lock and tag, to another seat (this
+    /// project's own call). Only form 2 has it. In a script that was read the other seat is there, and isn't the own.
     Hand(Hand),
     /// Puts the use of a packet into a cancel slot (this project's own call). Only form 2 has it.
     Publish { slot: u32, irp: Named },

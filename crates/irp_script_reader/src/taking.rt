@@ -71,12 +71,14 @@ pub fn refused(fault: Fault, section: Section, index: usize) -> ScriptFault
     })
 }
 
-/// The list under a key, from nothing read of it.
+/// What is read of the list under a key, member by member, from `empty` on.
 ///
 /// # Errors
 ///
-/// `Refused` with the first fault and its place: `BadField` at 0 where there is no list. `NoMemory` where memory runs
-/// out.
+/// `Refused` with a fault and its place in this section: `BadField` at 0 where no array is under the key, and else the
+/// fault of the first member that isn't taken, at that member's place from 0. `NoMemory` where memory runs out before a
+/// fault is met. A script with a missing key doesn't come so far: `script_at` refuses it by `keys_at`, before it reads
+/// any list.
 #[tactic(auto, unfolding(crate::specs::Taking::list_at))]
 pub fn list_at<L: Taking + Drop>(
     alloc: Global,

@@ -11,7 +11,8 @@ use Rattle.irp_types.specs.declared.asked.Asked.{Asked}
 use Rattle.irp_types.specs.declared.entry.Entry.{Entry}
 use Rattle.irp_routines.specs.Answers.{IsAnswered}
 
--- who may answer in these ways answers each question as it may be
+-- whatever question is answered as these three allow (a dispatch's plan, a completion routine's answer, a cancel
+-- routine's answer), `may` holds of it with its answer. The bars say that it holds, and keep nothing else of its proof.
 abbrev pub AnswersSo :
     (DispatchId → Shown → Plan → Type 0)
     → (RoutineId → Shown → Answer → Type 0)
@@ -20,7 +21,7 @@ abbrev pub AnswersSo :
 AnswersSo may_plan may_answer may_cancel may =
     (asked : Asked) → IsAnswered may_plan may_answer may_cancel asked → ∥ may asked ∥₁
 
--- each question of each entry was answered as it may be
+-- of each question of each entry of the history, with its answer, `may` holds. The bars are those of `AnswersSo`.
 abbrev pub EachAnswered : (Asked → Type 0) → List Entry → Type 0
 EachAnswered may history =
     All (λ (entry : Entry). All (λ (asked : Asked). ∥ may asked ∥₁) entry.asked) history

@@ -43,7 +43,8 @@ pub record HasCounts (header : Header) : Type 0 where
   pub few_seats : header.seats ≤ most_seats
   pub few_slots : slots_of header.form ≤ most_slots
 
--- a header that the formats accept: its tables agree with each other, and there are as many locks and seats as there may be
+-- a header that the formats accept: its tables agree with each other, and there are as many locks and seats as there
+-- may be
 pub record IsHeader (header : Header) : Type 0 where
   pub tables : AreTables (fixed_of header).tables
   pub some_locks : 1 ≤ header.locks

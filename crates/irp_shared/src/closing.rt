@@ -1,6 +1,6 @@
 //! How the entries that the seats kept are compared with the history, and their counts added up.
 
-ghost use Rattle.std.specs.Prelude.{◌≡◌, ◌≤◌, ◌<◌, ◌+◌, [], ℕ, List, length, true, false, All, IfNone, IfSome, sum_by, vec_len, slice_get, ◌==◌};
+ghost use Rattle.std.specs.Prelude.{◌≡◌, ◌<◌, ◌+◌, length, true, false, All, IfNone, IfSome, sum_by, vec_len, slice_get, ◌==◌};
 ghost use Rattle.std.specs.List.{list_any};
 ghost use Rattle.irp_types.specs.Histories.{own_entries};
 ghost use Rattle.irp_shared.specs.Closing.{AllHere, count_of, IsKept, PartsFrom, PartsAt, IsOfSeat, IsInPlace, Differs};

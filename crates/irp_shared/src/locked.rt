@@ -1,10 +1,10 @@
 //! What lies under the lock.
 
-ghost use Rattle.std.specs.Prelude.{◌≡◌, ◌<◌, ◌+◌, ◌++◌, ◌∷◌, [], ℕ, length, IfOk, OnErr, Err};
+ghost use Rattle.std.specs.Prelude.{◌≡◌, ◌<◌, ◌+◌, ℕ, length, IfOk, OnErr, Err};
 ghost use mathlib.Core.Logic.{◌↔◌};
 ghost use Rattle.irp_manager.specs.declared.not_recorded.NotRecorded.TheVariants.{Behind, HistoryFull};
 ghost use Rattle.irp_shared.specs.Answered.{AnswersSo, EachAnswered};
-ghost use Rattle.irp_shared.specs.Sharing.{Called, CalledIn, IsAsBefore, IsBehind, IsFull};
+ghost use Rattle.irp_shared.specs.Sharing.{CalledIn, IsAsBefore, IsBehind, IsFull};
 
 use crate::session::Session;
 use irp_manager::{Book, DrainNote, NotRecorded, Receipt, Seat};
@@ -13,8 +13,9 @@ use irp_types::Call;
 use std::sync::ledger::{Book as Total, Share};
 
 /// What lies under the lock: the book; the total of what all seats count, which by this type is the length of the
-/// history; and what is left of the ledger's shares, which counts nothing. The book was made with what its session
-/// fixes, for an asker with these tables that answers as its session says, and so was all answered that was asked.
+/// history; and what is left of the ledger's shares, which has no part and counts nothing. The book has the locks, the
+/// tables and the limit that its session fixes, and its asker has the same tables. The session's `may` holds of each
+/// answer that the asker may give, and of each answer in the history.
 #[derive(Drop)]
 pub struct Locked<A: Ask, L: Session> {
     pub book: Book<A>,

@@ -24,7 +24,7 @@ pub trait Session: Ledger {
     /// How many remove locks there are, the tables of the asker, and the limit on packets and stacks.
     ghost fixed: { Fixed };
 
-    /// How a question may be answered in the session: the condition of opening it is that the asker answers so, and all
+    /// How a question may be answered in the session. A condition of opening it is that the asker answers so, and all
     /// answers in its transcript are so.
     ghost may: { Asked → Type 0 };
 }

@@ -1,11 +1,9 @@
 //! A book that threads share.
 
-ghost use Rattle.std.specs.Prelude.{◌≡◌, ◌<◌, ◌+◌, [], ℕ, if◌then◌else◌, nat_lt, vec_len, slice_get, Some, IfSome, IfOk, IfErr, OnErr, Err, Option, false};
+ghost use Rattle.std.specs.Prelude.{◌≡◌, ◌<◌, ◌+◌, ℕ, if◌then◌else◌, nat_lt, Some, IfSome, IfOk, IfErr, OnErr, Err, Option, false};
 ghost use mathlib.Core.Logic.{◌↔◌};
-ghost use Rattle.irp_types.specs.State.{Fixed};
 ghost use Rattle.irp_types.specs.declared.limit.Limit.TheVariants.{ThirtyTwo};
 ghost use Rattle.irp_types.specs.declared.entry.Entry.{Entry};
-ghost use Rattle.irp_manager.specs.Seats.{Seated};
 ghost use Rattle.irp_manager.specs.declared.not_recorded.NotRecorded.TheVariants.{Behind};
 ghost use Rattle.irp_shared.specs.Answered.{AnswersSo, EachAnswered};
 ghost use Rattle.irp_shared.specs.Opening.{IsBadCount, IsGoodCount, AreNew};

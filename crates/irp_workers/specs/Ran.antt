@@ -41,8 +41,8 @@ owners_in all = flat_map (λ own. own.parties.owners) all
 
 -- The seats of a script as they are opened. They are numbered by their places, have no entries and have seen nothing.
 -- Their remove seats hold nothing and know nothing, their cancellers have asked nothing. Each has all slots of the
--- script before it. Each slot has an owner, which has published nothing and is with the seat that owns the slot. No seat
--- has taken a token out of a slot
+-- script before it. Each slot has an owner, which has published nothing and is with the seat that owns the slot. No
+-- seat has taken a token out of a slot
 pub record AreOpened (script : Script) (all : List AtWork) : Type 0 where
   pub new : AreNew script.seats (seats_in all)
   pub lock_table : TableId

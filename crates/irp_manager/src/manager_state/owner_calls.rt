@@ -1,16 +1,11 @@
 //! The calls that name a party, which only the owner of a packet may make.
 
-ghost use Rattle.std.specs.Prelude.{◌≡◌, ℕ, ◌+◌, ◌<◌, ◌≤◌, ◌^◌, Option, Some, None, length, false, true, List, [], ◌∷◌, Bool, vec_len, vec_capacity, IfOk, OnErr, IfErr};
-ghost use Rattle.irp_types.specs.Checks.{first_failing, or_else};
-ghost use Rattle.irp_types.specs.Stacks.{create_checks};
-ghost use Rattle.irp_types.specs.State.{Fixed, Tables, LivePacket, opening_state, live_at, packet_of};
-ghost use Rattle.irp_types.specs.Refusals.{first_refusal};
-ghost use Rattle.irp_types.specs.Histories.{lock_of};
+ghost use Rattle.std.specs.Prelude.{◌≡◌, ◌+◌, ◌<◌, ◌≤◌, Option, Some, true, [], Bool, vec_len, vec_capacity};
+ghost use Rattle.irp_types.specs.State.{Tables};
 ghost use Rattle.irp_types.specs.declared.call.Call.TheVariants.{SetNext, CopyToNext, Skip, SetRoutine, MarkPending, CallDriver, Complete, SetCancelRoutine};
 ghost use Rattle.irp_types.specs.Standing.{StandingFacts};
 ghost use Rattle.irp_types.specs.declared.routine.Known.{Known};
 ghost use Rattle.irp_routines.specs.Answers.{AreAnswered};
-ghost use Rattle.irp_manager.specs.Notes.{known_by};
 ghost use Rattle.irp_types.specs.Calls.{names_party};
 ghost use Rattle.irp_manager.specs.Rooms.{can_ask};
 ghost use Rattle.irp_manager.specs.ManagerStates.{state_of, Stepped, SteppedAny, SentStays, SenderStays};
