@@ -7,3 +7,4 @@ pub mod GuardedFacts
 pub mod AnswerTables
 pub mod AnswerTableFacts
 pub mod Shelves
+pub mod Behaving

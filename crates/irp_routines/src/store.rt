@@ -6,6 +6,7 @@ ghost use Rattle.irp_types.specs.State.{AreTables};
 ghost use Rattle.irp_types.specs.Rules.{count_of_rule};
 ghost use Rattle.irp_types.specs.Allowed.{IsAnswerAllowed, IsPlanAllowed, IsCancelAllowed};
 ghost use Rattle.irp_types.specs.declared.routine.Rule.TheVariants.{Watch, Change, Keeper, KeepOnError, Free};
+ghost use Rattle.irp_routines.specs.Behaving.{cancel_may, dispatch_may, routine_may};
 ghost use Rattle.irp_routines.specs.Closures.{rules_set, cancel_rules_set, known_set};
 ghost use Rattle.irp_routines.specs.Shelves.{of_rule, put_under};
 ghost use Rattle.irp_routines.specs.Tables.{no_tables, with_routine, with_cancel, with_dispatch, with_driver, by_major, routine_refusal, cancel_refusal, dispatch_refusal, driver_refusal};
@@ -13,11 +14,11 @@ ghost use Rattle.irp_routines.specs.declared.not_added.Reason.{Reason};
 ghost use Rattle.irp_routines.specs.declared.not_added.Reason.TheVariants.{Memory};
 
 use crate::ask::Ask;
-use crate::cancel_routine::{CancelClosure, CancelRoutine};
-use crate::dispatch::{Dispatch, DispatchClosure};
+use crate::cancel_routine::CancelRoutine;
+use crate::dispatch::Dispatch;
 use crate::fixed_tables::FixedTables;
 use crate::not_added::{NotAdded, Reason};
-use crate::routine::{CompletionClosure, Routine};
+use crate::routine::Routine;
 use irp_types::{
     Answer, CancelAnswer, CancelId, CancelRule, DispatchId, DriverId, Known, Plan, RoutineId, Rule,
     Shown,
@@ -287,15 +288,15 @@ impl Ask for Store {
     ghost may_answer = { λ store id shown answer. IsAnswerAllowed store.tables id shown answer
         × IfSome (slice_get (of_rule id.rule store.watch.items store.change.items
         store.keeper.items store.keep_on_error.items store.free.items) id.no)
-        (λ own. CompletionClosure.post own.run shown answer) };
+        (λ own. routine_may own shown answer) };
 
     ghost may_plan = { λ store id shown plan. IsPlanAllowed store.tables id shown plan
         × IfSome (slice_get store.dispatches.items id.0)
-        (λ own. DispatchClosure.post own.run shown plan) };
+        (λ own. dispatch_may own shown plan) };
 
     ghost may_cancel = { λ store id shown answer. IsCancelAllowed store.tables id answer
         × IfSome (slice_get store.cancels.items id.0)
-        (λ own. CancelClosure.post own.run shown answer) };
+        (λ own. cancel_may own shown answer) };
 
     fn counts(&self) -> Known {
         self.tables.counts()
