@@ -11,4 +11,5 @@ pub mod Places
 pub mod Ran
 pub mod Shares
 pub mod StepCalls
+pub mod Told
 pub mod Working

@@ -10,6 +10,7 @@ pub mod Pairs
 pub mod Ran
 pub mod Seats
 pub mod StepKinds
+pub mod Told
 pub mod Words
 pub mod Workers
 pub mod Working
