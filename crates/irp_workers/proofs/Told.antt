@@ -185,6 +185,19 @@ dispatches_more dispatches more dispatch plans place none below is put so_far =
     (subst (AllZip PlansAs (dispatches ++ dispatch ∷ [])) (sym (take_more plans place none below))
     (zip_push PlansAs dispatches (take place plans) dispatch (get_or plans place none) so_far is))
 
+-- drivers are added
+pub answers_kept : {X Y Z : Type 0} {F : X → Type 0} {G : Y → Type 0} {H : Z → Type 0} {g : _} {h : _} {i : _}
+    (old new : Store X Y Z F G H g h i) (script : ScriptParts)
+    → (new.watch.items ≡ old.watch.items) × (new.change.items ≡ old.change.items) × (new.keeper.items ≡ old.keeper.items)
+    × (new.keep_on_error.items ≡ old.keep_on_error.items) × (new.free.items ≡ old.free.items)
+    × (new.cancels.items ≡ old.cancels.items) × (new.dispatches.items ≡ old.dispatches.items)
+    → AnswersAll old script → AnswersAll new script
+answers_kept old new script same all = (
+  routines_kept old new script.completions same.0 same.1 same.2 same.3 same.4 all.0,
+  subst (λ given. AllZip CancelsAs given script.cancels) (sym same.5) all.1,
+  subst (λ given. AllZip PlansAs given script.dispatches) (sym same.6) all.2,
+)
+
 -- what a store may answer is what the script tells
 pub store_answers_so : {X Y Z : Type 0} {F : X → Type 0} {G : Y → Type 0} {H : Z → Type 0} {g : _} {h : _} {i : _} (store : Store X Y Z F G H g h i) (script : ScriptParts) → AnswersAll store script
     → AnswersSo
