@@ -11,18 +11,11 @@ use Rattle.std.proofs.lemmas.Slice.Zip.{AllZip-left}
 use Rattle.irp_types.specs.Allowed.{IsAnswerAllowed, IsCancelAllowed, IsPlanAllowed}
 use Rattle.irp_types.specs.Rules.{count_of_rule}
 use Rattle.irp_types.specs.State.{Tables}
-use Rattle.irp_types.specs.declared.answer.Answer.{Answer}
 use Rattle.irp_types.specs.declared.answer.CancelAnswer.{CancelAnswer}
 use Rattle.irp_types.specs.declared.answer.Plan.{Plan}
-use Rattle.irp_types.specs.declared.asked.Asked.{Asked}
 use Rattle.irp_types.specs.declared.asked.Asked.TheVariants.{Dispatch, Completion, Cancel}
-use Rattle.irp_types.specs.declared.names.CancelId.{CancelId}
-use Rattle.irp_types.specs.declared.names.DispatchId.{DispatchId}
 use Rattle.irp_types.specs.declared.routine.Rule.{Rule}
 use Rattle.irp_types.specs.declared.routine.Rule.TheVariants.{Watch, Change, Keeper, KeepOnError, Free}
-use Rattle.irp_types.specs.declared.routine.RoutineId.{RoutineId}
-use Rattle.irp_types.specs.declared.shown.Shown.{Shown}
-use Rattle.irp_routines.specs.Answers.{IsAnswered}
 use Rattle.irp_routines.specs.Behaving.{cancel_may, dispatch_may, routine_may}
 use Rattle.irp_routines.specs.Shelves.{of_rule, place_of, put_under}
 use Rattle.irp_routines.specs.Tables.{no_tables}
