@@ -25,6 +25,10 @@ added told push grows xs i d below old new is pushed =
 pub all_added : {X : Type 0} (told : List X → Tables) (xs : List X) (i : ℕ) → length xs ≤ i → (tables : Tables) → tables ≡ told (take i xs) → tables ≡ told xs
 all_added told xs i over tables is = is ∙ ap told (take_all i xs over)
 
+-- all items, of the list that these are
+pub whole : {X : Type 0} (xs ys : List X) → xs ≡ ys → (i : ℕ) → length xs ≤ i → take i xs ≡ ys
+whole xs ys same i over = take_all i xs over ∙ same
+
 -- the same of the list that these items are
 pub all_of : {X : Type 0} (told : List X → Tables) (xs ys : List X) → xs ≡ ys → (i : ℕ) → length xs ≤ i → (tables : Tables) → tables ≡ told (take i xs) → tables ≡ told ys
 all_of told xs ys same i over tables is = all_added told xs i over tables is ∙ ap told same

@@ -4,6 +4,7 @@ use Rattle.std.specs.Option.{option_map}
 use Rattle.irp_types.specs.Histories.{IsLegal, CompletesOnce}
 use Rattle.irp_types.specs.State.{Fixed, Tables}
 use Rattle.irp_manager.specs.Seats.{Seated}
+use Rattle.irp_shared.specs.Answered.{EachAnswered}
 use Rattle.irp_shared.specs.Closing.{AreSeated, Closes}
 use Rattle.irp_types.specs.Limits.{most_slots}
 use Rattle.irp_shared.specs.Headers.{IsHeader, fixed_of, limit_of, slots_of}
@@ -14,6 +15,7 @@ use Rattle.irp_script_reader.specs.declared.script.Script.{Script}
 use Rattle.irp_script_reader.specs.declared.script.ScriptForm.{ScriptForm}
 use Rattle.irp_workers.specs.Numbers.{NoneMoreOften}
 use Rattle.irp_workers.specs.Outcomes.{Test, outcomes}
+use Rattle.irp_workers.specs.Told.{IsTold}
 use Rattle.irp_workers.specs.Words.{AreInOrder, told_by, word_steps}
 use Rattle.irpx.specs.Running.{IsRun, run_transcript, fixed_for, form_of}
 
@@ -33,8 +35,8 @@ fits_in_form form header few fits = record {
 }
 
 -- the transcript that was closed, with the script's form and these word lines
-pub closed_is_run : (script : Script) (tables : Tables) (fixed : Fixed) (expected : ℕ) (seats : List Seated) (closed : TranscriptValue) (words : List WordLine) → Closes fixed expected seats closed → fixed ≡ fixed_for script tables → expected ≡ script.seats → IfSome (run_transcript script.form words closed).header IsHeader → AreInOrder words → (tokenless : Test) → NoneMoreOften (word_steps (outcomes tokenless script.steps)) (map told_by words) → IsRun script tables (run_transcript script.form words closed)
-closed_is_run script tables fixed expected seats closed words closes fixed_is seats_are fits in_order tokenless few =
+pub closed_is_run : (script : Script) (tables : Tables) (fixed : Fixed) (expected : ℕ) (seats : List Seated) (closed : TranscriptValue) (words : List WordLine) → Closes fixed expected seats closed → fixed ≡ fixed_for script tables → expected ≡ script.seats → IfSome (run_transcript script.form words closed).header IsHeader → EachAnswered (IsTold script) closed.entries → AreInOrder words → (tokenless : Test) → NoneMoreOften (word_steps (outcomes tokenless script.steps)) (map told_by words) → IsRun script tables (run_transcript script.form words closed)
+closed_is_run script tables fixed expected seats closed words closes fixed_is seats_are fits answered in_order tokenless few =
     let header : Header = record closes.header { form = form_of script.form } in
     let told : (run_transcript script.form words closed).header ≡ Some header = ap (λ given. option_map (λ (header : Header). record header { form = form_of script.form }) given) closes.told in
     let is : fixed_of header ≡ fixed_for script tables = in_form script tables closes.header (closes.tables ∙ fixed_is) in
@@ -48,6 +50,7 @@ closed_is_run script tables fixed expected seats closed words closes fixed_is se
       legal = subst (λ this. IsLegal this closed.entries) (fixed_is ∙ sym is) closes.legal;
       once = subst (λ this. CompletesOnce this closed.entries) (fixed_is ∙ sym is) closes.once;
       seated = subst (λ this. AreSeated this closed.entries) seats_are closes.seated;
+      answered = answered;
       words = in_order;
       tokenless = tokenless;
       told_steps = few;

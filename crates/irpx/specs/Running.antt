@@ -29,6 +29,7 @@ use Rattle.irp_types.specs.declared.answer.CancelAnswer.{CancelAnswer}
 use Rattle.irp_types.specs.declared.answer.Plan.{Plan}
 use Rattle.irp_types.specs.declared.entry.Entry.{Entry}
 use Rattle.irp_routines.specs.Tables.{by_major, no_tables}
+use Rattle.irp_shared.specs.Answered.{EachAnswered}
 use Rattle.irp_shared.specs.Headers.{fixed_of, limit_of, IsHeader}
 use Rattle.irp_shared.specs.Closing.{AreSeated}
 use Rattle.irp_shared.specs.Transcripts.{TranscriptValue}
@@ -48,6 +49,7 @@ use Rattle.irp_workers.specs.Behaviours.{cancel_rule_of}
 use Rattle.irp_workers.specs.Made.{calls_in, calls_of}
 use Rattle.irp_workers.specs.Numbers.{EachAsOften, NoneMoreOften}
 use Rattle.irp_workers.specs.Outcomes.{Outcome, Test, outcomes}
+use Rattle.irp_workers.specs.Told.{IsTold}
 use Rattle.irp_workers.specs.Words.{AreInOrder, told_by, word_steps}
 use Rattle.irp_transcript_writer.specs.Lines.{lines, text_of}
 use Rattle.irpx.specs.Bytes.{Bytes}
@@ -126,8 +128,8 @@ fixed_for script tables =
 
 -- a transcript of a run of the script with these tables: its header tells the script's form, seats and locks, and the
 -- tables, and the formats accept it; its history is legal, completes each use of a packet at most once, and has entries
--- of the script's seats alone; its word lines are in order, and tell of no step more often than it has a line, where
--- some finishes of taken packets found no token
+-- of the script's seats alone; whoever was asked answered what the script tells of it; its word lines are in order, and
+-- tell of no step more often than it has a line, where some finishes of taken packets found no token
 pub record IsRun (script : Script) (tables : Tables) (transcript : TranscriptValue) : Type 0 where
   pub header : Header
   pub told : transcript.header ≡ Some header
@@ -138,6 +140,7 @@ pub record IsRun (script : Script) (tables : Tables) (transcript : TranscriptVal
   pub legal : IsLegal (fixed_of header) transcript.entries
   pub once : CompletesOnce (fixed_of header) transcript.entries
   pub seated : AreSeated script.seats transcript.entries
+  pub answered : EachAnswered (IsTold script) transcript.entries
   pub words : AreInOrder transcript.words
   pub tokenless : Test
   pub told_steps : NoneMoreOften

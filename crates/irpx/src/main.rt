@@ -8,6 +8,7 @@ mod input;
 mod orders;
 mod planned;
 mod running;
+mod told;
 mod words;
 mod writing;
 

@@ -3,14 +3,16 @@
 ghost use Rattle.std.specs.Prelude.{IfErr, IfOk, ℕ, List, ◌≡◌, ◌≤◌, ◌<◌, false, position};
 ghost use Rattle.irp_types.specs.Limits.{most_slots};
 ghost use Rattle.irp_types.specs.State.{Tables};
+ghost use Rattle.irp_types.specs.declared.asked.Asked.{Asked};
 ghost use Rattle.irp_manager.specs.Seats.{Seated};
-ghost use Rattle.irp_shared.specs.Answered.{AnswersSo};
+ghost use Rattle.irp_shared.specs.Answered.{AnswersSo, EachAnswered};
 ghost use Rattle.irp_shared.specs.Closing.{Closes};
 ghost use Rattle.irp_shared.specs.Headers.{slots_of};
 ghost use Rattle.irp_shared.specs.Transcripts.{IsTranscript, TranscriptValue};
 ghost use Rattle.irp_script.specs.Between.{hands_between};
 ghost use Rattle.irp_workers.specs.Numbers.{EachAsOften};
 ghost use Rattle.irp_workers.specs.Seats.{seats_of};
+ghost use Rattle.irp_workers.specs.Told.{AnswersAll, IsTold};
 ghost use Rattle.irpx.specs.Bytes.{Bytes};
 ghost use Rattle.irpx.specs.Input.{TakesAtMost};
 ghost use Rattle.irp_workers.specs.Ran.{Ran};
@@ -31,8 +33,9 @@ ghost use Rattle.irpx.specs.Running.{
 
 use crate::input::{InputFault, read_up_to};
 use crate::planned::Planned;
+use crate::told::{cancel_told, dispatch_told, routine_told};
 use crate::writing::{Unwritten, write};
-use irp_routines::{Ask, CancelRoutine, Dispatch, Routine, Store};
+use irp_routines::{Ask, Store};
 use irp_script::hand_between;
 use irp_script_reader::{Script, ScriptFault, ScriptForm, ScriptParts, ScriptRefusal, read_script};
 use irp_shared::{
@@ -41,8 +44,7 @@ use irp_shared::{
 use irp_transcript_writer::Out;
 use irp_types::{Row, Shown};
 use irp_workers::{
-    AlwaysOpen, ScriptSeat, Worked, cancel_rule, run_workers, script_seats, table_answer,
-    table_cancel,
+    AlwaysOpen, ScriptSeat, Worked, run_workers, script_seats, table_answer, table_cancel,
 };
 use std::alloc::{AllocError, AllocFailed, Global};
 use std::io::Read;
@@ -261,7 +263,8 @@ fn finish<A: Ask + Drop, L: Session>(
         (seats : List Seated) × EachAsOften (seats_of worked.entry.seats.items) seats
         × (closed : TranscriptValue) × Closes L.fixed L.seats seats closed
         × (run.transcript ≡ run_transcript form worked.entry.words.items closed)
-        × IsTranscript run.transcript × (run.stopped ≡ worked.entry.stopped)) }
+        × IsTranscript run.transcript × (run.stopped ≡ worked.entry.stopped)
+        × EachAnswered L.may closed.entries) }
 {
     let stopped = worked.stopped;
     let words = worked.words;
@@ -290,6 +293,7 @@ fn session<A: Ask + Send + Drop, L: Session + Send + Sync, T: Threads + Wait + S
     requires seats { (L.parts ≡ script.now.seats) × (L.seats ≡ script.now.seats) }
     requires fixed { L.fixed ≡ fixed_for script.now (A.tables ask) }
     requires may { AnswersSo (A.may_plan ask) (A.may_answer ask) (A.may_cancel ask) L.may }
+    requires told { (asked : Asked) → ∥ L.may asked ∥₁ → ∥ IsTold script.now asked ∥₁ }
     ensures run { IfOk result (λ run. IsRun script.now (A.tables ask) run.transcript) }
     ensures shows { IfOk result (λ run. run.stopped ≡ false → ShowsEach script.now run.transcript) }
     ensures ran { IfOk result (λ run. Ran workers script.now run.transcript run.stopped) }
@@ -344,6 +348,7 @@ fn with_store<O: Out, T: Threads + Wait + Sync>(
     workers: Workers,
     store: Store,
 ) -> Result<(), Unfinished>
+    requires { AnswersAll store script.now }
     ensures { AfterScript workers.number script.now store.tables
         (O.gone output.old) (O.gone output.new)
         (O.failures output.old) (O.failures output.new) result }
@@ -362,6 +367,7 @@ fn with_dispatches<O: Out, T: Threads + Wait + Sync>(
     workers: Workers,
     mut store: Store,
 ) -> Result<(), Unfinished>
+    requires { AnswersAll store script.now }
     ensures { AfterScript workers.number script.now (and_drivers script.now.drivers store.tables)
         (O.gone output.old) (O.gone output.new)
         (O.failures output.old) (O.failures output.new) result }
@@ -397,16 +403,15 @@ fn run_script<O: Out, T: Threads + Wait + Sync>(
     for routine in routines {
         let routine = *routine;
         let answer = Box::new(alloc, move |shown: Shown| table_answer(routine, shown))?;
-        let Ok(_routine) = store.add(Routine::new(routine.rule, answer)) else {
+        let Ok(_routine) = store.add(routine_told(routine, answer)) else {
             return Err(Unfinished::NoTranscript(Unrun::NoMemory));
         };
     }
     let answers = parts.cancels.as_slice();
     for answer in answers {
         let answer = *answer;
-        let answered = move |shown: Shown| table_cancel(answer, shown);
-        let routine = CancelRoutine::new(cancel_rule(answer), Box::new(alloc, answered)?);
-        let Ok(_cancel) = store.add_cancel(routine) else {
+        let answered = Box::new(alloc, move |shown: Shown| table_cancel(answer, shown))?;
+        let Ok(_cancel) = store.add_cancel(cancel_told(answer, answered)) else {
             return Err(Unfinished::NoTranscript(Unrun::NoMemory));
         };
     }
@@ -416,7 +421,7 @@ fn run_script<O: Out, T: Threads + Wait + Sync>(
         let plan = *plan;
         let planned = Planned { known, plan };
         let answer = Box::new(alloc, move |shown: Shown| planned.answer(shown))?;
-        let Ok(_dispatch) = store.add_dispatch(Dispatch::new(known, answer)) else {
+        let Ok(_dispatch) = store.add_dispatch(dispatch_told(known, plan, answer)) else {
             return Err(Unfinished::NoTranscript(Unrun::NoMemory));
         };
     }

@@ -1,13 +1,17 @@
 -- The transcript that was closed, with the script's form and the word lines put in.
 use Rattle.std.proofs.Common.{rules, ◌≡◌, ◌<◌, ◌++◌, Bool, List, false, IfSome, map, sym, subst, ap, ◌∙◌}
-use Rattle.std.specs.List.{count_by}
+use Rattle.std.specs.List.{All, count_by}
 use Rattle.std.specs.Vec.{vec_len}
 use Rattle.std.proofs.lemmas.Result.{IfOk-weaker}
 use Rattle.std.proofs.lemmas.Simd.{map-map}
+use Rattle.std.proofs.lemmas.List.Elements.{All-weaker}
+use Rattle.irp_types.specs.declared.asked.Asked.{Asked}
+use Rattle.irp_types.specs.declared.entry.Entry.{Entry}
 use Rattle.irp_types.specs.State.{Fixed}
 use Rattle.irp_manager.specs.Seats.{Seated}
 use Rattle.irp_shared.specs.Closing.{AllHere, Closes}
 use Rattle.irp_shared.specs.Headers.{IsHeader, slots_of as slots_in}
+use Rattle.irp_shared.specs.Answered.{EachAnswered}
 use Rattle.irp_shared.specs.Transcripts.{TranscriptValue}
 use Rattle.irp_workers.specs.Accounts.{calls_at, pair_at}
 use Rattle.irp_workers.specs.Made.{NoneTwice, once_made, seat_calls}
@@ -15,6 +19,7 @@ use Rattle.irp_workers.specs.Numbers.{EachAsOften}
 use Rattle.irp_workers.specs.Outcomes.{Outcome, outcomes}
 use Rattle.irp_workers.specs.Ran.{AreOpened, Ran}
 use Rattle.irp_workers.specs.Seats.{pairs_of, seat_at_work, seats_at_work}
+use Rattle.irp_workers.specs.Told.{IsTold}
 use Rattle.irp_workers.specs.Working.{RunsScript}
 use Rattle.irp_workers.proofs.Ran.{all_opened, closed_ran}
 use Rattle.irpx.specs.Running.{IsRun, MakesCalls, ShowsEach, run_transcript}
@@ -23,6 +28,12 @@ use Rattle.irpx.proofs.Calls.{each_made}
 use Rattle.irpx.proofs.Ran.{slots_same}
 use Rattle.irpx.proofs.Runs.{closed_is_run}
 use Rattle.irpx.proofs.running.session.Goals as goal
+
+-- what is answered in one way is answered in another
+told_each : (may other : Asked → Type 0) → ((asked : Asked) → ∥ may asked ∥₁ → ∥ other asked ∥₁) → (history : List Entry) → EachAnswered may history → EachAnswered other history
+told_each may other tells history each =
+    All-weaker (λ (entry : Entry). All (λ asked. ∥ may asked ∥₁) entry.asked) (λ (entry : Entry). All (λ asked. ∥ other asked ∥₁) entry.asked)
+    (λ entry all. All-weaker (λ asked. ∥ may asked ∥₁) (λ asked. ∥ other asked ∥₁) tells entry.asked all) history each
 
 pub returns-clause-run : goal.returns-clause-run
 returns-clause-run g c =
@@ -33,6 +44,7 @@ returns-clause-run g c =
     (closed_is_run c.args.script.now (g.A.Ask.tables c.args.ask) g.L.Session.fixed g.L.Session.seats ends.0 ends.2 c.in_ok-worked.worked.words.items
     ends.3 c.requires.fixed c.requires.seats.1
     (subst (λ (this : TranscriptValue). IfSome this.header IsHeader) ends.4 ends.5.accepted)
+    (told_each g.L.Session.may (IsTold c.args.script.now) c.requires.told ends.2.entries ends.7)
     c.in_ok-worked.ensures.words accounts.tokenless accounts.told))
     c.finish.ensures
 

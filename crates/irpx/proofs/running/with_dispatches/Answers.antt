@@ -1,22 +1,28 @@
--- One driver more is added, and at the end all of them.
+-- One driver more is added, and the closures answer as before; at the end all are.
 use Rattle.std.proofs.Common.{ℕ, List, ap, ap₂, subst, ◌∙◌}
 use Rattle.irp_types.specs.declared.names.DispatchId.{DispatchId}
 use Rattle.irp_types.specs.State.{Entrance, Tables}
 use Rattle.irp_routines.specs.Tables.{by_major, with_driver}
+use Rattle.irp_workers.proofs.Told.{answers_kept}
 use Rattle.irpx.specs.Running.{AfterScript, and_drivers}
 use Rattle.irpx.proofs.Adding.{added, all_added, drivers_grow}
 use Rattle.irpx.proofs.running.with_dispatches.Goals as goal
 
 pub loop-driver-preserved : goal.loop-driver-preserved
-loop-driver-preserved g c =
-    added (λ (drivers : List (List Entrance)). and_drivers drivers c.args.store.tables) (λ (driver : List Entrance) (tables : Tables). with_driver tables (by_major driver))
-    (drivers_grow c.args.store.tables) c.as_slice-drivers.result.now c.loop-driver.driver-index c.driver-item.result c.loop-driver-test.true
-    c.loop-driver.store.tables c.add_driver.new.self.tables c.loop-driver.invariant
-    (c.in-Ok-add_driver.ensures.added.1 ∙ ap (λ (driver : List Entrance). with_driver c.loop-driver.store.tables (by_major driver)) (c.in-Ok.ensures.items_if_clones_equal (λ one other same. ap₂ (λ (major : ℕ) (dispatch : DispatchId). (major, dispatch)) same.0 same.1) ∙ (c.as_slice.ensures ∙ c.driver-item.is)))
+loop-driver-preserved g c = (
+  added (λ (drivers : List (List Entrance)). and_drivers drivers c.args.store.tables) (λ (driver : List Entrance) (tables : Tables). with_driver tables (by_major driver))
+      (drivers_grow c.args.store.tables) c.as_slice-drivers.result.now c.loop-driver.driver-index c.driver-item.result c.loop-driver-test.true
+      c.loop-driver.store.tables c.add_driver.new.self.tables c.loop-driver.invariant.0
+      (c.in-Ok-add_driver.ensures.added.1 ∙ ap (λ (driver : List Entrance). with_driver c.loop-driver.store.tables (by_major driver)) (c.in-Ok.ensures.items_if_clones_equal (λ one other same. ap₂ (λ (major : ℕ) (dispatch : DispatchId). (major, dispatch)) same.0 same.1) ∙ (c.as_slice.ensures ∙ c.driver-item.is))),
+  (λ script before. answers_kept c.loop-driver.store c.add_driver.new.self script c.add_driver.ensures.others (c.loop-driver.invariant.1 script before)),
+)
+
+pub with_store-requires-after_bounds : goal.with_store-requires-after_bounds
+with_store-requires-after_bounds g c = λ _ _. c.loop-driver.invariant.1 c.args.script.now c.requires
 
 pub returns : goal.returns
 returns g c =
     subst (λ (tables : Tables). AfterScript c.args.workers.number c.args.script.now tables (g.O.Out.gone c.args.output.now) (g.O.Out.gone c.with_store.new.output) (g.O.Out.failures c.args.output.now) (g.O.Out.failures c.with_store.new.output) c.with_store.result)
-    (all_added (λ (drivers : List (List Entrance)). and_drivers drivers c.args.store.tables) c.as_slice-drivers.result.now c.loop-driver.driver-index c.loop-driver-test.false c.loop-driver.store.tables c.loop-driver.invariant
+    (all_added (λ (drivers : List (List Entrance)). and_drivers drivers c.args.store.tables) c.as_slice-drivers.result.now c.loop-driver.driver-index c.loop-driver-test.false c.loop-driver.store.tables c.loop-driver.invariant.0
     ∙ ap (λ (drivers : List (List Entrance)). and_drivers drivers c.args.store.tables) c.as_slice-drivers.ensures)
     c.with_store.ensures
