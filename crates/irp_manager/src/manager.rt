@@ -69,8 +69,8 @@ impl<A: Ask> Manager<A> {
     }
 
     /// Makes one call, in one step of the sequential manager, on condition that the standing facts hold; they hold
-    /// after it too. A new packet gets the slot that was given back last, where its packet lies there still, or else
-    /// the slab's own next one. Right after a packet was given back, a new one gets its slot.
+    /// after it too. A new packet gets the slot that the keep has as given back last, where its packet lies there
+    /// still, or else the slab's own next one. Right after a packet was given back, a new one gets its slot.
     ///
     /// # Errors
     ///

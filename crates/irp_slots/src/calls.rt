@@ -69,8 +69,8 @@ impl Slots {
         }
     }
 
-    /// Asks for what stands in a slot, for good: where its owner publishes later, it takes its use out again (WDK:
-    /// "IoCancelIrp"). It sets the flag, then swaps 0 in.
+    /// Asks for what stands in a slot, for good: where its owner publishes later, it takes its use out again, unless
+    /// another request takes it out first (WDK: "IoCancelIrp"). It sets the flag, then swaps 0 in.
     ///
     /// It answers `NoSlot`, and changes nothing, exactly where there is no such slot; else `Taken` with what it took
     /// out, or `Nothing` where the slot was empty. (The slot and the answers are this project's own rule.)
