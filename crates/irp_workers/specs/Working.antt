@@ -11,6 +11,8 @@ use Rattle.std.specs.Prelude.{
   true,
   false,
   if◌then◌else◌,
+  map,
+  nat_lt,
   Some,
   List,
   [],
@@ -254,13 +256,32 @@ pub record WorkApart (count workers : ℕ) (steps : List Step) (ready after : Li
   pub told : EachAsOften (flat_map (λ (one : Left). one.work.lines) left) lines
   pub halted : stopped ≡ list_any (λ (one : Left). one.stopped) left
 
--- one worker made the setup with all seats, and then, unless it was stopped, so many made the steps
+-- the seat has seen so many entries of the history, or more if it had seen more
+abbrev pub caught_up : ℕ → AtWork → AtWork
+caught_up last own = record own {
+  seat = record own.seat { seen = if nat_lt own.seat.seen last then last else own.seat.seen };
+}
+
+-- the same seats, each of which has seen as much of the history as any of them had
+pub record CatchUp (before after : List AtWork) : Type 0 where
+  pub last : ℕ
+  pub most : All (λ own. own.seat.seen ≤ last) before
+  pub each : EachAsOften (map (caught_up last) before) after
+
+-- one worker made the setup with all seats, and then, unless it was stopped, so many made the steps, with seats that
+-- have seen the whole setup: so each of their calls stands behind all calls of the setup
+pub record WorkOn (count workers : ℕ) (steps : List Step) (ready after : List AtWork)
+    (lines : List WordLine) (stopped : Bool) : Type 0 where
+  pub begun : List AtWork
+  pub caught : CatchUp ready begun
+  pub apart : WorkApart count workers steps begun after lines stopped
+
 abbrev pub WorkAfter : Bool → ℕ → ℕ → List Step → List AtWork → List AtWork
     → List WordLine → Bool → Type 0
 WorkAfter true count workers steps ready after lines stopped =
     (after ≡ ready) × (lines ≡ []) × (stopped ≡ true)
 WorkAfter false count workers steps ready after lines stopped =
-    WorkApart count workers steps ready after lines stopped
+    WorkOn count workers steps ready after lines stopped
 
 pub record RunsScript (count workers : ℕ) (setup steps : List Step)
     (before after : List AtWork) (lines : List WordLine) (stopped : Bool) : Type 0 where

@@ -8,7 +8,7 @@ ghost use Rattle.irp_workers.specs.Acts.{Acts, SlotActs};
 ghost use Rattle.irp_workers.specs.Calling.{CallsFor};
 ghost use Rattle.irp_workers.specs.StepKinds.{kind_of};
 ghost use Rattle.irp_workers.specs.Seats.{seat_at_work};
-ghost use Rattle.irp_workers.specs.Working.{ActsOnLock, ActsOnSlot, Does, HandsOver, Stays, Tells};
+ghost use Rattle.irp_workers.specs.Working.{ActsOnLock, ActsOnSlot, Does, HandsOver, Stays, Tells, caught_up};
 
 use crate::run_context::RunContext;
 use crate::script_seat::ScriptSeat;
@@ -35,6 +35,21 @@ pub fn tell(words: &mut Vec<WordLine>, index: u32, step: Step, act: Act, reply: 
 }
 
 impl<'a, L: Session> ScriptSeat<'a, L> {
+    /// How many entries of the history the seat has seen in which it makes calls.
+    pub fn seen(&self) -> u64
+        ensures { result ≡ self.now.seat.seen }
+    {
+        self.seat.seen()
+    }
+
+    /// It has seen this many entries of the history, or more if it had seen more.
+    pub fn saw(&mut self, length: u64)
+        ensures seen { seat_at_work self.new ≡ caught_up length (seat_at_work self.old) }
+        ensures remove { self.new.remove ≡ self.old.remove }
+    {
+        self.seat.saw(length);
+    }
+
     /// Makes the call of a step once, with what the remove seat knows of the locks, and binds the label that the step
     /// binds. None where the step has no call, or it wasn't recorded, and then the seat says what it said.
     fn call<A: Ask>(&mut self, rt: &impl Wait, context: &RunContext<A, L>, step: Step) -> Option<()>
