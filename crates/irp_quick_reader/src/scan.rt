@@ -90,7 +90,8 @@ impl Guess for u8 {
     }
 }
 
-/// `true` where a t is next, and else `false`. It passes over as many bytes as that word has. None where fewer are left.
+/// `true` where a t is next, and else `false`. It passes over as many bytes as that word has. None where fewer are
+/// left.
 impl Guess for bool {
     fn guess(scan: &mut Scan) -> Option<bool> {
         let is_true = scan.is_next(b't');

@@ -56,9 +56,10 @@ pub record AreOpened (script : Script) (all : List AtWork) : Type 0 where
   pub own : OwnTheirSlots script.seats (parties_in all)
   pub untaken : All (λ own. own.parties.taken ≡ []) all
 
--- What ran: one worker made the setup, and then so many made their own steps, each in the script's order, beginning
--- with the seats as they are opened; all steps, where nothing stopped. The transcript has the word lines that came of
--- it, and for each seat just the entries that it had in the end
+-- What ran: one worker made the setup, and then so many made their own steps, each in the script's order. The setup
+-- begins with the seats as they are opened, the steps with seats that have seen all of it; all steps are made, where
+-- nothing stopped. The transcript has the word lines that came of it, and for each seat just the entries that it had in
+-- the end
 pub record Ran (workers : ℕ) (script : Script) (transcript : TranscriptValue) (stopped : Bool)
     : Type 0 where
   pub before : List AtWork

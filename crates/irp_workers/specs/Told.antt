@@ -27,7 +27,8 @@ routines_of rule routines =
     filter (λ (routine : CompletionRoutine). place_of rule == place_of routine.rule) routines
 
 -- what was answered is what the script tells of the closure that was asked, for what it was shown: of the dispatch of
--- that number, of the completion routine of that number among those of its rule, or of the cancel routine of that number
+-- that number, of the completion routine of that number among those of its rule, or of the cancel routine of that
+-- number. So the script has such a closure
 abbrev pub IsTold : ScriptParts → Asked → Type 0
 IsTold script (Dispatch id shown plan) =
     option_map (λ (told : Plan). plan_of told shown) (slice_get script.dispatches id.0) ≡ Some plan
@@ -38,22 +39,22 @@ IsTold script (Cancel id shown answer) = slice_get script.cancels id.0 ≡ Some 
 
 -- ---- closures
 
--- a completion routine answers nothing but what is told of it
+-- by its own contract a completion routine answers nothing but what is told of it
 abbrev pub AnswersAs : {X : Type 0} {F : X → Type 0} {g : _} → Routine X F g → CompletionRoutine → Type 0
 AnswersAs routine told =
     (shown : Shown) (answer : Answer) → routine_may routine shown answer → answer ≡ answer_of told shown
 
--- a dispatch plans nothing but what is told of it
+-- by its own contract a dispatch plans nothing but what is told of it
 abbrev pub PlansAs : {X : Type 0} {F : X → Type 0} {g : _} → DispatchRoutine X F g → Plan → Type 0
 PlansAs dispatch told =
     (shown : Shown) (plan : Plan) → dispatch_may dispatch shown plan → plan ≡ plan_of told shown
 
--- a cancel routine answers nothing but what is told of it
+-- by its own contract a cancel routine answers nothing but what is told of it
 abbrev pub CancelsAs : {X : Type 0} {F : X → Type 0} {g : _} → CancelRoutine X F g → CancelAnswer → Type 0
 CancelsAs routine told =
     (shown : Shown) (answer : CancelAnswer) → cancel_may routine shown answer → answer ≡ told
 
--- each completion routine of a store answers as these tell, one after another within its rule
+-- under each rule a store has as many completion routines as these, and each answers as the one in its place tells
 abbrev pub RoutinesAnswer : {X Y Z : Type 0} {F : X → Type 0} {G : Y → Type 0} {H : Z → Type 0} {g : _} {h : _} {i : _}
     → Store X Y Z F G H g h i → List CompletionRoutine → Type 0
 RoutinesAnswer store routines =
@@ -61,12 +62,12 @@ RoutinesAnswer store routines =
     (of_rule rule store.watch.items store.change.items store.keeper.items store.keep_on_error.items store.free.items)
     (routines_of rule routines)
 
--- each cancel routine of a store answers as these tell
+-- a store has as many cancel routines as these, and each answers as the one in its place
 abbrev pub CancelsAnswer : {X Y Z : Type 0} {F : X → Type 0} {G : Y → Type 0} {H : Z → Type 0} {g : _} {h : _} {i : _}
     → Store X Y Z F G H g h i → List CancelAnswer → Type 0
 CancelsAnswer store answers = AllZip CancelsAs store.cancels.items answers
 
--- each dispatch of a store plans as these tell
+-- a store has as many dispatches as these, and each plans as the one in its place tells
 abbrev pub DispatchesPlan : {X Y Z : Type 0} {F : X → Type 0} {G : Y → Type 0} {H : Z → Type 0} {g : _} {h : _} {i : _}
     → Store X Y Z F G H g h i → List Plan → Type 0
 DispatchesPlan store plans = AllZip PlansAs store.dispatches.items plans

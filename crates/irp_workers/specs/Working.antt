@@ -262,10 +262,15 @@ caught_up last own = record own {
   seat = record own.seat { seen = if nat_lt own.seat.seen last then last else own.seat.seen };
 }
 
--- the same seats, each of which has seen as much of the history as any of them had
+-- so many entries were seen by the seat that had seen most
+pub record IsMostSeen (last : ℕ) (seats : List AtWork) : Type 0 where
+  pub most : All (λ own. own.seat.seen ≤ last) seats
+  pub least : (other : ℕ) → All (λ own. own.seat.seen ≤ other) seats → last ≤ other
+
+-- the same seats, in some order, each of which has seen as much of the history as any of them had
 pub record CatchUp (before after : List AtWork) : Type 0 where
   pub last : ℕ
-  pub most : All (λ own. own.seat.seen ≤ last) before
+  pub seen : IsMostSeen last before
   pub each : EachAsOften (map (caught_up last) before) after
 
 -- one worker made the setup with all seats, and then, unless it was stopped, so many made the steps, with seats that

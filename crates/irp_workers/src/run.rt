@@ -25,7 +25,7 @@ ghost use Rattle.irp_workers.specs.Seats.{
 };
 ghost use Rattle.irp_workers.specs.Words.{AreInOrder};
 ghost use Rattle.irp_workers.specs.Workers.{IsIdle, IsReady, RunsOwn, count_lines, count_seats};
-ghost use Rattle.irp_workers.specs.Working.{CatchUp, RunsScript};
+ghost use Rattle.irp_workers.specs.Working.{CatchUp, IsMostSeen, RunsScript};
 
 use crate::gate::{AlwaysOpen, Gate};
 use crate::labels::Labels;
@@ -132,9 +132,9 @@ pub fn script_seats<'a, L: Session>(
     Ok(pairs)
 }
 
-/// How many entries of the history the seat has seen that has seen most.
+/// How many entries of the history the seat has seen that has seen most; 0 where there is no seat.
 fn most_seen<L: Session>(seats: &[ScriptSeat<'_, L>]) -> u64
-    ensures { All (λ own. own.seat.seen ≤ result) seats.now }
+    ensures { IsMostSeen result (seats_at_work seats.now) }
 {
     let mut most = 0u64;
     for own in seats {
@@ -154,6 +154,7 @@ fn catch_up<'a, L: Session>(
     ensures caught { IfOk result (λ all.
         CatchUp (seats_at_work seats.entry.items) (seats_at_work all.items)) }
 {
+    let _ = locks;
     let most = most_seen(seats.as_slice());
     let mut all = Vec::new(alloc);
     while let Some(mut own) = seats.pop() {

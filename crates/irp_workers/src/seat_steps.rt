@@ -35,17 +35,17 @@ pub fn tell(words: &mut Vec<WordLine>, index: u32, step: Step, act: Act, reply: 
 }
 
 impl<'a, L: Session> ScriptSeat<'a, L> {
-    /// How many entries of the history the seat has seen in which it makes calls.
-    pub fn seen(&self) -> u64
+    /// How many entries of the history its seat at the manager has seen.
+    pub(crate) fn seen(&self) -> u64
         ensures { result ≡ self.now.seat.seen }
     {
         self.seat.seen()
     }
 
-    /// It has seen this many entries of the history, or more if it had seen more.
-    pub fn saw(&mut self, length: u64)
-        ensures seen { seat_at_work self.new ≡ caught_up length (seat_at_work self.old) }
-        ensures remove { self.new.remove ≡ self.old.remove }
+    /// Its seat at the manager has seen this many entries of the history, or more if it had seen more. Nothing else
+    /// changes.
+    pub(crate) fn saw(&mut self, length: u64)
+        ensures { seat_at_work self.new ≡ caught_up length (seat_at_work self.old) }
     {
         self.seat.saw(length);
     }

@@ -279,7 +279,8 @@ fn finish<A: Ask + Drop, L: Session>(
     })
 }
 
-/// So many workers run the script in a session of its locks, seats and cancel slots.
+/// So many workers run the script in a session of its locks, seats and cancel slots. Whoever is asked answers as
+/// `L.may` says, and that is as the script tells; the blank and what `L` fixes are the script's.
 fn session<A: Ask + Send + Drop, L: Session + Send + Sync, T: Threads + Wait + Sync>(
     rt: &T,
     alloc: Global,
@@ -339,7 +340,8 @@ fn write_finished<O: Out>(alloc: Global, output: &mut O, run: &Finished) -> Resu
     Ok(())
 }
 
-/// Has so many workers run the script with this store, and writes the transcript.
+/// Has so many workers run the script with this store, whose closures answer as the script tells, and writes the
+/// transcript.
 fn with_store<O: Out, T: Threads + Wait + Sync>(
     rt: &T,
     alloc: Global,
@@ -358,7 +360,7 @@ fn with_store<O: Out, T: Threads + Wait + Sync>(
     write_finished(alloc, output, &run)
 }
 
-/// Adds the script's drivers to a store that has all closures of the script, and goes on.
+/// Adds the script's drivers to a store that has all closures of the script, which answer as it tells, and goes on.
 fn with_dispatches<O: Out, T: Threads + Wait + Sync>(
     rt: &T,
     alloc: Global,

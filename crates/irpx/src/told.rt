@@ -28,8 +28,8 @@ pub fn routine_told(told: CompletionRoutine, run: CompletionClosure) -> Routine
     Routine::new(told.rule, run)
 }
 
-/// A cancel routine with this code, on condition that the code may be called on everything that can be shown, and
-/// answers nothing but what the script tells of the routine.
+/// A cancel routine with this code, on condition that the code may be called on everything that can be shown, answers
+/// nothing but what the script tells of the routine, and keeps the rule of that answer.
 pub fn cancel_told(told: CancelAnswer, run: CancelClosure) -> CancelRoutine
     requires callable { (shown : Shown) → CanShow shown → CancelClosure.pre run shown }
     requires told { (shown : Shown) (answer : CancelAnswer)

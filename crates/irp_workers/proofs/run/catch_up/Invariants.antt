@@ -1,5 +1,5 @@
 -- the seats that are left and those that have caught up are all, and fit the locks
-use Rattle.std.proofs.Common.{◌≡◌, ◌+◌, All, Bool, map, vec_len}
+use Rattle.std.proofs.Common.{◌≡◌, ◌+◌, All, Bool, vec_len}
 use Rattle.std.specs.List.{count_by}
 use Rattle.irp_workers.specs.Seats.{IsAtLocks, seats_at_work}
 use Rattle.irp_workers.specs.Working.{AtWork, caught_up}
