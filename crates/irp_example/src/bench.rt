@@ -95,7 +95,8 @@ fn session<A: Ask + Send + Drop, L: Session + Send + Sync, R: Threads + Wait + S
 }
 
 /// Runs the bench, where this one is asked. The transcript: its history is legal, and each answer in it is one that the
-/// asked may give. None where memory ran out, or the seats' entries aren't the history's.
+/// asked may give. None where memory ran out, or the seats' entries aren't the history's; that it comes only there, no
+/// clause says.
 pub fn run<A: Ask + Send + Drop, R: Threads + Wait + Sync>(
     rt: &R,
     alloc: Global,

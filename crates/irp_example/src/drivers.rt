@@ -40,8 +40,8 @@ const WATCHED: Setting = Setting {
     on_cancel: true,
 };
 
-/// What the filter plans. It forwards a packet, and watches it come back, where a device stands below; that may plan
-/// each dispatch that knows a routine of rule Watch.
+/// What the filter plans. It forwards a packet, and watches it come back, where a device stands below. Each dispatch
+/// that may name a routine of rule Watch may plan so.
 pub fn forwarded(shown: Shown) -> Plan
     ensures { (known : Known) → 0 < known.watch → is_plan_allowed known shown result ≡ true }
 {
