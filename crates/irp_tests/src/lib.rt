@@ -5,6 +5,8 @@
 #[cfg(test)]
 mod counting;
 #[cfg(test)]
+mod order;
+#[cfg(test)]
 mod remove;
 #[cfg(test)]
 mod shared;

@@ -1,0 +1,164 @@
+//! Closures of a store that note when they are called.
+
+ghost use Rattle.std.specs.Prelude.{◌≡◌, true};
+ghost use Rattle.irp_types.specs.Rules.{is_allowed, is_plan_allowed};
+ghost use Rattle.irp_types.specs.State.{no_routines};
+ghost use Rattle.irp_types.specs.declared.routine.Rule.TheVariants.{Watch};
+
+use super::stores::{READ, Step, adds, adds_dispatch, adds_driver, last_receipt};
+use irp_routines::{Dispatch, Routine, Store};
+use irp_types::{
+    Answer, Call, DeviceId, DriverId, IrpRef, Known, LockNo, Party, Plan, Reply, RoutineId, Rule,
+    Setting, Shown, Status,
+};
+use std::alloc::{AllocError, Global};
+use std::sync::Arc;
+use std::sync::atomic::{AtomicU32, Ordering};
+use std::test::Fail;
+
+const IRP: IrpRef = IrpRef { slot: 0, use_no: 1 };
+
+/// What the dispatch may name: the Watch.
+const ONE_WATCH: Known = Known {
+    watch: 1,
+    ..Known::NONE
+};
+
+/// The Watch as the upper device sets it.
+const BY_UPPER: Setting = Setting {
+    routine: RoutineId {
+        rule: Rule::Watch,
+        no: 0,
+    },
+    context: 3,
+    on_success: true,
+    on_error: true,
+    on_cancel: true,
+};
+
+/// The Watch as the originator sets it.
+const BY_ORIGINATOR: Setting = Setting {
+    context: 4,
+    ..BY_UPPER
+};
+
+const CREATE: Call = Call::CreateDevice {
+    driver: DriverId(0),
+    lock: LockNo(0),
+};
+
+const ATTACH: Call = Call::Attach {
+    device: DeviceId(1),
+    to: DeviceId(0),
+};
+
+const ALLOCATE: Call = Call::Allocate { size: 2 };
+
+const FILL: Call = Call::SetNext {
+    party: Party::Originator,
+    irp: IRP,
+    major: READ,
+    word: 0,
+};
+
+const SET: Call = Call::SetRoutine {
+    party: Party::Originator,
+    irp: IRP,
+    setting: BY_ORIGINATOR,
+};
+
+const SEND: Call = Call::CallDriver {
+    party: Party::Originator,
+    irp: IRP,
+    target: DeviceId(1),
+};
+
+/// A packet goes down through two devices, and comes back.
+const STEPS: [Step; 7] = [
+    (CREATE, Reply::Device(DeviceId(0))),
+    (CREATE, Reply::Device(DeviceId(1))),
+    (ATTACH, Reply::Device(DeviceId(0))),
+    (ALLOCATE, Reply::Irp(IRP)),
+    (FILL, Reply::Done),
+    (SET, Reply::Done),
+    (SEND, Reply::Status(Status::SUCCESS)),
+];
+
+/// Forwards, where a device stands below, and else finishes.
+fn pass_down(shown: Shown) -> Plan
+    ensures { is_plan_allowed (record no_routines { watch = 1 }) shown result ≡ true }
+{
+    if shown.has_lower {
+        Plan::Forward {
+            set: Some(BY_UPPER),
+        }
+    } else {
+        Plan::Finish {
+            status: Status::SUCCESS,
+            information: 0,
+        }
+    }
+}
+
+/// Looks on.
+fn look_on(shown: Shown) -> Answer
+    ensures { is_allowed Watch shown result ≡ true }
+{
+    Answer {
+        keep: false,
+        mark: Rule::right_mark(shown, false),
+        replacement: None,
+    }
+}
+
+/// Notes a digit behind those that were noted before.
+fn note(notes: &AtomicU32, digit: u32) {
+    let before = notes.load(Ordering::SeqCst);
+    notes.store(
+        before.wrapping_mul(10).wrapping_add(digit),
+        Ordering::SeqCst,
+    );
+}
+
+/// A store of these closures, with one driver.
+fn store_of(alloc: Global, watch: Routine, dispatch: Dispatch) -> Option<Store> {
+    let mut store = Store::new(alloc);
+    let has_watch = adds(&mut store, watch);
+    let has_dispatch = adds_dispatch(&mut store, dispatch);
+    if has_watch && has_dispatch && adds_driver(alloc, &mut store) {
+        Some(store)
+    } else {
+        None
+    }
+}
+
+/// Makes the steps with closures that note when they are called: a dispatch 1 or 2, the Watch its context. Whether each
+/// is answered as it has to be.
+fn makes_steps(alloc: Global, notes: &Arc<AtomicU32>) -> Result<bool, AllocError> {
+    let of_watch = notes.clone()?;
+    let of_dispatch = notes.clone()?;
+    let watch = move |shown: Shown| {
+        note(&of_watch, (shown.context % 10) as u32);
+        look_on(shown)
+    };
+    let dispatch = move |shown: Shown| {
+        note(&of_dispatch, if shown.has_lower { 1 } else { 2 });
+        pass_down(shown)
+    };
+    let watch = Routine::new(Rule::Watch, Box::new(alloc, watch)?);
+    let dispatch = Dispatch::new(ONE_WATCH, Box::new(alloc, dispatch)?);
+    let made = match store_of(alloc, watch, dispatch) {
+        Some(store) => last_receipt(alloc, store, &STEPS),
+        None => None,
+    };
+    Ok(made.is_some())
+}
+
+#[test]
+fn closures_are_called_in_the_order_of_the_list(rt: HostRuntime) -> Result<(), Fail> {
+    let alloc = rt.alloc();
+    let notes = Arc::new(alloc, AtomicU32::new(0))?;
+    assert!(rt; makes_steps(alloc, &notes)?);
+    assert!(rt; notes.load(Ordering::SeqCst) == 1234);
+    Ok(())
+}
