@@ -1,16 +1,17 @@
 //! Closures of a store that count how often they are asked, through a book.
 
 ghost use Rattle.std.specs.Prelude.{◌≡◌, true};
-ghost use Rattle.irp_types.specs.Rules.{is_allowed, is_plan_allowed, is_cancel_allowed};
+ghost use Rattle.irp_types.specs.Rules.{is_plan_allowed, is_cancel_allowed};
 ghost use Rattle.irp_types.specs.State.{no_routines};
-ghost use Rattle.irp_types.specs.declared.routine.Rule.TheVariants.{Watch};
 ghost use Rattle.irp_types.specs.declared.routine.CancelRule.TheVariants.{MustFinish};
 
-use super::stores::{READ, Step, adds, adds_cancel, adds_dispatch, adds_driver, last_receipt};
+use super::stores::{
+    READ, Step, adds, adds_cancel, adds_dispatch, adds_driver, last_receipt, look_on,
+};
 use irp_routines::{CancelRoutine, Dispatch, Routine, Store};
 use irp_types::{
-    Answer, Call, CancelAnswer, CancelId, CancelRule, DeviceId, DriverId, IrpRef, Known, LockNo,
-    Party, Plan, Refusal, Reply, RoutineId, Rule, Setting, Shown, Status,
+    Call, CancelAnswer, CancelId, CancelRule, DeviceId, DriverId, IrpRef, Known, LockNo, Party,
+    Plan, Refusal, Reply, RoutineId, Rule, Setting, Shown, Status,
 };
 use std::alloc::{AllocError, Global};
 use std::sync::Arc;
@@ -125,17 +126,6 @@ fn hold(shown: Shown) -> Plan
         } else {
             Some(CancelId(0))
         },
-    }
-}
-
-/// Looks on.
-fn look_on(shown: Shown) -> Answer
-    ensures { is_allowed Watch shown result ≡ true }
-{
-    Answer {
-        keep: false,
-        mark: Rule::right_mark(shown, false),
-        replacement: None,
     }
 }
 

@@ -1,15 +1,14 @@
 //! Closures of a store that note when they are called.
 
 ghost use Rattle.std.specs.Prelude.{◌≡◌, true};
-ghost use Rattle.irp_types.specs.Rules.{is_allowed, is_plan_allowed};
+ghost use Rattle.irp_types.specs.Rules.{is_plan_allowed};
 ghost use Rattle.irp_types.specs.State.{no_routines};
-ghost use Rattle.irp_types.specs.declared.routine.Rule.TheVariants.{Watch};
 
-use super::stores::{READ, Step, adds, adds_dispatch, adds_driver, last_receipt};
+use super::stores::{READ, Step, adds, adds_dispatch, adds_driver, last_receipt, look_on};
 use irp_routines::{Dispatch, Routine, Store};
 use irp_types::{
-    Answer, Call, DeviceId, DriverId, IrpRef, Known, LockNo, Party, Plan, Reply, RoutineId, Rule,
-    Setting, Shown, Status,
+    Call, DeviceId, DriverId, IrpRef, Known, LockNo, Party, Plan, Reply, RoutineId, Rule, Setting,
+    Shown, Status,
 };
 use std::alloc::{AllocError, Global};
 use std::sync::Arc;
@@ -97,17 +96,6 @@ fn pass_down(shown: Shown) -> Plan
             status: Status::SUCCESS,
             information: 0,
         }
-    }
-}
-
-/// Looks on.
-fn look_on(shown: Shown) -> Answer
-    ensures { is_allowed Watch shown result ≡ true }
-{
-    Answer {
-        keep: false,
-        mark: Rule::right_mark(shown, false),
-        replacement: None,
     }
 }
 

@@ -1,10 +1,12 @@
 //! Stores, filled item by item, and the calls of a manager that asks one. Each says whether it went well.
 
-ghost use Rattle.std.specs.Prelude.{◌≡◌};
+ghost use Rattle.std.specs.Prelude.{◌≡◌, true};
+ghost use Rattle.irp_types.specs.Rules.{is_allowed};
+ghost use Rattle.irp_types.specs.declared.routine.Rule.TheVariants.{Watch};
 
 use irp_manager::{Book, KnowsNothing, Manager, Receipt, Seat};
 use irp_routines::{CancelRoutine, Dispatch, Routine, Store};
-use irp_types::{Call, DispatchId, Reply};
+use irp_types::{Answer, Call, DispatchId, Reply, Rule, Shown};
 use std::alloc::Global;
 use std::marker::Brand;
 use std::sync::ledger::{Blank, Ledger};
@@ -13,6 +15,17 @@ pub const READ: u8 = 0x03;
 
 /// A call, and what it has to be answered.
 pub type Step = (Call, Reply);
+
+/// What a Watch answers: it looks on.
+pub fn look_on(shown: Shown) -> Answer
+    ensures { is_allowed Watch shown result ≡ true }
+{
+    Answer {
+        keep: false,
+        mark: Rule::right_mark(shown, false),
+        replacement: None,
+    }
+}
 
 /// Adds a completion routine.
 pub fn adds(store: &mut Store, routine: Routine) -> bool {

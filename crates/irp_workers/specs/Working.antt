@@ -273,14 +273,15 @@ pub record CatchUp (before after : List AtWork) : Type 0 where
   pub seen : IsMostSeen last before
   pub each : EachAsOften (map (caught_up last) before) after
 
--- one worker made the setup with all seats, and then, unless it was stopped, so many made the steps, with seats that
--- have seen the whole setup: so each of their calls stands behind all calls of the setup
+-- so many workers made the steps, with seats that have seen the whole setup: so each of their calls stands behind all
+-- calls of the setup
 pub record WorkOn (count workers : ℕ) (steps : List Step) (ready after : List AtWork)
     (lines : List WordLine) (stopped : Bool) : Type 0 where
   pub begun : List AtWork
   pub caught : CatchUp ready begun
   pub apart : WorkApart count workers steps begun after lines stopped
 
+-- what came behind the setup: nothing, where its worker was stopped, and else the steps
 abbrev pub WorkAfter : Bool → ℕ → ℕ → List Step → List AtWork → List AtWork
     → List WordLine → Bool → Type 0
 WorkAfter true count workers steps ready after lines stopped =
@@ -288,6 +289,7 @@ WorkAfter true count workers steps ready after lines stopped =
 WorkAfter false count workers steps ready after lines stopped =
     WorkOn count workers steps ready after lines stopped
 
+-- one worker made the setup with all seats, and then, unless it was stopped, so many made the steps
 pub record RunsScript (count workers : ℕ) (setup steps : List Step)
     (before after : List AtWork) (lines : List WordLine) (stopped : Bool) : Type 0 where
   pub ready : Working

@@ -1,6 +1,6 @@
 //! Running a script.
 
-ghost use Rattle.std.specs.Prelude.{◌≡◌, ◌<◌, ◌≤◌, ℕ, Bool, All, IfOk, slice_index_or, vec_len};
+ghost use Rattle.std.specs.Prelude.{◌≡◌, ◌<◌, ℕ, Bool, All, IfOk, slice_index_or, vec_len};
 ghost use Rattle.std.specs.List.{count_by, list_any};
 ghost use Rattle.irp_shared.specs.declared.word_line.WordLine.{WordLine};
 ghost use Rattle.irp_remove.specs.Pairing.{IsSeatOf, lock_count};
@@ -262,6 +262,9 @@ fn gather<'a, L: Session>(
 /// The workers meet before each of their first 32 steps, so that short scripts mix: each waits for the others for a
 /// bounded time (no clause says so; tests show it). With one worker all steps are run in the order of the script (of
 /// steps of different seats no clause says so; examples show it).
+///
+/// Between the setup and the steps all seats learn how much of the history any of them has seen. So where one of them
+/// had learned a receipt of another session, all are behind until the history is as long, and their workers stop.
 ///
 /// Labels are shared by all seats: one that isn't bound yet stands for a packet that is never live. A step whose seat
 /// isn't there, one whose call isn't recorded, a hand to a seat that its worker doesn't have, and a publish or a

@@ -1,7 +1,7 @@
 //! The closures of a script, with what the script tells of them.
 
 ghost use Rattle.std.specs.Prelude.{◌≡◌, true};
-ghost use Rattle.irp_types.specs.Rules.{CanShow, is_allowed, is_cancel_allowed, is_plan_allowed};
+ghost use Rattle.irp_types.specs.Rules.{CanShow, is_allowed, is_plan_allowed};
 ghost use Rattle.irp_types.specs.declared.answer.{Answer.Answer, CancelAnswer.CancelAnswer, Plan.Plan};
 ghost use Rattle.irp_types.specs.declared.shown.Shown.{Shown};
 ghost use Rattle.irp_workers.specs.Behaviours.{answer_of, cancel_rule_of, plan_of};
@@ -28,15 +28,12 @@ pub fn routine_told(told: CompletionRoutine, run: CompletionClosure) -> Routine
     Routine::new(told.rule, run)
 }
 
-/// A cancel routine with this code, on condition that the code may be called on everything that can be shown, answers
-/// nothing but what the script tells of the routine, and keeps the rule of that answer.
+/// A cancel routine with this code, on condition that the code may be called on everything that can be shown, and
+/// answers nothing but what the script tells of the routine. So it keeps the rule of that answer.
 pub fn cancel_told(told: CancelAnswer, run: CancelClosure) -> CancelRoutine
     requires callable { (shown : Shown) → CanShow shown → CancelClosure.pre run shown }
     requires told { (shown : Shown) (answer : CancelAnswer)
         → CancelClosure.post run shown answer → answer ≡ told }
-    requires keeps_rule { (shown : Shown) (answer : CancelAnswer) → CanShow shown
-        → CancelClosure.post run shown answer
-        → is_cancel_allowed (cancel_rule_of told) answer ≡ true }
     ensures rule { result.rule ≡ cancel_rule_of told }
     ensures told { CancelsAs result told }
 {
