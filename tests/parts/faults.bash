@@ -1,31 +1,6 @@
 # What the surroundings of the program do to it, texts that are cut, and texts made by chance. Part of check_all. The
 # Python scripts `hostile` and `random_texts` do the work; they load a small library before the program (faults.c).
 
-# Adds what a script printed: `tried: COUNT WRONG KIND` for each kind, and a line for each try that was wrong.
-tally() {
-    local line count wrong kind
-    while IFS= read -r line; do
-        case $line in
-        tried:*)
-            read -r _ count wrong kind <<<"$line"
-            tried[$kind]=$((${tried[$kind]:-0} + count))
-            failures=$((failures + wrong))
-            ;;
-        *) echo "$line" ;;
-        esac
-    done
-}
-
-# Runs a script with the given words, and adds what it tried.
-try_all() {
-    "$@" >"$kept/tally"
-    status=$?
-    tally <"$kept/tally"
-    meets "$1: status $status" [ "$status" -le 1 ]
-    meets "$1: something was tried" [ -s "$kept/tally" ]
-}
-
-declare -A tried=()
 # A program that was built without proofs watches its memory with a library of its own, and is slow: no growth of memory
 # is refused, and less is tried.
 less=

@@ -8,7 +8,8 @@ import struct
 from collections import Counter
 from typing import NamedTuple
 
-HERE = os.path.dirname(os.path.realpath(__file__))
+EXAMPLES = os.path.join(os.path.dirname(os.path.dirname(os.path.realpath(__file__))), "examples")
+FOLDERS = ("sending", "completing", "cancelling", "slots", "removal", "many_threads", "practice")
 # The settings of faults.c, in its order.
 SETTINGS = (
     "refuse", "refuse_behind", "read_ends", "read_error", "read_once",
@@ -132,13 +133,13 @@ class Example(NamedTuple):
 def examples():
     """Returns the examples whose transcript is stored, in the order of their names."""
     found = []
-    for folder in ("", "practice"):
-        for file in sorted(os.listdir(os.path.join(HERE, folder))):
-            path = os.path.join(HERE, folder, file.removesuffix(".script"))
+    for folder in FOLDERS:
+        for file in os.listdir(os.path.join(EXAMPLES, folder)):
+            path = os.path.join(EXAMPLES, folder, file.removesuffix(".script"))
             if file.endswith(".script") and os.path.exists(path + ".transcript"):
                 with open(path + ".script", "rb") as script, open(path + ".transcript", "rb") as transcript:
                     found.append(Example(os.path.basename(path), script.read(), transcript.read()))
-    return found
+    return sorted(found)
 
 
 def work(tasks, prepare, given):

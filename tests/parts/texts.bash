@@ -37,7 +37,7 @@ while IFS= read -r wanted; do
 done <refused/transcripts.txt
 
 # The script of one device and one packet, without spaces.
-demo=$(tr -d '\n ' <one_device_finishes_one_packet.script)
+demo=$(tr -d '\n ' <"$examples"/sending/one_device_finishes_one_packet.script)
 
 # Runs that script with the text $1, which stands in it once, changed to $2. What is told is $3.
 changed_script() {
@@ -103,26 +103,26 @@ told_of_script 'bytes that are no text' "$kept/text" S2
 
 # A line of 65,536 bytes is read, and no longer one.
 for case in '65536:legal 0' '65537:line 1'; do
-    header=$(head -n 1 one_device_finishes_one_packet.transcript)
+    header=$(head -n 1 "$examples"/sending/one_device_finishes_one_packet.transcript)
     { printf '%s' "$header" && spaces $((${case%%:*} - ${#header})) && echo; } >"$kept/text"
     told_of_transcript "a line of ${case%%:*} bytes" "$kept/text" "${case#*:}"
 done
 
 # Transcripts changed in one thing: the file, what sed does to it, and what is told.
 while IFS='|' read -r file change wanted; do
-    sed "$change" "$file.transcript" >"$kept/text"
+    sed "$change" "$examples/$file.transcript" >"$kept/text"
     told_of_transcript "$file changed by $change" "$kept/text" "$wanted"
 done <<'END'
-one_device_finishes_one_packet|s/"reply":{"status":0}/"reply":{"status":259}/|illegal 3
-one_device_finishes_one_packet|s/"n":1,/"n":7,/|illegal 1
-one_device_finishes_one_packet|s/"irp":\[0,1\]/"irp":[5,1]/g;s/"shown":\[0,0,1/"shown":[0,5,1/|legal 4
-one_device_finishes_one_packet|s/"reply":{"irp":\[0,1\]}/"reply":{"irp":[0,2]}/|illegal 1
-one_device_finishes_one_packet|s/"shown":\[0,0,1,3,1,7/"shown":[0,0,1,3,1,8/|illegal 3
-one_device_finishes_one_packet|s/"asked":\[{.*}\],"call"/"asked":[],"call"/|illegal 3
-a_remove_lock_is_drained|s/"drained":true/"drained":false/|illegal 2
-a_remove_lock_is_drained|s/"drained":false/"drained":true/|illegal 1
-a_remove_lock_is_drained|s/"drained":false,"lock":0/"drained":false,"lock":null/|illegal 1
-one_device_finishes_one_packet|s/"do":"create_device"/"do":"create"/|line 2
+sending/one_device_finishes_one_packet|s/"reply":{"status":0}/"reply":{"status":259}/|illegal 3
+sending/one_device_finishes_one_packet|s/"n":1,/"n":7,/|illegal 1
+sending/one_device_finishes_one_packet|s/"irp":\[0,1\]/"irp":[5,1]/g;s/"shown":\[0,0,1/"shown":[0,5,1/|legal 4
+sending/one_device_finishes_one_packet|s/"reply":{"irp":\[0,1\]}/"reply":{"irp":[0,2]}/|illegal 1
+sending/one_device_finishes_one_packet|s/"shown":\[0,0,1,3,1,7/"shown":[0,0,1,3,1,8/|illegal 3
+sending/one_device_finishes_one_packet|s/"asked":\[{.*}\],"call"/"asked":[],"call"/|illegal 3
+removal/a_remove_lock_is_drained|s/"drained":true/"drained":false/|illegal 2
+removal/a_remove_lock_is_drained|s/"drained":false/"drained":true/|illegal 1
+removal/a_remove_lock_is_drained|s/"drained":false,"lock":0/"drained":false,"lock":null/|illegal 1
+sending/one_device_finishes_one_packet|s/"do":"create_device"/"do":"create"/|line 2
 END
 
 # Headers that are refused: one with a routine of each rule and a cancel routine, and what sed does to it.
