@@ -4,8 +4,8 @@ import json
 
 from texts_by_hand import bytes_of, empty, example
 
-SLOT_SCRIPT = json.loads(example('a_canceller_takes_a_packet_from_its_slot.script'))
-SLOT_TRANSCRIPT = example('a_canceller_takes_a_packet_from_its_slot.transcript')
+SLOT_SCRIPT = json.loads(example('slots/a_canceller_takes_a_packet_from_its_slot.script'))
+SLOT_TRANSCRIPT = example('slots/a_canceller_takes_a_packet_from_its_slot.transcript')
 
 
 def st(seat, do, **k):

@@ -6,17 +6,17 @@ Each case is the words for the program and its input.
 import json
 import os
 
-FOLDER = os.path.dirname(os.path.dirname(os.path.realpath(__file__)))
+TOP = os.path.dirname(os.path.dirname(os.path.dirname(os.path.realpath(__file__))))
 
 
 def example(name):
     """Returns the bytes of an example."""
-    with open(os.path.join(FOLDER, name), 'rb') as it:
+    with open(os.path.join(TOP, 'examples', name), 'rb') as it:
         return it.read()
 
 
-SCRIPT = json.loads(example('one_device_finishes_one_packet.script'))
-TRANSCRIPT = example('one_device_finishes_one_packet.transcript').decode().splitlines()
+SCRIPT = json.loads(example('sending/one_device_finishes_one_packet.script'))
+TRANSCRIPT = example('sending/one_device_finishes_one_packet.transcript').decode().splitlines()
 
 
 def bytes_of(v):
