@@ -3,7 +3,7 @@
 ghost use Rattle.std.specs.Prelude.{◌≡◌, length, Some, Ok, IfOk};
 ghost use Rattle.irp_script.specs.Checked.{IsVerdictOn};
 ghost use Rattle.irp_script.specs.declared.checker.Verdict.TheVariants.{Legal};
-ghost use Rattle.irp_shared.specs.Transcripts.{no_lines};
+ghost use Rattle.irp_transcript.specs.Transcripts.{no_lines};
 ghost use Rattle.irp_transcript_reader.specs.Reading.{ReadsFrom, cut};
 ghost use Rattle.irp_transcript_writer.specs.Lines.{lines, text_of};
 

@@ -1,14 +1,14 @@
 //! Transcripts from bytes.
 
 ghost use Rattle.std.specs.Prelude.{IfSome};
-ghost use Rattle.irp_shared.specs.Transcripts.{no_lines};
+ghost use Rattle.irp_transcript.specs.Transcripts.{no_lines};
 ghost use Rattle.irp_transcript_reader.specs.Reading.{IsEntryLine, ReadsFrom, cut};
 
 use crate::fits::fits;
 use crate::guess::guess_entry;
 use irp_forms::Unread;
 use irp_round_trip::entry_is_read;
-use irp_shared::Transcript;
+use irp_transcript::Transcript;
 use irp_transcript_reader::{MOST_BYTES, ReadFault, Reading, TakeLine, read_lines};
 use irp_transcript_writer::Written;
 use irp_types::{Asked, Entry};

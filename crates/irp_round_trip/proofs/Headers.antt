@@ -10,9 +10,9 @@ use Rattle.irp_types.specs.Limits.{last_major, most_dispatches}
 use Rattle.irp_types.specs.Rules.{IsWithin}
 use Rattle.irp_types.specs.State.{Entrance, IsDriver, Tables, most_known}
 use Rattle.irp_types.specs.declared.{routine.CancelRule.CancelRule, routine.Known.Known}
-use Rattle.irp_shared.specs.Headers.{IsHeader, fixed_of, slots_of}
-use Rattle.irp_shared.specs.declared.{header.Form.Form, header.Header.Header}
-use Rattle.irp_shared.specs.declared.header.Form.TheVariants as form
+use Rattle.irp_transcript.specs.Headers.{IsHeader, fixed_of, slots_of}
+use Rattle.irp_transcript.specs.declared.{header.Form.Form, header.Header.Header}
+use Rattle.irp_transcript.specs.declared.header.Form.TheVariants as form
 use Rattle.irp_transcript_reader.specs.Lines.{header_at, header_form_at, header_keys_at}
 use Rattle.irp_transcript_writer.specs.Json.{list}
 use Rattle.irp_transcript_writer.specs.Lines.{cancel_rule_json, completions_json, driver_json, handler_json, header_json, known_json, line_of_form}

@@ -9,9 +9,9 @@ use Rattle.serde_json.specs.Data.{Data}
 use Rattle.serde_json.specs.Read.{max_depth}
 use Rattle.serde_json.specs.Written.{compact_text}
 use Rattle.irp_types.specs.declared.entry.Entry.{Entry}
-use Rattle.irp_shared.specs.Headers.{IsHeader}
-use Rattle.irp_shared.specs.Transcripts.{TranscriptValue, IsTranscript, no_lines}
-use Rattle.irp_shared.specs.declared.{header.Header.Header, word_line.WordLine.WordLine}
+use Rattle.irp_transcript.specs.Headers.{IsHeader}
+use Rattle.irp_transcript.specs.Transcripts.{TranscriptValue, IsTranscript, no_lines}
+use Rattle.irp_transcript.specs.declared.{header.Header.Header, word_line.WordLine.WordLine}
 use Rattle.irp_transcript_reader.specs.Reading.{IsLine, IsNext, IsNextUnder, ReadsFrom, RefusedAt, Takes, TakesAll, cut, most_entries, onto, with_entry, with_line, with_word}
 use Rattle.irp_transcript_reader.specs.declared.read_fault.ReadFault.{ReadFault}
 use Rattle.irp_transcript_reader.specs.declared.read_fault.ReadFault.TheVariants.{Line, NoMemory}

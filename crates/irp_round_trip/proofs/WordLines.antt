@@ -5,9 +5,9 @@ use Rattle.irp_forms.specs.Parts.{◌>>=◌, has_keys}
 use Rattle.irp_forms.specs.SeatActs.{hand_at, lock_act_named, slot_alone_at}
 use Rattle.irp_types.specs.declared.seat_act.LockAct.TheVariants as on_lock
 use Rattle.irp_types.specs.declared.seat_act.SlotAct.TheVariants as on_slot
-use Rattle.irp_shared.specs.declared.{word_line.Act.Act, word_line.WordLine.WordLine, word_line.WordReply.WordReply}
-use Rattle.irp_shared.specs.declared.word_line.Act.TheVariants as act
-use Rattle.irp_shared.specs.declared.word_line.WordReply.TheVariants as word_reply
+use Rattle.irp_transcript.specs.declared.{word_line.Act.Act, word_line.WordLine.WordLine, word_line.WordReply.WordReply}
+use Rattle.irp_transcript.specs.declared.word_line.Act.TheVariants as act
+use Rattle.irp_transcript.specs.declared.word_line.WordReply.TheVariants as word_reply
 use Rattle.irp_transcript_reader.specs.Reading.{is_entry}
 use Rattle.irp_transcript_reader.specs.WordLines.{act_named, valued_reply_at, word_line_at, word_reply_at, word_reply_named}
 use Rattle.irp_transcript_writer.specs.Lines.{line_of_act, word_json, word_reply_json}

@@ -2,7 +2,7 @@
 use Rattle.std.specs.Prelude.{◌≡◌, ℕ, List, Some, Result, Ok, Err, ⊤}
 use Rattle.serde_json.specs.Written.{compact_text}
 use Rattle.irp_types.specs.declared.entry.Entry.{Entry}
-use Rattle.irp_shared.specs.Transcripts.{TranscriptValue, IsTranscript, no_lines}
+use Rattle.irp_transcript.specs.Transcripts.{TranscriptValue, IsTranscript, no_lines}
 use Rattle.irp_transcript_reader.specs.Lines.{entry_at}
 use Rattle.irp_transcript_reader.specs.Reading.{IsLine, ReadsFrom, cut}
 use Rattle.irp_transcript_reader.specs.declared.read_fault.ReadFault.{ReadFault}

@@ -1,11 +1,11 @@
 //! Laws of transcripts' lines and texts, and a reader that keeps to them. Each law is the contract of a function that
 //! does nothing.
 
-ghost use Rattle.irp_shared.specs.Transcripts.{no_lines};
+ghost use Rattle.irp_transcript.specs.Transcripts.{no_lines};
 ghost use Rattle.irp_transcript_reader.specs.Reading.{ReadsFrom, cut};
 ghost use Rattle.irp_round_trip.specs.Laws as spec;
 
-use irp_shared::Transcript;
+use irp_transcript::Transcript;
 use irp_transcript_reader::{ReadFault, read_transcript};
 use std::alloc::Global;
 

@@ -3,9 +3,9 @@ use Rattle.std.specs.Prelude.{ℕ, ◌≡◌, ◌+◌, List, take, length, Optio
 use Rattle.irp_types.specs.State.{Fixed}
 use Rattle.irp_types.specs.Histories.{IsLegal}
 use Rattle.irp_types.specs.declared.entry.Entry.{Entry}
-use Rattle.irp_shared.specs.Headers.{fixed_of}
-use Rattle.irp_shared.specs.Transcripts.{TranscriptValue}
-use Rattle.irp_shared.specs.declared.header.Header.{Header}
+use Rattle.irp_transcript.specs.Headers.{fixed_of}
+use Rattle.irp_transcript.specs.Transcripts.{TranscriptValue}
+use Rattle.irp_transcript.specs.declared.header.Header.{Header}
 use Rattle.irp_script.specs.declared.checker.Verdict.{Verdict}
 use Rattle.irp_script.specs.declared.checker.Verdict.TheVariants.{Legal, Illegal}
 

@@ -2,7 +2,7 @@
 
 ghost use Rattle.std.specs.Prelude.{IfOk};
 ghost use Rattle.irp_types.specs.State.{AreTables};
-ghost use Rattle.irp_shared.specs.Headers.{fixed_of};
+ghost use Rattle.irp_transcript.specs.Headers.{fixed_of};
 ghost use Rattle.irp_script.specs.Checked.{IsVerdict, IsVerdictOn};
 
 use crate::replaying::makes_again;

@@ -3,7 +3,7 @@
 ghost use Rattle.std.specs.Prelude.{◌≡◌};
 ghost use Rattle.std.proofs.Props.{props};
 ghost use Rattle.irp_types.specs.State.{AreTables};
-ghost use Rattle.irp_shared.specs.Headers.{fixed_of};
+ghost use Rattle.irp_transcript.specs.Headers.{fixed_of};
 ghost use Rattle.irp_script.specs.Recorded.{is_same_device, plan_in, answer_in, cancel_in, first_in, IsPlanTold, IsAnswerTold, IsCancelTold};
 
 use irp_routines::{Ask, guarded_answer, guarded_cancel, guarded_plan};

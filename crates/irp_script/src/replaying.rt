@@ -5,7 +5,7 @@ ghost use Rattle.irp_types.specs.State.{AreTables};
 ghost use Rattle.irp_types.specs.Standing.{StandingFacts};
 ghost use Rattle.irp_manager.specs.ManagerStates.{state_of, Agrees};
 ghost use Rattle.irp_manager.specs.Keeps.{mapped};
-ghost use Rattle.irp_shared.specs.Headers.{fixed_of};
+ghost use Rattle.irp_transcript.specs.Headers.{fixed_of};
 ghost use Rattle.irp_script.specs.Replayed.{MakesAgain, slot_named};
 
 use crate::recorded_answers::RecordedAnswers;

@@ -2,18 +2,12 @@
 use Rattle.std.specs.Prelude.{ℕ, ◌≡◌, ◌+◌, ◌<◌, ◌≤◌, Bool, true, false, if◌then◌else◌, Option, Some, None, List, [], ◌∷◌, ◌++◌, length}
 use Rattle.irp_types.specs.declared.names.LockNo.{LockNo}
 use Rattle.irp_types.specs.Calls.{Call}
-use Rattle.irp_types.specs.declared.call.Call.TheVariants.{FinishTaken}
 use Rattle.irp_types.specs.declared.reply.Reply.{Reply}
 use Rattle.irp_types.specs.declared.reply.Reply.TheVariants as reply
 use Rattle.irp_slots.specs.declared.answers.Token.{Token}
 use Rattle.irp_types.specs.declared.entry.Entry.{Entry}
 use Rattle.irp_manager.specs.Seats.{Seated}
 use Rattle.irp_manager.specs.Booked.{Receipted, IsCallOf, most_entries}
-
--- a call that only who has a token may make
-abbrev pub needs_token : Call → Bool
-needs_token (FinishTaken irp token status information) = true
-needs_token other = false
 
 -- whether a reply is Done
 abbrev pub is_done : Reply → Bool

@@ -9,23 +9,23 @@ ghost use Rattle.irp_shared.specs.Answered.{AnswersSo, EachAnswered};
 ghost use Rattle.irp_shared.specs.Opening.{IsBadCount, IsGoodCount, AreNew};
 ghost use Rattle.irp_types.specs.declared.call.Call.TheVariants.{FinishTaken};
 ghost use Rattle.irp_slots.specs.declared.answers.Token.{Token};
-ghost use Rattle.irp_shared.specs.Sharing.{Called, IsAsBefore, needs_token, is_done, given_back};
-ghost use Rattle.irp_shared.specs.Headers.{fixed_of, slots_of};
+ghost use Rattle.irp_shared.specs.Sharing.{Called, IsAsBefore, is_done, given_back};
+ghost use Rattle.irp_transcript.specs.Tokens.{needs_token};
+ghost use Rattle.irp_transcript.specs.Headers.{fixed_of, slots_of};
 ghost use Rattle.irp_shared.specs.Closing.{AllHere, Kept, Closes, entry_at};
 ghost use Rattle.irp_shared.specs.declared.open_refused.OpenRefused.TheVariants.{BadCount};
 ghost use Rattle.irp_shared.specs.declared.mismatch.Mismatch.TheVariants.{Seats as OtherSeats, Entry as OtherEntry};
 
 use crate::closing::{Difference, are_all, gather, taken_out};
-use crate::header::{Form, Header};
 use crate::locked::Locked;
 use crate::mismatch::Mismatch;
 use crate::open_refused::OpenRefused;
 use crate::session::Session;
-use crate::transcript::Transcript;
 use crate::turn::take_turn;
 use irp_manager::{Book, DrainNote, KnowsNothing, Manager, NotRecorded, Receipt, Recorded, Seat};
 use irp_routines::{Ask, FixedTables, Parts};
 use irp_slots::Token;
+use irp_transcript::{Form, Header, Transcript};
 use irp_types::limits::{MOST_LOCKS, MOST_SEATS};
 use irp_types::{Call, Entry, IrpRef, Limit, Reply, Row, Status, history_completes_once};
 use std::alloc::Global;
@@ -211,14 +211,6 @@ impl<A: Ask, L: Session> Shared<A, L> {
         }
         take_turn(&self.lock, rt).call(seat, call, note)
     }
-}
-
-/// Whether a call needs a token: true of a `FinishTaken` alone, which finishes a packet that was taken from a cancel
-/// slot (this project's own rule).
-pub fn needs_token(call: Call) -> bool
-    ensures { result ≡ needs_token call }
-{
-    matches!(call, Call::FinishTaken { .. })
 }
 
 /// Whether a reply is Done.

@@ -8,8 +8,8 @@ use Rattle.irp_forms.specs.Names.{cancel_rule_at}
 use Rattle.irp_forms.specs.Values.{completions_at, handler_at, known_at}
 use Rattle.irp_types.specs.Limits.{most_routines}
 use Rattle.irp_types.specs.declared.entry.Entry.{Entry}
-use Rattle.irp_shared.specs.declared.{header.Header.Header, header.Form.Form}
-use Rattle.irp_shared.specs.declared.header.Form.TheVariants as forms
+use Rattle.irp_transcript.specs.declared.{header.Header.Header, header.Form.Form}
+use Rattle.irp_transcript.specs.declared.header.Form.TheVariants as forms
 use Rattle.irp_transcript_reader.specs.Calls.{entry_call_at}
 use Rattle.irp_forms.specs.Questions.{asked_at}
 use Rattle.irp_transcript_reader.specs.Replies.{reply_at}

@@ -7,10 +7,10 @@ use Rattle.irp_forms.specs.Parts.{◌>>=◌}
 use Rattle.irp_forms.specs.declared.unread.Unread.{Unread}
 use Rattle.irp_forms.specs.declared.unread.Unread.TheVariants as unread
 use Rattle.irp_types.specs.declared.entry.Entry.{Entry}
-use Rattle.irp_shared.specs.Headers.{IsHeader}
-use Rattle.irp_shared.specs.Transcripts.{TranscriptValue}
-use Rattle.irp_shared.specs.declared.{header.Header.Header, header.Form.Form, word_line.Act.Act}
-use Rattle.irp_shared.specs.declared.word_line.Act.TheVariants as acts
+use Rattle.irp_transcript.specs.Headers.{IsHeader}
+use Rattle.irp_transcript.specs.Transcripts.{TranscriptValue}
+use Rattle.irp_transcript.specs.declared.{header.Header.Header, header.Form.Form, word_line.Act.Act}
+use Rattle.irp_transcript.specs.declared.word_line.Act.TheVariants as acts
 use Rattle.irp_transcript_reader.specs.Forms.{has_entry, has_word}
 use Rattle.irp_transcript_reader.specs.Lines.{entry_at, header_at}
 use Rattle.irp_transcript_reader.specs.WordLines.{word_line_at}

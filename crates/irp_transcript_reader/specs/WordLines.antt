@@ -9,9 +9,9 @@ use Rattle.irp_forms.specs.Calls.{Keys}
 use Rattle.irp_forms.specs.Fields.{field}
 use Rattle.irp_forms.specs.SeatActs.{hand_at, lock_act_named, slot_alone_at}
 use Rattle.irp_types.specs.declared.seat_act.SlotAct.TheVariants.{Publish, Withdraw, Request}
-use Rattle.irp_shared.specs.declared.{word_line.Act.Act, word_line.WordLine.WordLine, word_line.WordReply.WordReply}
-use Rattle.irp_shared.specs.declared.word_line.Act.TheVariants as acts
-use Rattle.irp_shared.specs.declared.word_line.WordReply.TheVariants as word_replies
+use Rattle.irp_transcript.specs.declared.{word_line.Act.Act, word_line.WordLine.WordLine, word_line.WordReply.WordReply}
+use Rattle.irp_transcript.specs.declared.word_line.Act.TheVariants as acts
+use Rattle.irp_transcript.specs.declared.word_line.WordReply.TheVariants as word_replies
 
 -- a step's answer by its name: those of remove locks, then those of cancel slots
 unfoldable pub word_reply_named : List ℕ → Option WordReply

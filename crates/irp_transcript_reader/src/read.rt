@@ -1,13 +1,13 @@
 //! Transcripts from bytes.
 
 ghost use Rattle.std.specs.Prelude.{◌≡◌, [], MatchOption};
-ghost use Rattle.irp_shared.specs.Transcripts.{IsTranscript, no_lines};
+ghost use Rattle.irp_transcript.specs.Transcripts.{IsTranscript, no_lines};
 ghost use Rattle.irp_transcript_reader.specs.Reading.{ReadsFrom, Splits, TakesLine, cut, so_far};
 
 use crate::read_fault::ReadFault;
 use crate::reading::Reading;
 use irp_forms::Unread;
-use irp_shared::Transcript;
+use irp_transcript::Transcript;
 use irp_types::Row;
 use memchr::memchr;
 use std::alloc::Global;

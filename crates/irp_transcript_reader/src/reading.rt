@@ -2,7 +2,7 @@
 
 ghost use Rattle.std.specs.Prelude.{◌≡◌};
 ghost use Rattle.serde_json.specs.View.{view};
-ghost use Rattle.irp_shared.specs.Transcripts.{no_lines};
+ghost use Rattle.irp_transcript.specs.Transcripts.{no_lines};
 ghost use Rattle.irp_transcript_reader.specs.Reading as spec;
 ghost use Rattle.irp_transcript_reader.specs.Reading.{GivesLine, TakesLine, so_far};
 
@@ -11,7 +11,7 @@ use crate::forms::{has_entry, has_word};
 use crate::headers::header_at;
 use crate::word_lines::word_line_at;
 use irp_forms::{Unread, form_of};
-use irp_shared::{Act, Form, Header, WordLine};
+use irp_transcript::{Act, Form, Header, WordLine};
 use irp_types::Entry;
 use irp_types::limits::MOST_ENTRIES;
 use serde_json::Value;

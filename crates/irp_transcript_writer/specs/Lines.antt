@@ -21,12 +21,12 @@ use Rattle.irp_types.specs.declared.location.Owner.TheVariants as owner
 use Rattle.irp_types.specs.declared.reply.Reply.TheVariants as reply
 use Rattle.irp_types.specs.declared.seat_act.LockAct.TheVariants as on_lock
 use Rattle.irp_types.specs.declared.seat_act.SlotAct.TheVariants as on_slot
-use Rattle.irp_shared.specs.Transcripts.{TranscriptValue}
-use Rattle.irp_shared.specs.declared.{header.Header.Header, header.Form.Form, word_line.Act.Act}
-use Rattle.irp_shared.specs.declared.{word_line.WordLine.WordLine, word_line.WordReply.WordReply}
-use Rattle.irp_shared.specs.declared.header.Form.TheVariants as form
-use Rattle.irp_shared.specs.declared.word_line.Act.TheVariants as act
-use Rattle.irp_shared.specs.declared.word_line.WordReply.TheVariants as word_reply
+use Rattle.irp_transcript.specs.Transcripts.{TranscriptValue}
+use Rattle.irp_transcript.specs.declared.{header.Header.Header, header.Form.Form, word_line.Act.Act}
+use Rattle.irp_transcript.specs.declared.{word_line.WordLine.WordLine, word_line.WordReply.WordReply}
+use Rattle.irp_transcript.specs.declared.header.Form.TheVariants as form
+use Rattle.irp_transcript.specs.declared.word_line.Act.TheVariants as act
+use Rattle.irp_transcript.specs.declared.word_line.WordReply.TheVariants as word_reply
 
 -- a device by its number
 abbrev pub device_json : DeviceId → Data

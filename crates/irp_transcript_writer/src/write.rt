@@ -9,7 +9,7 @@ ghost use Rattle.irp_transcript_writer.specs.Puts.{CountsFault, PutsText, Stoppe
 
 use crate::form::{Written, write_line};
 use crate::out::{Out, put_all};
-use irp_shared::{Header, Transcript};
+use irp_transcript::{Header, Transcript};
 use std::alloc::Global;
 use thiserror::Error;
 

@@ -1,5 +1,5 @@
 use Rattle.std.proofs.Common.{ℕ, List, subst}
-use Rattle.irp_shared.specs.Transcripts.{no_lines}
+use Rattle.irp_transcript.specs.Transcripts.{no_lines}
 use Rattle.irp_transcript_reader.specs.Reading.{ReadsFrom, cut}
 use Rattle.irp_round_trip.proofs.laws.read_again.Goals as goal
 

@@ -7,7 +7,7 @@ use Rattle.irp_types.specs.Histories.{LeadsTo, IsLegal}
 use Rattle.irp_types.specs.declared.entry.Entry.{Entry}
 use Rattle.irp_manager.specs.ManagerStates.{state_of}
 use Rattle.irp_manager.specs.Keeps.{mapped}
-use Rattle.irp_shared.specs.Headers.{fixed_of}
+use Rattle.irp_transcript.specs.Headers.{fixed_of}
 use Rattle.irp_script.specs.Replayed.{MakesAgain}
 use Rattle.irp_script.proofs.Verdicts.{opens, not_legal, legal_verdict, illegal_verdict}
 use Rattle.irp_script.proofs.checker.judge.Goals as goal

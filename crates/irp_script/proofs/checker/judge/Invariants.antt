@@ -3,7 +3,7 @@ use Rattle.irp_types.specs.Histories.{LeadsTo}
 use Rattle.irp_types.specs.Standing.{StandingFacts}
 use Rattle.irp_manager.specs.ManagerStates.{state_of, Agrees}
 use Rattle.irp_manager.specs.Keeps.{mapped}
-use Rattle.irp_shared.specs.Headers.{fixed_of}
+use Rattle.irp_transcript.specs.Headers.{fixed_of}
 use Rattle.irp_script.proofs.checker.judge.Given as goal
 
 -- the entries so far lead to the core's state

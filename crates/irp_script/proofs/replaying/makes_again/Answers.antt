@@ -7,8 +7,8 @@ use Rattle.irp_routines.specs.Answers.{AreAnswered}
 use Rattle.irp_manager.specs.ManagerStates.{state_of}
 use Rattle.irp_manager.specs.Keeps.{mapped}
 use Rattle.irp_manager.specs.Slots.{IsGranted}
-use Rattle.irp_shared.specs.Headers.{fixed_of}
-use Rattle.irp_shared.specs.declared.header.Header.{Header}
+use Rattle.irp_transcript.specs.Headers.{fixed_of}
+use Rattle.irp_transcript.specs.declared.header.Header.{Header}
 use Rattle.irp_script.specs.Recorded.{IsPlanTold, IsAnswerTold, IsCancelTold}
 use Rattle.irp_script.proofs.MadeAgain.{IsMade, made_again}
 use Rattle.irp_script.proofs.replaying.makes_again.Goals as goal

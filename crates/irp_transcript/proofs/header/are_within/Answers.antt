@@ -2,8 +2,8 @@
 use Rattle.std.proofs.Common.{refl}
 use Rattle.std.proofs.lemmas.List.Elements.{All-more}
 use Rattle.irp_types.specs.Rules.{IsWithin}
-use Rattle.irp_shared.proofs.Each.{each_done}
-use Rattle.irp_shared.proofs.header.are_within.Goals as goal
+use Rattle.irp_transcript.proofs.Each.{each_done}
+use Rattle.irp_transcript.proofs.header.are_within.Goals as goal
 
 pub loop-one-preserved : goal.loop-one-preserved
 loop-one-preserved c =

@@ -6,7 +6,7 @@ use Rattle.std.proofs.lemmas.Bool.{cases_eq}
 use Rattle.std.proofs.lemmas.List.{length-map}
 use Rattle.std.proofs.Math.ListN.{get_or-map}
 use Rattle.irp_types.specs.State.{Entrance}
-use Rattle.irp_shared.specs.Headers.{majors}
+use Rattle.irp_transcript.specs.Headers.{majors}
 
 abbrev none : Entrance
 none = (0, record { 0 = 0 })

@@ -2,8 +2,8 @@
 use Rattle.std.specs.List.{All}
 use Rattle.irp_types.specs.Rules.{IsWithin}
 use Rattle.irp_types.specs.State.{IsDriver}
-use Rattle.irp_shared.specs.Headers.{IsHeader, HasCounts, fixed_of}
-use Rattle.irp_shared.specs.declared.header.Header.{Header}
+use Rattle.irp_transcript.specs.Headers.{IsHeader, HasCounts, fixed_of}
+use Rattle.irp_transcript.specs.declared.header.Header.{Header}
 
 pub counts_of : (header : Header) → IsHeader header → HasCounts header
 counts_of header is = record {

@@ -2,8 +2,8 @@
 
 ghost use Rattle.std.specs.Prelude.{◌≡◌, Some};
 ghost use Rattle.std.specs.Option.{option_copied};
-ghost use Rattle.irp_shared.specs.Headers.{IsHeader};
-ghost use Rattle.irp_shared.specs.Transcripts.{IsTranscript, no_lines};
+ghost use Rattle.irp_transcript.specs.Headers.{IsHeader};
+ghost use Rattle.irp_transcript.specs.Transcripts.{IsTranscript, no_lines};
 
 use crate::header::Header;
 use crate::word_line::WordLine;
@@ -23,7 +23,7 @@ pub struct Transcript {
 }
 
 impl Model for Transcript {
-    ghost use Rattle.irp_shared.specs.Transcripts.{TranscriptValue, IsTranscript};
+    ghost use Rattle.irp_transcript.specs.Transcripts.{TranscriptValue, IsTranscript};
 
     ghost Value = { TranscriptValue };
 

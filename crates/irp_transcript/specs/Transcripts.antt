@@ -1,9 +1,9 @@
 -- Transcripts as contracts see them.
 use Rattle.std.specs.Prelude.{◌≡◌, List, [], Option, None, IfSome}
 use Rattle.irp_types.specs.declared.entry.Entry.{Entry}
-use Rattle.irp_shared.specs.Headers.{IsHeader}
-use Rattle.irp_shared.specs.declared.header.Header.{Header}
-use Rattle.irp_shared.specs.declared.word_line.WordLine.{WordLine}
+use Rattle.irp_transcript.specs.Headers.{IsHeader}
+use Rattle.irp_transcript.specs.declared.header.Header.{Header}
+use Rattle.irp_transcript.specs.declared.word_line.WordLine.{WordLine}
 
 -- what a transcript was made with, the entries and the word lines
 pub record TranscriptValue : Type 0 where

@@ -5,9 +5,9 @@ use Rattle.irp_types.specs.Rules.{IsWithin}
 use Rattle.irp_types.specs.State.{Entrance, Fixed, AreTables, most_known}
 use Rattle.irp_types.specs.declared.limit.Limit.{Limit}
 use Rattle.irp_types.specs.declared.limit.Limit.TheVariants.{Sixteen, ThirtyTwo}
-use Rattle.irp_shared.specs.declared.header.Form.{Form}
-use Rattle.irp_shared.specs.declared.header.Form.TheVariants.{One, Two}
-use Rattle.irp_shared.specs.declared.header.Header.{Header}
+use Rattle.irp_transcript.specs.declared.header.Form.{Form}
+use Rattle.irp_transcript.specs.declared.header.Form.TheVariants.{One, Two}
+use Rattle.irp_transcript.specs.declared.header.Header.{Header}
 
 -- the limit of a form
 abbrev pub limit_of : Form → Limit

@@ -1,7 +1,7 @@
 -- The next major is above the one before it, or the rise stops there.
-use Rattle.irp_shared.proofs.Each.{no_truth}
-use Rattle.irp_shared.proofs.Rising.{rises_more, rises_not}
-use Rattle.irp_shared.proofs.header.is_rising.Goals as goal
+use Rattle.irp_transcript.proofs.Each.{no_truth}
+use Rattle.irp_transcript.proofs.Rising.{rises_more, rises_not}
+use Rattle.irp_transcript.proofs.header.is_rising.Goals as goal
 
 pub returns-then-pairs-place : goal.returns-then-pairs-place
 returns-then-pairs-place c = (

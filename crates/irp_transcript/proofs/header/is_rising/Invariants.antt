@@ -1,8 +1,8 @@
 -- The majors before this place rise.
 use Rattle.std.proofs.Common.{ℕ, ◌<◌, ◌+◌}
 use Rattle.std.specs.Prelude.{slice_index}
-use Rattle.irp_shared.specs.Headers.{majors}
-use Rattle.irp_shared.proofs.header.is_rising.Given as goal
+use Rattle.irp_transcript.specs.Headers.{majors}
+use Rattle.irp_transcript.proofs.header.is_rising.Given as goal
 
 abbrev pub invariant-loop-place : goal.invariant-loop-place
 invariant-loop-place l =

@@ -1,9 +1,9 @@
 -- The drivers are so where each is, and the first that isn't stops the test.
 use Rattle.std.proofs.Common.{◌∙◌, sym, refl, subst}
 use Rattle.irp_types.specs.State.{IsDriver}
-use Rattle.irp_shared.specs.Headers.{fixed_of}
-use Rattle.irp_shared.proofs.Each.{no_truth, each_more, each_fails, each_done}
-use Rattle.irp_shared.proofs.header.Header.are_drivers.Goals as goal
+use Rattle.irp_transcript.specs.Headers.{fixed_of}
+use Rattle.irp_transcript.proofs.Each.{no_truth, each_more, each_fails, each_done}
+use Rattle.irp_transcript.proofs.header.Header.are_drivers.Goals as goal
 
 pub returns-then-not-is_driver : goal.returns-then-not-is_driver
 returns-then-not-is_driver c =

@@ -3,10 +3,10 @@ use Rattle.std.proofs.Common.{◌∙◌, sym, subst}
 use Rattle.std.specs.List.{All}
 use Rattle.irp_types.specs.Rules.{IsWithin}
 use Rattle.irp_types.specs.State.{IsDriver}
-use Rattle.irp_shared.specs.Headers.{fixed_of}
-use Rattle.irp_shared.proofs.Each.{no_truth}
-use Rattle.irp_shared.proofs.Accepted.{counts_of, header_of}
-use Rattle.irp_shared.proofs.header.Header.is_accepted.Goals as goal
+use Rattle.irp_transcript.specs.Headers.{fixed_of}
+use Rattle.irp_transcript.proofs.Each.{no_truth}
+use Rattle.irp_transcript.proofs.Accepted.{counts_of, header_of}
+use Rattle.irp_transcript.proofs.header.Header.is_accepted.Goals as goal
 
 pub returns-then-not-has_counts : goal.returns-then-not-has_counts
 returns-then-not-has_counts c =

@@ -6,7 +6,7 @@ ghost use Rattle.std.specs.List.Sorted.{IsStrictlyIncreasing};
 ghost use Rattle.irp_types.specs.Limits.{last_major};
 ghost use Rattle.irp_types.specs.Rules.{IsWithin};
 ghost use Rattle.irp_types.specs.State.{Entrance, IsDriver};
-ghost use Rattle.irp_shared.specs.Headers.{IsHeader, HasCounts, fixed_of, limit_of, majors, slots_of};
+ghost use Rattle.irp_transcript.specs.Headers.{IsHeader, HasCounts, fixed_of, limit_of, majors, slots_of};
 
 use irp_types::limits::{
     LAST_MAJOR, MOST_DISPATCHES, MOST_DRIVERS, MOST_LOCKS, MOST_ROUTINES, MOST_SEATS, MOST_SLOTS,
