@@ -1,7 +1,8 @@
 //! Completion routines and cancel routines by their rules, and what a store has of them.
 
 ghost use Rattle.std.specs.Prelude.{◌≡◌, ◌↔◌, true};
-ghost use Rattle.irp_types.specs.Rules.{is_allowed, is_cancel_allowed, is_plan_allowed, is_known, count_of_rule, right_mark, obeys, IsWithin};
+ghost use Rattle.irp_types.specs.Rules.{is_allowed, is_cancel_allowed, is_plan_allowed, is_known, count_of_rule};
+ghost use Rattle.irp_types.specs.Rules.{right_mark, obeys, IsWithin};
 
 use crate::answer::{Answer, CancelAnswer, Plan};
 use crate::shown::Shown;
