@@ -10,7 +10,7 @@ use Rattle.irp_types.specs.State.{StateValue, LivePacket, Fixed, Tables, live_at
 use Rattle.irp_types.specs.Refusals.{has_ended, is_owned_by_device, is_owner, party_refusal, packet_refusal, slot_check, ended_check, take_refusal, first_refusal}
 use Rattle.irp_types.specs.Steps.{Unasked, Cancels, Effect, Step}
 use Rattle.irp_types.specs.Standing.{StandingFacts, IsInSlot}
-use Rattle.irp_types.specs.Taking.{FinishesTaken, HeldIsFinishedTaken}
+use Rattle.irp_types.specs.Taking.{IsFinishOf, HeldIsFinishedTaken}
 use Rattle.irp_types.specs.declared.status.Status.{Status}
 use Rattle.irp_types.specs.declared.names.IrpRef.{IrpRef}
 use Rattle.irp_types.specs.declared.names.CancelId.{CancelId}
@@ -103,7 +103,7 @@ module _ (fixed : Fixed) (old : StateValue) (slot : ℕ) (before : LivePacket) (
   uncancelled irp (Some routine) packet new asked reply none owned cancels ended = none-some routine (sym none)
 
   only_taken : (drained : Bool) (call : Call) (asked : List Asked) (reply : Reply) (new : StateValue) → first_refusal fixed old drained call ≡ None → Effect fixed old call asked reply new
-      → (after : LivePacket) → live_at new slot ≡ Some after → has_ended after.packet.owner ≡ true → FinishesTaken slot before.use_no call
+      → (after : LivePacket) → live_at new slot ≡ Some after → has_ended after.packet.owner ≡ true → IsFinishOf slot before.use_no call
   only_taken drained (CreateDevice driver lock) asked reply new none effect = unmoved _ new refl effect.2
   only_taken drained (Attach device to) asked reply new none effect = unmoved _ new refl effect.2
   only_taken drained (Detach lower) asked reply new none effect = unmoved _ new refl effect.2
@@ -126,7 +126,7 @@ module _ (fixed : Fixed) (old : StateValue) (slot : ℕ) (before : LivePacket) (
   only_taken drained (Complete party irp status information) asked reply new none effect =
       put _ new irp.slot _ refl (λ same ended. not_party irp party _ none same) effect.3
   only_taken drained (FinishTaken irp token status information) asked reply new none effect = λ after there_then ended.
-      elim (cases_eq slot irp.slot) as (λ _. FinishesTaken slot before.use_no (FinishTaken irp token status information)) [
+      elim (cases_eq slot irp.slot) as (λ _. IsFinishOf slot before.use_no (FinishTaken irp token status information)) [
         | inl same ↦
             let numbers = fits old irp token status none in
             let number : irp.use_no ≡ before.use_no = sym numbers.0 ∙ ap (λ (live : LivePacket). live.use_no) (stands_here irp same) in
@@ -145,11 +145,11 @@ module _ (fixed : Fixed) (old : StateValue) (slot : ℕ) (before : LivePacket) (
   only_taken drained (Look irp) asked reply new none effect = unmoved old new refl effect.2
 
   over_step : (drained : Bool) (call : Call) (asked : List Asked) (reply : Reply) (new : StateValue) → Step fixed old drained call asked reply new
-      → (after : LivePacket) → live_at new slot ≡ Some after → has_ended after.packet.owner ≡ true → FinishesTaken slot before.use_no call
+      → (after : LivePacket) → live_at new slot ≡ Some after → has_ended after.packet.owner ≡ true → IsFinishOf slot before.use_no call
   over_step drained call asked reply new step after there_then ended = by (first_refusal fixed old drained call) refl step
     where
       by : (refusal : Option Refusal) → first_refusal fixed old drained call ≡ refusal
-          → MatchOption refusal (Effect fixed old call asked reply new) (λ given. Unasked asked reply new (Refused given) old) → FinishesTaken slot before.use_no call
+          → MatchOption refusal (Effect fixed old call asked reply new) (λ given. Unasked asked reply new (Refused given) old) → IsFinishOf slot before.use_no call
       by None is effect = only_taken drained call asked reply new is effect after there_then ended
       by (Some refusal) is refused = absurd (unmoved old new refl refused.2 after there_then ended)
 

@@ -11,10 +11,10 @@ use Rattle.irp_types.specs.Calls.{Call}
 use Rattle.irp_types.specs.declared.call.Call.TheVariants.{FinishTaken}
 
 -- a call finishes the use at a slot, and its token is the number of that use
-abbrev pub FinishesTaken : ℕ → ℕ → Call → Type 0
-FinishesTaken slot use_no (FinishTaken irp token status information) =
+abbrev pub IsFinishOf : ℕ → ℕ → Call → Type 0
+IsFinishOf slot use_no (FinishTaken irp token status information) =
     (irp.slot ≡ slot) × (irp.use_no ≡ use_no) × (token ≡ use_no)
-FinishesTaken slot use_no _ = ⊥
+IsFinishOf slot use_no _ = ⊥
 
 -- over a step from a state that has the standing facts, a packet that stands in a cancel slot is completed by
 -- FinishTaken alone, with its own use number as the token
@@ -25,4 +25,4 @@ HeldIsFinishedTaken =
     → StandingFacts counts old → Step fixed old drained call asked reply new
     → live_at old slot ≡ Some before → before.packet.slot_held ≡ true
     → live_at new slot ≡ Some after → has_ended after.packet.owner ≡ true
-    → FinishesTaken slot before.use_no call
+    → IsFinishOf slot before.use_no call
