@@ -11,7 +11,7 @@ use crate::done::Done;
 use crate::fault::Fault;
 use crate::loads::sends;
 use crate::sessions::do_work;
-use irp_quick_reader::read_transcript;
+use irp_text::read_transcript;
 use irp_script::{Verdict, check};
 use irp_shared::Transcript;
 use irp_transcript_writer::{Failed, Out, write_transcript};

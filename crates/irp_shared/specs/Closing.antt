@@ -15,7 +15,8 @@ use Rattle.irp_transcript.specs.declared.header.Header.{Header}
 -- as many seats as were opened, and each number among them: so each of them once
 abbrev pub AllHere : List Seated → ℕ → Type 0
 AllHere seats expected =
-    (length seats ≡ expected) × ((number : ℕ) → number < expected → list_any (λ (seat : Seated). seat.number == number) seats ≡ true)
+    (length seats ≡ expected)
+    × ((number : ℕ) → number < expected → list_any (λ (seat : Seated). seat.number == number) seats ≡ true)
 
 -- how many entries a seat has
 abbrev pub count_of : Seated → ℕ

@@ -1,5 +1,6 @@
 -- What a call makes of a seat.
-use Rattle.std.specs.Prelude.{ℕ, ◌≡◌, ◌+◌, ◌<◌, ◌≤◌, Bool, true, false, if◌then◌else◌, Option, Some, None, List, [], ◌∷◌, ◌++◌, length}
+use Rattle.std.specs.Prelude.{ℕ, ◌≡◌, ◌+◌, ◌<◌, ◌≤◌, Bool, true, false, if◌then◌else◌, Option, Some, None, List, []}
+use Rattle.std.specs.Prelude.{◌∷◌, ◌++◌, length}
 use Rattle.irp_types.specs.declared.names.LockNo.{LockNo}
 use Rattle.irp_types.specs.Calls.{Call}
 use Rattle.irp_types.specs.declared.reply.Reply.{Reply}
@@ -25,13 +26,15 @@ pub record Keeps (entry : Entry) (old new : Seated) : Type 0 where
   pub seen : new.seen ≡ entry.number + 1
 
 -- the seat made a recorded call, and keeps its entry
-pub record Called (seat : Seated) (call : Call) (knows : LockNo → Bool) (receipt : Receipted) (after : Seated) : Type 0 where
+pub record Called (seat : Seated) (call : Call) (knows : LockNo → Bool) (receipt : Receipted) (after : Seated)
+    : Type 0 where
   pub entry : Entry
   pub of_call : IsCallOf seat call knows receipt entry
   pub kept : Keeps entry seat after
 
 -- the same, with the history that it was recorded in, which grew by that entry
-pub record CalledIn (history longer : List Entry) (seat : Seated) (call : Call) (knows : LockNo → Bool) (receipt : Receipted) (after : Seated) : Type 0 where
+pub record CalledIn (history longer : List Entry) (seat : Seated) (call : Call) (knows : LockNo → Bool)
+    (receipt : Receipted) (after : Seated) : Type 0 where
   pub entry : Entry
   pub appended : longer ≡ history ++ entry ∷ []
   pub numbered : entry.number ≡ length history

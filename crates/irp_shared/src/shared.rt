@@ -1,4 +1,4 @@
-//! A book that threads share.
+//! A book that threads share. Source: this project's own rules.
 
 ghost use Rattle.std.specs.Prelude.{◌≡◌, ◌<◌, ◌+◌, ℕ, if◌then◌else◌, nat_lt, Some, IfSome, IfOk, IfErr, OnErr, Err, Option, false};
 ghost use mathlib.Core.Logic.{◌↔◌};
@@ -32,7 +32,7 @@ use std::alloc::Global;
 use std::sync::ledger::{Blank, Ledger, Share};
 use std::sync::{Mutex, Wait};
 
-/// A book that threads share, through the seats that were opened with it (this project's own rule).
+/// A book that threads share, through the seats that were opened with it.
 ///
 /// However many threads call, the history kept under the lock is one that the sequential manager could have made.
 #[derive(Drop)]
@@ -60,7 +60,7 @@ fn seats_of<L: Ledger>(alloc: Global, share: &mut Share<L>, count: u32) -> Optio
 /// Opens a session: a book over a manager in its opening state, with packets of 32 locations and stacks of 32 devices
 /// at most. It has 1 to 64 remove locks and 1 to 64 seats, numbered from 0 in the order of the answer, that have seen
 /// nothing and have no entries. The blank names the ledger in which the seats count, and has a part for each seat; what
-/// `L` says of the session is so, and whoever is asked answers each question as `L` says (this project's own rule).
+/// `L` says of the session is so, and whoever is asked answers each question as `L` says.
 ///
 /// # Errors
 ///
@@ -83,7 +83,7 @@ pub fn open<A: Ask + Drop, L: Session>(
     open_with_limit::<A, L>(alloc, blank, ask, locks, seats, Limit::ThirtyTwo)
 }
 
-/// The same, with packets and stacks within this limit (this project's own rule).
+/// The same, with packets and stacks within this limit.
 ///
 /// # Errors
 ///
@@ -113,8 +113,7 @@ pub fn open_with_limit<A: Ask + Drop, L: Session>(
     let Ok(book) = Book::new(Manager::with_limit(alloc, ask, locks, limit)) else {
         return Err(OpenRefused::Memory);
     };
-    let locked = Locked { book, total, spare };
-    let lock = Mutex::new(locked);
+    let lock = Mutex::new(Locked::new(book, total, spare));
     let shared = Shared { seats, alloc, lock };
     Ok((shared, places))
 }
@@ -148,12 +147,15 @@ impl<A: Ask, L: Session> Shared<A, L> {
         ensures err { OnErr result (IsAsBefore seat.old seat.new) }
         ensures behind { (told : ℕ) → result ≡ Err (Behind told) → told < seat.old.seen }
     {
-        self.record(rt, seat, call, note)
+        if seat.room().is_err() {
+            return Err(NotRecorded::Memory);
+        }
+        take_turn(&self.lock, rt).call(seat, call, note)
     }
 
     /// Completes a packet that was taken from a cancel slot, with the token that was taken there, in a seat that was
     /// opened with this book, and records it, as `call` does. A packet that is finished spends the token; with every
-    /// other reply the token comes back (this project's own call).
+    /// other reply the token comes back.
     ///
     /// It waits for its turn. All growths come before anything is asked, as in `call`.
     ///
@@ -182,7 +184,10 @@ impl<A: Ask, L: Session> Shared<A, L> {
             status,
             information,
         };
-        match self.record(rt, seat, call, &KnowsNothing) {
+        if seat.room().is_err() {
+            return Err((NotRecorded::Memory, token));
+        }
+        match take_turn(&self.lock, rt).call(seat, call, &KnowsNothing) {
             Err(error) => Err((error, token)),
             Ok(receipt) => {
                 if is_done(receipt.reply()) {
@@ -191,25 +196,6 @@ impl<A: Ask, L: Session> Shared<A, L> {
                 Ok((receipt, Some(token)))
             }
         }
-    }
-
-    /// Makes any call in a seat, and records it.
-    fn record<N: DrainNote>(
-        &self,
-        rt: &impl Wait,
-        seat: &mut Seat<L>,
-        call: Call,
-        note: &N,
-    ) -> Result<Receipt, NotRecorded>
-        ensures called { IfOk result (λ receipt.
-            Called seat.old call (N.knows_drained note.now) receipt seat.new) }
-        ensures err { OnErr result (IsAsBefore seat.old seat.new) }
-        ensures behind { (told : ℕ) → result ≡ Err (Behind told) → told < seat.old.seen }
-    {
-        if seat.room().is_err() {
-            return Err(NotRecorded::Memory);
-        }
-        take_turn(&self.lock, rt).call(seat, call, note)
     }
 }
 
@@ -221,7 +207,7 @@ fn is_done(reply: Reply) -> bool
 }
 
 /// A seat that learns of a receipt has seen its entry, and all before it. A receipt of another session may be learned
-/// too: then `Behind` may answer the seat's next call (this project's own rule). It takes no memory.
+/// too: then `Behind` may answer the seat's next call. It takes no memory.
 pub fn learn<L: Ledger>(seat: &mut Seat<L>, receipt: &Receipt)
     ensures { seat.new ≡ record seat.old {
       seen = if nat_lt seat.old.seen (receipt.now.number + 1)
@@ -282,7 +268,7 @@ impl<A: Ask + Drop, L: Session> Shared<A, L> {
     /// transcript, without word lines. Its header has the tables of the `ask` that `open` was given, and no cancel
     /// slots. Each entry is of one of the seats; each seat's entries are the history's entries with its number, in
     /// order; and their counts add up to the history's length. Each answer in it is as `L` says that it may be. It
-    /// takes no memory (this project's own rule).
+    /// takes no memory.
     ///
     /// # Errors
     ///
@@ -310,11 +296,7 @@ impl<A: Ask + Drop, L: Session> Shared<A, L> {
             let given = seats;
             return Err(Mismatch::Seats { expected, given });
         }
-        let Locked {
-            book,
-            mut total,
-            spare,
-        } = lock.into_inner();
+        let (book, mut total, spare) = lock.into_inner().into_parts();
         let Recorded {
             locks,
             limit,

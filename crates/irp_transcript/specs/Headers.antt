@@ -27,7 +27,12 @@ majors pairs = map (λ (entrance : Entrance). entrance.0) pairs
 abbrev pub fixed_of : Header → Fixed
 fixed_of header = record {
   locks = header.locks;
-  tables = record { counts = header.completions; drivers = header.drivers; dispatches = header.dispatches; cancel_rules = header.cancels };
+  tables = record {
+    counts = header.completions;
+    drivers = header.drivers;
+    dispatches = header.dispatches;
+    cancel_rules = header.cancels;
+  };
   limit = limit_of header.form;
 }
 

@@ -1,4 +1,4 @@
-//! What a transcript was made with.
+//! What a transcript was made with. Source: this project's own format (docs/FORMATS.md).
 
 ghost use Rattle.std.specs.Prelude.{◌≡◌, ◌↔◌, ◌≤◌, ◌<◌, true};
 ghost use Rattle.std.specs.List.{All};
@@ -23,7 +23,7 @@ const MOST_KNOWN: Known = Known {
     cancel: MOST_ROUTINES,
 };
 
-/// Which forms a transcript's lines have, as its header tells (this project's own format, docs/FORMATS.md).
+/// Which forms a transcript's lines have, as its header tells.
 #[derive(Clone, Copy, PartialEq, Eq, Debug)]
 pub enum Form {
     /// Entries of the manager's calls, and word lines of steps on remove locks. Packets have 16 locations at most, and
@@ -70,7 +70,7 @@ impl Form {
     }
 }
 
-/// What a transcript was made with, as its first line says (this project's own format, docs/FORMATS.md).
+/// What a transcript was made with, as its first line says.
 ///
 /// The formats accept a header whose tables agree with each other and are within the limits, with 1 to 64 remove locks,
 /// 1 to 64 seats and at most 64 cancel slots.
@@ -177,7 +177,7 @@ impl Header {
     }
 
     /// Whether the formats accept it: its tables agree with each other and are within the limits, with 1 to 64 remove
-    /// locks, 1 to 64 seats and at most 64 cancel slots (this project's own format, docs/FORMATS.md).
+    /// locks, 1 to 64 seats and at most 64 cancel slots.
     pub fn is_accepted(&self) -> bool
         ensures { result ≡ true ↔ IsHeader self.now }
     {

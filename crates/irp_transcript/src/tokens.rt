@@ -1,4 +1,4 @@
-//! Which calls need a token.
+//! Which calls need a token. Source: this project's own rules.
 
 ghost use Rattle.std.specs.Prelude.{◌≡◌};
 ghost use Rattle.irp_transcript.specs.Tokens.{needs_token};
@@ -6,7 +6,7 @@ ghost use Rattle.irp_transcript.specs.Tokens.{needs_token};
 use irp_types::Call;
 
 /// Whether a call needs a token: true of a `FinishTaken` alone, which finishes a packet that was taken from a cancel
-/// slot (this project's own rule).
+/// slot.
 pub fn needs_token(call: Call) -> bool
     ensures { result ≡ needs_token call }
 {

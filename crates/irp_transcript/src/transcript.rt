@@ -1,4 +1,4 @@
-//! What is recorded of a shared manager.
+//! What is recorded of a shared manager. Source: this project's own rules.
 
 ghost use Rattle.std.specs.Prelude.{◌≡◌, Some};
 ghost use Rattle.std.specs.Option.{option_copied};
@@ -12,7 +12,7 @@ use std::alloc::Global;
 use std::marker::Model;
 
 /// A header, the history that was made with it, and the steps on remove locks. The header is one that the formats
-/// accept, and there is one unless there are neither entries nor word lines (this project's own rule).
+/// accept, and there is one unless there are neither entries nor word lines.
 ///
 /// Contracts see it as the record `TranscriptValue`, with the header, the entries and the word lines.
 #[derive(Drop)]

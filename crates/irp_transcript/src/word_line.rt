@@ -1,8 +1,9 @@
-//! Steps on remove locks and on cancel slots, as a transcript tells them.
+//! Steps on remove locks and on cancel slots, as a transcript tells them. Source: this project's own format
+//! (docs/FORMATS.md).
 
 use irp_types::{Hand, LockAct, SlotAct};
 
-/// What a step did on a remove lock or on a cancel slot (this project's own format, docs/FORMATS.md).
+/// What a step did on a remove lock or on a cancel slot.
 #[derive(Clone, Copy, PartialEq, Eq, Debug)]
 pub enum Act {
     /// A step on a remove lock that takes or gives a reference, begins removal, or asks whether the lock is drained.
@@ -12,12 +13,12 @@ pub enum Act {
     /// A step on a cancel slot: its owner publishes a use or withdraws it, or any seat requests it.
     OnSlot(SlotAct),
     /// Finishes a packet with the token that the seat took from the slot, where it has none: with one, the call is an
-    /// entry (this project's own call).
+    /// entry.
     FinishTaken { slot: u32 },
 }
 
 /// What a step on a remove lock or on a cancel slot was answered. A line may have any act with any answer; which go
-/// together is up to whoever makes it (this project's own format, docs/FORMATS.md).
+/// together is up to whoever makes it.
 #[derive(Clone, Copy, PartialEq, Eq, Debug)]
 pub enum WordReply {
     /// The lock was acquired: STATUS_SUCCESS, 0.
@@ -56,7 +57,7 @@ pub enum WordReply {
     NoToken,
 }
 
-/// One step on a remove lock or on a cancel slot (this project's own format, docs/FORMATS.md).
+/// One step on a remove lock or on a cancel slot.
 #[derive(Clone, Copy, PartialEq, Eq, Debug)]
 pub struct WordLine {
     /// The seat that made the step, from 0.

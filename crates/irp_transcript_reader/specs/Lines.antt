@@ -39,7 +39,8 @@ entry_at form = if has_keys (codes "asked" ∷ codes "call" ∷ codes "n" ∷ co
 -- some where there are the keys of both forms and those beside them, and no others
 unfoldable pub header_keys_at : Keys → Data → Option (Unit {0})
 header_keys_at beside form =
-    only_keys (codes "cancels" ∷ codes "completions" ∷ codes "dispatches" ∷ codes "drivers" ∷ codes "form" ∷ codes "locks"
+    only_keys (codes "cancels" ∷ codes "completions" ∷ codes "dispatches" ∷ codes "drivers" ∷ codes "form"
+    ∷ codes "locks"
     ∷ codes "seats" ∷ beside) form
 
 -- the form of a header that has this number, by its keys: form 2 has `slots`, too
