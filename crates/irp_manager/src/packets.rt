@@ -19,6 +19,7 @@ use crate::keep::Live;
 use irp_packet::Packet;
 use irp_routines::Ask;
 use irp_stack::Stacks;
+use irp_types::limits::LAST_MAJOR;
 use irp_types::{
     Asked, CancelId, DeviceId, IrpRef, Known, Owner, Party, Preparation, Refusal, Reply, Seen,
     Setting, Status,
@@ -108,7 +109,7 @@ pub fn copy_to_next(live: &mut Live, party: Party, irp: IrpRef) -> Reply
 
 /// The refusal of an owner that has no location of its own to mark or to skip; none where it has one.
 #[inline]
-fn location_check(packet: &Packet) -> Option<Refusal>
+pub fn location_check(packet: &Packet) -> Option<Refusal>
     ensures { result ≡ mark_pending_refusal packet.now }
 {
     let skipped = matches!(packet.preparation(), Preparation::Skipped);
@@ -121,8 +122,37 @@ fn location_check(packet: &Packet) -> Option<Refusal>
     None
 }
 
+/// The refusal to fill the next lower location; none where it may be filled.
+pub fn next_check(packet: &Packet, major: u8) -> Option<Refusal>
+    ensures { result ≡ set_next_refusal packet.now major }
+{
+    if matches!(packet.preparation(), Preparation::Skipped) {
+        return Some(Refusal::AfterSkip);
+    }
+    if packet.current() <= 1 {
+        return Some(Refusal::TooShort);
+    }
+    if major > LAST_MAJOR {
+        return Some(Refusal::BadMajor);
+    }
+    None
+}
+
+/// The refusal to copy the current location to the next lower one; none where it may be copied.
+pub fn copy_check(packet: &Packet) -> Option<Refusal>
+    ensures { result ≡ copy_to_next_refusal packet.now }
+{
+    if let Some(refusal) = location_check(packet) {
+        return Some(refusal);
+    }
+    if packet.current() <= 1 {
+        return Some(Refusal::TooShort);
+    }
+    None
+}
+
 /// The refusal of a skip; none where the owner may skip its location.
-fn leave_check(packet: &Packet) -> Option<Refusal>
+pub fn leave_check(packet: &Packet) -> Option<Refusal>
     ensures { result ≡ leave_refusal packet.now }
 {
     if let Some(refusal) = location_check(packet) {
@@ -168,7 +198,7 @@ pub fn mark_pending(live: &mut Live, party: Party, irp: IrpRef) -> Reply
 }
 
 /// The refusal to set a cancel routine, or to take it out, where so many are there; none where it may be done.
-fn cancel_check(packet: &Packet, counts: Known, cancel: Option<CancelId>) -> Option<Refusal>
+pub fn cancel_check(packet: &Packet, counts: Known, cancel: Option<CancelId>) -> Option<Refusal>
     ensures { result ≡ cancel_refusal counts packet.now cancel }
 {
     if let Some(refusal) = location_check(packet) {
@@ -240,7 +270,7 @@ pub fn reuse(live: &mut Live, irp: IrpRef, status: Status, use_no: u64) -> Optio
 }
 
 /// The refusal to set a completion routine where so many are there; none where it may be set.
-fn routine_check(packet: &Packet, counts: Known, setting: Setting) -> Option<Refusal>
+pub fn routine_check(packet: &Packet, counts: Known, setting: Setting) -> Option<Refusal>
     ensures { result ≡ routine_refusal counts packet.now setting }
 {
     match packet.preparation() {
@@ -282,7 +312,12 @@ pub fn set_routine(
 
 /// The refusal to send the packet to a device; none where it may be sent.
 #[inline]
-fn send_check(packet: &Packet, stacks: &Stacks, party: Party, target: DeviceId) -> Option<Refusal>
+pub fn send_check(
+    packet: &Packet,
+    stacks: &Stacks,
+    party: Party,
+    target: DeviceId,
+) -> Option<Refusal>
     ensures refusal { result ≡ send_refusal stacks.now.devices party packet.now target.0 }
     ensures created { result ≡ None → target.0 < length stacks.now.devices.facts }
     ensures prepared { result ≡ None → is_nothing packet.now.preparation ≡ false }
@@ -364,7 +399,7 @@ pub fn send<A: Ask>(
 
 /// The refusal to complete the packet; none where it may be completed.
 #[inline]
-fn complete_check(packet: &Packet, status: Status) -> Option<Refusal>
+pub fn complete_check(packet: &Packet, status: Status) -> Option<Refusal>
     ensures refusal { result ≡ complete_refusal packet.now status }
     ensures placed { result ≡ None → packet.now.current ≤ size_of packet.now }
     ensures free { result ≡ None → packet.now.cancel_routine ≡ None }
@@ -416,7 +451,7 @@ pub fn complete<A: Ask>(
 }
 
 /// The refusal to complete a packet that was taken from its cancel slot; none where it may be completed.
-fn take_check(packet: &Packet, use_no: u64, token: u64, status: Status) -> Option<Refusal>
+pub fn take_check(packet: &Packet, use_no: u64, token: u64, status: Status) -> Option<Refusal>
     ensures refusal { result ≡ take_refusal packet.now use_no token status }
     ensures held { result ≡ None → packet.now.slot_held ≡ true }
 {
