@@ -22,8 +22,8 @@ abbrev pub followed : List Entry → Option Wrong → List Entry
 followed history None = history
 followed history (Some wrong) = take wrong.at history ++ wrong.made ∷ []
 
--- a judge was fed this history: it counted the entries, keeps what is wrong with them, and the state that the manager is
--- in behind what it could follow
+-- a judge was fed this history: it counted the entries, keeps what is wrong with them, and the state that the manager
+-- is in behind what it could follow
 pub record HasJudged (judge : JudgeValue) (history : List Entry) : Type 0 where
   pub counted : judge.fed ≡ length history
   pub wrong : IsFirstWrong (fixed_of judge.header) history judge.wrong

@@ -20,9 +20,9 @@ use irp_types::{Call, Entry, Refusal, history_goes_on, history_settles_states};
 use std::alloc::{AllocError, Global};
 use std::marker::Model;
 
-/// Judges a history that is fed to it, entry by entry. It keeps the state that the sequential manager is in, and what is
-/// wrong with the first entry that isn't legal; the entries themselves it doesn't keep. At any moment its answers are
-/// those of `check` and `explain` on what it was fed (this project's own rule).
+/// Judges a history that is fed to it, entry by entry. It keeps the state that the sequential manager is in, and what
+/// is wrong with the first entry that isn't legal; it doesn't keep the entries. At any moment its answers are those of
+/// `check` and `explain` on what it was fed (this project's own rule).
 ///
 /// Contracts see it as the record `JudgeValue`: the header, how many entries it was fed, what is wrong, and the state.
 #[derive(Drop)]
@@ -96,7 +96,7 @@ impl<'a> Judge<'a> {
         Ok(())
     }
 
-    /// Judges the next entry of the history. Behind one that isn't legal it only counts. What it was fed is exact for the
+    /// Judges the next entry of the history. Behind one that isn't legal it only counts. Its answers are exact for the
     /// first 2⁶⁴ - 1 entries.
     ///
     /// # Errors

@@ -37,8 +37,8 @@ fn slot_named(reply: Reply) -> Option<usize>
     }
 }
 
-/// What the manager makes of an entry's call at this place, answered as the entry says where that is allowed. Where that
-/// is another entry, no step of the manager makes the recorded one.
+/// What the manager makes of an entry's call at this place, answered as the entry says where that is allowed. Where
+/// that is another entry, no step of the manager makes the recorded one.
 ///
 /// # Errors
 ///
