@@ -1,5 +1,6 @@
 -- What a judge has judged, once it is fed one more entry.
-use Rattle.std.proofs.Common.{◌≡◌, ℕ, ◌+◌, List, [], ◌∷◌, ◌++◌, length, refl, sym, subst, ◌∙◌, arith, Option, Some, None, length-append}
+use Rattle.std.proofs.Common.{◌≡◌, ℕ, ◌+◌, true, false, is_some, List, [], ◌∷◌, ◌++◌, length, refl, sym, subst, ◌∙◌, arith, Option, Some, None, length-append}
+use mathlib.Core.Bool.{true≢false}
 use Rattle.irp_types.specs.State.{StateValue, Fixed, opening_state}
 use Rattle.irp_types.specs.Histories.{LeadsTo, IsLegal, HistoryGoesOn, HistorySettlesStates}
 use Rattle.irp_types.specs.Standing.{StandingFacts}
@@ -78,3 +79,12 @@ judged_verdict judge history None has is =
 judged_verdict judge history (Some wrong) has is =
     let first = subst (λ (given : Option Wrong). IsFirstWrong (fixed_of judge.header) history given) is has.wrong in
     illegal_verdict (fixed_of judge.header) history wrong.at first.first
+
+-- whether something was wrong
+pub some_is : (wrong : Option Wrong) → is_some wrong ≡ true → (found : Wrong) × (wrong ≡ Some found)
+some_is None is = absurd (true≢false (sym is))
+some_is (Some found) is = (found, refl)
+
+pub none_is : (wrong : Option Wrong) → is_some wrong ≡ false → wrong ≡ None
+none_is None is = refl
+none_is (Some found) is = absurd (true≢false is)

@@ -1,6 +1,6 @@
 //! A judge that is fed a history entry by entry.
 
-ghost use Rattle.std.specs.Prelude.{◌≡◌, ◌+◌, ◌<◌, ◌^◌, List, [], ◌∷◌, ◌++◌, length, None, OnErr, OnOk};
+ghost use Rattle.std.specs.Prelude.{◌≡◌, ◌+◌, ◌<◌, ◌^◌, List, [], ◌∷◌, ◌++◌, length, OnErr, OnOk};
 ghost use Rattle.std.specs.Option.{option_copied};
 ghost use Rattle.irp_types.specs.Refusals.{first_refusal};
 ghost use Rattle.irp_types.specs.declared.entry.Entry.{Entry};
@@ -72,9 +72,8 @@ impl<'a> Judge<'a> {
         }
     }
 
-    /// Makes the next entry again, and keeps what is wrong with it. It doesn't count.
+    /// Makes the next entry again, unless one before it wasn't legal, and keeps what is wrong with it. It doesn't count.
     fn make_again(&mut self, entry: &Entry) -> Result<(), AllocError>
-        requires fine { self.old.wrong ≡ None }
         ensures header { self.new.header ≡ self.old.header }
         ensures fed { self.new.fed ≡ self.old.fed }
         ensures judged { (history : List Entry) → HasJudged self.old history
@@ -82,6 +81,9 @@ impl<'a> Judge<'a> {
             (history ++ entry.now ∷ [])) }
         ensures err { OnErr result (self.new ≡ self.old) }
     {
+        if self.wrong.is_some() {
+            return Ok(());
+        }
         history_goes_on();
         history_settles_states();
         let made = made_of(&mut self.core, self.header, entry, self.fed)?;
@@ -94,6 +96,15 @@ impl<'a> Judge<'a> {
             });
         }
         Ok(())
+    }
+
+    /// Counts one entry more.
+    fn count(&mut self)
+        ensures header { self.new.header ≡ self.old.header }
+        ensures counted { self.old.fed + 1 < 2 ^ 64
+            → self.new ≡ record self.old { fed = self.old.fed + 1 } }
+    {
+        self.fed = self.fed.saturating_add(1);
     }
 
     /// Judges the next entry of the history. Behind one that isn't legal it only counts. Its answers are exact for the
@@ -109,10 +120,8 @@ impl<'a> Judge<'a> {
             → OnOk result (HasJudged self.new (history ++ entry.now ∷ [])) }
         ensures err { OnErr result (self.new ≡ self.old) }
     {
-        if self.wrong.is_none() {
-            self.make_again(entry)?;
-        }
-        self.fed = self.fed.saturating_add(1);
+        self.make_again(entry)?;
+        self.count();
         Ok(())
     }
 
