@@ -5,9 +5,9 @@ use Rattle.irp_types.specs.State.{Fixed, StateValue, Tables}
 use Rattle.irp_types.specs.declared.asked.Asked.{Asked}
 use Rattle.irp_types.specs.Histories.{IsLegal, LeadsTo}
 use Rattle.irp_types.specs.declared.entry.Entry.{Entry}
-use Rattle.irp_shared.specs.Headers.{fixed_of}
-use Rattle.irp_shared.specs.Transcripts.{TranscriptValue}
-use Rattle.irp_shared.specs.declared.header.Header.{Header}
+use Rattle.irp_transcript.specs.Headers.{fixed_of}
+use Rattle.irp_transcript.specs.Transcripts.{TranscriptValue}
+use Rattle.irp_transcript.specs.declared.header.Header.{Header}
 use Rattle.irp_difference.specs.declared.difference.QuestionPart.{QuestionPart}
 use Rattle.irp_difference.specs.declared.difference.QuestionPart.TheVariants as part
 use Rattle.irp_difference.specs.declared.difference.Difference.{Difference}

@@ -3,8 +3,8 @@ use Rattle.std.specs.Prelude.{ℕ, ◌≡◌, List, [], ◌∷◌, ◌++◌, tak
 use Rattle.irp_types.specs.State.{StateValue}
 use Rattle.irp_types.specs.Histories.{LeadsTo}
 use Rattle.irp_types.specs.declared.entry.Entry.{Entry}
-use Rattle.irp_shared.specs.Headers.{fixed_of}
-use Rattle.irp_shared.specs.declared.header.Header.{Header}
+use Rattle.irp_transcript.specs.Headers.{fixed_of}
+use Rattle.irp_transcript.specs.declared.header.Header.{Header}
 use Rattle.irp_judge.specs.Checked.{IsFirstWrong}
 use Rattle.irp_judge.specs.declared.verdict.Wrong.{Wrong}
 

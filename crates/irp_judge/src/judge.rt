@@ -4,7 +4,7 @@ ghost use Rattle.std.specs.Prelude.{◌≡◌, ◌+◌, ◌<◌, ◌^◌, List, 
 ghost use Rattle.std.specs.Option.{option_copied};
 ghost use Rattle.irp_types.specs.Refusals.{first_refusal};
 ghost use Rattle.irp_types.specs.declared.entry.Entry.{Entry};
-ghost use Rattle.irp_shared.specs.Headers.{IsHeader, fixed_of};
+ghost use Rattle.irp_transcript.specs.Headers.{IsHeader, fixed_of};
 ghost use Rattle.irp_judge.specs.Causes.{cause_of};
 ghost use Rattle.irp_judge.specs.Checked.{IsVerdict};
 ghost use Rattle.irp_judge.specs.Judging.{HasJudged};
@@ -15,7 +15,7 @@ use crate::replaying::made_of;
 use crate::verdict::{Verdict, Wrong};
 use irp_difference::first_difference;
 use irp_manager::{ManagerState, MapKeep};
-use irp_shared::Header;
+use irp_transcript::Header;
 use irp_types::{Call, Entry, Refusal, history_goes_on, history_settles_states};
 use std::alloc::{AllocError, Global};
 use std::marker::Model;
@@ -37,7 +37,7 @@ impl<'a> Model for Judge<'a> {
     ghost use Rattle.irp_types.specs.Standing.{StandingFacts};
     ghost use Rattle.irp_manager.specs.Keeps.{mapped};
     ghost use Rattle.irp_manager.specs.ManagerStates.{Agrees, state_of};
-    ghost use Rattle.irp_shared.specs.Headers.{IsHeader, fixed_of};
+    ghost use Rattle.irp_transcript.specs.Headers.{IsHeader, fixed_of};
     ghost use Rattle.irp_judge.specs.Judging.{JudgeValue};
 
     ghost Value = { JudgeValue };
