@@ -1,5 +1,6 @@
 //! The state of the manager, and its calls.
 
+mod looks;
 mod owner_calls;
 pub(crate) mod room;
 
@@ -344,7 +345,7 @@ impl<K: Keep> ManagerState<K> {
 
     /// The lock of the device that a Delete names, where that device was created.
     #[inline]
-    fn lock_of(&self, call: Call) -> Option<LockNo>
+    pub fn lock_of(&self, call: Call) -> Option<LockNo>
         ensures { result ≡ lock_of (state_of K.live self.now) call }
     {
         match call {

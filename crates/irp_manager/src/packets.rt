@@ -24,6 +24,7 @@ use crate::keep::Live;
 use irp_packet::Packet;
 use irp_routines::Ask;
 use irp_stack::Stacks;
+use irp_types::limits::LAST_MAJOR;
 use irp_types::{
     Asked, CancelId, DeviceId, IrpRef, Known, Owner, Party, Preparation, Refusal, Reply, Seen,
     Setting, Status,
@@ -113,7 +114,7 @@ pub fn copy_to_next(live: &mut Live, party: Party, irp: IrpRef) -> Reply
 
 /// The refusal of an owner that has no location of its own to mark or to skip; none where it has one.
 #[inline]
-fn own_location_check(packet: &Packet) -> Option<Refusal>
+pub fn own_location_check(packet: &Packet) -> Option<Refusal>
     ensures { result ≡ mark_pending_refusal packet.now }
 {
     let skipped = matches!(packet.preparation(), Preparation::Skipped);
@@ -126,8 +127,37 @@ fn own_location_check(packet: &Packet) -> Option<Refusal>
     None
 }
 
+/// The refusal to fill the next lower location; none where it may be filled.
+pub fn next_check(packet: &Packet, major: u8) -> Option<Refusal>
+    ensures { result ≡ set_next_refusal packet.now major }
+{
+    if matches!(packet.preparation(), Preparation::Skipped) {
+        return Some(Refusal::AfterSkip);
+    }
+    if packet.current() <= 1 {
+        return Some(Refusal::TooShort);
+    }
+    if major > LAST_MAJOR {
+        return Some(Refusal::BadMajor);
+    }
+    None
+}
+
+/// The refusal to copy the current location to the next lower one; none where it may be copied.
+pub fn copy_check(packet: &Packet) -> Option<Refusal>
+    ensures { result ≡ copy_to_next_refusal packet.now }
+{
+    if let Some(refusal) = own_location_check(packet) {
+        return Some(refusal);
+    }
+    if packet.current() <= 1 {
+        return Some(Refusal::TooShort);
+    }
+    None
+}
+
 /// The refusal of a skip; none where the owner may skip its location.
-fn leave_check(packet: &Packet) -> Option<Refusal>
+pub fn leave_check(packet: &Packet) -> Option<Refusal>
     ensures { result ≡ leave_refusal packet.now }
 {
     if let Some(refusal) = own_location_check(packet) {
@@ -173,7 +203,7 @@ pub fn mark_pending(live: &mut Live, party: Party, irp: IrpRef) -> Reply
 }
 
 /// The refusal to set a cancel routine, or to take it out, where so many are there; none where it may be done.
-fn cancel_check(packet: &Packet, counts: Known, cancel: Option<CancelId>) -> Option<Refusal>
+pub fn cancel_check(packet: &Packet, counts: Known, cancel: Option<CancelId>) -> Option<Refusal>
     ensures { result ≡ cancel_refusal counts packet.now cancel }
 {
     if let Some(refusal) = own_location_check(packet) {
@@ -245,7 +275,7 @@ pub fn reuse(live: &mut Live, irp: IrpRef, status: Status, use_no: u64) -> Optio
 }
 
 /// The refusal to set a completion routine where so many are there; none where it may be set.
-fn routine_check(packet: &Packet, counts: Known, setting: Setting) -> Option<Refusal>
+pub fn routine_check(packet: &Packet, counts: Known, setting: Setting) -> Option<Refusal>
     ensures { result ≡ routine_refusal counts packet.now setting }
 {
     match packet.preparation() {
@@ -287,7 +317,12 @@ pub fn set_routine(
 
 /// The refusal to send the packet to a device; none where it may be sent.
 #[inline]
-fn send_check(packet: &Packet, stacks: &Stacks, party: Party, target: DeviceId) -> Option<Refusal>
+pub fn send_check(
+    packet: &Packet,
+    stacks: &Stacks,
+    party: Party,
+    target: DeviceId,
+) -> Option<Refusal>
     ensures refusal { result ≡ send_refusal stacks.now.devices party packet.now target.0 }
     ensures created { result ≡ None → target.0 < length stacks.now.devices.facts }
     ensures prepared { result ≡ None → is_nothing packet.now.preparation ≡ false }
@@ -369,7 +404,7 @@ pub fn send<A: Ask>(
 
 /// The refusal to complete the packet; none where it may be completed.
 #[inline]
-fn complete_check(packet: &Packet, status: Status) -> Option<Refusal>
+pub fn complete_check(packet: &Packet, status: Status) -> Option<Refusal>
     ensures refusal { result ≡ complete_refusal packet.now status }
     ensures placed { result ≡ None → packet.now.current ≤ size_of packet.now }
     ensures free { result ≡ None → packet.now.cancel_routine ≡ None }
@@ -421,7 +456,7 @@ pub fn complete<A: Ask>(
 }
 
 /// The refusal to complete a packet that was taken from its cancel slot; none where it may be completed.
-fn take_check(packet: &Packet, use_no: u64, token: u64, status: Status) -> Option<Refusal>
+pub fn take_check(packet: &Packet, use_no: u64, token: u64, status: Status) -> Option<Refusal>
     ensures refusal { result ≡ take_refusal packet.now use_no token status }
     ensures held { result ≡ None → packet.now.slot_held ≡ true }
 {

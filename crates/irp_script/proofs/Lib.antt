@@ -1,5 +1,1 @@
-pub mod AskedOnce
-pub mod FirstTold
 pub mod Firsts
-pub mod MadeAgain
-pub mod Verdicts

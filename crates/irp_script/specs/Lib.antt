@@ -1,4 +1,1 @@
 pub mod Between
-pub mod Recorded
-pub mod Replayed
-pub mod Checked

@@ -1,5 +1,7 @@
 //! The devices and their stacks. That refusals come in the order in which they are listed is this project's own rule.
 
+mod looks;
+
 ghost use Rattle.std.specs.Prelude.{◌≡◌, ◌+◌, ◌<◌, ◌≤◌, length, IfOk, IfErr, OnErr, Some, None, slice_get};
 ghost use Rattle.std.specs.Option.{option_map};
 ghost use Rattle.irp_types.specs.Limits.{most_locations};

@@ -20,9 +20,9 @@ use Rattle.irp_transcript.specs.Transcripts.{TranscriptValue, no_lines}
 use Rattle.irp_transcript_writer.specs.Out.{risen}
 use Rattle.irp_transcript_reader.specs.Reading.{ReadsFrom, cut}
 use Rattle.irp_transcript_reader.specs.declared.read_fault.ReadFault.TheVariants as fault
-use Rattle.irp_script.specs.Checked.{IsVerdictOn}
-use Rattle.irp_script.specs.declared.checker.Verdict.{Verdict}
-use Rattle.irp_script.specs.declared.checker.Verdict.TheVariants as verdict
+use Rattle.irp_judge.specs.Checked.{IsVerdictOn}
+use Rattle.irp_judge.specs.declared.verdict.Verdict.{Verdict}
+use Rattle.irp_judge.specs.declared.verdict.Verdict.TheVariants as verdict
 use Rattle.irpx.specs.Bytes.{Bytes}
 use Rattle.irpx.specs.Writing.{Begins, IsQuiet, Written}
 use Rattle.irpx.specs.declared.checking.CheckFault.{CheckFault}

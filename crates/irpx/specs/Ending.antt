@@ -1,8 +1,8 @@
 -- The exit statuses, and the lines for standard error.
 use Rattle.std.specs.Prelude.{ℕ, List, ◌++◌, codes, Bool, true, false, Option, Some, None}
 use Rattle.std.specs.Fmt.{decimal}
-use Rattle.irp_script.specs.declared.checker.Verdict.{Verdict}
-use Rattle.irp_script.specs.declared.checker.Verdict.TheVariants as verdict
+use Rattle.irp_judge.specs.declared.verdict.Verdict.{Verdict}
+use Rattle.irp_judge.specs.declared.verdict.Verdict.TheVariants as verdict
 use Rattle.irp_script_reader.specs.declared.refusal.Fault.TheVariants.{BadField}
 use Rattle.irp_script_reader.specs.declared.refusal.ScriptRefusal.TheVariants.{At}
 use Rattle.irp_script_reader.specs.declared.refusal.Section.TheVariants.{Steps}

@@ -1,6 +1,6 @@
 -- What the program does for its words.
 use Rattle.std.specs.Prelude.{ℕ, ◌≡◌, ◌⊎◌, Result, Ok, Err}
-use Rattle.irp_script.specs.declared.checker.Verdict.{Verdict}
+use Rattle.irp_judge.specs.declared.verdict.Verdict.{Verdict}
 use Rattle.irpx.specs.Bytes.{Bytes}
 use Rattle.irpx.specs.Checking.{HasVerdict, Told, Unchecked, most_taken as most_checked}
 use Rattle.irpx.specs.Demo.{BeginsLegal, WritesLegal}

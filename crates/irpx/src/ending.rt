@@ -22,7 +22,7 @@ use crate::input::InputFault;
 use crate::orders::Unread;
 use crate::running::{RunFault, Unfinished, Unrun, Unscripted};
 use crate::writing::Unwritten;
-use irp_script::Verdict;
+use irp_judge::Verdict;
 use irp_script_reader::{Fault, ScriptRefusal, Section};
 use std::fmt;
 use std::process::ExitCode;

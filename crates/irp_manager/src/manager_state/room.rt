@@ -28,9 +28,10 @@ pub(crate) fn give_back(room: &mut Vec<Asked>, used: usize)
 }
 
 impl<K: Keep> ManagerState<K> {
-    /// The position of a device in its stack, from 1 at the bottom, and 1 where it was never created.
+    /// The position of a device in its stack, from 1 at the bottom; 1 where it was never created (this project's own
+    /// rule).
     #[inline]
-    fn depth(&self, device: DeviceId) -> u32
+    pub fn depth(&self, device: DeviceId) -> u32
         ensures depth { result ≡ stack_size_of self.now.stacks.devices device.0 }
         ensures few { result ≤ most_locations }
     {

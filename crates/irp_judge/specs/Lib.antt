@@ -1,0 +1,6 @@
+pub mod Recorded
+pub mod Replayed
+pub mod Answers
+pub mod Causes
+pub mod Checked
+pub mod Judging

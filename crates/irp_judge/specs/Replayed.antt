@@ -1,0 +1,33 @@
+-- What making an entry again shows.
+use Rattle.std.specs.Prelude.{ℕ, ◌≡◌, Option, None, Some}
+use Rattle.irp_judge.specs.Recorded.{AreTold}
+use Rattle.irp_types.specs.State.{Fixed, StateValue}
+use Rattle.irp_types.specs.Histories.{IsEntryAt}
+use Rattle.irp_types.specs.declared.entry.Entry.{Entry}
+use Rattle.irp_types.specs.declared.reply.Reply.{Reply}
+use Rattle.irp_types.specs.declared.reply.Reply.TheVariants.{Done, Device, Irp, Status as StatusIs, Previous, Cancelled, Seen as SeenAs, Refused}
+
+-- no step makes this entry of a state
+abbrev pub IsNoEntryAt : Fixed → ℕ → StateValue → Entry → Type 0
+IsNoEntryAt fixed number old entry = (new : StateValue) → IsEntryAt fixed number old entry new → ⊥
+
+-- what the manager makes of an entry's call, answered as the entry tells where that is allowed: an entry of the same
+-- seat and call, which leads from the old state to the new one; where it isn't the entry itself, no step makes that
+pub record IsMadeOf (fixed : Fixed) (number : ℕ) (old : StateValue) (entry made : Entry) (new : StateValue)
+    : Type 0 where
+  pub seat : made.seat ≡ entry.seat
+  pub call : made.call ≡ entry.call
+  pub told : AreTold fixed.tables entry.asked made.asked
+  pub follows : IsEntryAt fixed number old made new
+  pub other : (made ≡ entry → ⊥) → IsNoEntryAt fixed number old entry
+
+-- the slot of the packet that a reply names
+abbrev pub slot_named : Reply → Option ℕ
+slot_named Done = None
+slot_named (Device device) = None
+slot_named (Irp irp) = Some irp.slot
+slot_named (StatusIs status) = None
+slot_named (Previous routine) = None
+slot_named (Cancelled asked) = None
+slot_named (SeenAs seen) = None
+slot_named (Refused refusal) = None
