@@ -6,10 +6,10 @@ use Rattle.std.specs.FinMap as fin
 use Rattle.irp_types.specs.Status.{is_completable}
 use Rattle.irp_types.specs.Checks.{Check, or_else}
 use Rattle.irp_types.specs.Packet.{PacketValue, new_packet}
-use Rattle.irp_types.specs.State.{StateValue, LivePacket, Fixed, Tables, live_at, packet_at, packet_of}
+use Rattle.irp_types.specs.State.{StateValue, LivePacket, Fixed, live_at, packet_at, packet_of}
 use Rattle.irp_types.specs.Refusals.{has_ended, is_owned_by_device, is_owner, party_refusal, packet_refusal, slot_check, ended_check, take_refusal, first_refusal}
 use Rattle.irp_types.specs.Steps.{Unasked, Cancels, Effect, Step}
-use Rattle.irp_types.specs.Standing.{StandingFacts, IsInSlot}
+use Rattle.irp_types.specs.Standing.{IsInSlot}
 use Rattle.irp_types.specs.Taking.{IsFinishOf, HeldIsFinishedTaken}
 use Rattle.irp_types.specs.declared.status.Status.{Status}
 use Rattle.irp_types.specs.declared.names.IrpRef.{IrpRef}
