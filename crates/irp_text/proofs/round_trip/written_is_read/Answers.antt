@@ -1,5 +1,5 @@
 use Rattle.irp_text.proofs.Whole.{nothing_else, text_tells, written}
-use Rattle.irp_text.proofs.laws.written_is_read.Goals as goal
+use Rattle.irp_text.proofs.round_trip.written_is_read.Goals as goal
 
 pub returns-clause-same : goal.returns-clause-same
 returns-clause-same c = written

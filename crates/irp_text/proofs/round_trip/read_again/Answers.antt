@@ -1,7 +1,7 @@
 use Rattle.std.proofs.Common.{ℕ, List, subst}
 use Rattle.irp_transcript.specs.Transcripts.{no_lines}
 use Rattle.irp_transcript_reader.specs.Reading.{ReadsFrom, cut}
-use Rattle.irp_text.proofs.laws.read_again.Goals as goal
+use Rattle.irp_text.proofs.round_trip.read_again.Goals as goal
 
 pub returns-clause-own : goal.returns-clause-own
 returns-clause-own c is fits =
