@@ -109,7 +109,8 @@ void rider_came_up(Packet *r, Entry *e)
 {
     Packet *p = r->rides;
     const int j = r->size;
-    Asked *a = &e->asked[ask(e, r, ROUTINE, NULL, ORIGINATOR, j)];
+    const int i = ask(e, r, ROUTINE, NULL, ORIGINATOR, j);
+    Asked *a = &e->asked[i];
     a->set = r->at[j].set;
     a->plan = KEEP;
     a->returned = r->at[j].pending;

@@ -126,17 +126,17 @@ void learn_file(const char *file, int driver)
     }
 }
 
-/* Whose code makes this call: by its file; else by what runs on the thread; else by who made the thread. */
+/* Whose code makes this call: by its file; else by the innermost routine that runs; else by who made the thread. */
 int calling_driver(void)
 {
     const char *file = self.calls ? self.calls->at.file : NULL;
     for (int i = 0; file && i < n_files; i++)
         if (!strcmp(files[i].file, file) && files[i].driver != NOBODY)
             return files[i].driver;
-    for (const Frame *f = self.frames; f; f = f->up)
-        if (f->device >= 0)
-            return devices[f->device].raw->DriverObject->HostNumber;
-    return self.driver;
+    const Frame *f = self.frames;
+    if (f && f->device >= 0)
+        return devices[f->device].raw->DriverObject->HostNumber;
+    return f && f->kind == ROUTINE ? f->p->allocator : self.driver;
 }
 
 int start_thread(void *(*run)(void *), void *context)
