@@ -86,6 +86,16 @@ static bool is_in_open_entry(int d)
     return false;
 }
 
+/* Code of the device that runs on other threads has nothing in flight any more: it only returns. */
+static void tell_running(int d)
+{
+    int own = 0;
+    for (const Frame *f = self.frames; f; f = f->up)
+        own += f->device == d;
+    if (devices[d].running > own)
+        note("still returning", "%s is deleted while a routine of it is returning on another thread", who(d));
+}
+
 static void delete_now(int d)
 {
     Entry *e = begin(REMOVE, NULL, d);
@@ -101,6 +111,7 @@ static void delete_now(int d)
     if (no)
         refuse(e, no);
     else {
+        tell_running(d);
         devices[d].live = false;
         answered(e, DONE, 0);
     }

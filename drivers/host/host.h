@@ -159,6 +159,7 @@ struct Packet {
 typedef struct {
     PDEVICE_OBJECT raw;
     int lower, upper;
+    int running; /* how many of its dispatches, routines and work items run, on all threads */
     bool live, leaving, bound;
 } Device;
 

@@ -53,6 +53,16 @@ static void give_buffer(PIRP irp, PDEVICE_OBJECT top, ULONG length)
     pthread_mutex_unlock(&host_lock);
 }
 
+/* One file is open on each device. */
+static PFILE_OBJECT file_of(PDEVICE_OBJECT top)
+{
+    PFILE_OBJECT file = &files[top->HostNumber];
+    pthread_mutex_lock(&host_lock);
+    file->DeviceObject = top;
+    pthread_mutex_unlock(&host_lock);
+    return file;
+}
+
 PIRP WdmBuild(PDEVICE_OBJECT Top, UCHAR Major, UCHAR Minor, ULONG Length, PIO_STATUS_BLOCK Iosb, PKEVENT Event,
               WDM_SITE at)
 {
@@ -71,8 +81,7 @@ PIRP WdmBuild(PDEVICE_OBJECT Top, UCHAR Major, UCHAR Minor, ULONG Length, PIO_ST
     else
         next->Parameters.Read.Length = Length;
     if (Major != IRP_MJ_PNP && Major != IRP_MJ_POWER && Major != IRP_MJ_SYSTEM_CONTROL) {
-        files[Top->HostNumber].DeviceObject = Top;
-        next->FileObject = &files[Top->HostNumber];
+        next->FileObject = file_of(Top);
     }
     irp->UserIosb = Iosb;
     irp->UserEvent = Event;

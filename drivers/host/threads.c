@@ -102,9 +102,16 @@ void enter_frame(Frame *f)
     f->up = self.frames;
     f->thread = pthread_self();
     self.frames = f;
+    if (f->device >= 0)
+        devices[f->device].running++;
 }
 
-void leave_frame(void) { self.frames = self.frames->up; }
+void leave_frame(void)
+{
+    if (self.frames->device >= 0)
+        devices[self.frames->device].running--;
+    self.frames = self.frames->up;
+}
 
 /* Which driver a source file is of: the one whose devices it creates. A file that creates several drivers' is nobody's. */
 static struct { const char *file; int driver; } files[128];
