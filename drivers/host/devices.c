@@ -87,16 +87,16 @@ static bool is_in_open_entry(int d)
 }
 
 /* Code of the device that runs on other threads has nothing in flight any more: it only returns. */
-static void tell_running(int d)
+static void tell_running(int d, const Frame *mine)
 {
     int own = 0;
-    for (const Frame *f = self.frames; f; f = f->up)
+    for (const Frame *f = mine; f; f = f->up)
         own += f->device == d;
     if (devices[d].running > own)
         note("still returning", "%s is deleted while a routine of it is returning on another thread", who(d));
 }
 
-static void delete_now(int d)
+static void delete_now(int d, const Frame *mine)
 {
     Entry *e = begin(REMOVE, NULL, d);
     e->device = d;
@@ -111,10 +111,22 @@ static void delete_now(int d)
     if (no)
         refuse(e, no);
     else {
-        tell_running(d);
+        tell_running(d, mine);
         devices[d].live = false;
         answered(e, DONE, 0);
     }
+}
+
+/* The delete that was put off: what is told of it names the call that wanted it. */
+static void delete_late(int d)
+{
+    Call c = { .up = self.calls, .name = "IoDeleteDevice", .at = devices[d].deleted };
+    Frame *const mine = self.frames;
+    self.calls = &c;
+    self.frames = NULL;
+    delete_now(d, mine);
+    self.calls = c.up;
+    self.frames = mine;
 }
 
 VOID WdmIoDetachDevice(PDEVICE_OBJECT Lower, WDM_SITE at)
@@ -132,7 +144,7 @@ VOID WdmIoDetachDevice(PDEVICE_OBJECT Lower, WDM_SITE at)
         Lower->AttachedDevice = NULL;
         answered(e, DEVICE, (uint64_t)up);
         if (devices[d].leaving)
-            delete_now(d);
+            delete_late(d);
     }
     leave_host();
 }
@@ -143,10 +155,11 @@ VOID WdmIoDeleteDevice(PDEVICE_OBJECT Device, WDM_SITE at)
     Call c;
     enter_host(&c, "IoDeleteDevice", at);
     const int d = Device->HostNumber;
-    if (devices[d].live && devices[d].upper >= 0 && devices[d].lower < 0)
+    if (devices[d].live && devices[d].upper >= 0 && devices[d].lower < 0) {
         devices[d].leaving = true;
-    else
-        delete_now(d);
+        devices[d].deleted = at;
+    } else
+        delete_now(d, self.frames);
     leave_host();
 }
 

@@ -161,6 +161,7 @@ typedef struct {
     int lower, upper;
     int running; /* how many of its dispatches, routines and work items run, on all threads */
     bool live, leaving, bound;
+    WDM_SITE deleted; /* where its delete was called that waits for the device above */
 } Device;
 
 /* A call of the host that runs on this thread. */

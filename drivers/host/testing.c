@@ -48,9 +48,10 @@ static void give_buffer(PIRP irp, PDEVICE_OBJECT top, ULONG length)
     b->mdl = (MDL){ b->bytes, length };
     irp->AssociatedIrp.SystemBuffer = irp->UserBuffer = b->bytes;
     irp->MdlAddress = top->Flags & DO_DIRECT_IO ? &b->mdl : NULL;
-    pthread_mutex_lock(&host_lock);
+    Call c;
+    enter_host(&c, "WdmBuildIrp", (WDM_SITE){ 0 });
     find(irp)->buffer = b;
-    pthread_mutex_unlock(&host_lock);
+    leave_host();
 }
 
 /* One file is open on each device. */
