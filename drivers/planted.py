@@ -114,8 +114,11 @@ FAULTS = [
            ["NotOwner ", "filter.c:", "FilterRead, dispatch for READ of D2 (filter)", "by D2 (filter), which D0 (bus) has"],
            refused="NotOwner"),
     stack("a thread completes twice", "removal.c",
-          [("            Complete(irp, stop ?", "            Complete(irp, STATUS_SUCCESS, 0);\n            Complete(irp, stop ?")],
-          ["NoLocation ", "common.h:", "in Complete", "IoCompleteRequest"], verdict=None),
+          [("            IoReleaseRemoveLock(&ext->RemoveLock, irp);\n        }\n    }",
+            "            IoCompleteRequest(irp, IO_NO_INCREMENT);\n"
+            "            IoReleaseRemoveLock(&ext->RemoveLock, irp);\n        }\n    }")],
+          ["CompletedTwice (0x44)", "removal.c:", "in Reader: IoCompleteRequest", "by D1 (removal)",
+           "completed before at common.h:"], refused="NotOwner"),
     stack("a deferred call completes with the cancel routine set", "serial.c",
           [("        if (IoSetCancelRoutine(irp, NULL) != NULL) {", "        if (irp) {")],
           ["CancelRoutineSet (0x48)", "Sent, work of", "by D0 (serial)", "set before at serial.c:"],

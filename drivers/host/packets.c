@@ -43,7 +43,8 @@ int party(const Packet *p)
     const int caller = calling_driver();
     if (caller == NOBODY || driver_of(holder) == caller)
         return holder;
-    if (holder == ORIGINATOR && (p->allocator == caller || p->allocator == NOBODY))
+    const bool is_test = !self.frames && !self.is_driver; /* a driver's file may have its test in it */
+    if (holder == ORIGINATOR && (p->allocator == caller || (p->allocator == NOBODY && is_test)))
         return holder;
     return calling_device(caller);
 }
@@ -109,6 +110,7 @@ static void begin_use(Packet *p, NTSTATUS status)
     p->information = 0;
     p->cancel = p->returned = p->lost = false;
     prepare_nothing(p);
+    p->sites.sent = p->sites.completed = p->sites.cancel = (WDM_SITE){ 0 };
     p->use = next_use++;
 }
 

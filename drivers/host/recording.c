@@ -69,14 +69,21 @@ static void tell_before(const Packet *p, const char *name, char *text, size_t si
         snprintf(text, size, ", %s %s", what, place(at));
 }
 
+/* Whether a completion is refused because the packet was completed before. */
+static bool is_second(const Entry *e)
+{
+    return e->op == COMPLETE && e->p->sites.completed.file && (e->p->owner < 0 || !e->p->live);
+}
+
 /* A call that the rules refuse: it is recorded so, has no effect, and is told. */
 void refuse(Entry *e, const char *name)
 {
     char before[160], holder[200] = "";
     e->refused = name;
-    const char *rule = !strcmp(name, "Ended") && e->op == COMPLETE ? "CompletedTwice" : name;
-    tell_before(e->p, name, before, sizeof before);
-    if (e->p && !strcmp(name, "NotOwner"))
+    const bool second = is_second(e);
+    const char *rule = second ? "CompletedTwice" : name;
+    tell_before(e->p, second ? "Ended" : name, before, sizeof before);
+    if (e->p && !second && !strcmp(name, "NotOwner"))
         snprintf(holder, sizeof holder, ", which %s has", who(e->p->owner));
     if (is_expected_refusal(name))
         note("a refusal that the test expects", "%s is refused: %s", op_names[e->op], name);

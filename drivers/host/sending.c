@@ -57,6 +57,7 @@ static NTSTATUS dispatch_returned(Packet *p, Frame *f, NTSTATUS answer)
 NTSTATUS enter_device(Packet *p, int d, Entry *e)
 {
     Location *l = &p->at[--p->current];
+    p->sites.completed = (WDM_SITE){ 0 };
     put_back(p);
     l->device = d;
     raw_at(p, p->current)->DeviceObject = devices[d].raw;
