@@ -4,7 +4,8 @@
 static bool is_met(const Packet *p, const Setting *set)
 {
     return (NT_SUCCESS(p->status) && (set->flags & SL_INVOKE_ON_SUCCESS)) ||
-        (!NT_SUCCESS(p->status) && (set->flags & SL_INVOKE_ON_ERROR)) || (p->cancel && (set->flags & SL_INVOKE_ON_CANCEL));
+        (!NT_SUCCESS(p->status) && (set->flags & SL_INVOKE_ON_ERROR)) ||
+        (p->cancel && (set->flags & SL_INVOKE_ON_CANCEL));
 }
 
 /* Nobody kept the packet. */
@@ -21,7 +22,8 @@ static void end(Packet *p, Entry *e)
     if (p->irp->UserIosb)
         *p->irp->UserIosb = p->irp->IoStatus;
     else
-        fault("NotKept", p, "has ended, and no routine kept it for whoever allocated it at %s", place(p->sites.allocated));
+        fault("NotKept", p, "has ended, and no routine kept it for whoever allocated it at %s",
+              place(p->sites.allocated));
     protect(p);
     if (event)
         set_event(event);
@@ -45,8 +47,8 @@ static bool ask_routine(Packet *p, Entry *e, int j, Location l)
 {
     const int device = j < p->size ? p->at[j + 1].device : ORIGINATOR;
     const bool had = device >= 0 && p->at[j + 1].real;
-    Frame f = { .kind = ROUTINE, .p = p, .use = p->use, .fn = (void *)l.set->fn, .device = device, .location = j, .e = e,
-                .i = ask(e, p, ROUTINE, NULL, device, j) };
+    Frame f = { .kind = ROUTINE, .p = p, .use = p->use, .fn = (void *)l.set->fn, .device = device, .location = j,
+                .e = e, .i = ask(e, p, ROUTINE, NULL, device, j) };
     e->asked[f.i].set = l.set;
     e->asked[f.i].returned = l.pending;
     e->asked[f.i].context = l.set->context;

@@ -1,8 +1,8 @@
 /*
- * exercise.c: the test that `run` takes where none is given. It puts the drivers, in their order, on a bottom device of
- * the host, starts them, sends what the I/O manager sends, cancels some of it, and removes the device. It does so twice:
- * over a bottom that completes at once, and over one that completes later, from another thread. A driver that creates a
- * device in DriverEntry gets the requests there.
+ * exercise.c: the test that `run` takes where none is given. It puts the drivers, in their order, on a bottom device
+ * of the host, starts them, sends what the I/O manager sends, cancels some of it, and removes the device. It does so
+ * twice: over a bottom that completes at once, and over one that completes later, from another thread. A driver that
+ * creates a device in DriverEntry gets the requests there.
  */
 #include "wdm_test.h"
 #include <pthread.h>

@@ -6,16 +6,16 @@
  *
  * LOCKING ORDER. From the outside in; nothing takes a lock that stands above one that it holds.
  *   1. the cancel spin lock (cancelling.c), which a driver may hold across calls of the host;
- *   2. G, the host's lock: enter_host takes it, leave_host gives it back. All of the shadow and the history is under it.
- *      It is never held while a driver's code runs: let_driver_run gives it back, driver_came_back takes it again;
+ *   2. G, the host's lock: enter_host takes it, leave_host gives it back. All of the shadow and the history is under
+ *      it. It is never held while a driver's code runs: let_driver_run gives it back, driver_came_back takes it again;
  *   3. W (waits.c), under which events, timers, semaphores and mutexes change. Nothing is called under W.
  * A driver's own spin locks are taken outside G. `self` is the thread's own and has no lock.
  *
  * WHEN AN ENTRY IS SETTLED. An entry gets its number when it is settled, always inside the real call:
  *   - a call without questions: in the call, under one hold of G;
- *   - a descent: when the last dispatch asked has finished the packet (then at the end of its unwinding), or has kept it.
- *     That it keeps it is known at its return, or earlier: at the first call on the packet that only its new owner may
- *     make, by whatever thread (settle);
+ *   - a descent: when the last dispatch asked has finished the packet (then at the end of its unwinding), or has kept
+ *     it. That it keeps it is known at its return, or earlier: at the first call on the packet that only its new owner
+ *     may make, by whatever thread (settle);
  *   - a running completion routine: as one that keeps, by such a call; else where it returns, with its unwinding;
  *   - a running cancel routine: as one that leaves, by such a call, or at its return; as one that finishes, where it
  *     completes the packet itself.

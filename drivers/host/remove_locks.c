@@ -17,7 +17,7 @@ const char *held_tags(int device)
     const Lock *k = &locks[device];
     if (!k->n)
         return k->removed ? "" : "; no IoReleaseRemoveLockAndWait has returned";
-    for (int i = 0; i < k->n && i < 4; i++) {
+    for (int i = 0; i < k->n && i < 4 && n < sizeof text; i++) {
         const Held *h = &k->held[i];
         n += (size_t)snprintf(text + n, sizeof text - n, "%stag %lu, taken at %s in %s%s%s%s", n ? "; " : ": ",
                               (unsigned long)number_of(h->tag), place(h->at), h->at.function ? h->at.function : "?",

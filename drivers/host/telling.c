@@ -5,9 +5,11 @@
 int n_faults, n_notes;
 
 static const struct { const char *rule, *known; } known_as[] = {
-    { "CompletedTwice", "0x44" }, { "Ended", "0x44" }, { "TooShort", "0x35" }, { "BadStatus", "Driver Verifier 0xC9 / 6" },
+    { "CompletedTwice", "0x44" }, { "Ended", "0x44" }, { "TooShort", "0x35" },
+    { "BadStatus", "Driver Verifier 0xC9 / 6" },
     { "CancelRoutineSet", "0x48" }, { "InFlight", "memory freed in use" }, { "NotDrained", "RemoveLock rules" },
-    { "NotHeld", "RemoveLock rules" }, { "AlreadyRemoving", "RemoveLock rules" }, { "Status", "not the packet's status" },
+    { "NotHeld", "RemoveLock rules" }, { "AlreadyRemoving", "RemoveLock rules" },
+    { "Status", "not the packet's status" },
     { "Returned", "rules MarkIrpPending, PendedCompletedRequest" }, { "MarkedLate", "rule PendedCompletedRequest" },
     { "Mark", "if (Irp->PendingReturned) IoMarkIrpPending(Irp)" }, { "NoIrp", "used after IoFreeIrp" },
     { "Touched", "used after its end" }, { "NotOwner", "somebody else has the packet" },
@@ -79,7 +81,8 @@ const char *what_runs(const Frame *f)
         snprintf(text, 200, "%s, dispatch for %s of %s", name, major_name(f->major), who(f->device));
     else
         snprintf(text, 200, "%s, %s of %s", name,
-                 f->kind == ROUTINE ? "completion routine" : f->kind == WORK ? "work" : "cancel routine", who(f->device));
+                 f->kind == ROUTINE ? "completion routine" : f->kind == WORK ? "work" : "cancel routine",
+                 who(f->device));
     return text;
 }
 
@@ -159,8 +162,10 @@ void fault_of(const char *rule, const Packet *p, const Frame *f, const char *how
     n_faults++;
     if (was_told(rule, f->last, f->fn))
         return;
-    snprintf(where, sizeof where, "%s%s%s%s%s", f->last.file ? place(f->last) : "", f->last.file ? " (its last call, " : "",
-             f->last.file ? f->last_call : "", f->last.file ? ") in " : "", what_runs(f));
+    if (f->last.file)
+        snprintf(where, sizeof where, "%s (its last call, %s) in %s", place(f->last), f->last_call, what_runs(f));
+    else
+        snprintf(where, sizeof where, "%s", what_runs(f));
     tell(rule, p, where, text);
 }
 

@@ -78,7 +78,8 @@ PIRP WdmBuild(PDEVICE_OBJECT Top, UCHAR Major, UCHAR Minor, ULONG Length, PIO_ST
     next->MajorFunction = Major;
     next->MinorFunction = Minor;
     if (Major == IRP_MJ_DEVICE_CONTROL || Major == IRP_MJ_INTERNAL_DEVICE_CONTROL)
-        next->Parameters.DeviceIoControl.InputBufferLength = next->Parameters.DeviceIoControl.OutputBufferLength = Length;
+        next->Parameters.DeviceIoControl.InputBufferLength =
+            next->Parameters.DeviceIoControl.OutputBufferLength = Length;
     else
         next->Parameters.Read.Length = Length;
     if (Major != IRP_MJ_PNP && Major != IRP_MJ_POWER && Major != IRP_MJ_SYSTEM_CONTROL) {
@@ -136,8 +137,8 @@ static size_t write_out(void)
     else
         fflush(out);
     write_summary(n);
-    fprintf(stderr, "host: %zu entries, %d faults, %d notes, %d settled early by another thread\n", n, n_faults, n_notes,
-            n_early);
+    fprintf(stderr, "host: %zu entries, %d faults, %d notes, %d settled early by another thread\n", n, n_faults,
+            n_notes, n_early);
     return n;
 }
 

@@ -113,7 +113,7 @@ void leave_frame(void)
     self.frames = self.frames->up;
 }
 
-/* Which driver a source file is of: the one whose devices it creates. A file that creates several drivers' is nobody's. */
+/* Which driver a source file is of: the one whose devices it creates. One that creates several drivers' is nobody's. */
 static struct { const char *file; int driver; } files[128];
 static int n_files;
 

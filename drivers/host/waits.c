@@ -46,7 +46,13 @@ VOID WdmKeInitializeEvent(PKEVENT e, EVENT_TYPE type, BOOLEAN state)
 void set_event(PKEVENT e) { change(&e->Header, 1, false); }
 VOID KeClearEvent(PKEVENT e) { change(&e->Header, 0, false); }
 LONG KeResetEvent(PKEVENT e) { return change(&e->Header, 0, false); }
-VOID KeInitializeSemaphore(PKSEMAPHORE s, LONG count, LONG limit) { make(&s->Header, SEMAPHORE, true, count), s->Limit = limit; }
+
+VOID KeInitializeSemaphore(PKSEMAPHORE s, LONG count, LONG limit)
+{
+    make(&s->Header, SEMAPHORE, true, count);
+    s->Limit = limit;
+}
+
 LONG WdmKeReleaseSemaphore(PKSEMAPHORE s, LONG n) { return change(&s->Header, n, true); }
 VOID KeInitializeMutex(PKMUTEX m, ULONG level) { (void)level, make(&m->Header, MUTEX, true, 1), m->Owner = NULL; }
 
@@ -87,8 +93,9 @@ static void tell_in_flight(char *text, size_t size)
         if (!lives(p) || (p->owner == ORIGINATOR && !p->asking))
             continue;
         const Location *l = &p->at[p->current <= p->size ? p->current : p->size];
-        n += (size_t)snprintf(text + n, size - n, "%sIRP %u.%lu (%s), which %s %s, sent at %s", n ? "; " : "", p->slot,
-                              (unsigned long)p->use, major_name(l->major), who(p->asking ? p->asking->device : p->owner),
+        const int holder = p->asking ? p->asking->device : p->owner;
+        n += (size_t)snprintf(text + n, size - n, "%sIRP %u.%lu (%s), which %s %s, sent at %s", n ? "; " : "",
+                              p->slot, (unsigned long)p->use, major_name(l->major), who(holder),
                               p->asking ? what_runs(p->asking) : p->routine ? "holds with a cancel routine" : "holds",
                               place(p->sites.sent));
     }
@@ -248,7 +255,8 @@ NTSTATUS WdmKeWaitForMultipleObjects(ULONG n, PVOID objects[], WAIT_TYPE type, P
         mark_waiting(true, at);
     pthread_mutex_lock(&wait_lock);
     if (timeout)
-        ready = wait_until(n, objects, type, timeout->QuadPart < 0 ? now_in_100ns() - timeout->QuadPart : timeout->QuadPart);
+        ready = wait_until(n, objects, type,
+                           timeout->QuadPart < 0 ? now_in_100ns() - timeout->QuadPart : timeout->QuadPart);
     else
         ready = wait_for_ever(n, objects, type, at);
     pthread_mutex_unlock(&wait_lock);

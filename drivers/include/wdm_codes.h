@@ -75,6 +75,9 @@ typedef struct _DEVICE_CAPABILITIES {
     ULONG Address, UINumber;
     DEVICE_POWER_STATE DeviceState[PowerSystemMaximum];
 } DEVICE_CAPABILITIES, *PDEVICE_CAPABILITIES;
-typedef struct _DEVICE_RELATIONS { ULONG Count; struct _DEVICE_OBJECT *Objects[1]; } DEVICE_RELATIONS, *PDEVICE_RELATIONS;
+typedef struct _DEVICE_RELATIONS {
+    ULONG Count;
+    struct _DEVICE_OBJECT *Objects[1];
+} DEVICE_RELATIONS, *PDEVICE_RELATIONS;
 
 #endif

@@ -1,4 +1,4 @@
-/* bus.c: a bus driver in WDM style. Its device is the bottom of the stack. Reads wait in a queue, and can be cancelled. */
+/* bus.c: a bus driver in WDM style. Its device is the bottom of the stack. Reads wait in a queue, can be cancelled. */
 #include <wdm.h>
 
 typedef struct {
@@ -31,7 +31,8 @@ NTSTATUS DriverEntry(PDRIVER_OBJECT DriverObject, PUNICODE_STRING RegistryPath)
 /* What enumeration does. */
 NTSTATUS BusCreatePdo(PDRIVER_OBJECT DriverObject, PDEVICE_OBJECT *Pdo)
 {
-    NTSTATUS status = IoCreateDevice(DriverObject, sizeof(PDO_EXTENSION), NULL, FILE_DEVICE_BUS_EXTENDER, 0, FALSE, Pdo);
+    NTSTATUS status = IoCreateDevice(DriverObject, sizeof(PDO_EXTENSION), NULL, FILE_DEVICE_BUS_EXTENDER, 0, FALSE,
+                                     Pdo);
     if (NT_SUCCESS(status)) {
         PPDO_EXTENSION ext = (*Pdo)->DeviceExtension;
         KeInitializeSpinLock(&ext->Lock);

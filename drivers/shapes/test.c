@@ -51,7 +51,8 @@ int main(int argc, char **argv)
     ending = argc > 2 && strcmp(argv[2], "all") ? atoi(argv[2]) : -1;
     const int threads = argc > 4 ? atoi(argv[3]) : 1;
     rounds = argc > 4 ? atoi(argv[4]) : (shape < 0 ? n_right : 1) * (ending < 0 ? ENDINGS : 1);
-    PDRIVER_OBJECT lower = WdmLoadDriver("lower", lower_DriverEntry), middle = WdmLoadDriver("middle", middle_DriverEntry);
+    PDRIVER_OBJECT lower = WdmLoadDriver("lower", lower_DriverEntry);
+    PDRIVER_OBJECT middle = WdmLoadDriver("middle", middle_DriverEntry);
     IoCreateDevice(lower, 0, NULL, FILE_DEVICE_UNKNOWN, 0, FALSE, &pdo);
     IoCreateDevice(lower, 0, NULL, FILE_DEVICE_UNKNOWN, 0, FALSE, &MiddleElsewhere);
     middle->DriverExtension->AddDevice(middle, pdo);

@@ -52,7 +52,8 @@ static NTSTATUS FlakyRead(PDEVICE_OBJECT DeviceObject, PIRP Irp)
 {
     static LONG reads;
     UNREFERENCED_PARAMETER(DeviceObject);
-    return InterlockedIncrement(&reads) % 2 ? Complete(Irp, STATUS_IO_DEVICE_ERROR, 0) : Complete(Irp, STATUS_SUCCESS, 4);
+    const BOOLEAN fails = InterlockedIncrement(&reads) % 2;
+    return fails ? Complete(Irp, STATUS_IO_DEVICE_ERROR, 0) : Complete(Irp, STATUS_SUCCESS, 4);
 }
 
 static NTSTATUS FlakyEntry(PDRIVER_OBJECT DriverObject, PUNICODE_STRING RegistryPath)

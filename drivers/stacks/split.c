@@ -1,4 +1,4 @@
-/* split.c: a disk-like driver. A write of its callers goes down in pieces, in one packet of its own that is used again. */
+/* split.c: a disk-like driver. A write goes down in pieces, in one packet of the driver's own that is used again. */
 #include "common.h"
 
 enum { PIECE = 8 };

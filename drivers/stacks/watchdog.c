@@ -1,5 +1,6 @@
-/* watchdog.c: a driver that sends a packet of its own for each request, and cancels it by a timer where the device below
-   takes too long. Whoever comes last, the timer's call or the routine, frees the packet and completes the request. */
+/* watchdog.c: a driver that sends a packet of its own for each request, and cancels it by a timer where the device
+   below takes too long. Whoever comes last, the timer's call or the routine, frees the packet and completes the
+   request. */
 #include "common.h"
 
 typedef struct { PDEVICE_OBJECT Self, Lower; } EXTENSION, *PEXTENSION;
