@@ -22,8 +22,8 @@ use Rattle.irp_shared.specs.declared.word_line.WordLine.{WordLine}
 use Rattle.irp_script_reader.specs.declared.act.Step.{Step}
 use Rattle.irp_workers.specs.declared.step_kind.StepKind.{StepKind}
 use Rattle.irp_workers.specs.declared.step_kind.StepKind.TheVariants.{Calls, OnLock, Hands, OnSlot, Finishes}
-use Rattle.irp_slot_parties.specs.declared.taken.Taken.{Taken}
-use Rattle.irp_slot_parties.specs.AtSlots.{AtSlots, fresh}
+use Rattle.irp_workers.specs.declared.taken.Taken.{Taken}
+use Rattle.irp_workers.specs.AtSlots.{AtSlots, fresh}
 use Rattle.irp_workers.specs.Calling.{CallsFor, found_drained}
 use Rattle.irp_workers.specs.StepKinds.{IsNamed, kind_of}
 use Rattle.irp_workers.specs.Outcomes.{is_own_placed, own_placed}

@@ -52,7 +52,7 @@ use Rattle.irp_workers.specs.declared.step_kind.StepKind.TheVariants.{
   Finishes,
 }
 use Rattle.irp_workers.specs.Acts.{Acts, HandActs, SlotActs}
-use Rattle.irp_slot_parties.specs.AtSlots.{AtSlots, IsSpent, fresh}
+use Rattle.irp_workers.specs.AtSlots.{AtSlots, IsSpent, fresh}
 use Rattle.irp_workers.specs.Calling.{CallsFor}
 use Rattle.irp_workers.specs.StepKinds.{IsNamed, kind_of}
 use Rattle.irp_workers.specs.Outcomes.{is_own_step, own_placed}

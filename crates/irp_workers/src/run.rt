@@ -6,7 +6,7 @@ ghost use Rattle.irp_shared.specs.declared.word_line.WordLine.{WordLine};
 ghost use Rattle.irp_remove.specs.Pairing.{IsSeatOf, lock_count};
 ghost use Rattle.irp_slots.specs.Pairing.{IsCancellerOf, IsOwnerOf};
 ghost use Rattle.irp_workers.specs.Accounts.{Accounts};
-ghost use Rattle.irp_slot_parties.specs.AtSlots.{OwnTheirSlots};
+ghost use Rattle.irp_workers.specs.AtSlots.{OwnTheirSlots};
 ghost use Rattle.irp_workers.specs.Numbers.{AreSame, EachAsOften};
 ghost use Rattle.irp_workers.specs.Seats.{
   HasAllSlots,
@@ -32,13 +32,13 @@ use crate::labels::Labels;
 use crate::meeting::Meeting;
 use crate::run_context::RunContext;
 use crate::script_seat::ScriptSeat;
+use crate::slot_parties::SlotParties;
 use crate::words::put_in_order;
 use crate::worker::Worker;
 use irp_remove::{Locks, RemoveSeat};
 use irp_routines::Ask;
 use irp_script_reader::{ScriptParts, Step};
 use irp_shared::{Seat, Session, Shared, WordLine};
-use irp_slot_parties::SlotParties;
 use irp_slots::{Canceller, SlotOwner, Slots};
 use std::alloc::{AllocError, Global};
 use std::sync::Wait;

@@ -1,6 +1,6 @@
 use Rattle.std.proofs.Common.{◌<◌, length, rules}
 use Rattle.irp_workers.specs.Seats.{number_of, seat_at_work}
-use Rattle.irp_slot_parties.proofs.Places.{told_at}
+use Rattle.irp_workers.proofs.Places.{told_at}
 use Rattle.irp_workers.proofs.Working.{made_at}
 use Rattle.irp_workers.proofs.worker.Worker.step.Goals as goal
 
