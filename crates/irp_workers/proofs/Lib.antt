@@ -10,6 +10,7 @@ pub mod Pairs
 pub mod Places
 pub mod Ran
 pub mod Shares
+pub mod Showing
 pub mod Slotted
 pub mod StepCalls
 pub mod Told
