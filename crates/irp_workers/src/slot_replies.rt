@@ -1,7 +1,7 @@
 //! What word lines tell of the answers of cancel slots, and the tokens that come with these.
 
 ghost use Rattle.std.specs.Prelude.{◌≡◌};
-ghost use Rattle.irp_slot_parties.specs.AtSlots.{published_reply, published_token, requested_reply, requested_token, withdrawn_reply, withdrawn_token};
+ghost use Rattle.irp_workers.specs.AtSlots.{published_reply, published_token, requested_reply, requested_token, withdrawn_reply, withdrawn_token};
 
 use irp_shared::WordReply;
 use irp_slots::{Publication, Request, Token, Withdrawal};

@@ -3,9 +3,9 @@
 ghost use Rattle.std.specs.Prelude.{◌≡◌, ◌<◌, ◌++◌, ◌∷◌, [], All, IfNone, IfOk, IfSome, MatchOption, None, OnErr, Some, false, length, map, slice_get, slice_set, true, vec_capacity, vec_len};
 ghost use Rattle.irp_slots.specs.Pairing.{IsCancellerOf, slot_count};
 ghost use Rattle.irp_slots.specs.declared.answers.Token.{Token};
-ghost use Rattle.irp_slot_parties.specs.AtSlots.{IsSpent, Publishing, Requesting, Withdrawing, fresh, kept};
+ghost use Rattle.irp_workers.specs.AtSlots.{IsSpent, Publishing, Requesting, Withdrawing, fresh, kept};
 
-use crate::replies::{published, requested, withdrawn};
+use crate::slot_replies::{published, requested, withdrawn};
 use crate::taken::Taken;
 use irp_shared::WordReply;
 use irp_slots::{Canceller, SlotOwner, Slots, Token};
@@ -28,7 +28,7 @@ pub struct SlotParties<'a> {
 impl<'a> Model for SlotParties<'a> {
     ghost use Rattle.std.specs.Prelude.{All};
     ghost use Rattle.irp_slots.specs.Pairing.{IsCancellerOf, IsOwnerOf, slot_count};
-    ghost use Rattle.irp_slot_parties.specs.AtSlots.{AtSlots};
+    ghost use Rattle.irp_workers.specs.AtSlots.{AtSlots};
 
     ghost Value = { AtSlots };
 

@@ -1,6 +1,6 @@
 use Rattle.std.proofs.Common.{◌<◌, ℕ, get_or}
-use Rattle.irp_slot_parties.specs.AtSlots.{IsSpent}
-use Rattle.irp_slot_parties.proofs.parties.place_of_token.Given as goal
+use Rattle.irp_workers.specs.AtSlots.{IsSpent}
+use Rattle.irp_workers.proofs.slot_parties.place_of_token.Given as goal
 
 -- none of those so far is left
 abbrev pub invariant-loop-place : goal.invariant-loop-place

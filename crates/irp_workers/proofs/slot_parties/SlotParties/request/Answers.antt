@@ -1,8 +1,8 @@
 use Rattle.std.proofs.Common.{◌≡◌, subst, rules}
 use Rattle.irp_slots.specs.Calls.{Requests, RequestSteps}
-use Rattle.irp_slot_parties.specs.AtSlots.{AtSlots}
-use Rattle.irp_slot_parties.proofs.Slotted.{requesting}
-use Rattle.irp_slot_parties.proofs.parties.SlotParties.request.Goals as goal
+use Rattle.irp_workers.specs.AtSlots.{AtSlots}
+use Rattle.irp_workers.proofs.Slotted.{requesting}
+use Rattle.irp_workers.proofs.slot_parties.SlotParties.request.Goals as goal
 
 pub returns : goal.returns
 returns c =

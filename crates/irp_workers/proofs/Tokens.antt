@@ -3,8 +3,8 @@ use Rattle.std.proofs.Common.{◌≡◌, ℕ, true, Option, Some, None, sym, ref
 use mathlib.Core.Bool.{true≢false}
 use Rattle.std.specs.Option.{is_some}
 use Rattle.irp_slots.specs.declared.answers.Token.{Token}
-use Rattle.irp_slot_parties.specs.declared.taken.Taken.{Taken}
-use Rattle.irp_slot_parties.specs.AtSlots.{fresh}
+use Rattle.irp_workers.specs.declared.taken.Taken.{Taken}
+use Rattle.irp_workers.specs.AtSlots.{fresh}
 
 pub taken_left : (taken : Taken) (slot : ℕ) → taken.slot ≡ slot → is_some taken.token ≡ true → (token : Token) × (taken ≡ fresh slot token)
 taken_left taken slot is some = by taken.token refl some

@@ -1,6 +1,6 @@
 use Rattle.std.proofs.Common.{rules}
-use Rattle.irp_slot_parties.proofs.Slotted.{publishing}
-use Rattle.irp_slot_parties.proofs.parties.SlotParties.publish.Goals as goal
+use Rattle.irp_workers.proofs.Slotted.{publishing}
+use Rattle.irp_workers.proofs.slot_parties.SlotParties.publish.Goals as goal
 
 pub returns : goal.returns
 returns c =

@@ -9,8 +9,8 @@ use Rattle.irp_slots.specs.declared.answers.Publication.{Publication}
 use Rattle.irp_slots.specs.declared.answers.Withdrawal.{Withdrawal}
 use Rattle.irp_slots.specs.declared.answers.Request.{Request}
 use Rattle.irp_transcript.specs.declared.word_line.WordReply.{WordReply}
-use Rattle.irp_slot_parties.specs.AtSlots.{AtSlots, Publishing, Requesting, Withdrawing, kept, published_reply, published_token, requested_reply, requested_token, withdrawn_reply, withdrawn_token}
-use Rattle.irp_slot_parties.proofs.Places.{told_at}
+use Rattle.irp_workers.specs.AtSlots.{AtSlots, Publishing, Requesting, Withdrawing, kept, published_reply, published_token, requested_reply, requested_token, withdrawn_reply, withdrawn_token}
+use Rattle.irp_workers.proofs.Places.{told_at}
 
 there_at : (owners : List Publisher) (place : ℕ) (owner : Publisher) → place < length owners → owner ≡ get_or owners place owner → slice_get owners place ≡ Some owner
 there_at owners place owner lt is = slice_get-get_or owners place owner lt ∙ ap Some (sym is)
