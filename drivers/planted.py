@@ -174,7 +174,7 @@ FAULTS = [
     shape("SkipThenComplete", ["AfterSkip ", "D2 (middle)", "IoCompleteRequest"]),
     shape("MarksInRoutine", ["Mark ", "MarksUnmarked, completion routine of D2 (middle)", "marks, and"],
           verdict="illegal"),
-    shape("WaitsForEver", ["Hang", "wrong.c:", "WaitsForEver", "D2 (middle) holds"], verdict=None),
+    shape("WaitsForEver", ["Hang", "wrong.c:", "WaitsForEver", "is in MiddleControl, dispatch for DEVICE_CONTROL of D2 (middle)"], verdict=None),
 ]
 
 # Hosts made wrong: edits of the host's files. Each is judged illegal on one of the runs, but for the last.

@@ -99,6 +99,15 @@ static bool is_same_below(Packet *p)
         word_of(raw_at(p, p->current - 1)) == here->word;
 }
 
+/* A send returns. */
+void returned_from(Entry *e, NTSTATUS answer)
+{
+    e->reply = STATUS;
+    e->answer = (ULONG)answer;
+    n_sends--;
+    pthread_cond_broadcast(&host_settled);
+}
+
 /* The dispatch passes the packet down by one plan. Returns what the device below answers. */
 static NTSTATUS pass_down(Packet *p, Frame *f, int d)
 {
@@ -121,6 +130,10 @@ static NTSTATUS pass_down(Packet *p, Frame *f, int d)
     p->asking = NULL;
     const NTSTATUS lower = enter_device(p, d, f->e);
     f->lower = (ULONG)lower;
+    if (f->below) {
+        returned_from(f->below, lower);
+        f->below = NULL;
+    }
     return lower;
 }
 
@@ -131,8 +144,8 @@ static NTSTATUS send(Packet *p, int by, int d)
     if (lives(p)) {
         if (f && f->marked && p->skipped)
             note("a warning of the kit", "%s: marks its location and skips it", what_runs(f));
-        if (by >= 0 && devices[by].lower != d && devices[d].live && (p->skipped || p->copied || p->touched ||
-                                                                     p->prep != NOTHING))
+        const bool prepared = p->skipped || (p->current > 1 && (p->copied || p->touched || p->prep != NOTHING));
+        if (prepared && by >= 0 && devices[by].lower != d && devices[d].live)
             return send_in_place(p, by, d);
         settle(p, false);
         if (p->owner == by)
@@ -148,10 +161,7 @@ static NTSTATUS send(Packet *p, int by, int d)
     if (p->prep == FILLED)
         tell_hand_copied(p, p->at[p->current - 1].set);
     const NTSTATUS answer = enter_device(p, d, e);
-    e->reply = STATUS;
-    e->answer = (ULONG)answer;
-    n_sends--;
-    pthread_cond_broadcast(&host_settled);
+    returned_from(e, answer);
     return answer;
 }
 
