@@ -149,6 +149,7 @@ struct Packet {
     Entry *open;
     Packet *rides, *rider; /* in_place.c: it stands in for another one; another one stands in for it */
     PKEVENT up; /* set when a rider is up, where its dispatch waits for that */
+    void *kept_by;     /* the routine that kept it last */
     PVOID buffer;      /* given by WdmBuild, freed with the packet */
     ULONG room;        /* what was built has room for so many bytes there, to be copied to UserBuffer */
     bool writes_back;

@@ -110,6 +110,7 @@ static void begin_use(Packet *p, NTSTATUS status)
     p->information = 0;
     p->cancel = p->returned = p->lost = p->writes_back = false;
     prepare_nothing(p);
+    p->kept_by = NULL;
     p->sites.sent = p->sites.completed = p->sites.cancel = (WDM_SITE){ 0 };
     p->use = next_use++;
 }

@@ -58,6 +58,7 @@ NTSTATUS enter_device(Packet *p, int d, Entry *e)
 {
     Location *l = &p->at[--p->current];
     p->sites.completed = (WDM_SITE){ 0 };
+    p->kept_by = NULL;
     put_back(p);
     l->device = d;
     raw_at(p, p->current)->DeviceObject = devices[d].raw;

@@ -29,6 +29,7 @@ void take_kept_answer(Packet *p, Frame *f)
     const ULONG status = f->signalled ? f->status : own ? (ULONG)p->irp->IoStatus.Status : p->status;
     const uint64_t information = f->signalled ? f->information : own ? p->irp->IoStatus.Information : p->information;
     a->plan = KEEP;
+    p->kept_by = f->fn;
     set->kept = true;
     if ((status != p->status || information != p->information) && rules_completable(status)) {
         a->replaced = set->replaced = true;

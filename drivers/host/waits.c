@@ -93,10 +93,11 @@ static void tell_in_flight(char *text, size_t size)
         if (!lives(p) || (p->owner == ORIGINATOR && !p->asking))
             continue;
         const Location *l = &p->at[p->current <= p->size ? p->current : p->size];
-        n += (size_t)snprintf(text + n, size - n, "%sIRP %u.%lu (%s), which %s %s%s, sent at %s", n ? "; " : "",
+        n += (size_t)snprintf(text + n, size - n, "%sIRP %u.%lu (%s), which %s %s%s%s%s, sent at %s", n ? "; " : "",
                               p->slot, (unsigned long)p->use, major_name(l->major),
                               p->asking ? "is in" : who(p->owner), p->asking ? what_runs(p->asking) : "holds",
-                              p->routine ? " with a cancel routine" : "", place(p->sites.sent));
+                              p->routine ? " with a cancel routine" : "", p->kept_by ? ", kept by " : "",
+                              p->kept_by ? function_name(p->kept_by) : "", place(p->sites.sent));
     }
     if (!n)
         snprintf(text, size, "no packet is in flight");
