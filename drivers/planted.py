@@ -74,7 +74,8 @@ FAULTS = [
            ["Returned ", "ToasterReadWrite, dispatch for WRITE of D1 (toaster)", "returned 0"], verdict="illegal"),
     sample("skipped, then a routine set", "filter.c",
            [(FILTER_SEND, "    IoSkipCurrentIrpStackLocation(Irp);\n"
-             "    IoSetCompletionRoutine(Irp, FilterReadDone, ext, TRUE, FALSE, FALSE);\n    return IoCallDriver(ext->Lower, Irp);\n")],
+             "    IoSetCompletionRoutine(Irp, FilterReadDone, ext, TRUE, FALSE, FALSE);\n"
+             "    return IoCallDriver(ext->Lower, Irp);\n")],
            ["AfterSkip ", "filter.c:", "FilterRead", "IoSetCompletionRoutine", "by D2 (filter)"], refused="AfterSkip"),
     sample("remove lock released twice", "toaster.c",
            [("    IoReleaseRemoveLock(&ext->RemoveLock, Irp);\n    return STATUS_CONTINUE",
@@ -180,6 +181,8 @@ FAULTS = [
     shape("SkipThenComplete", ["AfterSkip ", "D2 (middle)", "IoCompleteRequest"]),
     shape("MarksInRoutine", ["Mark ", "MarksUnmarked, completion routine of D2 (middle)", "marks, and"],
           verdict="illegal"),
+    shape("MarksAndWaits", ["Returned ", "MiddleControl, dispatch for DEVICE_CONTROL of D2 (middle)",
+                            "marked the packet pending in its routine"], verdict="illegal", ending=1),
     shape("WaitsForEver", ["Hang", "wrong.c:", "WaitsForEver",
                            "is in MiddleControl, dispatch for DEVICE_CONTROL of D2 (middle)",
                            "kept by NeverSignals"], verdict=None),

@@ -148,6 +148,7 @@ struct Packet {
     Frame *asking; /* who is asked about it and hasn't decided */
     Entry *open;
     Packet *rides, *rider; /* in_place.c: it stands in for another one; another one stands in for it */
+    Setting *mine; /* of a rider: the device's own routine, which runs when it is up */
     PKEVENT up; /* set when a rider is up, where its dispatch waits for that */
     void *kept_by;     /* the routine that kept it last */
     PVOID buffer;      /* given by WdmBuild, freed with the packet */
@@ -247,6 +248,7 @@ void learn_file(const char *file, int driver);
 int calling_driver(void);
 int start_thread(void *(*run)(void *), void *context);
 void set_event(PKEVENT event);
+bool is_event(const void *object);
 bool wait_for_host(bool (*done)(void), int seconds);
 void finish_work(void);
 bool timers_armed(void);
@@ -282,6 +284,8 @@ NTSTATUS send_in_place(Packet *p, int by, int device);
 void returned_from(Entry *e, NTSTATUS answer);
 void rider_came_up(Packet *rider, Entry *e);
 bool dispatch_has_it_back(Packet *p, Frame *routine);
+bool will_wait(const Packet *p, const Frame *dispatch);
+NTSTATUS forward_in_place(Packet *p, int device);
 
 /* traps.c, remove_locks.c */
 void open_traps(void);

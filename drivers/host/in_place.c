@@ -93,12 +93,32 @@ NTSTATUS send_in_place(Packet *p, int by, int d)
     note("outside the model", "%s sends to %s, which isn't the device below it: recorded as held, with a packet of its "
          "own sent there in its place", who(by), who(d));
     Setting *mine = p->want;
-    p->skipped = p->copied = false;
+    p->skipped = p->copied = p->touched = false;
     settle(p, false);
     const int top = skipped ? p->current : p->current - 1;
     PIO_STACK_LOCATION raw = raw_at(p, top);
     Packet *r = new_rider(p, top, raw->MajorFunction, word_of(raw), &keeper);
-    p->want = skipped ? NULL : mine;
+    p->want = NULL;
+    r->mine = skipped ? NULL : mine;
+    return send_rider(r, d);
+}
+
+/* Whether a dispatch that forwards unmarked will wait for its routine: what it hands to the routine is an event of its
+   own, on its stack. */
+bool will_wait(const Packet *p, const Frame *dispatch)
+{
+    const char here = 0, *event = p->want ? p->want->raw : NULL;
+    return !dispatch->marked && !p->skipped && event > &here && event < (const char *)dispatch && is_event(event);
+}
+
+/* Such a dispatch stays asked: a rider goes down, and the dispatch's routine runs when it is up. */
+NTSTATUS forward_in_place(Packet *p, int d)
+{
+    const Location here = p->at[p->current];
+    Setting *mine = p->want;
+    prepare_nothing(p);
+    Packet *r = new_rider(p, p->current - 1, here.major, here.word, &keeper);
+    r->mine = mine;
     return send_rider(r, d);
 }
 
@@ -120,6 +140,26 @@ static void let_go(Packet *r)
     pthread_cond_broadcast(&host_settled);
 }
 
+/* The device's own routine runs for a rider that is up, if there is one and its flags are met. Returns whether the packet
+   goes on; where it doesn't, its next owner may have ended it already. */
+static bool run_own_routine(const Packet *r, int device)
+{
+    Packet *p = r->rides;
+    const Setting *s = r->mine;
+    if (!s || !((s->flags & (NT_SUCCESS(r->status) ? SL_INVOKE_ON_SUCCESS : SL_INVOKE_ON_ERROR)) ||
+                (p->cancel && (s->flags & SL_INVOKE_ON_CANCEL))))
+        return true;
+    Frame f = { .kind = ROUTINE, .p = p, .use = p->use, .fn = (void *)s->fn, .device = device, .location = r->size,
+                .settled = true };
+    p->kept_by = f.fn;
+    enter_frame(&f);
+    let_driver_run();
+    NTSTATUS answer = s->fn(devices[device].raw, p->irp, s->raw);
+    driver_came_back();
+    leave_frame();
+    return answer != STATUS_MORE_PROCESSING_REQUIRED;
+}
+
 /* The rider is up: the originator keeps and frees it. Then the device's own routine runs, and completes or keeps. */
 void rider_came_up(Packet *r, Entry *e)
 {
@@ -137,22 +177,14 @@ void rider_came_up(Packet *r, Entry *e)
         set_event(r->up);
         return;
     }
-    Setting *mine = p->want;
-    const int by = p->owner;
-    p->want = NULL;
-    p->touched = false;
-    NTSTATUS answer = STATUS_SUCCESS;
-    if (mine && ((NT_SUCCESS(r->status) ? mine->flags & SL_INVOKE_ON_SUCCESS : mine->flags & SL_INVOKE_ON_ERROR) ||
-                 (p->cancel && (mine->flags & SL_INVOKE_ON_CANCEL)))) {
-        Frame f = { .kind = ROUTINE, .p = p, .use = p->use, .fn = (void *)mine->fn, .device = by, .location = j,
-                    .settled = true };
-        enter_frame(&f);
-        let_driver_run();
-        answer = mine->fn(devices[by].raw, p->irp, mine->raw);
-        driver_came_back();
-        leave_frame();
+    const int by = p->asking ? p->asking->device : p->owner;
+    if (!run_own_routine(r, by))
+        return;
+    if (p->asking) { /* it was taken to wait, and its routine continues */
+        p->asking->waiting = true;
+        settle(p, false);
     }
-    if (answer != STATUS_MORE_PROCESSING_REQUIRED && lives(p) && p->owner == by) {
+    if (lives(p) && p->owner == by) {
         p->at[p->current].real = true; /* the mark of a routine is the rider's matter */
         complete(p, by, (ULONG)p->irp->IoStatus.Status, p->irp->IoStatus.Information);
     }

@@ -249,6 +249,8 @@ VOID WdmIoMarkIrpPending(PIRP Irp, WDM_SITE at)
         }
         if (on_top(p))
             self.frames->marked = true;
+        if (on_top(p) && self.frames->kind == ROUTINE && p->at[p->current].frame)
+            p->at[p->current].frame->marked_by_routine = true;
     }
     leave_host();
 }

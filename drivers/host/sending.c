@@ -50,7 +50,7 @@ static NTSTATUS dispatch_returned(Packet *p, Frame *f, NTSTATUS answer)
     for (int j = 1; j <= p->size; j++)
         if (p->at[j].frame == f)
             p->at[j].frame = NULL;
-    return f->forced && !f->marked ? STATUS_PENDING : answer;
+    return f->forced && !f->marked && !f->marked_by_routine ? STATUS_PENDING : answer;
 }
 
 /* Enters a device with the packet: its location is the next lower one. Under G before and after. */
@@ -122,7 +122,6 @@ static NTSTATUS pass_down(Packet *p, Frame *f, int d)
         a->plan = SKIPS;
         p->current++;
     } else {
-        tell_hand_copied(p, p->want);
         a->plan = f->marked ? FORWARD_PEND : FORWARD;
         a->set = p->want;
         p->at[p->current - 1] = (Location){ .device = NOBODY, .major = here.major, .word = here.word, .set = p->want,
@@ -177,9 +176,11 @@ NTSTATUS WdmIoCallDriver(PDEVICE_OBJECT Target, PIRP Irp, WDM_SITE at)
     NTSTATUS answer;
     if (lives(p) && p->owner != ENDED && (f || p->owner == by))
         p->sites.sent = at;
-    if (f && devices[by].lower == d && !f->cancel && (p->skipped ? !f->marked : is_same_below(p)))
-        answer = pass_down(p, f, d);
-    else
+    if (f && devices[by].lower == d && !f->cancel && (p->skipped ? !f->marked : is_same_below(p))) {
+        if (!p->skipped)
+            tell_hand_copied(p, p->want);
+        answer = will_wait(p, f) ? forward_in_place(p, d) : pass_down(p, f, d);
+    } else
         answer = send(p, by, d);
     leave_host();
     return answer;

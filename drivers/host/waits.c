@@ -43,6 +43,7 @@ VOID WdmKeInitializeEvent(PKEVENT e, EVENT_TYPE type, BOOLEAN state)
     make(&e->Header, EVENT, type == SynchronizationEvent, state != 0);
 }
 
+bool is_event(const void *object) { return ((const DISPATCHER_HEADER *)object)->Type == EVENT; }
 void set_event(PKEVENT e) { change(&e->Header, 1, false); }
 VOID KeClearEvent(PKEVENT e) { change(&e->Header, 0, false); }
 LONG KeResetEvent(PKEVENT e) { return change(&e->Header, 0, false); }
