@@ -25,12 +25,14 @@ def shape(name, tells, **more):
 
 
 WRITE_DONE = "    return BusComplete(Irp, STATUS_SUCCESS, length);\n"
-TAKE_OUT = "        if (IoSetCancelRoutine(next, NULL) != NULL) { /* else its cancel routine runs, and waits for the lock */\n"
+TAKE_OUT = ("        if (IoSetCancelRoutine(next, NULL) != NULL) { "
+            "/* else its cancel routine runs, and waits for the lock */\n")
 LOOK_AT_CANCEL = """    if (Irp->Cancel && IoSetCancelRoutine(Irp, NULL) != NULL) {
         KeReleaseSpinLock(&ext->Lock, irql);
         return BusComplete(Irp, STATUS_CANCELLED, 0);
     }
 """
+MARK = "    IoMarkIrpPending(Irp);\n"
 MARK_AND_QUEUE = """    IoMarkIrpPending(Irp);
     InsertTailList(&ext->Reads, &Irp->Tail.Overlay.ListEntry);
     KeReleaseSpinLock(&ext->Lock, irql);
@@ -71,8 +73,9 @@ FAULTS = [
              "    status = IoCallDriver(ext->Lower, Irp);\n    return status;")],
            ["Returned ", "ToasterReadWrite, dispatch for WRITE of D1 (toaster)", "returned 0"], verdict="illegal"),
     sample("skipped, then a routine set", "filter.c",
-           [(FILTER_SEND, "    IoSkipCurrentIrpStackLocation(Irp);\n    IoSetCompletionRoutine(Irp, FilterReadDone, ext, "
-             "TRUE, FALSE, FALSE);\n    return IoCallDriver(ext->Lower, Irp);\n")],
+           [(FILTER_SEND, "    IoSkipCurrentIrpStackLocation(Irp);\n"
+             "    IoSetCompletionRoutine(Irp, FilterReadDone, ext, TRUE, FALSE, FALSE);\n"
+             "    return IoCallDriver(ext->Lower, Irp);\n")],
            ["AfterSkip ", "filter.c:", "FilterRead", "IoSetCompletionRoutine", "by D2 (filter)"], refused="AfterSkip"),
     sample("remove lock released twice", "toaster.c",
            [("    IoReleaseRemoveLock(&ext->RemoveLock, Irp);\n    return STATUS_CONTINUE",
@@ -83,7 +86,7 @@ FAULTS = [
            ["NotDrained ", "toaster.c:", "in ToasterPnp: IoDeleteDevice", "D1 (toaster)"],
            refused="NotDrained"),
     sample("marked after it was queued", "bus.c",
-           [(MARK_AND_QUEUE, MARK_AND_QUEUE.replace("    IoMarkIrpPending(Irp);\n", "") + "    IoMarkIrpPending(Irp);\n")],
+           [(MARK_AND_QUEUE, MARK_AND_QUEUE.replace(MARK, "") + MARK)],
            ["D0 (bus)"], verdict=None, args="60", seeds="1..8"),
     sample("completed with an error, success returned", "bus.c",
            [(WRITE_DONE, "    BusComplete(Irp, STATUS_UNSUCCESSFUL, 0);\n    return STATUS_SUCCESS;\n")],
@@ -111,7 +114,8 @@ FAULTS = [
     sample("filter completes what it has sent", "filter.c",
            [(FILTER_SEND, FILTER_FORWARD + "    NTSTATUS status = IoCallDriver(ext->Lower, Irp);\n"
              "    IoCompleteRequest(Irp, IO_NO_INCREMENT);\n    return status;\n")],
-           ["NotOwner ", "filter.c:", "FilterRead, dispatch for READ of D2 (filter)", "by D2 (filter), which D0 (bus) has"],
+           ["NotOwner ", "filter.c:", "FilterRead, dispatch for READ of D2 (filter)",
+            "by D2 (filter), which D0 (bus) has"],
            refused="NotOwner"),
     stack("a thread completes twice", "removal.c",
           [("            IoReleaseRemoveLock(&ext->RemoveLock, irp);\n        }\n    }",
@@ -125,7 +129,8 @@ FAULTS = [
           refused="CancelRoutineSet"),
     stack("a work item completes twice", "power.c",
           [("    IoCompleteRequest(irp, IO_NO_INCREMENT);\n", "    IoCompleteRequest(irp, IO_NO_INCREMENT);\n" * 2)],
-          ["CompletedTwice (0x44)", "power.c:", "Ready, work of D1 (power)", "by D1 (power)", "completed before at power.c:"],
+          ["CompletedTwice (0x44)", "power.c:", "Ready, work of D1 (power)", "by D1 (power)",
+           "completed before at power.c:"],
           refused="Ended"),
     stack("a thread sends what isn't prepared", "retry.c",
           [("            SendDown(ext, CONTAINING_RECORD(e, IRP, Tail.Overlay.ListEntry));",
@@ -153,7 +158,8 @@ FAULTS = [
            ("        KeSetEvent(&ext->Work, IO_NO_INCREMENT, FALSE);\n    Irp->", "        Pause(1);\n    Irp->")],
           ["InFlight ", "removal.c:", "Pnp, dispatch for PNP of D1 (removal)", "IoDeleteDevice", "D1 (removal)"],
           verdict=None, refused="InFlight"),
-    stack("a cancel routine doesn't complete", "serial.c", [("    Complete(Irp, STATUS_CANCELLED, 0);\n}", "    (void)Irp;\n}")],
+    stack("a cancel routine doesn't complete", "serial.c",
+          [("    Complete(Irp, STATUS_CANCELLED, 0);\n}", "    (void)Irp;\n}")],
           ["Hang", "WRITE", "D0 (serial) holds", "sent at common.h:"], verdict=None),
     stack("a cancel routine keeps the cancel spin lock", "serial.c",
           [("    IoReleaseCancelSpinLock(Irp->CancelIrql);\n", "")],
@@ -165,7 +171,8 @@ FAULTS = [
           [("1, FALSE);\n    return STATUS_MORE_PROCESSING_REQUIRED;", "1, FALSE);\n    IoCompleteRequest(Irp, 0);\n"
             "    return STATUS_SUCCESS;")],
           ["GivenAway", "ReadDone, completion routine of D1 (retry)"], verdict=None),
-    shape("CompletesWhatItSent", ["CompletedTwice (0x44)", "wrong.c:", "by D2 (middle)", "completed before at lower.c:"],
+    shape("CompletesWhatItSent", ["CompletedTwice (0x44)", "wrong.c:", "by D2 (middle)",
+                                  "completed before at lower.c:"],
           refused="Ended"),
     shape("NothingPrepared", ["NotPrepared ", "wrong.c:", "NothingPrepared", "by D2 (middle)"], refused="NotPrepared"),
     shape("Lost", ["Lost", "dispatch for DEVICE_CONTROL of D2 (middle)"], verdict="illegal"),
@@ -174,7 +181,11 @@ FAULTS = [
     shape("SkipThenComplete", ["AfterSkip ", "D2 (middle)", "IoCompleteRequest"]),
     shape("MarksInRoutine", ["Mark ", "MarksUnmarked, completion routine of D2 (middle)", "marks, and"],
           verdict="illegal"),
-    shape("WaitsForEver", ["Hang", "wrong.c:", "WaitsForEver", "D2 (middle) holds"], verdict=None),
+    shape("MarksAndWaits", ["Returned ", "MiddleControl, dispatch for DEVICE_CONTROL of D2 (middle)",
+                            "marked the packet pending in its routine"], verdict="illegal", ending=1),
+    shape("WaitsForEver", ["Hang", "wrong.c:", "WaitsForEver",
+                           "is in MiddleControl, dispatch for DEVICE_CONTROL of D2 (middle)",
+                           "kept by NeverSignals"], verdict=None),
 ]
 
 # Hosts made wrong: edits of the host's files. Each is judged illegal on one of the runs, but for the last.
@@ -183,9 +194,11 @@ ORDER = [("host.h", "    size_t number;\n", "    size_t number, first, last;\n")
           "/* The entry is settled"),
          ("recording.c", "/* A new entry,", "size_t stamp;\n\n/* A new entry,"),
          ("recording.c", "    e->number = n_history;\n", "    e->number = n_history;\n    e->last = stamp++;\n"),
-         ("sending.c", "    e->reply = STATUS;\n", "    extern size_t stamp;\n    e->last = stamp++;\n    e->reply = STATUS;\n"),
+         ("sending.c", "    e->reply = STATUS;\n",
+          "    extern size_t stamp;\n    e->last = stamp++;\n    e->reply = STATUS;\n"),
          ("writing.c", "    char *text = NULL;\n    size_t length = 0, n = 0;\n",
-          "    char *text = NULL;\n    size_t length = 0, n = 0;\n    qsort(history, n_history, sizeof *history, by_order);\n"
+          "    char *text = NULL;\n    size_t length = 0, n = 0;\n"
+          "    qsort(history, n_history, sizeof *history, by_order);\n"
           "    for (size_t i = 0; i < n_history; i++)\n        history[i]->number = i;\n"),
          ("writing.c", "/* Writes the history up to", "static int by_order(const void *a, const void *b)\n{\n"
           "    const Entry *x = *(Entry *const *)a, *y = *(Entry *const *)b;\n"
@@ -209,7 +222,8 @@ WRONG_HOSTS = [
     ("a kept packet is the originator's", [("settling.c", "    p->owner = f->device;\n    p->asking",
                                             "    p->owner = ORIGINATOR;\n    p->asking")]),
     ("a skip is written as a forward", [("writing.c", '"[\\"skip\\"]"', '"[\\"forward\\",null]"')]),
-    ("the pending bit isn't passed up", [("completion.c", "else if (l.pending && j < p->size)", "else if (0 && j < p->size)")]),
+    ("the pending bit isn't passed up",
+     [("completion.c", "else if (l.pending && j < p->size)", "else if (0 && j < p->size)")]),
     ("routines on error are always asked",
      [("completion.c", "(!NT_SUCCESS(p->status) && (set->flags", "((set->flags")]),
     ("a kept packet's status is written down wrong, in all places",

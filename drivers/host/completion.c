@@ -8,10 +8,20 @@ static bool is_met(const Packet *p, const Setting *set)
         (p->cancel && (set->flags & SL_INVOKE_ON_CANCEL));
 }
 
+/* What was read goes to the buffer of whoever had the packet built. */
+static void copy_out(const Packet *p)
+{
+    PVOID from = p->irp->AssociatedIrp.SystemBuffer, to = p->irp->UserBuffer;
+    if (from && to && from != to && NT_SUCCESS(p->irp->IoStatus.Status) && p->irp->IoStatus.Information <= p->room)
+        memcpy(to, from, p->irp->IoStatus.Information);
+}
+
 /* Nobody kept the packet. */
 static void end(Packet *p, Entry *e)
 {
     PKEVENT event = p->irp->UserEvent;
+    if (p->writes_back)
+        copy_out(p);
     p->owner = ENDED;
     p->asking = NULL;
     p->open = NULL;
@@ -65,7 +75,8 @@ static bool ask_routine(Packet *p, Entry *e, int j, Location l)
     if (f.settled)
         return false;
     if (answer == STATUS_MORE_PROCESSING_REQUIRED) {
-        routine_kept(p, &f);
+        if (!dispatch_has_it_back(p, &f))
+            routine_kept(p, &f);
         return false;
     }
     Asked *a = &e->asked[f.i];

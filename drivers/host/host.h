@@ -114,6 +114,7 @@ typedef struct Frame {
     bool signalled;          /* it set an event: whoever waits may write to the packet from now on */
     bool waiting;            /* its thread waits */
     PDRIVER_CANCEL cancel;
+    Entry *below; /* in_place.c: the rider's send, which returns when the dispatch's own does */
     ULONG lower, done, status;
     uint64_t information;
     const char *forced_why;
@@ -147,8 +148,12 @@ struct Packet {
     Frame *asking; /* who is asked about it and hasn't decided */
     Entry *open;
     Packet *rides, *rider; /* in_place.c: it stands in for another one; another one stands in for it */
+    Setting *mine; /* of a rider: the device's own routine, which runs when it is up */
     PKEVENT up; /* set when a rider is up, where its dispatch waits for that */
-    PVOID buffer;
+    void *kept_by;     /* the routine that kept it last */
+    PVOID buffer;      /* given by WdmBuild, freed with the packet */
+    ULONG room;        /* what was built has room for so many bytes there, to be copied to UserBuffer */
+    bool writes_back;
     bool trapped, touch_untold;
     void *touched_at;
     int toucher;
@@ -243,6 +248,7 @@ void learn_file(const char *file, int driver);
 int calling_driver(void);
 int start_thread(void *(*run)(void *), void *context);
 void set_event(PKEVENT event);
+bool is_event(const void *object);
 bool wait_for_host(bool (*done)(void), int seconds);
 void finish_work(void);
 bool timers_armed(void);
@@ -267,6 +273,7 @@ void tell_ghost(Packet *p);
 
 /* settling.c, sending.c, completion.c, in_place.c */
 void settle(Packet *p, bool returned);
+void take_kept_answer(Packet *p, Frame *f);
 void routine_kept(Packet *p, Frame *f);
 void pend_setter(Packet *p, int j, Location below, const char *why);
 NTSTATUS enter_device(Packet *p, int device, Entry *e);
@@ -274,7 +281,11 @@ void finish(Packet *p, Entry *e, ULONG status, uint64_t information);
 void finish_asked(Packet *p, Frame *f, ULONG status, uint64_t information);
 void complete(Packet *p, int by, ULONG status, uint64_t information);
 NTSTATUS send_in_place(Packet *p, int by, int device);
+void returned_from(Entry *e, NTSTATUS answer);
 void rider_came_up(Packet *rider, Entry *e);
+bool dispatch_has_it_back(Packet *p, Frame *routine);
+bool will_wait(const Packet *p, const Frame *dispatch);
+NTSTATUS forward_in_place(Packet *p, int device);
 
 /* traps.c, remove_locks.c */
 void open_traps(void);

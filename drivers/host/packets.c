@@ -108,8 +108,9 @@ static void begin_use(Packet *p, NTSTATUS status)
     p->owner = p->last = ORIGINATOR;
     p->status = (ULONG)status;
     p->information = 0;
-    p->cancel = p->returned = p->lost = false;
+    p->cancel = p->returned = p->lost = p->writes_back = false;
     prepare_nothing(p);
+    p->kept_by = NULL;
     p->sites.sent = p->sites.completed = p->sites.cancel = (WDM_SITE){ 0 };
     p->use = next_use++;
 }
@@ -117,8 +118,8 @@ static void begin_use(Packet *p, NTSTATUS status)
 /* A packet of the shadow, in a slot of its own. It has memory of its own, or stands in that of another one. */
 Packet *new_packet(int size, PIRP irp)
 {
-    if (n_packets == MAX_PACKETS)
-        give_up("65,536 packets in one run");
+    if (n_packets == MAX_PACKETS || n_live == MAX_LIVE)
+        give_up("65,536 packets in one run, or 4,096 at once");
     Packet *p = calloc(1, sizeof *p);
     if (!p)
         give_up("out of memory");
@@ -248,6 +249,8 @@ VOID WdmIoMarkIrpPending(PIRP Irp, WDM_SITE at)
         }
         if (on_top(p))
             self.frames->marked = true;
+        if (on_top(p) && self.frames->kind == ROUTINE && p->at[p->current].frame)
+            p->at[p->current].frame->marked_by_routine = true;
     }
     leave_host();
 }

@@ -50,7 +50,7 @@ static NTSTATUS dispatch_returned(Packet *p, Frame *f, NTSTATUS answer)
     for (int j = 1; j <= p->size; j++)
         if (p->at[j].frame == f)
             p->at[j].frame = NULL;
-    return f->forced && !f->marked ? STATUS_PENDING : answer;
+    return f->forced && !f->marked && !f->marked_by_routine ? STATUS_PENDING : answer;
 }
 
 /* Enters a device with the packet: its location is the next lower one. Under G before and after. */
@@ -58,6 +58,7 @@ NTSTATUS enter_device(Packet *p, int d, Entry *e)
 {
     Location *l = &p->at[--p->current];
     p->sites.completed = (WDM_SITE){ 0 };
+    p->kept_by = NULL;
     put_back(p);
     l->device = d;
     raw_at(p, p->current)->DeviceObject = devices[d].raw;
@@ -99,6 +100,15 @@ static bool is_same_below(Packet *p)
         word_of(raw_at(p, p->current - 1)) == here->word;
 }
 
+/* A send returns. */
+void returned_from(Entry *e, NTSTATUS answer)
+{
+    e->reply = STATUS;
+    e->answer = (ULONG)answer;
+    n_sends--;
+    pthread_cond_broadcast(&host_settled);
+}
+
 /* The dispatch passes the packet down by one plan. Returns what the device below answers. */
 static NTSTATUS pass_down(Packet *p, Frame *f, int d)
 {
@@ -112,7 +122,6 @@ static NTSTATUS pass_down(Packet *p, Frame *f, int d)
         a->plan = SKIPS;
         p->current++;
     } else {
-        tell_hand_copied(p, p->want);
         a->plan = f->marked ? FORWARD_PEND : FORWARD;
         a->set = p->want;
         p->at[p->current - 1] = (Location){ .device = NOBODY, .major = here.major, .word = here.word, .set = p->want,
@@ -121,6 +130,10 @@ static NTSTATUS pass_down(Packet *p, Frame *f, int d)
     p->asking = NULL;
     const NTSTATUS lower = enter_device(p, d, f->e);
     f->lower = (ULONG)lower;
+    if (f->below) {
+        returned_from(f->below, lower);
+        f->below = NULL;
+    }
     return lower;
 }
 
@@ -131,8 +144,8 @@ static NTSTATUS send(Packet *p, int by, int d)
     if (lives(p)) {
         if (f && f->marked && p->skipped)
             note("a warning of the kit", "%s: marks its location and skips it", what_runs(f));
-        if (by >= 0 && devices[by].lower != d && devices[d].live && (p->skipped || p->copied || p->touched ||
-                                                                     p->prep != NOTHING))
+        const bool prepared = p->skipped || (p->current > 1 && (p->copied || p->touched || p->prep != NOTHING));
+        if (prepared && by >= 0 && devices[by].lower != d && devices[d].live)
             return send_in_place(p, by, d);
         settle(p, false);
         if (p->owner == by)
@@ -148,10 +161,7 @@ static NTSTATUS send(Packet *p, int by, int d)
     if (p->prep == FILLED)
         tell_hand_copied(p, p->at[p->current - 1].set);
     const NTSTATUS answer = enter_device(p, d, e);
-    e->reply = STATUS;
-    e->answer = (ULONG)answer;
-    n_sends--;
-    pthread_cond_broadcast(&host_settled);
+    returned_from(e, answer);
     return answer;
 }
 
@@ -166,9 +176,11 @@ NTSTATUS WdmIoCallDriver(PDEVICE_OBJECT Target, PIRP Irp, WDM_SITE at)
     NTSTATUS answer;
     if (lives(p) && p->owner != ENDED && (f || p->owner == by))
         p->sites.sent = at;
-    if (f && devices[by].lower == d && !f->cancel && (p->skipped ? !f->marked : is_same_below(p)))
-        answer = pass_down(p, f, d);
-    else
+    if (f && devices[by].lower == d && !f->cancel && (p->skipped ? !f->marked : is_same_below(p))) {
+        if (!p->skipped)
+            tell_hand_copied(p, p->want);
+        answer = will_wait(p, f) ? forward_in_place(p, d) : pass_down(p, f, d);
+    } else
         answer = send(p, by, d);
     leave_host();
     return answer;

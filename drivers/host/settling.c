@@ -20,21 +20,29 @@ void pend_setter(Packet *p, int j, Location below, const char *why)
     pend_for(p, j, why);
 }
 
-/* A completion routine keeps its packet. Its answer is what IoStatus was when it returned, or set an event. */
-void routine_kept(Packet *p, Frame *f)
+/* What a routine answers that keeps: what IoStatus was when it returned, or set an event. */
+void take_kept_answer(Packet *p, Frame *f)
 {
     Asked *a = &f->e->asked[f->i];
-    Location below = p->at[f->location];
+    Setting *set = p->at[f->location].set;
     const bool own = pthread_equal(f->thread, pthread_self()); /* else its next owner may have written to it */
     const ULONG status = f->signalled ? f->status : own ? (ULONG)p->irp->IoStatus.Status : p->status;
     const uint64_t information = f->signalled ? f->information : own ? p->irp->IoStatus.Information : p->information;
     a->plan = KEEP;
-    below.set->kept = true;
+    p->kept_by = f->fn;
+    set->kept = true;
     if ((status != p->status || information != p->information) && rules_completable(status)) {
-        a->replaced = below.set->replaced = true;
+        a->replaced = set->replaced = true;
         a->new_status = p->status = status;
         a->new_information = p->information = information;
     }
+}
+
+/* A completion routine keeps its packet: its device owns it from now on. */
+void routine_kept(Packet *p, Frame *f)
+{
+    const Location below = p->at[f->location];
+    take_kept_answer(p, f);
     if (f->marked && f->device == ORIGINATOR)
         fault_of("Mark", p, f, "marks a packet in which it has no location");
     if (f->location < p->size)

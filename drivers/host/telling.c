@@ -162,11 +162,9 @@ void fault_of(const char *rule, const Packet *p, const Frame *f, const char *how
     n_faults++;
     if (was_told(rule, f->last, f->fn))
         return;
-    if (f->last.file)
-        snprintf(where, sizeof where, "%s (its last call, %s) in %s", place(f->last), f->last_call, what_runs(f));
-    else
-        snprintf(where, sizeof where, "%s", what_runs(f));
-    tell(rule, p, where, text);
+    int n = f->last.file ? snprintf(where, sizeof where, "%s (its last call, %s) in ", place(f->last), f->last_call) : 0;
+    snprintf(where + n, sizeof where - (size_t)n, "%s, IRP %u.%lu", what_runs(f), p->slot, (unsigned long)p->use);
+    tell(rule, NULL, where, text);
 }
 
 /* Each note is told once. */

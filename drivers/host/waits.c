@@ -43,6 +43,7 @@ VOID WdmKeInitializeEvent(PKEVENT e, EVENT_TYPE type, BOOLEAN state)
     make(&e->Header, EVENT, type == SynchronizationEvent, state != 0);
 }
 
+bool is_event(const void *object) { return ((const DISPATCHER_HEADER *)object)->Type == EVENT; }
 void set_event(PKEVENT e) { change(&e->Header, 1, false); }
 VOID KeClearEvent(PKEVENT e) { change(&e->Header, 0, false); }
 LONG KeResetEvent(PKEVENT e) { return change(&e->Header, 0, false); }
@@ -93,11 +94,11 @@ static void tell_in_flight(char *text, size_t size)
         if (!lives(p) || (p->owner == ORIGINATOR && !p->asking))
             continue;
         const Location *l = &p->at[p->current <= p->size ? p->current : p->size];
-        const int holder = p->asking ? p->asking->device : p->owner;
-        n += (size_t)snprintf(text + n, size - n, "%sIRP %u.%lu (%s), which %s %s, sent at %s", n ? "; " : "",
-                              p->slot, (unsigned long)p->use, major_name(l->major), who(holder),
-                              p->asking ? what_runs(p->asking) : p->routine ? "holds with a cancel routine" : "holds",
-                              place(p->sites.sent));
+        n += (size_t)snprintf(text + n, size - n, "%sIRP %u.%lu (%s), which %s %s%s%s%s, sent at %s", n ? "; " : "",
+                              p->slot, (unsigned long)p->use, major_name(l->major),
+                              p->asking ? "is in" : who(p->owner), p->asking ? what_runs(p->asking) : "holds",
+                              p->routine ? " with a cancel routine" : "", p->kept_by ? ", kept by " : "",
+                              p->kept_by ? function_name(p->kept_by) : "", place(p->sites.sent));
     }
     if (!n)
         snprintf(text, size, "no packet is in flight");

@@ -170,7 +170,24 @@ BOOLEAN WdmIoForwardIrpSynchronously(PDEVICE_OBJECT Target, PIRP Irp, WDM_SITE a
 #define IoForwardIrpSynchronously(target, irp) WdmIoForwardIrpSynchronously((target), (irp), WDM_HERE)
 #define PoStartNextPowerIrp(irp) ((void)(irp))
 #define IoSizeOfIrp(n) ((USHORT)(sizeof(IRP) + (n) * sizeof(IO_STACK_LOCATION)))
+typedef VOID REQUEST_POWER_COMPLETE(PDEVICE_OBJECT DeviceObject, UCHAR Minor, POWER_STATE State, PVOID Context,
+                                    PIO_STATUS_BLOCK Iosb);
+typedef REQUEST_POWER_COMPLETE *PREQUEST_POWER_COMPLETE;
+NTSTATUS WdmPoRequestPowerIrp(PDEVICE_OBJECT Device, UCHAR Minor, POWER_STATE State, PREQUEST_POWER_COMPLETE Complete,
+                              PVOID Context, PIRP *Irp, WDM_SITE at);
+#define PoRequestPowerIrp(device, minor, state, complete, context, irp) \
+    WdmPoRequestPowerIrp((device), (minor), (state), (complete), (context), (irp), WDM_HERE)
 POWER_STATE PoSetPowerState(PDEVICE_OBJECT Device, POWER_STATE_TYPE Type, POWER_STATE State);
+
+/* Packets that the I/O manager builds: at their end their status goes to Iosb, Event is set, and they are freed. */
+PIRP WdmBuildControl(ULONG Code, PDEVICE_OBJECT Device, PVOID In, ULONG InLength, PVOID Out, ULONG OutLength,
+                     BOOLEAN Internal, PKEVENT Event, PIO_STATUS_BLOCK Iosb, WDM_SITE at);
+PIRP WdmBuildFsd(ULONG Major, PDEVICE_OBJECT Device, PVOID Buffer, ULONG Length, PLARGE_INTEGER Offset, PKEVENT Event,
+                 PIO_STATUS_BLOCK Iosb, WDM_SITE at);
+#define IoBuildDeviceIoControlRequest(code, device, in, in_length, out, out_length, internal, event, iosb) \
+    WdmBuildControl((code), (device), (in), (in_length), (out), (out_length), (internal), (event), (iosb), WDM_HERE)
+#define IoBuildSynchronousFsdRequest(major, device, buffer, length, offset, event, iosb) \
+    WdmBuildFsd((major), (device), (buffer), (length), (offset), (event), (iosb), WDM_HERE)
 
 /* Cancelling. */
 PDRIVER_CANCEL WdmIoSetCancelRoutine(PIRP Irp, PDRIVER_CANCEL Routine, WDM_SITE at);

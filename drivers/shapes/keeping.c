@@ -26,6 +26,17 @@ static NTSTATUS TimedWait(PEXTENSION Ext, PIRP Irp)
     return Done(Irp, status);
 }
 
+/* The same with an event that isn't a local one. */
+static NTSTATUS WaitElsewhere(PEXTENSION Ext, PIRP Irp)
+{
+    PKEVENT event = ExAllocatePoolWithTag(NonPagedPool, sizeof *event, 'tnvE');
+    KeInitializeEvent(event, NotificationEvent, FALSE);
+    ForwardWith(Ext, Irp, Signal, event);
+    KeWaitForSingleObject(event, Executive, KernelMode, FALSE, NULL);
+    ExFreePoolWithTag(event, 'tnvE');
+    return Done(Irp, Irp->IoStatus.Status);
+}
+
 /* Nothing comes in the time: a poll and a short wait give STATUS_TIMEOUT. */
 static NTSTATUS WaitInVain(PEXTENSION Ext, PIRP Irp)
 {
@@ -172,7 +183,8 @@ static NTSTATUS WaitForAWorker(PEXTENSION Ext, PIRP Irp)
 }
 
 const NAMED_SHAPE KeepingShapes[] = {
-    { "ForwardAndWait", ForwardAndWait }, { "TimedWait", TimedWait }, { "WaitInVain", WaitInVain },
+    { "ForwardAndWait", ForwardAndWait }, { "TimedWait", TimedWait }, { "WaitElsewhere", WaitElsewhere },
+    { "WaitInVain", WaitInVain },
     { "ForwardSynchronously", ForwardSynchronously }, { "MarkedSynchronously", MarkedSynchronously },
     { "KeepChanged", KeepChanged }, { "MarksAndKeeps", MarksAndKeeps }, { "Retry", Retry },
     { "CompleteInRoutine", CompleteInRoutine }, { "ToAWorker", ToAWorker }, { "WaitForAWorker", WaitForAWorker },

@@ -68,8 +68,26 @@ static NTSTATUS WaitsForEver(PEXTENSION Ext, PIRP Irp)
     return Done(Irp, STATUS_SUCCESS);
 }
 
+static NTSTATUS MarkAndSignal(PDEVICE_OBJECT DeviceObject, PIRP Irp, PVOID Context)
+{
+    if (Irp->PendingReturned)
+        IoMarkIrpPending(Irp);
+    return Signal(DeviceObject, Irp, Context);
+}
+
+/* Its routine marks and keeps, and the dispatch returns the final status. */
+static NTSTATUS MarksAndWaits(PEXTENSION Ext, PIRP Irp)
+{
+    KEVENT event;
+    KeInitializeEvent(&event, NotificationEvent, FALSE);
+    ForwardWith(Ext, Irp, MarkAndSignal, &event);
+    KeWaitForSingleObject(&event, Executive, KernelMode, FALSE, NULL);
+    return Done(Irp, Irp->IoStatus.Status);
+}
+
 const NAMED_SHAPE WrongShapes[] = {
     { "CompletesWhatItSent", CompletesWhatItSent }, { "NothingPrepared", NothingPrepared }, { "Lost", Lost },
     { "RoutineThenCopy", RoutineThenCopy }, { "OtherStatus", OtherStatus }, { "SkipThenComplete", SkipThenComplete },
-    { "MarksInRoutine", MarksInRoutine }, { "WaitsForEver", WaitsForEver }, { NULL, NULL },
+    { "MarksInRoutine", MarksInRoutine }, { "WaitsForEver", WaitsForEver }, { "MarksAndWaits", MarksAndWaits },
+    { NULL, NULL },
 };
