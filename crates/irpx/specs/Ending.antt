@@ -1,5 +1,5 @@
 -- The exit statuses, and the lines for standard error.
-use Rattle.std.specs.Prelude.{ℕ, List, ◌++◌, codes, Bool, true, false, Option, Some, None}
+use Rattle.std.specs.Prelude.{ℕ, List, ◌++◌, codes, Bool, true, false, Option, Some, None, Result, Ok, Err}
 use Rattle.std.specs.Fmt.{decimal}
 use Rattle.irp_script.specs.declared.checker.Verdict.{Verdict}
 use Rattle.irp_script.specs.declared.checker.Verdict.TheVariants as verdict
@@ -91,6 +91,11 @@ of_check (unchecked.Untold fault) = of_writing fault
 abbrev pub of_verdict : Verdict → Ending
 of_verdict (verdict.Legal entries) = Done
 of_verdict (verdict.Illegal at) = Illegal
+
+-- what a result ends with
+abbrev pub ending_of : {T E : Type 0} → (T → Ending) → (E → Ending) → Result T E → Ending
+ending_of of_value of_fault (Ok value) = of_value value
+ending_of of_value of_fault (Err fault) = of_fault fault
 
 -- ---- what an ending is seen by
 

@@ -13,7 +13,7 @@ ghost use Rattle.irpx.specs.Checking.{
   most_taken,
   verdict_line,
 };
-ghost use Rattle.irpx.specs.Input.{TakesAtMost};
+ghost use Rattle.irpx.specs.Streams.{TakesAtMost, output_of, streams_of};
 
 use crate::input::{InputFault, read_up_to};
 use crate::writing::Unwritten;
@@ -127,10 +127,10 @@ fn line_of(alloc: Global, verdict: Verdict) -> Result<String, AllocError>
 
 /// Tells the output a verdict.
 fn tell<O: Out>(alloc: Global, output: &mut O, verdict: Verdict) -> Result<(), Unwritten>
-    ensures ok { OnOk result (Told verdict (O.gone output.old) (O.gone output.new)
-        (O.failures output.old) (O.failures output.new)) }
-    ensures err { IfErr result (Untold verdict (O.gone output.old) (O.gone output.new)
-        (O.failures output.old) (O.failures output.new)) }
+    ensures ok { OnOk result (Told verdict (output_of (O.gone output.old) (O.failures output.old))
+        (output_of (O.gone output.new) (O.failures output.new))) }
+    ensures err { IfErr result (Untold verdict (output_of (O.gone output.old) (O.failures output.old))
+        (output_of (O.gone output.new) (O.failures output.new))) }
 {
     let Ok(line) = line_of(alloc, verdict) else {
         return Err(Unwritten::NoMemory);
@@ -159,9 +159,8 @@ pub fn check<R: Read, O: Out>(
     input: &mut R,
     output: &mut O,
 ) -> Result<Verdict, CheckFault>
-    ensures checks { Checks (R.remaining input.old) (R.remaining input.new)
-        (O.gone output.old) (O.gone output.new)
-        (O.failures output.old) (O.failures output.new) result }
+    ensures checks { Checks (streams_of (R.remaining input.old) (O.gone output.old) (O.failures output.old))
+        (streams_of (R.remaining input.new) (O.gone output.new) (O.failures output.new)) result }
     ensures took { TakesAtMost most_taken (R.remaining input.old) (R.remaining input.new) }
 {
     let verdict = judged(alloc, input)?;

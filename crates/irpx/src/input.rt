@@ -2,7 +2,7 @@
 
 ghost use Rattle.std.specs.Prelude.{◌≡◌, ◌≤◌, take, vec_len, IfOk, IfSome};
 ghost use Rattle.std.specs.Io.KnownBytes.{Consumes};
-ghost use Rattle.irpx.specs.Input.{TakesAtMost};
+ghost use Rattle.irpx.specs.Streams.{TakesAtMost};
 
 use std::alloc::Global;
 use std::io::Read;

@@ -13,8 +13,6 @@ ghost use Rattle.irp_script.specs.Between.{hands_between};
 ghost use Rattle.irp_workers.specs.Numbers.{EachAsOften};
 ghost use Rattle.irp_workers.specs.Seats.{seats_of};
 ghost use Rattle.irp_workers.specs.Told.{AnswersAll, IsTold};
-ghost use Rattle.irpx.specs.Bytes.{Bytes};
-ghost use Rattle.irpx.specs.Input.{TakesAtMost};
 ghost use Rattle.irp_workers.specs.Ran.{Ran};
 ghost use Rattle.irpx.specs.Running.{
   AfterRun,
@@ -30,6 +28,7 @@ ghost use Rattle.irpx.specs.Running.{
   most_taken,
   tables_of,
 };
+ghost use Rattle.irpx.specs.Streams.{Bytes, TakesAtMost, output_of, streams_of};
 
 use crate::input::{InputFault, read_up_to};
 use crate::planned::Planned;
@@ -330,8 +329,8 @@ fn write_finished<O: Out>(alloc: Global, output: &mut O, run: &Finished) -> Resu
         → IsRun script tables run.now.transcript
         → (run.now.stopped ≡ false → ShowsEach script run.now.transcript)
         → Ran workers script run.now.transcript run.now.stopped
-        → AfterScript workers script tables (O.gone output.old) (O.gone output.new)
-        (O.failures output.old) (O.failures output.new) result }
+        → AfterScript workers script tables (output_of (O.gone output.old) (O.failures output.old))
+        (output_of (O.gone output.new) (O.failures output.new)) result }
 {
     write(alloc, output, &run.transcript)?;
     if run.stopped {
@@ -340,27 +339,8 @@ fn write_finished<O: Out>(alloc: Global, output: &mut O, run: &Finished) -> Resu
     Ok(())
 }
 
-/// Has so many workers run the script with this store, whose closures answer as the script tells, and writes the
-/// transcript.
-fn with_store<O: Out, T: Threads + Wait + Sync>(
-    rt: &T,
-    alloc: Global,
-    output: &mut O,
-    script: &ScriptParts,
-    workers: Workers,
-    store: Store,
-) -> Result<(), Unfinished>
-    requires { AnswersAll store script.now }
-    ensures { AfterScript workers.number script.now store.tables
-        (O.gone output.old) (O.gone output.new)
-        (O.failures output.old) (O.failures output.new) result }
-{
-    let blank = Blank::new(u64::from(script.seats));
-    let run = session::<Store, Brand, T>(rt, alloc, blank, store, script, workers.number)?;
-    write_finished(alloc, output, &run)
-}
-
-/// Adds the script's drivers to a store that has all closures of the script, which answer as it tells, and goes on.
+/// Adds the script's drivers to a store that has all closures of the script, which answer as it tells, has so many
+/// workers run the script with this store, and writes the transcript.
 fn with_dispatches<O: Out, T: Threads + Wait + Sync>(
     rt: &T,
     alloc: Global,
@@ -371,8 +351,8 @@ fn with_dispatches<O: Out, T: Threads + Wait + Sync>(
 ) -> Result<(), Unfinished>
     requires { AnswersAll store script.now }
     ensures { AfterScript workers.number script.now (and_drivers script.now.drivers store.tables)
-        (O.gone output.old) (O.gone output.new)
-        (O.failures output.old) (O.failures output.new) result }
+        (output_of (O.gone output.old) (O.failures output.old))
+        (output_of (O.gone output.new) (O.failures output.new)) result }
 {
     let drivers = script.drivers.as_slice();
     for driver in drivers {
@@ -383,7 +363,9 @@ fn with_dispatches<O: Out, T: Threads + Wait + Sync>(
             return Err(Unfinished::NoTranscript(Unrun::NoMemory));
         };
     }
-    with_store(rt, alloc, output, script, workers, store)
+    let blank = Blank::new(u64::from(script.seats));
+    let run = session::<Store, Brand, T>(rt, alloc, blank, store, script, workers.number)?;
+    write_finished(alloc, output, &run)
 }
 
 /// Has so many workers run the script with a store that behaves as it says, and writes the transcript. All closures are
@@ -396,8 +378,8 @@ fn run_script<O: Out, T: Threads + Wait + Sync>(
     workers: Workers,
 ) -> Result<(), Unfinished>
     ensures { AfterScript workers.number script.now (tables_of script.now)
-        (O.gone output.old) (O.gone output.new)
-        (O.failures output.old) (O.failures output.new) result }
+        (output_of (O.gone output.old) (O.failures output.old))
+        (output_of (O.gone output.new) (O.failures output.new)) result }
 {
     let parts = script.parts();
     let mut store = Store::new(alloc);
@@ -449,8 +431,9 @@ fn run_read<O: Out, T: Threads + Wait + Sync>(
     requires { 0 < workers }
     // What is said of the script is so of every input that holds it.
     ensures { (input left : Bytes) → HoldsScript input left script.now
-        → AfterRun workers input left (O.gone output.old) (O.gone output.new)
-        (O.failures output.old) (O.failures output.new) result }
+        → AfterRun workers
+        (streams_of input (O.gone output.old) (O.failures output.old))
+        (streams_of left (O.gone output.new) (O.failures output.new)) result }
 {
     if let Some(step) = first_hand(script, workers) {
         return Err(RunFault::HandsBetween { step });
@@ -483,9 +466,8 @@ pub fn run<R: Read, O: Out, T: Threads + Wait + Sync>(
     workers: u32,
 ) -> Result<(), RunFault>
     requires { 0 < workers }
-    ensures after { AfterRun workers (R.remaining input.old) (R.remaining input.new)
-        (O.gone output.old) (O.gone output.new)
-        (O.failures output.old) (O.failures output.new) result }
+    ensures after { AfterRun workers (streams_of (R.remaining input.old) (O.gone output.old) (O.failures output.old))
+        (streams_of (R.remaining input.new) (O.gone output.new) (O.failures output.new)) result }
     ensures took { TakesAtMost most_taken (R.remaining input.old) (R.remaining input.new) }
 {
     let script = script_of(alloc, input)?;

@@ -27,6 +27,7 @@ ghost use Rattle.clap.specs.Words.{
   subcommand_rows_of,
 };
 ghost use Rattle.irpx.specs.CommandLine.{
+  Finds,
   IsOneWord,
   IsOrder,
   IsOrderOrMemory,
@@ -137,6 +138,11 @@ pub fn order<'a, S: AsStr>(alloc: Global, words: &'a [S]) -> Result<Order, Unrea
         → IsOrderOrMemory Order.Check result }
     ensures run { IsOneWord (codes "run") (map S.text words.entry.now)
         → IsOrderOrMemory (Order.Run 1) result }
+    // Each order is that of the subcommand that clap finds in the words, whatever else they have.
+    ensures finds_demo { (rows : List Row) → Finds (codes "demo") rows (map S.text words.entry.now)
+        → IsOrderOrMemory Order.Demo result }
+    ensures finds_check { (rows : List Row) → Finds (codes "check") rows (map S.text words.entry.now)
+        → IsOrderOrMemory Order.Check result }
     // An order to run has the workers that clap finds in the words, or one.
     ensures workers { (rows : List Row)
         → subcommand_of command_line (map S.text words.entry.now) ≡ Some (codes "run", rows)

@@ -2,6 +2,7 @@
 
 ghost use Rattle.std.specs.Prelude.{IfErr, OnOk};
 ghost use Rattle.irp_transcript_writer.specs.Lines.{lines, text_of};
+ghost use Rattle.irpx.specs.Streams.{output_of};
 ghost use Rattle.irpx.specs.Writing.{BreaksOff, Written};
 
 use irp_shared::Transcript;
@@ -29,11 +30,11 @@ pub fn write<O: Out>(
     transcript: &Transcript,
 ) -> Result<(), Unwritten>
     ensures ok { OnOk result (Written (text_of (lines transcript.now))
-        (O.gone output.old) (O.gone output.new)
-        (O.failures output.old) (O.failures output.new)) }
+        (output_of (O.gone output.old) (O.failures output.old))
+        (output_of (O.gone output.new) (O.failures output.new))) }
     ensures err { IfErr result (BreaksOff (text_of (lines transcript.now))
-        (O.gone output.old) (O.gone output.new)
-        (O.failures output.old) (O.failures output.new)) }
+        (output_of (O.gone output.old) (O.failures output.old))
+        (output_of (O.gone output.new) (O.failures output.new))) }
 {
     match write_transcript(alloc, output, transcript) {
         Ok(()) => Ok(()),
