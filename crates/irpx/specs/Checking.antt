@@ -29,8 +29,8 @@ use Rattle.irpx.specs.declared.checking.CheckFault.{CheckFault}
 use Rattle.irpx.specs.declared.checking.CheckFault.TheVariants as unchecked
 use Rattle.irpx.specs.declared.checking.Unjudged.{Unjudged}
 use Rattle.irpx.specs.declared.checking.Unjudged.TheVariants.{Input, RefusedLine, NoMemory}
-use Rattle.irpx.specs.declared.writing.Unwritten.{Unwritten}
-use Rattle.irpx.specs.declared.writing.Unwritten.TheVariants as unwritten
+use Rattle.irpx.specs.declared.input.StreamFault.{StreamFault}
+use Rattle.irpx.specs.declared.input.StreamFault.TheVariants as stream
 
 -- as many bytes as the text of a transcript may have that is checked
 abbrev pub most_bytes : ℕ
@@ -83,10 +83,10 @@ abbrev pub Told : Verdict → Output → Output → Type 0
 Told verdict before after = Written (verdict_line verdict) before after
 
 -- the same where it isn't: a beginning of its line where the output failed, else nothing
-abbrev pub Untold : Verdict → Output → Output → Unwritten → Type 0
-Untold verdict before after unwritten.Failed =
+abbrev pub Untold : Verdict → Output → Output → StreamFault → Type 0
+Untold verdict before after stream.Failed =
     Begins (verdict_line verdict) before.gone after.gone × (after.failures ≡ risen before.failures)
-Untold verdict before after unwritten.NoMemory = IsQuiet before after
+Untold verdict before after stream.NoMemory = IsQuiet before after
 
 -- what `check` did: the input holds a transcript, whose verdict was written. Where there is no verdict nothing went
 -- out. Else the verdict wasn't written

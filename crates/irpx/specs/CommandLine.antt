@@ -29,7 +29,7 @@ use Rattle.clap.specs.declared.builder.ArgAction.TheVariants.{Set}
 use Rattle.irpx.specs.declared.orders.Order.{Order}
 use Rattle.irpx.specs.declared.orders.Order.TheVariants.{Demo, Run, Check}
 use Rattle.irpx.specs.declared.orders.Unread.{Unread}
-use Rattle.irpx.specs.declared.orders.Unread.TheVariants.{Usage, Memory}
+use Rattle.irpx.specs.declared.orders.Unread.TheVariants.{Usage, NoMemory}
 
 -- the option `--workers`, which takes a text
 abbrev pub workers_option : Rule
@@ -82,7 +82,7 @@ run_in (Some text) = run_with (workers_in text)
 
 -- this order comes of the words, if memory doesn't run out
 abbrev pub IsOrderOrMemory : Order → Result Order Unread → Type 0
-IsOrderOrMemory order given = MatchResult given (λ it. it ≡ order) (λ unread. unread ≡ Memory)
+IsOrderOrMemory order given = MatchResult given (λ it. it ≡ order) (λ unread. unread ≡ NoMemory)
 
 -- a run has 1 to 64 workers
 abbrev pub IsOrder : Order → Type 0

@@ -21,7 +21,7 @@ use Rattle.irp_shared.specs.declared.header.Header.{Header}
 use Rattle.irp_transcript_writer.specs.Lines.{lines, text_of}
 use Rattle.irpx.specs.Streams.{Output}
 use Rattle.irpx.specs.Writing.{Begins, Written, count_after}
-use Rattle.irpx.specs.declared.writing.Unwritten.{Unwritten}
+use Rattle.irpx.specs.declared.input.StreamFault.{StreamFault}
 
 -- the calls of a history, in order, each with the seat that made it and with its reply
 abbrev pub calls_of : List Entry → List (ℕ × Call × Reply)
@@ -46,7 +46,7 @@ pub record IsDemoTranscript (transcript : TranscriptValue) : Type 0 where
 
 -- what the demonstration leaves: the text of such a transcript went out, and nothing failed; or a fault came, and
 -- nothing went out, or a beginning of such a text
-abbrev pub AfterDemo : {T : Type 0} → Output → Output → Result T Unwritten → Type 0
+abbrev pub AfterDemo : {T : Type 0} → Output → Output → Result T StreamFault → Type 0
 AfterDemo before after (Ok done) =
     (transcript : TranscriptValue) × IsDemoTranscript transcript
     × Written (text_of (lines transcript)) before after

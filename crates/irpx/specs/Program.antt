@@ -3,17 +3,17 @@ use Rattle.std.specs.Prelude.{◌≡◌, Result, Ok, Err}
 use Rattle.irp_script.specs.declared.checker.Verdict.{Verdict}
 use Rattle.irpx.specs.Checking.{Checks, most_taken as most_checked}
 use Rattle.irpx.specs.Demo.{AfterDemo}
-use Rattle.irpx.specs.Ending.{ending_of, of_check, of_run, of_verdict, of_words, of_writing}
+use Rattle.irpx.specs.Ending.{ending_of, of_check, of_run, of_stream, of_verdict, of_words}
 use Rattle.irpx.specs.Running.{AfterRun, most_taken as most_run}
 use Rattle.irpx.specs.Streams.{IsQuiet, Streams, TakesAtMost}
 use Rattle.irpx.specs.declared.checking.CheckFault.{CheckFault}
 use Rattle.irpx.specs.declared.ending.Ending.{Ending}
 use Rattle.irpx.specs.declared.ending.Ending.TheVariants.{Done}
+use Rattle.irpx.specs.declared.input.StreamFault.{StreamFault}
 use Rattle.irpx.specs.declared.orders.Order.{Order}
 use Rattle.irpx.specs.declared.orders.Order.TheVariants.{Demo, Run, Check}
 use Rattle.irpx.specs.declared.orders.Unread.{Unread}
 use Rattle.irpx.specs.declared.running.RunFault.{RunFault}
-use Rattle.irpx.specs.declared.writing.Unwritten.{Unwritten}
 
 -- how much was read: nothing, but where the words ask for a script to be run or for a transcript to be checked
 abbrev pub ReadsFor : Result Order Unread → Streams → Streams → Type 0
@@ -25,7 +25,7 @@ ReadsFor (Err unread) before after = after.left ≡ before.left
 -- what was done, by what the words ask for
 abbrev pub Obeys : Result Order Unread → Streams → Streams → Ending → Type 0
 Obeys (Ok Demo) before after ending =
-    (result : Result (Unit {0}) Unwritten) × (ending ≡ ending_of (λ done. Done) of_writing result)
+    (result : Result (Unit {0}) StreamFault) × (ending ≡ ending_of (λ done. Done) of_stream result)
     × AfterDemo before.output after.output result
 Obeys (Ok (Run workers)) before after ending =
     (result : Result (Unit {0}) RunFault) × (ending ≡ ending_of (λ done. Done) of_run result)

@@ -56,9 +56,13 @@ use Rattle.irp_workers.specs.Ran.{Ran}
 use Rattle.irpx.specs.Streams.{Bytes, IsQuiet, Output, Streams}
 use Rattle.irpx.specs.Writing.{BreaksOff, Written}
 use Rattle.irpx.specs.declared.running.RunFault.{RunFault}
-use Rattle.irpx.specs.declared.running.RunFault.TheVariants as run_fault
-use Rattle.irpx.specs.declared.running.Unfinished.{Unfinished}
-use Rattle.irpx.specs.declared.running.Unfinished.TheVariants.{NoTranscript, Stopped, Unwritten}
+use Rattle.irpx.specs.declared.running.RunFault.TheVariants.{
+  Unread,
+  HandsBetween,
+  NoTranscript,
+  Stopped,
+  Unwritten,
+}
 use Rattle.irpx.specs.declared.running.Unscripted.{Unscripted}
 use Rattle.irpx.specs.declared.running.Unscripted.TheVariants.{Input, Refused, NoMemory}
 
@@ -180,7 +184,7 @@ text_with transcript = text_of (lines transcript)
 -- transcript of a run was written, which comes of what ran, and steps may be missing in it; or a beginning of such a
 -- one went out
 abbrev pub AfterScript : {T : Type 0} → ℕ → Script → Tables → Output → Output
-    → Result T Unfinished → Type 0
+    → Result T RunFault → Type 0
 AfterScript workers script tables before after (Ok done) =
     (transcript : TranscriptValue) × IsRun script tables transcript × ShowsEach script transcript
     × Ran workers script transcript false × Written (text_with transcript) before after
@@ -192,6 +196,7 @@ AfterScript workers script tables before after (Err (Unwritten fault)) =
     (transcript : TranscriptValue) × IsRun script tables transcript
     × ((stopped : Bool) × Ran workers script transcript stopped)
     × BreaksOff (text_with transcript) before after fault
+AfterScript workers script tables before after (Err other) = ⊥
 
 -- the first step that hands a reference between seats that fall to different of so many workers is this one, or there
 -- is none; and the input holds the script
@@ -200,17 +205,14 @@ HandsFirst workers place before after script =
     HoldsScript before.left after.left script
     × (position (hands_between workers) script.steps ≡ place)
 
--- what `run` did with so many workers: the input holds a script that hands nothing between workers, which was run to
--- its end or not; or there is no script, or one that hands a reference between workers, and nothing went out
+-- what `run` did with so many workers: there is no script, or one that hands a reference between workers, and nothing
+-- went out; or the input holds one that hands nothing between them, which was run to its end or not
 abbrev pub AfterRun : {T : Type 0} → ℕ → Streams → Streams → Result T RunFault → Type 0
-AfterRun workers before after (Ok done) =
-    (script : Script) × HandsFirst workers None before after script
-    × AfterScript workers script (tables_of script) before.output after.output (Ok done)
-AfterRun workers before after (Err (run_fault.Unread fault)) =
+AfterRun workers before after (Err (Unread fault)) =
     NoScript before.left after.left fault × IsQuiet before.output after.output
-AfterRun workers before after (Err (run_fault.HandsBetween step)) =
+AfterRun workers before after (Err (HandsBetween step)) =
     (script : Script) × HandsFirst workers (Some step) before after script
     × IsQuiet before.output after.output
-AfterRun workers before after (Err (run_fault.Unfinished fault)) =
+AfterRun workers before after other =
     (script : Script) × HandsFirst workers None before after script
-    × AfterScript {T = Unit {0}} workers script (tables_of script) before.output after.output (Err fault)
+    × AfterScript workers script (tables_of script) before.output after.output other

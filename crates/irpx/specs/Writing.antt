@@ -3,8 +3,8 @@ use Rattle.std.specs.Prelude.{ℕ, ◌≡◌, ◌<◌, List, ◌++◌, length}
 use Rattle.std.specs.Io.KnownBytes.{Appends}
 use Rattle.irp_transcript_writer.specs.Out.{risen}
 use Rattle.irpx.specs.Streams.{Bytes, Output}
-use Rattle.irpx.specs.declared.writing.Unwritten.{Unwritten}
-use Rattle.irpx.specs.declared.writing.Unwritten.TheVariants.{Failed, NoMemory}
+use Rattle.irpx.specs.declared.input.StreamFault.{StreamFault}
+use Rattle.irpx.specs.declared.input.StreamFault.TheVariants.{Failed, NoMemory}
 
 -- a beginning of the text went out, which isn't the whole text
 pub record Begins (text : List ℕ) (old new : Bytes) : Type 0 where
@@ -15,7 +15,7 @@ pub record Begins (text : List ℕ) (old new : Bytes) : Type 0 where
   pub gone : Appends old new front
 
 -- the count of failures after a fault: it rises for the output's, and stays for the memory's
-abbrev pub count_after : Unwritten → ℕ → ℕ
+abbrev pub count_after : StreamFault → ℕ → ℕ
 count_after Failed count = risen count
 count_after NoMemory count = count
 
@@ -24,6 +24,6 @@ abbrev pub Written : List ℕ → Output → Output → Type 0
 Written text before after = Appends before.gone after.gone text × (after.failures ≡ before.failures)
 
 -- a beginning of the text went out, before this fault
-abbrev pub BreaksOff : List ℕ → Output → Output → Unwritten → Type 0
+abbrev pub BreaksOff : List ℕ → Output → Output → StreamFault → Type 0
 BreaksOff text before after fault =
     Begins text before.gone after.gone × (after.failures ≡ count_after fault before.failures)

@@ -7,7 +7,8 @@ ghost use Rattle.irp_shared.specs.Sharing.{needs_token};
 ghost use Rattle.irpx.specs.Demo.{calls_of, AfterDemo, AreDemoCalls, IsDemoTranscript};
 ghost use Rattle.irpx.specs.Streams.{output_of};
 
-use crate::writing::{Unwritten, write};
+use crate::input::StreamFault;
+use crate::writing::write;
 use irp_manager::KnowsNothing;
 use irp_routines::{Ask, Dispatch, Store};
 use irp_shared::{Seat, Session, Shared, Transcript, open_with_limit};
@@ -135,7 +136,7 @@ fn transcript(rt: &impl Wait, alloc: Global, dispatch: Dispatch) -> Option<Trans
 ///
 /// `Failed` where the output failed, and exactly then its count of failures rises; `NoMemory` where memory ran out.
 /// After either nothing went out, or a beginning of such a text, and not the whole.
-pub fn demo<O: Out>(rt: &impl Wait, alloc: Global, output: &mut O) -> Result<(), Unwritten>
+pub fn demo<O: Out>(rt: &impl Wait, alloc: Global, output: &mut O) -> Result<(), StreamFault>
     ensures { AfterDemo (output_of (O.gone output.old) (O.failures output.old))
         (output_of (O.gone output.new) (O.failures output.new)) result }
 {
@@ -144,11 +145,11 @@ pub fn demo<O: Out>(rt: &impl Wait, alloc: Global, output: &mut O) -> Result<(),
         information: 5,
     };
     let Ok(finish) = Box::new(alloc, finish) else {
-        return Err(Unwritten::NoMemory);
+        return Err(StreamFault::NoMemory);
     };
     let dispatch = Dispatch::new(Known::NONE, finish);
     let Some(transcript) = transcript(rt, alloc, dispatch) else {
-        return Err(Unwritten::NoMemory);
+        return Err(StreamFault::NoMemory);
     };
     write(alloc, output, &transcript)
 }

@@ -27,12 +27,12 @@ use std::process::ExitCode;
 use std::sync::Wait;
 use std::thread::Threads;
 
-/// The words that the program was given. `Usage` where they can't be had, and `Memory` where memory was missing for
+/// The words that the program was given. `Usage` where they can't be had, and `NoMemory` where memory was missing for
 /// them.
 fn words_of(rt: &HostRuntime) -> Result<Vec<String>, Unread> {
     let words = match env::args(rt) {
         Ok(words) => words,
-        Err(error) if error.kind() == io::ErrorKind::OutOfMemory => return Err(Unread::Memory),
+        Err(error) if error.kind() == io::ErrorKind::OutOfMemory => return Err(Unread::NoMemory),
         Err(_) => return Err(Unread::Usage),
     };
     Ok(words.collect(rt.alloc())?)

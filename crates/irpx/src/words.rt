@@ -114,10 +114,10 @@ fn order_of(matches: &ArgMatches<'_>) -> Result<Order, Unread>
 
 /// Why clap refused the words.
 fn unread_of(error: &Error) -> Unread
-    ensures { (result ≡ Unread.Memory) ↔ (kind_of error.now ≡ ErrorKind.OutOfMemory) }
+    ensures { (result ≡ Unread.NoMemory) ↔ (kind_of error.now ≡ ErrorKind.OutOfMemory) }
 {
     if error.kind() == ErrorKind::OutOfMemory {
-        Unread::Memory
+        Unread::NoMemory
     } else {
         Unread::Usage
     }
@@ -127,7 +127,7 @@ fn unread_of(error: &Error) -> Unread
 ///
 /// # Errors
 ///
-/// `Usage` for words that the program doesn't take, and for a request for help; `Memory` where memory ran out.
+/// `Usage` for words that the program doesn't take, and for a request for help; `NoMemory` where memory ran out.
 pub fn order<'a, S: AsStr>(alloc: Global, words: &'a [S]) -> Result<Order, Unread>
     // No order comes of words in which clap finds a fault.
     ensures ok { OnOk result (fault_of command_line (map S.text words.entry.now) ≡ []) }

@@ -1,15 +1,15 @@
 -- What went out is the text of the transcript that was made, or a beginning of it.
-use Rattle.std.proofs.Common.{ℕ, Ok, Err, OnOk, Result, inl, inr, refl}
+use Rattle.std.proofs.Common.{Ok, Err, OnOk, Result, inl, inr, refl}
 use Rattle.std.specs.Prelude.{IfErr}
 use Rattle.irp_shared.specs.Transcripts.{TranscriptValue}
 use Rattle.irp_transcript_writer.specs.Lines.{lines, text_of}
 use Rattle.irpx.specs.Demo.{AfterDemo, IsDemoTranscript}
 use Rattle.irpx.specs.Streams.{Output}
 use Rattle.irpx.specs.Writing.{BreaksOff, Written}
-use Rattle.irpx.specs.declared.writing.Unwritten.{Unwritten}
+use Rattle.irpx.specs.declared.input.StreamFault.{StreamFault}
 use Rattle.irpx.proofs.demo.demo.Goals as goal
 
-written_demo : {T : Type 0} (result : Result T Unwritten) (transcript : TranscriptValue) (before after : Output) → IsDemoTranscript transcript
+written_demo : {T : Type 0} (result : Result T StreamFault) (transcript : TranscriptValue) (before after : Output) → IsDemoTranscript transcript
     → OnOk result (Written (text_of (lines transcript)) before after) → IfErr result (BreaksOff (text_of (lines transcript)) before after)
     → AfterDemo before after result
 written_demo (Ok done) transcript before after is written broke = (transcript, is, written)
