@@ -1,4 +1,4 @@
-use Rattle.std.proofs.Common.{◌≡◌, ◌<◌, ◌≤◌, length, get_or, refl, ◌∙◌, rules, arith}
+use Rattle.std.proofs.Common.{◌<◌, ◌≤◌, length, get_or, refl, ◌∙◌, rules, arith}
 use Rattle.std.proofs.lemmas.List.{get_or-set_other, get_or_default, length-set}
 use Rattle.irp_workers.specs.Seats.{seat_at_work}
 use Rattle.irp_workers.proofs.Showing.{saw_all, saw_more}
