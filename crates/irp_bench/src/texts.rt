@@ -3,7 +3,7 @@
 ghost use Rattle.std.specs.Prelude.{◌≡◌, length, Some, Ok, IfOk};
 ghost use Rattle.irp_judge.specs.Checked.{IsVerdictOn};
 ghost use Rattle.irp_judge.specs.declared.verdict.Verdict.TheVariants.{Legal};
-ghost use Rattle.irp_shared.specs.Transcripts.{no_lines};
+ghost use Rattle.irp_transcript.specs.Transcripts.{no_lines};
 ghost use Rattle.irp_transcript_reader.specs.Reading.{ReadsFrom, cut};
 ghost use Rattle.irp_transcript_writer.specs.Lines.{lines, text_of};
 
@@ -11,8 +11,8 @@ use crate::done::Done;
 use crate::fault::Fault;
 use crate::loads::sends;
 use crate::sessions::do_work;
-use irp_quick_reader::read_transcript;
 use irp_judge::{Verdict, check};
+use irp_text::read_transcript;
 use irp_shared::Transcript;
 use irp_transcript_writer::{Failed, Out, write_transcript};
 use serde_json::Value;

@@ -60,12 +60,14 @@ text_if false text = []
 
 -- the letters of the flags that are set, in this order
 abbrev pub flags_name : Flags → List ℕ
-flags_name flags = text_if flags.on_success (codes "s") ++ (text_if flags.on_error (codes "e") ++ text_if flags.on_cancel (codes "c"))
+flags_name flags =
+    text_if flags.on_success (codes "s") ++ (text_if flags.on_error (codes "e") ++ text_if flags.on_cancel (codes "c"))
 
 -- every choice of flags
 unfoldable pub every_flags : List Flags
 every_flags =
-    flagged false false false ∷ flagged false false true ∷ flagged false true false ∷ flagged false true true ∷ flagged true false false
+    flagged false false false ∷ flagged false false true ∷ flagged false true false ∷ flagged false true true
+    ∷ flagged true false false
     ∷ flagged true false true ∷ flagged true true false ∷ flagged true true true ∷ []
 
 -- flags by their letters

@@ -4,7 +4,8 @@ use Rattle.serde_json.specs.Data.{Data}
 use Rattle.serde_json.specs.Find.{at, get, as_bool, as_str}
 use Rattle.irp_forms.specs.Names.{answer_name, first_named}
 use Rattle.irp_forms.specs.Parts.{◌>>=◌, has_items, has_keys, or_null_at, u8_at, u32_at, u64_at}
-use Rattle.irp_forms.specs.Values.{cancel_answer_at, cancel_at, device_at, dispatch_at, plan_at, replacement_at, routine_at, status_at}
+use Rattle.irp_forms.specs.Values.{cancel_answer_at, cancel_at, device_at, dispatch_at, plan_at, replacement_at}
+use Rattle.irp_forms.specs.Values.{routine_at, status_at}
 use Rattle.irp_types.specs.declared.{answer.Answer.Answer, asked.Asked.Asked, shown.Shown.Shown}
 use Rattle.irp_types.specs.declared.asked.Asked.TheVariants as questions
 

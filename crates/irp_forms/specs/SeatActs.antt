@@ -23,7 +23,8 @@ unfoldable pub lock_act_named : List ℕ → Keys → Data → Option LockAct
 lock_act_named name beside form =
     if bytes_eq name (codes "acquire") then (tagged_at beside form >>= λ told. Some (Acquire told.0 told.1)) else
     (if bytes_eq name (codes "release") then (tagged_at beside form >>= λ told. Some (Release told.0 told.1)) else
-    (if bytes_eq name (codes "begin_remove") then (tagged_at beside form >>= λ told. Some (BeginRemove told.0 told.1)) else
+    (if bytes_eq name (codes "begin_remove") then
+    (tagged_at beside form >>= λ told. Some (BeginRemove told.0 told.1)) else
     (if bytes_eq name (codes "drained") then (do
       its ← only_keys (codes "do" ∷ codes "lock" ∷ beside) form
       lock ← get (codes "lock") form >>= lock_at

@@ -126,7 +126,14 @@ first_counts_at form = do
   keeper ← at 2 form >>= u32_at
   keep_on_error ← at 3 form >>= u32_at
   free ← at 4 form >>= u32_at
-  Some (record { watch = watch; change = change; keeper = keeper; keep_on_error = keep_on_error; free = free; cancel = 0 })
+  Some (record {
+    watch = watch;
+    change = change;
+    keeper = keeper;
+    keep_on_error = keep_on_error;
+    free = free;
+    cancel = 0;
+  })
 
 -- how many completion routines of each rule
 unfoldable pub completions_at : Data → Option Known

@@ -1,4 +1,5 @@
-//! Calls of the manager that entries of a transcript and steps of a script tell in the same way.
+//! Calls of the manager that entries of a transcript and steps of a script tell in the same way. Source: this project's
+//! own format (docs/FORMATS.md).
 
 ghost use Rattle.std.specs.Prelude.{◌≡◌};
 ghost use Rattle.serde_json.specs.View.{view};
@@ -75,7 +76,7 @@ fn call_by<P: Copy, T: Copy>(name: &str, party: Party, irp: P, value: &Value) ->
 
 /// The call of this name that an object tells with its own keys and those beside them, where this is what its packet
 /// reads as. None for an allocation, a deletion of a device and a finish of a taken packet, which entries and steps
-/// tell in different ways; none for another name or another form (this project's own format, docs/FORMATS.md).
+/// tell in different ways; none for another name or another form.
 #[tactic(auto, unfolding(crate::specs::Calls::call_named))]
 pub fn call_named<P: Copy, T: Copy>(
     name: &str,

@@ -1,4 +1,4 @@
-//! Small values, and where they stand.
+//! Small values, and where they stand. Source: this project's own format (docs/FORMATS.md).
 
 ghost use Rattle.std.specs.Prelude.{◌≡◌, Option};
 ghost use Rattle.serde_json.specs.Data.{Data};
@@ -9,7 +9,7 @@ ghost use Rattle.irp_forms.specs.Parts.{or_null_at, u32_at, u64_at, u8_at};
 
 use serde_json::Value;
 
-/// What a JSON value may be the form of, where reading it takes no memory (this project's own format, docs/FORMATS.md).
+/// What a JSON value may be the form of, where reading it takes no memory.
 pub trait FromValue: Sized {
     /// What the value is the form of, or none.
     ghost form: { Data → Option Self };
@@ -19,16 +19,14 @@ pub trait FromValue: Sized {
         ensures { result ≡ form (view value.now) };
 }
 
-/// What stands under a key; none where there is no such key, or another form (this project's own format,
-/// docs/FORMATS.md).
+/// What stands under a key; none where there is no such key, or another form.
 pub fn under<T: FromValue>(key: &str, value: &Value) -> Option<T>
     ensures { result ≡ field key.now T.form (view value.now) }
 {
     T::from_value(value.get(key)?)
 }
 
-/// What an item of an array is, by its place from 0; none where there is no such item, or another form (this project's
-/// own format, docs/FORMATS.md).
+/// What an item of an array is, by its place from 0; none where there is no such item, or another form.
 pub fn nth<T: FromValue>(place: usize, value: &Value) -> Option<T>
     ensures { result ≡ nth place T.form (view value.now) }
 {

@@ -1,4 +1,4 @@
-//! Lists by the form of their items.
+//! Lists by the form of their items. Source: this project's own format (docs/FORMATS.md).
 
 ghost use Rattle.std.specs.Prelude.{Option};
 ghost use Rattle.serde_json.specs.Data.{Data};
@@ -11,7 +11,7 @@ use irp_types::Row;
 use serde_json::Value;
 use std::alloc::Global;
 
-/// What a JSON value may be the form of (this project's own format, docs/FORMATS.md).
+/// What a JSON value may be the form of.
 pub trait FromJson {
     /// What the value is the form of, or none.
     ghost at: { Data → Option Self };
@@ -21,7 +21,7 @@ pub trait FromJson {
         ensures { Gives result (at (view value.now)) };
 }
 
-/// What the items of an array are the forms of, in order (this project's own format, docs/FORMATS.md).
+/// What the items of an array are the forms of, in order.
 ///
 /// # Errors
 ///
@@ -53,7 +53,7 @@ impl<T: FromJson + Drop> FromJson for Row<T> {
 }
 
 /// What the value is the form of. It takes no memory, and answers `Unread::Form` exactly where the value has another
-/// form (this project's own format, docs/FORMATS.md).
+/// form.
 impl<T: FromValue> FromJson for T {
     ghost at = { T.form };
 

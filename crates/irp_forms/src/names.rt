@@ -1,4 +1,4 @@
-//! Values that a text names: rules, flags and refusals.
+//! Values that a text names: rules, flags and refusals. Source: this project's own format (docs/FORMATS.md).
 #![tactic(auto, unfolding(json::specs::Print::escape_byte))]
 
 ghost use Rattle.std.specs.Prelude.{◌≡◌, ℕ, List, ◌++◌, Some, codes};
@@ -12,7 +12,7 @@ use crate::from_value::FromValue;
 use irp_types::{CancelRule, Refusal, Rule};
 use serde_json::Value;
 
-/// A value that a text names (this project's own format, docs/FORMATS.md).
+/// A value that a text names.
 pub trait HasName: Copy + 'static {
     /// Its name.
     ghost name: { Self → List ℕ };
@@ -34,7 +34,7 @@ pub trait HasName: Copy + 'static {
     ghost found: { (one : Self) → spec.first_named name all (name one) ≡ Some one };
 }
 
-/// The value that has this name; none where no value has it (this project's own format, docs/FORMATS.md).
+/// The value that has this name; none where no value has it.
 pub fn named<T: HasName>(given: &str) -> Option<T>
     ensures first { result ≡ spec.first_named T.name T.all given.now }
     ensures found { (one : T) → (result ≡ Some one) ↔ (given.now ≡ T.name one) }
@@ -47,8 +47,7 @@ pub fn named<T: HasName>(given: &str) -> Option<T>
     None
 }
 
-/// The value whose name the text is; none for another text, and for what is no text (this project's own format,
-/// docs/FORMATS.md).
+/// The value whose name the text is; none for another text, and for what is no text.
 impl<T: HasName> FromValue for T {
     ghost form = { spec.value_at T.name T.all };
 
@@ -111,7 +110,7 @@ impl HasName for CancelRule {
     }
 }
 
-/// When a completion routine is called, as a setting's letters say (this project's own format, docs/FORMATS.md).
+/// When a completion routine is called, as a setting's letters say.
 #[derive(Clone, Copy, Debug, PartialEq, Eq)]
 pub struct Flags {
     /// Where the packet's status is a success: the letter s.
@@ -123,7 +122,7 @@ pub struct Flags {
 }
 
 /// The flags that these letters set: of s, e and c none, some or all, each once and in this order. None for any other
-/// text (this project's own format, docs/FORMATS.md).
+/// text.
 #[tactic(auto, unfolding(crate::specs::Names::every_flags))]
 pub fn flags_named(letters: &str) -> Option<Flags>
     ensures { result ≡ spec.first_named spec.flags_name spec.every_flags letters.now }
@@ -146,8 +145,7 @@ pub fn flags_named(letters: &str) -> Option<Flags>
     })
 }
 
-/// The flags that the letters of a text set, as `flags_named` tells; none for what is no text (this project's own
-/// format, docs/FORMATS.md).
+/// The flags that the letters of a text set, as `flags_named` tells; none for what is no text.
 impl FromValue for Flags {
     ghost form = { spec.flags_at };
 

@@ -1,4 +1,5 @@
-//! What closures were asked, what they were shown and what they answered.
+//! What closures were asked, what they were shown and what they answered. Source: this project's own format
+//! (docs/FORMATS.md).
 
 ghost use Rattle.std.specs.Prelude.{◌≡◌};
 ghost use Rattle.irp_forms.specs.Questions as spec;
@@ -8,8 +9,7 @@ use crate::parts::{has_keys, of_items};
 use irp_types::{Answer, Asked, IrpRef, Shown};
 use serde_json::Value;
 
-/// Whether a completion routine whose answer has this name keeps the packet or continues (this project's own format,
-/// docs/FORMATS.md).
+/// Whether a completion routine whose answer has this name keeps the packet or continues.
 #[tactic(auto, unfolding(crate::specs::Questions::keep_named))]
 pub fn keep_named(name: &str) -> Option<bool>
     ensures { result ≡ spec.keep_named name.now }
@@ -63,7 +63,7 @@ impl FromValue for Shown {
     }
 }
 
-/// A question, by the keys that it has (this project's own format, docs/FORMATS.md).
+/// A question, by the keys that it has.
 impl FromValue for Asked {
     ghost form = { spec.asked_at };
 

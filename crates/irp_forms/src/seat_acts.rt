@@ -1,5 +1,5 @@
 //! Acts on remove locks, hands, and the slots of acts on cancel slots, which word lines of a transcript and steps of a
-//! script tell in the same way.
+//! script tell in the same way. Source: this project's own format (docs/FORMATS.md).
 
 ghost use Rattle.std.specs.Prelude.{◌≡◌};
 ghost use Rattle.serde_json.specs.View.{view};
@@ -22,7 +22,7 @@ fn tagged_at(beside: &[&str], value: &Value) -> Option<(LockNo, u32)>
 }
 
 /// The act on a remove lock of this name that an object tells with its own keys and those beside them. None for another
-/// name or another form (this project's own format, docs/FORMATS.md).
+/// name or another form.
 #[tactic(auto, unfolding(crate::specs::SeatActs::lock_act_named))]
 pub fn lock_act_named(name: &str, beside: &[&str], value: &Value) -> Option<LockAct>
     ensures { result ≡ spec.lock_act_named name.now (keys_in beside.now) (view value.now) }
@@ -49,8 +49,7 @@ pub fn lock_act_named(name: &str, beside: &[&str], value: &Value) -> Option<Lock
     }
 }
 
-/// The hand that an object tells with its own keys and those beside them, whatever its name. None for another form
-/// (this project's own format, docs/FORMATS.md).
+/// The hand that an object tells with its own keys and those beside them, whatever its name. None for another form.
 #[tactic(auto, unfolding(crate::specs::SeatActs::hand_at))]
 pub fn hand_at(beside: &[&str], value: &Value) -> Option<Hand>
     ensures { result ≡ spec.hand_at (keys_in beside.now) (view value.now) }
@@ -63,7 +62,7 @@ pub fn hand_at(beside: &[&str], value: &Value) -> Option<Hand>
 }
 
 /// The cancel slot of an act that names nothing else, whatever its name, with the keys beside its own. None for another
-/// form (this project's own format, docs/FORMATS.md).
+/// form.
 #[tactic(auto, unfolding(crate::specs::SeatActs::slot_alone_at))]
 pub fn slot_alone_at(beside: &[&str], value: &Value) -> Option<u32>
     ensures { result ≡ spec.slot_alone_at (keys_in beside.now) (view value.now) }

@@ -1,4 +1,4 @@
-//! Why a JSON value wasn't read.
+//! Why a JSON value wasn't read. Source: this project's own rules.
 
 ghost use Rattle.std.specs.Prelude.{◌≡◌, IfErr};
 ghost use Rattle.irp_forms.specs.Parts.{Gives};
@@ -6,7 +6,7 @@ ghost use Rattle.irp_forms.specs.declared.unread.Unread.TheVariants.{Form};
 
 use thiserror::Error;
 
-/// Why a JSON value wasn't read (this project's own rule).
+/// Why a JSON value wasn't read.
 #[derive(Clone, Copy, Debug, PartialEq, Eq, Error)]
 pub enum Unread {
     /// The value doesn't have the form.
@@ -17,7 +17,7 @@ pub enum Unread {
     NoMemory,
 }
 
-/// What was read. It takes no memory (this project's own rule).
+/// What was read. It takes no memory.
 ///
 /// # Errors
 ///

@@ -1,4 +1,4 @@
-//! References, settings, plans, answers and tables.
+//! References, settings, plans, answers and tables. Source: this project's own format (docs/FORMATS.md).
 
 ghost use Rattle.std.specs.Prelude.{◌≡◌};
 ghost use Rattle.serde_json.specs.View.{view};
@@ -13,7 +13,7 @@ use irp_types::{
 };
 use serde_json::Value;
 
-/// A device by its number (this project's own format, docs/FORMATS.md).
+/// A device by its number.
 impl FromValue for DeviceId {
     ghost form = { spec.device_at };
 
@@ -22,7 +22,7 @@ impl FromValue for DeviceId {
     }
 }
 
-/// A cancel routine by its number (this project's own format, docs/FORMATS.md).
+/// A cancel routine by its number.
 impl FromValue for CancelId {
     ghost form = { spec.cancel_at };
 
@@ -31,7 +31,7 @@ impl FromValue for CancelId {
     }
 }
 
-/// A dispatch routine by its number (this project's own format, docs/FORMATS.md).
+/// A dispatch routine by its number.
 impl FromValue for DispatchId {
     ghost form = { spec.dispatch_at };
 
@@ -40,7 +40,7 @@ impl FromValue for DispatchId {
     }
 }
 
-/// A driver by its number (this project's own format, docs/FORMATS.md).
+/// A driver by its number.
 impl FromValue for DriverId {
     ghost form = { spec.driver_at };
 
@@ -49,7 +49,7 @@ impl FromValue for DriverId {
     }
 }
 
-/// A remove lock by its number (this project's own format, docs/FORMATS.md).
+/// A remove lock by its number.
 impl FromValue for LockNo {
     ghost form = { spec.lock_at };
 
@@ -58,7 +58,7 @@ impl FromValue for LockNo {
     }
 }
 
-/// A status by its number (this project's own format, docs/FORMATS.md).
+/// A status by its number.
 impl FromValue for Status {
     ghost form = { spec.status_at };
 
@@ -67,7 +67,7 @@ impl FromValue for Status {
     }
 }
 
-/// A packet by its slot, below 2^32, and its use (this project's own format, docs/FORMATS.md).
+/// A packet by its slot, below 2^32, and its use.
 impl FromValue for IrpRef {
     ghost form = { spec.irp_at };
 
@@ -81,7 +81,7 @@ impl FromValue for IrpRef {
     }
 }
 
-/// A party: `"o"` for the originator, or the device's number (this project's own format, docs/FORMATS.md).
+/// A party: `"o"` for the originator, or the device's number.
 impl FromValue for Party {
     ghost form = { spec.party_at };
 
@@ -94,7 +94,7 @@ impl FromValue for Party {
     }
 }
 
-/// A completion routine by its rule and its number there (this project's own format, docs/FORMATS.md).
+/// A completion routine by its rule and its number there.
 impl FromValue for RoutineId {
     ghost form = { spec.routine_at };
 
@@ -107,7 +107,7 @@ impl FromValue for RoutineId {
     }
 }
 
-/// A setting: rule, number, context and flags (this project's own format, docs/FORMATS.md).
+/// A setting: rule, number, context and flags.
 impl FromValue for Setting {
     ghost form = { spec.setting_at };
 
@@ -128,7 +128,7 @@ impl FromValue for Setting {
     }
 }
 
-/// A replacement: status and information (this project's own format, docs/FORMATS.md).
+/// A replacement: status and information.
 impl FromValue for Replacement {
     ghost form = { spec.replacement_at };
 
@@ -143,7 +143,7 @@ impl FromValue for Replacement {
 }
 
 /// A plan: its name, which stands first, and what it names. `Plan::HoldSlot` is a plan of form 2 alone, and is read in
-/// either form: a reader of form 1 refuses it (this project's own format, docs/FORMATS.md).
+/// either form: a reader of form 1 refuses it.
 impl FromValue for Plan {
     ghost form = { spec.plan_at };
 
@@ -176,8 +176,7 @@ impl FromValue for Plan {
     }
 }
 
-/// A cancel routine's answer: its name, which stands first, and what it names (this project's own format,
-/// docs/FORMATS.md).
+/// A cancel routine's answer: its name, which stands first, and what it names.
 impl FromValue for CancelAnswer {
     ghost form = { spec.cancel_answer_at };
 
@@ -209,7 +208,7 @@ fn first_counts_at(value: &Value) -> Option<Known>
     })
 }
 
-/// How many completion routines of each rule, and no cancel routines (this project's own format, docs/FORMATS.md).
+/// How many completion routines of each rule, and no cancel routines.
 #[tactic(auto, unfolding(crate::specs::Values::completions_at))]
 pub fn completions_at(value: &Value) -> Option<Known>
     ensures { result ≡ spec.completions_at (view value.now) }
@@ -218,8 +217,7 @@ pub fn completions_at(value: &Value) -> Option<Known>
     first_counts_at(value)
 }
 
-/// How many completion routines of each rule, and how many cancel routines (this project's own format,
-/// docs/FORMATS.md).
+/// How many completion routines of each rule, and how many cancel routines.
 impl FromValue for Known {
     ghost form = { spec.known_at };
 
@@ -232,7 +230,7 @@ impl FromValue for Known {
     }
 }
 
-/// A major function code, up to 255, and its dispatch (this project's own format, docs/FORMATS.md).
+/// A major function code, up to 255, and its dispatch.
 impl FromValue for (u8, DispatchId) {
     ghost form = { spec.handler_at };
 

@@ -1,7 +1,7 @@
 -- One more entry of a history: it is made again, or it is the first that isn't legal.
 use Rattle.std.proofs.Common.{◌≡◌, ℕ, ◌+◌, ◌<◌, ◌≤◌, Bool, List, [], ◌∷◌, ◌++◌, take, length, refl, sym, ap, subst, ◌∙◌, arith, Option, Some, None, MatchOption}
 use Rattle.std.specs.Prelude.{slice_get}
-use Rattle.std.proofs.lemmas.List.{length-append, take-append-le, take_all}
+use Rattle.std.proofs.lemmas.List.{take-append-le, take_all}
 use Rattle.std.proofs.lemmas.Option.{slice_get_within, same_Some}
 use Rattle.irp_types.specs.Packet.{PacketValue}
 use Rattle.irp_types.specs.State.{StateValue, Fixed, Tables, packet_of}
@@ -82,14 +82,11 @@ cause_stays fixed old new drained call asked (Refused refusal) step =
 -- ---- one more entry
 
 -- a beginning of a history is one of a longer history
-pub begins : (history : List Entry) (entry : Entry) (n : ℕ) → n ≤ length history → take n (history ++ entry ∷ []) ≡ take n history
+begins : (history : List Entry) (entry : Entry) (n : ℕ) → n ≤ length history → take n (history ++ entry ∷ []) ≡ take n history
 begins history entry n within = take-append-le n history (entry ∷ []) within
 
-pub whole : (history : List Entry) (entry : Entry) (n : ℕ) → n ≡ length history → take n (history ++ entry ∷ []) ≡ history
+whole : (history : List Entry) (entry : Entry) (n : ℕ) → n ≡ length history → take n (history ++ entry ∷ []) ≡ history
 whole history entry n is = begins history entry n (omega (arith, is)) ∙ take_all n history (omega (arith, is))
-
-all_of : (history : List Entry) (entry : Entry) (n : ℕ) → n ≡ length history → take (n + 1) (history ++ entry ∷ []) ≡ history ++ entry ∷ []
-all_of history entry n is = take_all (n + 1) (history ++ entry ∷ []) (omega (arith, is, length-append history (entry ∷ [])))
 
 -- what is wrong stays so, and so does what the manager could follow
 pub wrong_stays : (fixed : Fixed) (history : List Entry) (entry : Entry) (wrong : Wrong) → IsWrong fixed history wrong → IsWrong fixed (history ++ entry ∷ []) wrong

@@ -4,3 +4,4 @@ pub mod MadeAgain
 pub mod Verdicts
 pub mod Unallowed
 pub mod Feeding
+pub mod Judged

@@ -7,8 +7,8 @@ use Rattle.std.proofs.lemmas.Option.{slice_get_cases, slice_get_within}
 use Rattle.irp_types.specs.State.{StateValue, Fixed, opening_state}
 use Rattle.irp_types.specs.Histories.{LeadsThrough, LeadsTo, IsLegal, HistorySettlesStates}
 use Rattle.irp_types.specs.declared.entry.Entry.{Entry}
-use Rattle.irp_shared.specs.Headers.{fixed_of}
-use Rattle.irp_shared.specs.declared.header.Header.{Header}
+use Rattle.irp_transcript.specs.Headers.{fixed_of}
+use Rattle.irp_transcript.specs.declared.header.Header.{Header}
 use Rattle.irp_judge.specs.Checked.{IsFirstIllegal, IsVerdict, IsVerdictWith, IsFirstWrongWith, verdict_of}
 use Rattle.irp_judge.specs.Replayed.{IsNoEntryAt}
 use Rattle.irp_judge.specs.declared.verdict.Wrong.{Wrong}

@@ -65,7 +65,8 @@ packet_cause needed live _ = Nothing
 
 abbrev pub live_cause : StateValue → Call → Refusal → Cause
 live_cause state call refusal =
-    option_map_or (λ (live : LivePacket). packet_cause (needed_by state.devices call) live refusal) (live_named state call) Nothing
+    option_map_or (λ (live : LivePacket). packet_cause (needed_by state.devices call) live refusal)
+    (live_named state call) Nothing
 
 -- a limit that was reached: of devices for who creates one, else of packets or uses
 abbrev pub full_cause : StateValue → Call → Cause
@@ -86,7 +87,8 @@ abbrev pub cause_of : StateValue → Call → Refusal → Cause
 cause_of state call refusal.NoDevice = Devices (length state.devices.facts)
 cause_of state call refusal.Full = full_cause state call
 cause_of state call refusal.WrongTarget =
-    option_map_or (λ (device : DeviceId). Lower (option_map device_of (lower_of state.devices device.0))) (sending call) Nothing
+    option_map_or (λ (device : DeviceId). Lower (option_map device_of (lower_of state.devices device.0)))
+    (sending call) Nothing
 cause_of state call refusal.StillAttached = option_map_or (neighbours_of state.devices) (moving call) Nothing
 cause_of state call refusal.TooDeep =
     option_map_or (λ (to : DeviceId). Stack (length (stack_of state.devices to.0))) (growing call) Nothing

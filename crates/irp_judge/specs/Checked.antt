@@ -5,9 +5,9 @@ use Rattle.irp_types.specs.State.{Fixed, StateValue, Tables}
 use Rattle.irp_types.specs.declared.asked.Asked.{Asked}
 use Rattle.irp_types.specs.Histories.{IsLegal, LeadsTo}
 use Rattle.irp_types.specs.declared.entry.Entry.{Entry}
-use Rattle.irp_shared.specs.Headers.{fixed_of}
-use Rattle.irp_shared.specs.Transcripts.{TranscriptValue}
-use Rattle.irp_shared.specs.declared.header.Header.{Header}
+use Rattle.irp_transcript.specs.Headers.{fixed_of}
+use Rattle.irp_transcript.specs.Transcripts.{TranscriptValue}
+use Rattle.irp_transcript.specs.declared.header.Header.{Header}
 use Rattle.irp_difference.specs.declared.difference.QuestionPart.{QuestionPart}
 use Rattle.irp_difference.specs.declared.difference.QuestionPart.TheVariants as part
 use Rattle.irp_difference.specs.declared.difference.Difference.{Difference}
@@ -19,8 +19,8 @@ use Rattle.irp_judge.specs.declared.verdict.Wrong.{Wrong}
 use Rattle.irp_judge.specs.declared.verdict.Verdict.{Verdict}
 use Rattle.irp_judge.specs.declared.verdict.Verdict.TheVariants.{Legal, Illegal}
 
--- the entry at this place is the first that isn't legal: those before it are a history that the sequential manager could
--- have made, and those up to it aren't
+-- the entry at this place is the first that isn't legal: those before it are a history that the sequential manager
+-- could have made, and those up to it aren't
 abbrev pub IsFirstIllegal : Fixed → List Entry → ℕ → Type 0
 IsFirstIllegal fixed history at = IsLegal fixed (take at history) × (IsLegal fixed (take (at + 1) history) → ⊥)
 
@@ -45,7 +45,8 @@ IsPartUnallowed tables at part.TooMany asked = ⊤
 IsPartUnallowed tables at part.TooFew asked = ⊤
 IsPartUnallowed tables at part.Closure asked = ⊤
 IsPartUnallowed tables at (part.Shown field) asked = ⊤
-IsPartUnallowed tables at part.Answer asked = (question : Asked) → slice_get asked at ≡ Some question → is_answer_allowed tables question ≡ false
+IsPartUnallowed tables at part.Answer asked =
+    (question : Asked) → slice_get asked at ≡ Some question → is_answer_allowed tables question ≡ false
 
 abbrev pub IsUnallowed : Tables → Difference → List Asked → Type 0
 IsUnallowed tables kind.Number asked = ⊤

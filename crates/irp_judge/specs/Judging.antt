@@ -3,8 +3,8 @@ use Rattle.std.specs.Prelude.{ℕ, ◌≡◌, List, [], ◌∷◌, ◌++◌, tak
 use Rattle.irp_types.specs.State.{StateValue}
 use Rattle.irp_types.specs.Histories.{LeadsTo}
 use Rattle.irp_types.specs.declared.entry.Entry.{Entry}
-use Rattle.irp_shared.specs.Headers.{fixed_of}
-use Rattle.irp_shared.specs.declared.header.Header.{Header}
+use Rattle.irp_transcript.specs.Headers.{fixed_of}
+use Rattle.irp_transcript.specs.declared.header.Header.{Header}
 use Rattle.irp_judge.specs.Checked.{IsFirstWrong}
 use Rattle.irp_judge.specs.declared.verdict.Wrong.{Wrong}
 
@@ -22,8 +22,8 @@ abbrev pub followed : List Entry → Option Wrong → List Entry
 followed history None = history
 followed history (Some wrong) = take wrong.at history ++ wrong.made ∷ []
 
--- a judge was fed this history: it counted the entries, keeps what is wrong with them, and the state that the manager is
--- in behind what it could follow
+-- a judge was fed this history: it counted the entries, keeps what is wrong with them, and the state that the manager
+-- is in behind what it could follow
 pub record HasJudged (judge : JudgeValue) (history : List Entry) : Type 0 where
   pub counted : judge.fed ≡ length history
   pub wrong : IsFirstWrong (fixed_of judge.header) history judge.wrong

@@ -55,32 +55,40 @@ continues = record { keep = false; mark = false; replacement = None }
 -- what a dispatch plans: the first plan of its device, where it is allowed to it
 abbrev pub plan_told : Tables → List Asked → DispatchId → Shown → Plan
 plan_told tables asked id shown =
-    option_map_or (λ (known : Known). guarded_plan known shown (unwrap_or (first_in (plan_in shown.device) asked) fixed_plan)) (known_of tables id) fixed_plan
+    option_map_or
+    (λ (known : Known). guarded_plan known shown (unwrap_or (first_in (plan_in shown.device) asked) fixed_plan))
+    (known_of tables id) fixed_plan
 
 -- what a completion routine answers: the first answer at its location, where its rule allows it
 abbrev pub answer_told : List Asked → RoutineId → Shown → Answer
-answer_told asked id shown = guarded_answer id.rule shown (unwrap_or (first_in (answer_in shown.location) asked) continues)
+answer_told asked id shown =
+    guarded_answer id.rule shown (unwrap_or (first_in (answer_in shown.location) asked) continues)
 
 -- what a cancel routine answers: the first answer of one, where its rule allows it
 abbrev pub cancel_told : Tables → List Asked → CancelId → Shown → CancelAnswer
 cancel_told tables asked id shown =
-    option_map_or (λ (rule : CancelRule). guarded_cancel rule (unwrap_or (first_in cancel_in asked) Leave)) (slice_get tables.cancel_rules id.0) Leave
+    option_map_or (λ (rule : CancelRule). guarded_cancel rule (unwrap_or (first_in cancel_in asked) Leave))
+    (slice_get tables.cancel_rules id.0) Leave
 
 -- a plan is the one that is recorded, and it is allowed
-pub record IsPlanTold (tables : Tables) (asked : List Asked) (id : DispatchId) (shown : Shown) (plan : Plan) : Type 0 where
+pub record IsPlanTold (tables : Tables) (asked : List Asked) (id : DispatchId) (shown : Shown) (plan : Plan)
+    : Type 0 where
   pub allowed : IsPlanAllowed tables id shown plan
   pub told : plan ≡ plan_told tables asked id shown
 
 -- the same of a completion routine's answer
-pub record IsAnswerTold (tables : Tables) (asked : List Asked) (id : RoutineId) (shown : Shown) (answer : Answer) : Type 0 where
+pub record IsAnswerTold (tables : Tables) (asked : List Asked) (id : RoutineId) (shown : Shown) (answer : Answer)
+    : Type 0 where
   pub allowed : IsAnswerAllowed tables id shown answer
   pub told : answer ≡ answer_told asked id shown
 
 -- the same of a cancel routine's answer
-pub record IsCancelTold (tables : Tables) (asked : List Asked) (id : CancelId) (shown : Shown) (answer : CancelAnswer) : Type 0 where
+pub record IsCancelTold (tables : Tables) (asked : List Asked) (id : CancelId) (shown : Shown) (answer : CancelAnswer)
+    : Type 0 where
   pub allowed : IsCancelAllowed tables id answer
   pub told : answer ≡ cancel_told tables asked id shown
 
 -- these questions are answered by what an entry with those tells, where that is allowed
 abbrev pub AreTold : Tables → List Asked → List Asked → Type 0
-AreTold tables told asked = AreAnswered (IsPlanTold tables told) (IsAnswerTold tables told) (IsCancelTold tables told) asked
+AreTold tables told asked =
+    AreAnswered (IsPlanTold tables told) (IsAnswerTold tables told) (IsCancelTold tables told) asked

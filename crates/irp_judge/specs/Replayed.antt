@@ -13,7 +13,8 @@ IsNoEntryAt fixed number old entry = (new : StateValue) → IsEntryAt fixed numb
 
 -- what the manager makes of an entry's call, answered as the entry tells where that is allowed: an entry of the same
 -- seat and call, which leads from the old state to the new one; where it isn't the entry itself, no step makes that
-pub record IsMadeOf (fixed : Fixed) (number : ℕ) (old : StateValue) (entry made : Entry) (new : StateValue) : Type 0 where
+pub record IsMadeOf (fixed : Fixed) (number : ℕ) (old : StateValue) (entry made : Entry) (new : StateValue)
+    : Type 0 where
   pub seat : made.seat ≡ entry.seat
   pub call : made.call ≡ entry.call
   pub told : AreTold fixed.tables entry.asked made.asked

@@ -1,12 +1,12 @@
 //! Whether a recorded history is legal, and what is wrong with one that is not.
 
 ghost use Rattle.std.specs.Prelude.{IfOk, length};
-ghost use Rattle.irp_shared.specs.Headers.{IsHeader, fixed_of};
+ghost use Rattle.irp_transcript.specs.Headers.{IsHeader, fixed_of};
 ghost use Rattle.irp_judge.specs.Checked.{IsExplained, IsFirstWrong, IsVerdictOn, verdict_of};
 
 use crate::judge::Judge;
 use crate::verdict::{Verdict, Wrong};
-use irp_shared::{Header, Transcript};
+use irp_transcript::{Header, Transcript};
 use irp_types::Entry;
 use std::alloc::{AllocError, Global};
 

@@ -1,10 +1,10 @@
 //! A judge that is fed a history entry by entry.
 
-ghost use Rattle.std.specs.Prelude.{◌≡◌, ◌+◌, ◌<◌, ◌^◌, List, [], ◌∷◌, ◌++◌, length, None, OnErr, OnOk};
+ghost use Rattle.std.specs.Prelude.{◌≡◌, ◌+◌, ◌<◌, ◌^◌, List, [], ◌∷◌, ◌++◌, length, OnErr, OnOk};
 ghost use Rattle.std.specs.Option.{option_copied};
 ghost use Rattle.irp_types.specs.Refusals.{first_refusal};
 ghost use Rattle.irp_types.specs.declared.entry.Entry.{Entry};
-ghost use Rattle.irp_shared.specs.Headers.{IsHeader, fixed_of};
+ghost use Rattle.irp_transcript.specs.Headers.{IsHeader, fixed_of};
 ghost use Rattle.irp_judge.specs.Causes.{cause_of};
 ghost use Rattle.irp_judge.specs.Checked.{IsVerdict};
 ghost use Rattle.irp_judge.specs.Judging.{HasJudged};
@@ -15,14 +15,14 @@ use crate::replaying::made_of;
 use crate::verdict::{Verdict, Wrong};
 use irp_difference::first_difference;
 use irp_manager::{ManagerState, MapKeep};
-use irp_shared::Header;
+use irp_transcript::Header;
 use irp_types::{Call, Entry, Refusal, history_goes_on, history_settles_states};
 use std::alloc::{AllocError, Global};
 use std::marker::Model;
 
-/// Judges a history that is fed to it, entry by entry. It keeps the state that the sequential manager is in, and what is
-/// wrong with the first entry that isn't legal; the entries themselves it doesn't keep. At any moment its answers are
-/// those of `check` and `explain` on what it was fed (this project's own rule).
+/// Judges a history that is fed to it, entry by entry. It keeps the state that the sequential manager is in, and what
+/// is wrong with the first entry that isn't legal; it doesn't keep the entries. At any moment its answers are those of
+/// `check` and `explain` on what it was fed (this project's own rule).
 ///
 /// Contracts see it as the record `JudgeValue`: the header, how many entries it was fed, what is wrong, and the state.
 #[derive(Drop)]
@@ -37,7 +37,7 @@ impl<'a> Model for Judge<'a> {
     ghost use Rattle.irp_types.specs.Standing.{StandingFacts};
     ghost use Rattle.irp_manager.specs.Keeps.{mapped};
     ghost use Rattle.irp_manager.specs.ManagerStates.{Agrees, state_of};
-    ghost use Rattle.irp_shared.specs.Headers.{IsHeader, fixed_of};
+    ghost use Rattle.irp_transcript.specs.Headers.{IsHeader, fixed_of};
     ghost use Rattle.irp_judge.specs.Judging.{JudgeValue};
 
     ghost Value = { JudgeValue };
@@ -72,9 +72,8 @@ impl<'a> Judge<'a> {
         }
     }
 
-    /// Makes the next entry again, and keeps what is wrong with it. It doesn't count.
+    /// Makes the next entry again, unless one before it wasn't legal, and keeps what is wrong with it. It doesn't count.
     fn make_again(&mut self, entry: &Entry) -> Result<(), AllocError>
-        requires fine { self.old.wrong ≡ None }
         ensures header { self.new.header ≡ self.old.header }
         ensures fed { self.new.fed ≡ self.old.fed }
         ensures judged { (history : List Entry) → HasJudged self.old history
@@ -82,6 +81,9 @@ impl<'a> Judge<'a> {
             (history ++ entry.now ∷ [])) }
         ensures err { OnErr result (self.new ≡ self.old) }
     {
+        if self.wrong.is_some() {
+            return Ok(());
+        }
         history_goes_on();
         history_settles_states();
         let made = made_of(&mut self.core, self.header, entry, self.fed)?;
@@ -96,7 +98,16 @@ impl<'a> Judge<'a> {
         Ok(())
     }
 
-    /// Judges the next entry of the history. Behind one that isn't legal it only counts. What it was fed is exact for the
+    /// Counts one entry more.
+    fn count(&mut self)
+        ensures header { self.new.header ≡ self.old.header }
+        ensures counted { self.old.fed + 1 < 2 ^ 64
+            → self.new ≡ record self.old { fed = self.old.fed + 1 } }
+    {
+        self.fed = self.fed.saturating_add(1);
+    }
+
+    /// Judges the next entry of the history. Behind one that isn't legal it only counts. Its answers are exact for the
     /// first 2⁶⁴ - 1 entries.
     ///
     /// # Errors
@@ -109,10 +120,8 @@ impl<'a> Judge<'a> {
             → OnOk result (HasJudged self.new (history ++ entry.now ∷ [])) }
         ensures err { OnErr result (self.new ≡ self.old) }
     {
-        if self.wrong.is_none() {
-            self.make_again(entry)?;
-        }
-        self.fed = self.fed.saturating_add(1);
+        self.make_again(entry)?;
+        self.count();
         Ok(())
     }
 

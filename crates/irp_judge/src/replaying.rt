@@ -5,12 +5,12 @@ ghost use Rattle.irp_types.specs.State.{AreTables};
 ghost use Rattle.irp_types.specs.Standing.{StandingFacts};
 ghost use Rattle.irp_manager.specs.ManagerStates.{state_of, Agrees};
 ghost use Rattle.irp_manager.specs.Keeps.{mapped};
-ghost use Rattle.irp_shared.specs.Headers.{fixed_of};
+ghost use Rattle.irp_transcript.specs.Headers.{fixed_of};
 ghost use Rattle.irp_judge.specs.Replayed.{IsMadeOf, slot_named};
 
 use crate::recorded_answers::RecordedAnswers;
 use irp_manager::{DrainNote, ManagerState, MapKeep, step_is_settled};
-use irp_shared::Header;
+use irp_transcript::Header;
 use irp_types::{Entry, LockNo, Questions, Reply};
 use std::alloc::AllocError;
 
@@ -37,8 +37,8 @@ fn slot_named(reply: Reply) -> Option<usize>
     }
 }
 
-/// What the manager makes of an entry's call at this place, answered as the entry says where that is allowed. Where that
-/// is another entry, no step of the manager makes the recorded one.
+/// What the manager makes of an entry's call at this place, answered as the entry says where that is allowed. Where
+/// that is another entry, no step of the manager makes the recorded one.
 ///
 /// # Errors
 ///

@@ -25,7 +25,7 @@ use Rattle.irp_manager.proofs.Sound.{passed}
 use Rattle.irp_manager.proofs.Maps.{get_inserted, get_kept, insert_same}
 
 -- what no slot has
-abbrev nothing : LivePacket
+abbrev pub nothing : LivePacket
 nothing = record { packet = new_packet 1; use_no = 0 }
 
 -- the state once another packet was put into a slot

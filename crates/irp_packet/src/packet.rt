@@ -30,7 +30,7 @@ const CLEARED: Location = Location {
 /// (WDK: "I/O Stack Locations"; owner and preparation are this project's own).
 ///
 /// Contracts see it as the record `PacketValue` of `irp_types`, whatever it is stored as.
-#[derive(Drop)]
+#[derive(Clone, Drop)]
 pub struct Packet {
     locations: ArrayVec<Location, MOST_LOCATIONS>,
     current: u32,

@@ -1,6 +1,3 @@
-mod Each
-mod Accepted
-mod Rising
 mod SeatNumbers
 mod Appended
 mod Gathering

@@ -10,7 +10,7 @@ use Rattle.irp_types.specs.Histories.{own_entries}
 use Rattle.irp_types.specs.declared.entry.Entry.{Entry}
 use Rattle.irp_manager.specs.Seats.{Seated}
 use Rattle.irp_shared.specs.Closing.{AllHere, IsKept, count_of}
-use Rattle.irp_shared.proofs.Each.{no_truth}
+use Rattle.irp_transcript.proofs.Each.{no_truth}
 
 -- the sum over the numbers below this one
 sum_below : (ℕ → ℕ) → ℕ → ℕ

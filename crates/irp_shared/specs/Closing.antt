@@ -6,16 +6,17 @@ use Rattle.irp_types.specs.State.{Fixed}
 use Rattle.irp_types.specs.Histories.{IsLegal, CompletesOnce, own_entries}
 use Rattle.irp_types.specs.declared.entry.Entry.{Entry}
 use Rattle.irp_manager.specs.Seats.{Seated}
-use Rattle.irp_shared.specs.Headers.{fixed_of, slots_of}
-use Rattle.irp_shared.specs.Transcripts.{TranscriptValue}
+use Rattle.irp_transcript.specs.Headers.{fixed_of, slots_of}
+use Rattle.irp_transcript.specs.Transcripts.{TranscriptValue}
 use Rattle.irp_shared.specs.declared.closing.Difference.{Difference}
 use Rattle.irp_shared.specs.declared.closing.Parting.{Parting}
-use Rattle.irp_shared.specs.declared.header.Header.{Header}
+use Rattle.irp_transcript.specs.declared.header.Header.{Header}
 
 -- as many seats as were opened, and each number among them: so each of them once
 abbrev pub AllHere : List Seated → ℕ → Type 0
 AllHere seats expected =
-    (length seats ≡ expected) × ((number : ℕ) → number < expected → list_any (λ (seat : Seated). seat.number == number) seats ≡ true)
+    (length seats ≡ expected)
+    × ((number : ℕ) → number < expected → list_any (λ (seat : Seated). seat.number == number) seats ≡ true)
 
 -- how many entries a seat has
 abbrev pub count_of : Seated → ℕ

@@ -1,19 +1,14 @@
 -- What a call makes of a seat.
-use Rattle.std.specs.Prelude.{ℕ, ◌≡◌, ◌+◌, ◌<◌, ◌≤◌, Bool, true, false, if◌then◌else◌, Option, Some, None, List, [], ◌∷◌, ◌++◌, length}
+use Rattle.std.specs.Prelude.{ℕ, ◌≡◌, ◌+◌, ◌<◌, ◌≤◌, Bool, true, false, if◌then◌else◌, Option, Some, None, List, []}
+use Rattle.std.specs.Prelude.{◌∷◌, ◌++◌, length}
 use Rattle.irp_types.specs.declared.names.LockNo.{LockNo}
 use Rattle.irp_types.specs.Calls.{Call}
-use Rattle.irp_types.specs.declared.call.Call.TheVariants.{FinishTaken}
 use Rattle.irp_types.specs.declared.reply.Reply.{Reply}
 use Rattle.irp_types.specs.declared.reply.Reply.TheVariants as reply
 use Rattle.irp_slots.specs.declared.answers.Token.{Token}
 use Rattle.irp_types.specs.declared.entry.Entry.{Entry}
 use Rattle.irp_manager.specs.Seats.{Seated}
 use Rattle.irp_manager.specs.Booked.{Receipted, IsCallOf, most_entries}
-
--- a call that only who has a token may make
-abbrev pub needs_token : Call → Bool
-needs_token (FinishTaken irp token status information) = true
-needs_token other = false
 
 -- whether a reply is Done
 abbrev pub is_done : Reply → Bool
@@ -31,13 +26,15 @@ pub record Keeps (entry : Entry) (old new : Seated) : Type 0 where
   pub seen : new.seen ≡ entry.number + 1
 
 -- the seat made a recorded call, and keeps its entry
-pub record Called (seat : Seated) (call : Call) (knows : LockNo → Bool) (receipt : Receipted) (after : Seated) : Type 0 where
+pub record Called (seat : Seated) (call : Call) (knows : LockNo → Bool) (receipt : Receipted) (after : Seated)
+    : Type 0 where
   pub entry : Entry
   pub of_call : IsCallOf seat call knows receipt entry
   pub kept : Keeps entry seat after
 
 -- the same, with the history that it was recorded in, which grew by that entry
-pub record CalledIn (history longer : List Entry) (seat : Seated) (call : Call) (knows : LockNo → Bool) (receipt : Receipted) (after : Seated) : Type 0 where
+pub record CalledIn (history longer : List Entry) (seat : Seated) (call : Call) (knows : LockNo → Bool)
+    (receipt : Receipted) (after : Seated) : Type 0 where
   pub entry : Entry
   pub appended : longer ≡ history ++ entry ∷ []
   pub numbered : entry.number ≡ length history

@@ -1,22 +1,19 @@
-//! Managers that many seats share, and what is recorded of them: the header, the word lines and the transcript.
+//! Managers that many seats share. A session ends in a transcript, whose types are passed on.
 #![tactic(auto)]
 
 mod closing;
-mod header;
 mod locked;
 mod mismatch;
 mod open_refused;
 mod session;
 mod shared;
-mod transcript;
 mod turn;
-mod word_line;
 
-pub use header::{Form, Header};
 pub use irp_manager::Seat;
+pub use irp_transcript::{
+    Act, Form, Header, Transcript, TranscriptParts, WordLine, WordReply, needs_token,
+};
 pub use mismatch::Mismatch;
 pub use open_refused::OpenRefused;
 pub use session::Session;
-pub use shared::{Shared, learn, needs_token, open, open_with_limit};
-pub use transcript::{Transcript, TranscriptParts};
-pub use word_line::{Act, WordLine, WordReply};
+pub use shared::{Shared, learn, open, open_with_limit};

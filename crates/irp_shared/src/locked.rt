@@ -1,4 +1,5 @@
-//! What lies under the lock.
+//! What lies under the lock. Its fields are its own: nobody else counts an entry in the session's total, so the entries
+//! of a session's seats are those that its book has recorded.
 
 ghost use Rattle.std.specs.Prelude.{◌≡◌, ◌<◌, ◌+◌, ℕ, length, IfOk, OnErr, Err};
 ghost use mathlib.Core.Logic.{◌↔◌};
@@ -18,9 +19,9 @@ use std::sync::ledger::{Book as Total, Share};
 /// answer that the asker may give, and of each answer in the history.
 #[derive(Drop)]
 pub struct Locked<A: Ask, L: Session> {
-    pub book: Book<A>,
-    pub total: Total<L>,
-    pub spare: Share<L>,
+    book: Book<A>,
+    total: Total<L>,
+    spare: Share<L>,
     pub ghost no_parts: { spare.parts ≡ 0 },
     pub ghost no_amount: { spare.amount ≡ 0 },
     pub ghost counted: { total.total ≡ length book.history },
@@ -32,8 +33,20 @@ pub struct Locked<A: Ask, L: Session> {
 }
 
 impl<A: Ask, L: Session> Locked<A, L> {
-    /// Makes a call of a seat, records it, and gives the seat a copy of its entry, on condition that the seat has room
-    /// for one more entry.
+    /// A book under the lock, with the total of its session's ledger and a share that is left. It takes no memory.
+    pub fn new(book: Book<A>, total: Total<L>, spare: Share<L>) -> Locked<A, L>
+        requires spare { (spare.parts ≡ 0) × (spare.amount ≡ 0) }
+        requires counted { total.total ≡ length book.history }
+        requires fixed { (book.fixed ≡ L.fixed) × (A.tables book.ask ≡ book.fixed.tables) }
+        requires answers { AnswersSo (A.may_plan book.ask) (A.may_answer book.ask)
+            (A.may_cancel book.ask) L.may }
+        requires answered { EachAnswered L.may book.history }
+    {
+        Locked { book, total, spare }
+    }
+
+    /// Makes a call of a seat, records it, and has the seat keep and count a copy of its entry, on condition that the
+    /// seat has room for one more entry.
     ///
     /// # Errors
     ///
@@ -54,37 +67,21 @@ impl<A: Ask, L: Session> Locked<A, L> {
             ↔ IsBehind self.old.book.history seat.old told }
         ensures full { (result ≡ Err HistoryFull) ↔ IsFull self.old.book.history seat.old }
     {
-        keep(&mut self.book, &mut self.total, seat, call, note)
+        let made = self.book.record_copied(&*seat, call, note)?;
+        let (receipt, entry) = made;
+        let number = receipt.number();
+        seat.took(entry, &mut self.total);
+        seat.saw(number + 1);
+        Ok(receipt)
     }
-}
 
-/// Makes a call, records it, and has the seat keep and count a copy of its entry.
-fn keep<A: Ask, L: Session, N: DrainNote>(
-    book: &mut Book<A>,
-    total: &mut Total<L>,
-    seat: &mut Seat<L>,
-    call: Call,
-    note: &N,
-) -> Result<Receipt, NotRecorded>
-    requires room { 0 < seat.old.room }
-    ensures called { IfOk result (λ receipt. CalledIn book.old.history book.new.history
-        seat.old call (N.knows_drained note.now) receipt seat.new) }
-    ensures total { IfOk result (λ receipt. total.new.total ≡ total.old.total + 1) }
-    ensures kept { (book.new.ask ≡ book.old.ask) × (book.new.fixed ≡ book.old.fixed) }
-    ensures answered { A.tables book.old.ask ≡ book.old.fixed.tables
-        → AnswersSo (A.may_plan book.old.ask) (A.may_answer book.old.ask)
-        (A.may_cancel book.old.ask) L.may
-        → EachAnswered L.may book.old.history → EachAnswered L.may book.new.history }
-    ensures err { OnErr result ((book.new ≡ book.old) × (total.new.total ≡ total.old.total)
-        × IsAsBefore seat.old seat.new) }
-    ensures behind { (told : ℕ) → (result ≡ Err (Behind told))
-        ↔ IsBehind book.old.history seat.old told }
-    ensures full { (result ≡ Err HistoryFull) ↔ IsFull book.old.history seat.old }
-{
-    let made = book.record_copied(&*seat, call, note)?;
-    let (receipt, entry) = made;
-    let number = receipt.number();
-    seat.took(entry, total);
-    seat.saw(number + 1);
-    Ok(receipt)
+    /// The book, the total and the share that is left. It takes no memory.
+    pub fn into_parts(self) -> (Book<A>, Total<L>, Share<L>)
+        ensures book { (result.0.fixed ≡ L.fixed) × EachAnswered L.may result.0.history }
+        ensures total { result.1.total ≡ length result.0.history }
+        ensures spare { (result.2.parts ≡ 0) × (result.2.amount ≡ 0) }
+    {
+        let Locked { book, total, spare } = self;
+        (book, total, spare)
+    }
 }

@@ -1,10 +1,10 @@
-//! Why a session gave no transcript.
+//! Why a session gave no transcript. Source: this project's own rules.
 
 use irp_manager::Seat;
 use irp_types::Entry;
 use std::sync::ledger::Ledger;
 
-/// Why closing gave no transcript (this project's own rule).
+/// Why closing gave no transcript.
 #[derive(Drop)]
 pub enum Mismatch<L: Ledger> {
     /// The seats handed in are not all seats that were opened, each once: how many were opened, and what was handed in.

@@ -1,6 +1,6 @@
-//! Why nothing was opened.
+//! Why nothing was opened. Source: this project's own rules.
 
-/// Why no session was opened (this project's own rule).
+/// Why no session was opened.
 #[derive(Clone, Copy, PartialEq, Eq, Debug)]
 pub enum OpenRefused {
     /// None or more than 64 locks or seats were asked for.

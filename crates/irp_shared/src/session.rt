@@ -1,4 +1,4 @@
-//! What a type parameter says of a session.
+//! What a type parameter says of a session. Source: this project's own rules.
 
 ghost use Rattle.std.specs.Prelude.{ℕ};
 ghost use Rattle.irp_types.specs.State.{Fixed};
@@ -12,7 +12,7 @@ use std::sync::ledger::Ledger;
 /// What a type says of one session of a shared book, for contracts alone: the ledger in which its seats count (its name
 /// and its parts, as [`Ledger`] has them), how many seats it has, what is fixed while it lasts, and how a question may
 /// be answered in it. A `Shared` and the seats that were opened with it have the same such type, so a seat of another
-/// session can't be handed in (this project's own rule).
+/// session can't be handed in.
 ///
 /// A caller writes a function that is generic in `A: Ask` and `L: Session` for all that it does with a session, and
 /// calls it once, at the type of whoever is asked and at [`Brand`]. The proof of that call says what `L` stands for, in

@@ -1,4 +1,4 @@
-//! A book that threads share.
+//! A book that threads share. Source: this project's own rules.
 
 ghost use Rattle.std.specs.Prelude.{◌≡◌, ◌<◌, ◌+◌, ℕ, if◌then◌else◌, nat_lt, Some, IfSome, IfOk, IfErr, OnErr, Err, Option, false};
 ghost use mathlib.Core.Logic.{◌↔◌};
@@ -9,30 +9,30 @@ ghost use Rattle.irp_shared.specs.Answered.{AnswersSo, EachAnswered};
 ghost use Rattle.irp_shared.specs.Opening.{IsBadCount, IsGoodCount, AreNew};
 ghost use Rattle.irp_types.specs.declared.call.Call.TheVariants.{FinishTaken};
 ghost use Rattle.irp_slots.specs.declared.answers.Token.{Token};
-ghost use Rattle.irp_shared.specs.Sharing.{Called, IsAsBefore, needs_token, is_done, given_back};
-ghost use Rattle.irp_shared.specs.Headers.{fixed_of, slots_of};
+ghost use Rattle.irp_shared.specs.Sharing.{Called, IsAsBefore, is_done, given_back};
+ghost use Rattle.irp_transcript.specs.Tokens.{needs_token};
+ghost use Rattle.irp_transcript.specs.Headers.{fixed_of, slots_of};
 ghost use Rattle.irp_shared.specs.Closing.{AllHere, Kept, Closes, entry_at};
 ghost use Rattle.irp_shared.specs.declared.open_refused.OpenRefused.TheVariants.{BadCount};
 ghost use Rattle.irp_shared.specs.declared.mismatch.Mismatch.TheVariants.{Seats as OtherSeats, Entry as OtherEntry};
 
 use crate::closing::{Difference, are_all, gather, taken_out};
-use crate::header::{Form, Header};
 use crate::locked::Locked;
 use crate::mismatch::Mismatch;
 use crate::open_refused::OpenRefused;
 use crate::session::Session;
-use crate::transcript::Transcript;
 use crate::turn::take_turn;
 use irp_manager::{Book, DrainNote, KnowsNothing, Manager, NotRecorded, Receipt, Recorded, Seat};
 use irp_routines::{Ask, FixedTables, Parts};
 use irp_slots::Token;
+use irp_transcript::{Form, Header, Transcript};
 use irp_types::limits::{MOST_LOCKS, MOST_SEATS};
 use irp_types::{Call, Entry, IrpRef, Limit, Reply, Row, Status, history_completes_once};
 use std::alloc::Global;
 use std::sync::ledger::{Blank, Ledger, Share};
 use std::sync::{Mutex, Wait};
 
-/// A book that threads share, through the seats that were opened with it (this project's own rule).
+/// A book that threads share, through the seats that were opened with it.
 ///
 /// However many threads call, the history kept under the lock is one that the sequential manager could have made.
 #[derive(Drop)]
@@ -60,7 +60,7 @@ fn seats_of<L: Ledger>(alloc: Global, share: &mut Share<L>, count: u32) -> Optio
 /// Opens a session: a book over a manager in its opening state, with packets of 32 locations and stacks of 32 devices
 /// at most. It has 1 to 64 remove locks and 1 to 64 seats, numbered from 0 in the order of the answer, that have seen
 /// nothing and have no entries. The blank names the ledger in which the seats count, and has a part for each seat; what
-/// `L` says of the session is so, and whoever is asked answers each question as `L` says (this project's own rule).
+/// `L` says of the session is so, and whoever is asked answers each question as `L` says.
 ///
 /// # Errors
 ///
@@ -83,7 +83,7 @@ pub fn open<A: Ask + Drop, L: Session>(
     open_with_limit::<A, L>(alloc, blank, ask, locks, seats, Limit::ThirtyTwo)
 }
 
-/// The same, with packets and stacks within this limit (this project's own rule).
+/// The same, with packets and stacks within this limit.
 ///
 /// # Errors
 ///
@@ -113,8 +113,7 @@ pub fn open_with_limit<A: Ask + Drop, L: Session>(
     let Ok(book) = Book::new(Manager::with_limit(alloc, ask, locks, limit)) else {
         return Err(OpenRefused::Memory);
     };
-    let locked = Locked { book, total, spare };
-    let lock = Mutex::new(locked);
+    let lock = Mutex::new(Locked::new(book, total, spare));
     let shared = Shared { seats, alloc, lock };
     Ok((shared, places))
 }
@@ -148,12 +147,15 @@ impl<A: Ask, L: Session> Shared<A, L> {
         ensures err { OnErr result (IsAsBefore seat.old seat.new) }
         ensures behind { (told : ℕ) → result ≡ Err (Behind told) → told < seat.old.seen }
     {
-        self.record(rt, seat, call, note)
+        if seat.room().is_err() {
+            return Err(NotRecorded::Memory);
+        }
+        take_turn(&self.lock, rt).call(seat, call, note)
     }
 
     /// Completes a packet that was taken from a cancel slot, with the token that was taken there, in a seat that was
     /// opened with this book, and records it, as `call` does. A packet that is finished spends the token; with every
-    /// other reply the token comes back (this project's own call).
+    /// other reply the token comes back.
     ///
     /// It waits for its turn. All growths come before anything is asked, as in `call`.
     ///
@@ -182,7 +184,10 @@ impl<A: Ask, L: Session> Shared<A, L> {
             status,
             information,
         };
-        match self.record(rt, seat, call, &KnowsNothing) {
+        if seat.room().is_err() {
+            return Err((NotRecorded::Memory, token));
+        }
+        match take_turn(&self.lock, rt).call(seat, call, &KnowsNothing) {
             Err(error) => Err((error, token)),
             Ok(receipt) => {
                 if is_done(receipt.reply()) {
@@ -192,33 +197,6 @@ impl<A: Ask, L: Session> Shared<A, L> {
             }
         }
     }
-
-    /// Makes any call in a seat, and records it.
-    fn record<N: DrainNote>(
-        &self,
-        rt: &impl Wait,
-        seat: &mut Seat<L>,
-        call: Call,
-        note: &N,
-    ) -> Result<Receipt, NotRecorded>
-        ensures called { IfOk result (λ receipt.
-            Called seat.old call (N.knows_drained note.now) receipt seat.new) }
-        ensures err { OnErr result (IsAsBefore seat.old seat.new) }
-        ensures behind { (told : ℕ) → result ≡ Err (Behind told) → told < seat.old.seen }
-    {
-        if seat.room().is_err() {
-            return Err(NotRecorded::Memory);
-        }
-        take_turn(&self.lock, rt).call(seat, call, note)
-    }
-}
-
-/// Whether a call needs a token: true of a `FinishTaken` alone, which finishes a packet that was taken from a cancel
-/// slot (this project's own rule).
-pub fn needs_token(call: Call) -> bool
-    ensures { result ≡ needs_token call }
-{
-    matches!(call, Call::FinishTaken { .. })
 }
 
 /// Whether a reply is Done.
@@ -229,7 +207,7 @@ fn is_done(reply: Reply) -> bool
 }
 
 /// A seat that learns of a receipt has seen its entry, and all before it. A receipt of another session may be learned
-/// too: then `Behind` may answer the seat's next call (this project's own rule). It takes no memory.
+/// too: then `Behind` may answer the seat's next call. It takes no memory.
 pub fn learn<L: Ledger>(seat: &mut Seat<L>, receipt: &Receipt)
     ensures { seat.new ≡ record seat.old {
       seen = if nat_lt seat.old.seen (receipt.now.number + 1)
@@ -290,7 +268,7 @@ impl<A: Ask + Drop, L: Session> Shared<A, L> {
     /// transcript, without word lines. Its header has the tables of the `ask` that `open` was given, and no cancel
     /// slots. Each entry is of one of the seats; each seat's entries are the history's entries with its number, in
     /// order; and their counts add up to the history's length. Each answer in it is as `L` says that it may be. It
-    /// takes no memory (this project's own rule).
+    /// takes no memory.
     ///
     /// # Errors
     ///
@@ -318,11 +296,7 @@ impl<A: Ask + Drop, L: Session> Shared<A, L> {
             let given = seats;
             return Err(Mismatch::Seats { expected, given });
         }
-        let Locked {
-            book,
-            mut total,
-            spare,
-        } = lock.into_inner();
+        let (book, mut total, spare) = lock.into_inner().into_parts();
         let Recorded {
             locks,
             limit,

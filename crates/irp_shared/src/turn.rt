@@ -1,4 +1,4 @@
-//! How a thread gets its turn.
+//! How a thread gets its turn. Source: this project's own rules.
 
 use std::hint::spin_loop;
 use std::sync::{Mutex, MutexGuard, Wait};
@@ -21,7 +21,7 @@ fn pause(count: u32) {
 }
 
 /// Takes a lock, as `Mutex::lock` does. Where another thread has it, it tries again after pauses that grow, since a
-/// turn is short beside a sleep; after the last try it waits in the system until it is woken (this project's own rule).
+/// turn is short beside a sleep; after the last try it waits in the system until it is woken.
 pub fn take_turn<'a, T>(lock: &'a Mutex<T>, rt: &impl Wait) -> MutexGuard<'a, T> {
     let mut pauses = FIRST_PAUSES;
     for _ in 0..TRIES {

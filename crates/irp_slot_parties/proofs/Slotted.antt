@@ -8,7 +8,7 @@ use Rattle.irp_slots.specs.declared.answers.Token.{Token}
 use Rattle.irp_slots.specs.declared.answers.Publication.{Publication}
 use Rattle.irp_slots.specs.declared.answers.Withdrawal.{Withdrawal}
 use Rattle.irp_slots.specs.declared.answers.Request.{Request}
-use Rattle.irp_shared.specs.declared.word_line.WordReply.{WordReply}
+use Rattle.irp_transcript.specs.declared.word_line.WordReply.{WordReply}
 use Rattle.irp_slot_parties.specs.AtSlots.{AtSlots, Publishing, Requesting, Withdrawing, kept, published_reply, published_token, requested_reply, requested_token, withdrawn_reply, withdrawn_token}
 use Rattle.irp_slot_parties.proofs.Places.{told_at}
 

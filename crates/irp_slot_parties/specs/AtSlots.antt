@@ -9,8 +9,8 @@ use Rattle.irp_slots.specs.declared.answers.Withdrawal.{Withdrawal}
 use Rattle.irp_slots.specs.declared.answers.Withdrawal.TheVariants as withdrawal
 use Rattle.irp_slots.specs.declared.answers.Request.{Request as Requested}
 use Rattle.irp_slots.specs.declared.answers.Request.TheVariants as request
-use Rattle.irp_shared.specs.declared.word_line.WordReply.{WordReply}
-use Rattle.irp_shared.specs.declared.word_line.WordReply.TheVariants as answered
+use Rattle.irp_transcript.specs.declared.word_line.WordReply.{WordReply}
+use Rattle.irp_transcript.specs.declared.word_line.WordReply.TheVariants as answered
 use Rattle.irp_slot_parties.specs.declared.taken.Taken.{Taken}
 
 -- how many slots there are, the seat's canceller and the owners of its slots, and what it has taken out of slots

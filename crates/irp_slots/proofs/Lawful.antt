@@ -11,7 +11,7 @@ use Rattle.irp_slots.specs.declared.views.View.TheVariants.{First, Owner, Cancel
 use Rattle.irp_slots.specs.declared.views.Parties.{Parties}
 use Rattle.irp_slots.specs.Core.{total, one_if, flag, times, is_begun, is_resting, is_standing, owns, published, taken, resting, standing, ended, new_canceller}
 use Rattle.irp_slots.specs.Laws.{HasOwner, OnceLaw, IsPublicationOnce, IsNothingElse, RestLaw, IsEmptyOnceAsked, IsEndedForGood, IsOwnView, EmptyLaw, IsTakenByCanceller, LostLaw, FlagLaw}
-use Rattle.irp_slots.proofs.Totals.{total_set, part_of_total, published_owned}
+use Rattle.irp_slots.proofs.Totals.{total_set, part_of_total, published_owned, ended_flagged}
 
 same_number : (a : ℕ) → eqb a a ≡ true
 same_number a = eq-eqb a a refl
@@ -115,4 +115,4 @@ lost_law key s party o has done some_use none_taken =
 
 pub flag_law : FlagLaw
 flag_law key s slot r inside =
-    ((r.flag_only slot inside, r.flag_set slot inside), λ h. r.flag_set slot inside (r.flag_first slot inside h), r.found slot inside)
+    ((r.flag_only slot inside, r.flag_set slot inside), λ h. let le = ended_flagged slot s.views r.in_order in r.flag_set slot inside (omega arith), r.found slot inside)

@@ -1,5 +1,7 @@
 -- How a table begins, and how the first party makes the others.
-use Rattle.std.proofs.Common.{◌≡◌, ℕ, zero, suc, ◌+◌, ◌-◌, ◌*◌, ◌<◌, ◌≤◌, Bool, true, false, eqb, eq-eqb, ne_eqb, List, [], ◌∷◌, ◌++◌, length, get_or, set, replicate, if◌then◌else◌, refl, sym, ap, ◌∙◌, subst, arith}
+use Rattle.std.proofs.Common.{◌≡◌, ℕ, zero, suc, ◌+◌, ◌-◌, ◌*◌, ◌<◌, ◌≤◌, Bool, true, false, eqb, eq-eqb, ne_eqb, List, [], ◌∷◌, ◌++◌, length, All, get_or, set, replicate, if◌then◌else◌, refl, sym, ap, ◌∙◌, subst, arith}
+use Rattle.std.proofs.lemmas.Bool.{false≢true}
+use Rattle.std.proofs.lemmas.List.Elements.{All-set, All-append}
 use mathlib.Core.Logic.{dite}
 use mathlib.Core.Option.{some}
 use native.Mathlib.Decide.{ℕ_discrete}
@@ -8,7 +10,7 @@ use Rattle.atomic_table.specs.Table.{State, Splits}
 use Rattle.irp_slots.specs.declared.views.View.{View}
 use Rattle.irp_slots.specs.declared.views.View.TheVariants.{First}
 use Rattle.irp_slots.specs.declared.views.Parties.{Parties}
-use Rattle.irp_slots.specs.Core.{total, one_if, flag, times, owns, published, taken, resting, standing, flagged, ended, found_flagged, canceller_count, Kept, span, at_first, one_owner_less, next_owner, one_canceller_less, new_canceller}
+use Rattle.irp_slots.specs.Core.{total, one_if, flag, times, owns, published, taken, resting, standing, flagged, ended, found_flagged, canceller_count, IsInOrder, Kept, span, at_first, one_owner_less, next_owner, one_canceller_less, new_canceller}
 use Rattle.irp_slots.proofs.Totals.{total_set, total_snoc}
 
 abbrev St : Type 0
@@ -25,6 +27,12 @@ record Cut (v left right : View) : Type 0 where
   done : (k : ℕ) → ended k v ≡ ended k left + ended k right
   saw_it : (k : ℕ) → found_flagged k v ≡ found_flagged k left + found_flagged k right
   counted : canceller_count v ≡ canceller_count left + canceller_count right
+  left_order : IsInOrder left
+  right_order : IsInOrder right
+
+one_all : (v : View) → IsInOrder v → All IsInOrder (v ∷ [])
+one_all v order zero d less = order
+one_all v order (suc k) d less = absurd (omega arith)
 
 module _ (key : Parties) (id : ℕ) (v left right : View) (cut : Cut v left right) where
   module _ (s : St) (at : get_elem? s.views id ≡ some v) (f : View → ℕ) where
@@ -43,7 +51,7 @@ module _ (key : Parties) (id : ℕ) (v left right : View) (cut : Cut v left righ
     rests = λ k less h. let a = split_total s at (resting k) (cut.rested k) in r.rests k less (omega arith);
     flag_set = λ k less h. let a = split_total s at (flagged k) (cut.asked k) in r.flag_set k less (omega arith);
     flag_only = λ k less odd. let a = split_total s at (flagged k) (cut.asked k) in let was = r.flag_only k less odd in omega arith;
-    flag_first = λ k less h. let a = split_total s at (flagged k) (cut.asked k) in let b = split_total s at (ended k) (cut.done k) in let was = r.flag_first k less (omega arith) in omega arith;
+    in_order = All-append IsInOrder (set s.views id left) (right ∷ []) (All-set IsInOrder s.views id left cut.left_order r.in_order) (one_all right cut.right_order);
     found = λ k less h. let a = split_total s at (found_flagged k) (cut.saw_it k) in r.found k less (omega arith);
     stands = λ k less h g. let a = split_total s at (standing k) (cut.stood k) in let b = split_total s at (ended k) (cut.done k) in r.stands k less (omega arith) (omega arith);
     all_cancellers = split_total s at canceller_count cut.counted ∙ r.all_cancellers;
@@ -67,6 +75,8 @@ owner_made key id slot n os v is = subst (λ (z : View). Splits (Kept key) id z 
       done = λ k. refl;
       saw_it = λ k. refl;
       counted = omega arith;
+      left_order = tt;
+      right_order = refl;
     }))
 
 false_at : (n k : ℕ) → flag (replicate n false) k ≡ false
@@ -89,6 +99,8 @@ canceller_made key id n os v is some_left = subst (λ (z : View). Splits (Kept k
       saw_it = λ k. refl;
       done = λ k. let z : ended k new_canceller ≡ 0 = ap one_if (false_at 64 k) in omega arith;
       counted = omega arith;
+      left_order = tt;
+      right_order = λ k. (λ e. absurd (false≢true (sym (false_at 64 k) ∙ e)), λ number some_use. absurd (omega arith));
     }))
 
 pub span_step : (slot count : ℕ) → slot < count → span slot (count - slot) ≡ slot ∷ span (slot + 1) (count - (slot + 1))
@@ -125,7 +137,7 @@ at_opening key words wide zeros few_s few_c = record {
   rests = λ k less h. zeros (2 * k + 1);
   flag_set = λ k less h. absurd (omega arith);
   flag_only = λ k less odd. let z = zeros (2 * k) in absurd (omega arith);
-  flag_first = λ k less h. absurd (omega arith);
+  in_order = one_all (at_first key) tt;
   found = λ k less h. absurd (omega arith);
   stands = λ k less h g. zeros (2 * k + 1);
   all_cancellers = omega arith;

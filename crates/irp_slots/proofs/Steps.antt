@@ -1,6 +1,8 @@
 -- Each step keeps the rule.
-use Rattle.std.proofs.Common.{◌≡◌, ◌⊎◌, inl, inr, ℕ, ◌+◌, ◌*◌, ◌/◌, ◌%◌, ◌<◌, ◌≢◌, Bool, true, false, ◌&&◌, eqb, eq-eqb, ne_eqb, List, ◌∷◌, length, get_or, set, max, bit_or, if◌then◌else◌, refl, sym, ap, ◌∙◌, subst, arith, length-set, get_or-set_same, get_or-set_other}
+use Rattle.std.proofs.Common.{◌≡◌, ◌⊎◌, inl, inr, ℕ, ◌+◌, ◌*◌, ◌/◌, ◌%◌, ◌<◌, ◌≢◌, Bool, true, false, not, ◌&&◌, ◌||◌, eqb, eq-eqb, ne_eqb, List, [], ◌∷◌, length, get_or, set, max, bit_or, if◌then◌else◌, refl, sym, ap, ◌∙◌, subst, arith, length-set, get_or-set_same, get_or-set_other}
+use Rattle.std.proofs.lemmas.Bool.{false≢true}
 use Rattle.std.proofs.lemmas.List.{set-get_or}
+use Rattle.std.proofs.lemmas.List.Elements.{All-set}
 use Rattle.std.specs.Int.Bits.{or_step, or_zero_r}
 use mathlib.Core.Logic.{dite}
 use mathlib.Core.Option.{none, some}
@@ -14,14 +16,25 @@ use Rattle.irp_slots.specs.declared.views.Asking.{Asking}
 use Rattle.irp_slots.specs.declared.views.View.{View}
 use Rattle.irp_slots.specs.declared.views.View.TheVariants.{Owner, Canceller}
 use Rattle.irp_slots.specs.declared.views.Parties.{Parties}
-use Rattle.irp_slots.specs.Core.{total, one_if, flag, times, times_of, is_begun, is_resting, owns, published, taken, resting, standing, flagged, ended, found_flagged, canceller_count, Kept, out_of, publishes, owner_published, checks, owning_checked, owner_checked, takes_back, owner_done, flags, slot_flagged, takes_out, slot_ended, owning_of}
-use Rattle.irp_slots.proofs.Totals.{one_if_le, total_set, same_total, part_of_total, rest_or_stand, published_view, alone}
+use Rattle.irp_slots.specs.Core.{total, one_if, flag, times, times_of, is_begun, is_resting, is_standing, may_take_back, OwnerInOrder, CancellerInOrder, IsInOrder, owns, published, taken, resting, standing, flagged, ended, found_flagged, canceller_count, Kept, out_of, publishes, owner_published, checks, owning_checked, owner_checked, takes_back, owner_done, flags, slot_flagged, takes_out, slot_ended, owning_of}
+use Rattle.irp_slots.proofs.Totals.{total_set, same_total, part_of_total, rest_or_stand, published_view, alone, all_at, ended_flagged}
 
 abbrev pub St : Type 0
 St = State (Unit {0}) View
 
 same_slot : (a : ℕ) → one_if (eqb a a) ≡ 1
 same_slot a = ap one_if (eq-eqb a a refl)
+
+is_false : (b : Bool) → (b ≡ true → b ≡ false) → b ≡ false
+is_false true f = f refl
+is_false false f = refl
+
+-- an owner that may take its use out has begun, and has read the flag
+looked_if : (stage : Stage) (o : Owning) → OwnerInOrder stage o → (is_standing stage || o.found_set) ≡ true → (o.found_set ≡ not o.stood) × (is_begun stage ≡ true)
+looked_if Idle o order e = absurd (false≢true (sym (ap (λ (p : Owning). p.found_set) order) ∙ e))
+looked_if Published o order e = (e ∙ sym (ap not order.0), refl)
+looked_if Standing o order e = (order.1 ∙ sym (ap not order.0), refl)
+looked_if Done o order e = (order, refl)
 
 -- an idle owner finds nothing in its slot
 publish_finds_nothing : (key : Parties) (s : St) → Kept key s → (id : ℕ) (o : Owning) → o.stage ≡ Idle → get_elem? s.views id ≡ some (Owner o) → o.slot < key.slots → get_or s.words (2 * o.slot + 1) 0 ≡ 0
@@ -45,6 +58,7 @@ module _ (key : Parties) (s : St) (r : Kept key s) (id : ℕ) (o : Owning) (idle
   publish_keeps =
       let rested : resting o.slot v1 ≡ 1 = ap (λ (z : Stage). one_if (is_resting z && eqb o.slot o.slot)) idle ∙ same_slot o.slot in
       let empty = publish_finds_nothing key s r id o idle at inside in
+      let fresh : o.taken ≡ [] = ap (λ (p : Owning). p.taken) (subst (λ (z : Stage). OwnerInOrder z o) idle (all_at IsInOrder s.views id v1 at r.in_order)) in
       let wide = r.wide in
       let room : 2 * o.slot + 1 < length s.words = omega arith in
       let other_word : (i : ℕ) → i ≢ 2 * o.slot + 1 → get_or (set s.words (2 * o.slot + 1) use_no) i 0 ≡ get_or s.words i 0 = λ i ne. get_or-set_other s.words (2 * o.slot + 1) i use_no 0 ne in
@@ -84,7 +98,7 @@ module _ (key : Parties) (s : St) (r : Kept key s) (id : ℕ) (o : Owning) (idle
         flag_only = λ k less odd.
             let t = same_total (flagged k) s.views id v1 w1 at refl in
             let was = r.flag_only k less (subst (λ (z : ℕ). z % 2 ≡ 1) (other_word (2 * k) (λ e. absurd (omega arith))) odd) in omega arith;
-        flag_first = λ k less some_end. let t = same_total (ended k) s.views id v1 w1 at refl in let u = same_total (flagged k) s.views id v1 w1 at refl in let was = r.flag_first k less (omega arith) in omega arith;
+        in_order = All-set IsInOrder s.views id w1 (refl, fresh) r.in_order;
         found = λ k less some_found.
             let t = total_set (found_flagged k) s.views id v1 w1 at in
             subst (λ (z : ℕ). z % 2 ≡ 1) (sym (other_word (2 * k) (λ e. absurd (omega arith)))) (r.found k less (omega arith));
@@ -108,6 +122,11 @@ flag_here xs i inside = ap one_if (get_or-set_same xs i true false inside)
 flag_other : (xs : List Bool) (i k : ℕ) → k ≢ i → one_if (flag (set xs i true) k) ≡ one_if (flag xs k)
 flag_other xs i k ne = ap one_if (get_or-set_other xs i k true false ne)
 
+stays_set : (xs : List Bool) (i k : ℕ) → i < length xs → flag xs k ≡ true → flag (set xs i true) k ≡ true
+stays_set xs i k inside e = dite (ℕ_discrete k i)
+    (λ same. ap (flag (set xs i true)) same ∙ get_or-set_same xs i true false inside)
+    (λ ne. get_or-set_other xs i k true false ne ∙ e)
+
 or_one : (n : ℕ) → bit_or n 1 ≡ n / 2 * 2 + 1
 or_one n = let s : bit_or n 1 ≡ bit_or (n / 2) 0 * 2 + max (n % 2) 1 = or_step n 1 in
     let t : bit_or (n / 2) 0 * 2 ≡ n / 2 * 2 = ap (λ (q : ℕ). q * 2) (or_zero_r (n / 2)) in
@@ -122,6 +141,16 @@ module _ (key : Parties) (s : St) (r : Kept key s) (id : ℕ) (o : Owning) (post
   abbrev w2 : View
   w2 = Owner (record o { stage = Standing; stood = true })
 
+  before : OwnerInOrder Published o
+  before = subst (λ (z : Stage). OwnerInOrder z o) posted (all_at IsInOrder s.views id v2 at r.in_order)
+
+  not_found : o.found_set ≡ false
+  not_found = is_false o.found_set (λ e.
+      let mine : found_flagged o.slot v2 ≡ 1 = ap (λ (b : Bool). one_if (b && eqb o.slot o.slot)) e ∙ same_slot o.slot in
+      let part = part_of_total (found_flagged o.slot) s.views id v2 at in
+      let odd = r.found o.slot inside (omega arith) in
+      absurd (omega arith))
+
   check_kept : Kept key (record { words = s.words; homes = s.homes; views = set s.views id w2 })
   check_kept = record {
     wide = r.wide;
@@ -135,15 +164,15 @@ module _ (key : Parties) (s : St) (r : Kept key s) (id : ℕ) (o : Owning) (post
         r.rests k less (omega arith);
     flag_set = λ k less some_flag. let t = same_total (flagged k) s.views id v2 w2 at refl in r.flag_set k less (omega arith);
     flag_only = λ k less odd. let t = same_total (flagged k) s.views id v2 w2 at refl in let was = r.flag_only k less odd in omega arith;
-    flag_first = λ k less some_end. let t = same_total (ended k) s.views id v2 w2 at refl in let u = same_total (flagged k) s.views id v2 w2 at refl in let was = r.flag_first k less (omega arith) in omega arith;
+    in_order = All-set IsInOrder s.views id w2 (refl, not_found, before.1) r.in_order;
     found = λ k less some_found. let t = same_total (found_flagged k) s.views id v2 w2 at refl in r.found k less (omega arith);
     stands = λ k less some_stand some_end.
         let t = total_set (standing k) s.views id v2 w2 at in
         let u = same_total (ended k) s.views id v2 w2 at refl in
         dite (ℕ_discrete k o.slot)
         (λ e.
-        let f = r.flag_first k less (omega arith) in
-        let odd = r.flag_set k less f in
+        let le = ended_flagged k s.views r.in_order in
+        let odd = r.flag_set k less (omega arith) in
         let even : get_or s.words (2 * k) 0 % 2 ≡ 0 = ap (λ (z : ℕ). get_or s.words (2 * z) 0 % 2) e ∙ clear in
         absurd (omega arith))
         (λ ne. let q : standing k w2 ≡ 0 = ap one_if (ne_eqb o.slot k (λ e. ne (sym e))) in r.stands k less (omega arith) (omega arith));
@@ -156,12 +185,15 @@ module _ (key : Parties) (s : St) (r : Kept key s) (id : ℕ) (o : Owning) (post
   check_keeps = subst (λ (ws : List ℕ). Kept key (record { words = ws; homes = s.homes; views = set s.views id w2 })) (sym (set-get_or s.words (2 * o.slot) 0)) check_kept
 
 -- an owner that has published finds the flag set
-module _ (key : Parties) (s : St) (r : Kept key s) (id : ℕ) (o : Owning) (at : get_elem? s.views id ≡ some (Owner o)) (odd : get_or s.words (2 * o.slot) 0 % 2 ≡ 1) where
+module _ (key : Parties) (s : St) (r : Kept key s) (id : ℕ) (o : Owning) (posted : o.stage ≡ Published) (at : get_elem? s.views id ≡ some (Owner o)) (odd : get_or s.words (2 * o.slot) 0 % 2 ≡ 1) where
   abbrev v_set : View
   v_set = Owner o
 
   abbrev w_set : View
   w_set = Owner (record o { found_set = true })
+
+  unspent : OwnerInOrder Published o
+  unspent = subst (λ (z : Stage). OwnerInOrder z o) posted (all_at IsInOrder s.views id v_set at r.in_order)
 
   found_kept : Kept key (record { words = s.words; homes = s.homes; views = set s.views id w_set })
   found_kept = record {
@@ -175,7 +207,7 @@ module _ (key : Parties) (s : St) (r : Kept key s) (id : ℕ) (o : Owning) (at :
     rests = λ k less some_rests. let t = same_total (resting k) s.views id v_set w_set at refl in r.rests k less (omega arith);
     flag_set = λ k less some_flag. let t = same_total (flagged k) s.views id v_set w_set at refl in r.flag_set k less (omega arith);
     flag_only = λ k less odd. let t = same_total (flagged k) s.views id v_set w_set at refl in let was = r.flag_only k less odd in omega arith;
-    flag_first = λ k less some_end. let t = same_total (ended k) s.views id v_set w_set at refl in let u = same_total (flagged k) s.views id v_set w_set at refl in let was = r.flag_first k less (omega arith) in omega arith;
+    in_order = All-set IsInOrder s.views id w_set (subst (λ (z : Stage). OwnerInOrder z (record o { found_set = true })) (sym posted) unspent) r.in_order;
     found = λ k less some_found.
         let t = total_set (found_flagged k) s.views id v_set w_set at in
         dite (ℕ_discrete k o.slot)
@@ -204,7 +236,7 @@ out_times found number xs some_use = dite (ℕ_discrete found 0)
     omega arith)
 
 -- an owner that has published takes out what is there
-module _ (key : Parties) (s : St) (r : Kept key s) (id : ℕ) (o : Owning) (started : is_begun o.stage ≡ true) (at : get_elem? s.views id ≡ some (Owner o)) (inside : o.slot < key.slots) where
+module _ (key : Parties) (s : St) (r : Kept key s) (id : ℕ) (o : Owning) (may : may_take_back o ≡ true) (at : get_elem? s.views id ≡ some (Owner o)) (inside : o.slot < key.slots) where
   abbrev found3 : ℕ
   found3 = get_or s.words (2 * o.slot + 1) 0
 
@@ -213,6 +245,9 @@ module _ (key : Parties) (s : St) (r : Kept key s) (id : ℕ) (o : Owning) (star
 
   abbrev w3 : View
   w3 = Owner (record o { stage = Done; taken = out_of found3 o.taken })
+
+  looked : (o.found_set ≡ not o.stood) × (is_begun o.stage ≡ true)
+  looked = looked_if o.stage o (all_at IsInOrder s.views id v3 at r.in_order) may
 
   pub take_back_keeps : Kept key (record { words = set s.words (2 * o.slot + 1) 0; homes = s.homes; views = set s.views id w3 })
   take_back_keeps =
@@ -226,7 +261,7 @@ module _ (key : Parties) (s : St) (r : Kept key s) (id : ℕ) (o : Owning) (star
         places = λ k number less some_use.
             let was = r.places k number less some_use in
             let t = total_set (taken k number) s.views id v3 w3 at in
-            let p = same_total (published k number) s.views id v3 w3 at (ap (λ (b : Bool). one_if (b && (eqb o.slot k && eqb o.published number))) (sym started)) in
+            let p = same_total (published k number) s.views id v3 w3 at (ap (λ (b : Bool). one_if (b && (eqb o.slot k && eqb o.published number))) (sym looked.1)) in
             dite (ℕ_discrete k o.slot)
             (λ e.
             let c : one_if (eqb (get_or (set s.words (2 * o.slot + 1) 0) (2 * k + 1) 0) number) ≡ 0 =
@@ -254,7 +289,7 @@ module _ (key : Parties) (s : St) (r : Kept key s) (id : ℕ) (o : Owning) (star
         flag_only = λ k less odd.
             let t = same_total (flagged k) s.views id v3 w3 at refl in
             let was = r.flag_only k less (subst (λ (z : ℕ). z % 2 ≡ 1) (other_word (2 * k) (λ e. absurd (omega arith))) odd) in omega arith;
-        flag_first = λ k less some_end. let t = same_total (ended k) s.views id v3 w3 at refl in let u = same_total (flagged k) s.views id v3 w3 at refl in let was = r.flag_first k less (omega arith) in omega arith;
+        in_order = All-set IsInOrder s.views id w3 looked.0 r.in_order;
         found = λ k less some_found.
             let t = same_total (found_flagged k) s.views id v3 w3 at refl in
             subst (λ (z : ℕ). z % 2 ≡ 1) (sym (other_word (2 * k) (λ e. absurd (omega arith)))) (r.found k less (omega arith));
@@ -279,6 +314,9 @@ module _ (key : Parties) (s : St) (r : Kept key s) (id slot : ℕ) (a : Asking) 
 
   abbrev word4 : ℕ
   word4 = bit_or (get_or s.words (2 * slot) 0) 1
+
+  asks4 : CancellerInOrder a
+  asks4 = all_at IsInOrder s.views id v4 at r.in_order
 
   pub flag_keeps : Kept key (record { words = set s.words (2 * slot) word4; homes = s.homes; views = set s.views id w4 })
   flag_keeps =
@@ -311,14 +349,7 @@ module _ (key : Parties) (s : St) (r : Kept key s) (id slot : ℕ) (a : Asking) 
             (λ e. let q : flagged k w4 ≡ 1 = ap (λ (z : ℕ). flagged z w4) e ∙ flag_here a.flagged slot known in omega arith)
             (λ ne. let q : flagged k w4 ≡ flagged k v4 = flag_other a.flagged slot k ne in
             let was = r.flag_only k less (subst (λ (z : ℕ). z % 2 ≡ 1) (other_word (2 * k) (λ e. ne (omega arith))) odd) in omega arith);
-        flag_first = λ k less some_end.
-            let t = same_total (ended k) s.views id v4 w4 at refl in
-            let u = total_set (flagged k) s.views id v4 w4 at in
-            let was = r.flag_first k less (omega arith) in
-            let le = one_if_le (flag a.flagged k) in
-            dite (ℕ_discrete k slot)
-            (λ e. let q : flagged k w4 ≡ 1 = ap (λ (z : ℕ). flagged z w4) e ∙ flag_here a.flagged slot known in omega arith)
-            (λ ne. let q : flagged k w4 ≡ flagged k v4 = flag_other a.flagged slot k ne in omega arith);
+        in_order = All-set IsInOrder s.views id w4 (λ k. (λ e. stays_set a.flagged slot k known ((asks4 k).0 e), (asks4 k).1)) r.in_order;
         found = λ k less some_found.
             let t = same_total (found_flagged k) s.views id v4 w4 at refl in
             dite (ℕ_discrete k slot)
@@ -346,6 +377,10 @@ pair_times slot found k number xs some_use = dite (ℕ_discrete found 0)
     nothing true = refl
     nothing false = refl
 
+pair_away : (slot found k number : ℕ) (b : Bool) (xs : List (ℕ × ℕ)) → slot ≢ k → times_of k number (if b then xs else (slot, found) ∷ xs) ≡ times_of k number xs
+pair_away slot found k number true xs ne = refl
+pair_away slot found k number false xs ne = let none : one_if (eqb slot k && eqb found number) ≡ 0 = ap (λ (b : Bool). one_if (b && eqb found number)) (ne_eqb slot k ne) in omega arith
+
 -- a canceller that has set the flag takes out what is there
 module _ (key : Parties) (s : St) (r : Kept key s) (id slot : ℕ) (a : Asking) (at : get_elem? s.views id ≡ some (Canceller a)) (inside : slot < key.slots) (known : slot < length a.ended) (asked : flag a.flagged slot ≡ true) where
   abbrev found5 : ℕ
@@ -356,6 +391,18 @@ module _ (key : Parties) (s : St) (r : Kept key s) (id slot : ℕ) (a : Asking) 
 
   abbrev w5 : View
   w5 = Canceller (record a { ended = set a.ended slot true; taken = if eqb found5 0 then a.taken else (slot, found5) ∷ a.taken })
+
+  asks5 : CancellerInOrder a
+  asks5 = all_at IsInOrder s.views id v5 at r.in_order
+
+  order5 : CancellerInOrder (record a { ended = set a.ended slot true; taken = if eqb found5 0 then a.taken else (slot, found5) ∷ a.taken })
+  order5 k = dite (ℕ_discrete k slot)
+      (λ e. (λ e_2. ap (flag a.flagged) e ∙ asked, λ number some_use. ap (flag (set a.ended slot true)) e ∙ get_or-set_same a.ended slot true false known))
+      (λ ne.
+      let same : flag (set a.ended slot true) k ≡ flag a.ended k = get_or-set_other a.ended slot k true false ne in (
+        λ e. (asks5 k).0 (sym same ∙ e),
+        λ number some_use. let away = pair_away slot found5 k number (eqb found5 0) a.taken (λ z. ne (sym z)) in same ∙ (asks5 k).1 number (omega arith),
+      ))
 
   pub take_out_keeps : Kept key (record { words = set s.words (2 * slot + 1) 0; homes = s.homes; views = set s.views id w5 })
   take_out_keeps =
@@ -395,12 +442,7 @@ module _ (key : Parties) (s : St) (r : Kept key s) (id slot : ℕ) (a : Asking) 
         flag_only = λ k less odd.
             let t = same_total (flagged k) s.views id v5 w5 at refl in
             let was = r.flag_only k less (subst (λ (z : ℕ). z % 2 ≡ 1) (other_word (2 * k) (λ e. absurd (omega arith))) odd) in omega arith;
-        flag_first = λ k less some_end.
-            let t = total_set (ended k) s.views id v5 w5 at in
-            let u = same_total (flagged k) s.views id v5 w5 at refl in
-            dite (ℕ_discrete k slot)
-            (λ e. let f : 0 < total (flagged slot) s.views = omega arith in let g : 0 < total (flagged k) s.views = subst (λ (z : ℕ). 0 < total (flagged z) s.views) (sym e) f in omega arith)
-            (λ ne. let q : ended k w5 ≡ ended k v5 = flag_other a.ended slot k ne in let was = r.flag_first k less (omega arith) in omega arith);
+        in_order = All-set IsInOrder s.views id w5 order5 r.in_order;
         found = λ k less some_found.
             let t = same_total (found_flagged k) s.views id v5 w5 at refl in
             subst (λ (z : ℕ). z % 2 ≡ 1) (sym (other_word (2 * k) (λ e. absurd (omega arith)))) (r.found k less (omega arith));
@@ -464,7 +506,7 @@ check_allowed key slots id o m is posted inside s r _ at _ =
         (key, s, id, r, omega arith, at, refl, kept),
       ),
     ))
-    (λ set_already. let kept = found_keeps key s r id o at' (omega arith) in (
+    (λ set_already. let kept = found_keeps key s r id o posted at' (omega arith) in (
       Owner (record o { found_set = true }),
       keeps,
       tt,
@@ -496,12 +538,12 @@ own_found key s r id o at inside =
     nothing2 true false = refl
     nothing2 false b = refl
 
-pub take_back_allowed : (key : Parties) (slots id : ℕ) (o : Owning) (m : Me (Unit {0}) View) → m.0 ≡ Owner o → is_begun o.stage ≡ true → o.slot < key.slots
+pub take_back_allowed : (key : Parties) (slots id : ℕ) (o : Owning) (m : Me (Unit {0}) View) → m.0 ≡ Owner o → may_take_back o ≡ true → o.slot < key.slots
     → Allows (Kept key) slots id m (2 * o.slot + 1) (λ _. 0) (takes_back (step slots (2 * o.slot + 1) 0 0 none) m)
-take_back_allowed key slots id o m is started inside s r _ at _ =
+take_back_allowed key slots id o m is may inside s r _ at _ =
     let at' = subst (λ (z : View). get_elem? s.views id ≡ some z) is at in
     let x : ℕ = get_or s.words (2 * o.slot + 1) 0 in
-    let kept = take_back_keeps key s r id o started at' inside in (
+    let kept = take_back_keeps key s r id o may at' inside in (
       Owner (record o { stage = Done; taken = out_of x o.taken }),
       keeps,
       tt,

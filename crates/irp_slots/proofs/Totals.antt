@@ -1,12 +1,12 @@
 -- Sums over the views of all seats.
-use Rattle.std.proofs.Common.{◌≡◌, ℕ, zero, suc, ◌+◌, ◌≤◌, Bool, true, false, ◌&&◌, eqb, List, [], ◌∷◌, ◌++◌, set, sym, ap, arith}
+use Rattle.std.proofs.Common.{◌≡◌, ℕ, zero, suc, ◌+◌, ◌≤◌, Bool, true, false, ◌&&◌, eqb, List, [], ◌∷◌, ◌++◌, set, All, refl, sym, ap, subst, arith}
 use mathlib.Core.Option.{some, some-injective, some-ne-none}
 use lib.ListN.{get_elem?}
 use Rattle.irp_slots.specs.declared.views.Stage.{Stage}
 use Rattle.irp_slots.specs.declared.views.Stage.TheVariants.{Idle, Published, Standing, Done}
 use Rattle.irp_slots.specs.declared.views.View.{View}
 use Rattle.irp_slots.specs.declared.views.View.TheVariants.{First, Owner, Canceller}
-use Rattle.irp_slots.specs.Core.{total, one_if, is_resting, is_begun, is_standing, owns, published, resting, standing}
+use Rattle.irp_slots.specs.Core.{total, one_if, flag, is_resting, is_begun, is_standing, owns, published, resting, standing, flagged, ended, IsInOrder}
 
 pub one_if_le : (b : Bool) → one_if b ≤ 1
 one_if_le true = omega arith
@@ -24,6 +24,28 @@ pub part_of_total : (f : View → ℕ) (views : List View) (id : ℕ) (v : View)
 part_of_total f [] id v at = absurd (some-ne-none v (sym at))
 part_of_total f (x ∷ xs) zero v at = let same : f x ≡ f v = ap f (some-injective x v at) in omega arith
 part_of_total f (x ∷ xs) (suc id) v at = let rest = part_of_total f xs id v at in omega arith
+
+pub all_at : (P : View → Type 0) (views : List View) (id : ℕ) (v : View) → get_elem? views id ≡ some v → All P views → P v
+all_at P [] id v at all = absurd (some-ne-none v (sym at))
+all_at P (x ∷ xs) zero v at all = subst P (some-injective x v at) (all 0 x (omega arith))
+all_at P (x ∷ xs) (suc id) v at all = all_at P xs id v at (λ k d less. all (suc k) d (omega arith))
+
+-- whoever has ended a request on a slot has set its flag
+ended_view : (slot : ℕ) (v : View) → IsInOrder v → ended slot v ≤ flagged slot v
+ended_view slot (First os n) order = omega arith
+ended_view slot (Owner o) order = omega arith
+ended_view slot (Canceller a) order = follows (flag a.ended slot) (flag a.flagged slot) (order slot).0
+  where
+    follows : (b c : Bool) → (b ≡ true → c ≡ true) → one_if b ≤ one_if c
+    follows false c if_so = omega arith
+    follows true c if_so = let one : one_if c ≡ 1 = ap one_if (if_so refl) in omega arith
+
+pub ended_flagged : (slot : ℕ) (views : List View) → All IsInOrder views → total (ended slot) views ≤ total (flagged slot) views
+ended_flagged slot [] all = omega arith
+ended_flagged slot (x ∷ xs) all =
+    let here = ended_view slot x (all 0 x (omega arith)) in
+    let rest = ended_flagged slot xs (λ k d less. all (suc k) d (omega arith)) in
+    omega arith
 
 -- a slot has one owner, which rests or stands or neither
 stage_parts : (stage : Stage) (b : Bool) → one_if (is_resting stage && b) + one_if (is_standing stage && b) ≤ one_if b

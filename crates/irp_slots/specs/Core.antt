@@ -1,7 +1,7 @@
 -- The core of the cancel slots: two words for each slot, what each party knows, and what each step does. Slot k has
 -- its flag in word 2 k and its content in word 2 k + 1; one spare word stands behind them. The flag is set by the
 -- first canceller that asks. The content is the use that stands in the slot, or 0.
-use Rattle.std.specs.Prelude.{◌≡◌, ◌⊎◌, replicate, ℕ, zero, suc, ◌+◌, ◌-◌, ◌*◌, ◌/◌, ◌%◌, ◌<◌, ◌≤◌, Bool, true, false, ◌&&◌, List, [], ◌∷◌, length, slice_index, slice_index_or, slice_set, if◌then◌else◌, nat_eq, bit_or}
+use Rattle.std.specs.Prelude.{◌≡◌, ◌⊎◌, replicate, ℕ, zero, suc, ◌+◌, ◌-◌, ◌*◌, ◌/◌, ◌%◌, ◌<◌, ◌≤◌, Bool, true, false, not, ◌&&◌, ◌||◌, List, [], ◌∷◌, length, All, slice_index, slice_index_or, slice_set, if◌then◌else◌, nat_eq, bit_or}
 use mathlib.Core.Option.{some}
 use lib.ListN.{get_elem?}
 use Rattle.atomic_table.specs.Table.{State, Me, Step}
@@ -137,11 +137,35 @@ flag_of words slot = slice_index words (flag_word slot)
 abbrev pub content_of : List ℕ → ℕ → ℕ
 content_of words slot = slice_index words (content_word slot)
 
+-- an owner knows nothing when it is made
+abbrev pub new_owning : ℕ → Owning
+new_owning slot = record { slot = slot; stage = Idle; published = 0; stood = false; found_set = false; taken = [] }
+
+-- What an owner knows at each stage. It has read the flag behind its publication before it takes anything out: a done
+-- one stood, or found the flag set
+abbrev pub OwnerInOrder : Stage → Owning → Type 0
+OwnerInOrder Idle owning = owning ≡ new_owning owning.slot
+OwnerInOrder Published owning = (owning.stood ≡ false) × (owning.taken ≡ [])
+OwnerInOrder Standing owning = (owning.stood ≡ true) × (owning.found_set ≡ false) × (owning.taken ≡ [])
+OwnerInOrder Done owning = owning.found_set ≡ not owning.stood
+
+-- a canceller has set a slot's flag before it ends a request on it, and takes a use out only as it ends one
+abbrev pub CancellerInOrder : Asking → Type 0
+CancellerInOrder asking =
+    (slot : ℕ) → (flag asking.ended slot ≡ true → flag asking.flagged slot ≡ true)
+    × ((number : ℕ) → 0 < times_of slot number asking.taken → flag asking.ended slot ≡ true)
+
+-- what a party knows comes of its steps in their order
+abbrev pub IsInOrder : View → Type 0
+IsInOrder (First owners_left cancellers_left) = Unit {0}
+IsInOrder (Owner owning) = OwnerInOrder owning.stage owning
+IsInOrder (Canceller asking) = CancellerInOrder asking
+
 -- What holds between any two steps. Each slot has one owner. `places`: a publication is the content or in one party's
 -- list, and nothing else is in either. `rests`: a slot whose owner is idle or done is empty. A flag is set exactly
--- where a canceller has set it, and whoever has ended a request has set it. `stands`: a slot whose owner stands is
--- empty once a request on it has ended. The cancellers, made and not yet made, are as many as the key tells, so that
--- there are no others
+-- where a canceller has set it. `in_order`: whoever has ended a request, or has taken a use out of the slot, has set
+-- the flag before, and an owner has read it before. `stands`: a slot whose owner stands is empty once a request on it
+-- has ended. The cancellers, made and not yet made, are as many as the key tells, so that there are no others
 pub record Kept (key : Parties) (s : State (Unit {0}) View) : Type 0 where
   pub wide : length s.words ≡ 2 * key.slots + 1
   pub one_owner : (slot : ℕ) → slot < key.slots → total (owns slot) s.views ≡ 1
@@ -151,7 +175,7 @@ pub record Kept (key : Parties) (s : State (Unit {0}) View) : Type 0 where
   pub rests : (slot : ℕ) → slot < key.slots → 0 < total (resting slot) s.views → content_of s.words slot ≡ 0
   pub flag_set : (slot : ℕ) → slot < key.slots → 0 < total (flagged slot) s.views → flag_of s.words slot % 2 ≡ 1
   pub flag_only : (slot : ℕ) → slot < key.slots → flag_of s.words slot % 2 ≡ 1 → 0 < total (flagged slot) s.views
-  pub flag_first : (slot : ℕ) → slot < key.slots → 0 < total (ended slot) s.views → 0 < total (flagged slot) s.views
+  pub in_order : All IsInOrder s.views
   pub found : (slot : ℕ) → slot < key.slots → 0 < total (found_flagged slot) s.views → flag_of s.words slot % 2 ≡ 1
   pub stands : (slot : ℕ) → slot < key.slots → 0 < total (standing slot) s.views → 0 < total (ended slot) s.views
       → content_of s.words slot ≡ 0
@@ -175,10 +199,6 @@ first_from slot count before = First (span slot (count - slot)) (canceller_count
 -- the view of the first party once it has made all owners
 abbrev pub no_owner_left : View → View
 no_owner_left before = First [] (canceller_count before)
-
--- an owner knows nothing when it is made
-abbrev pub new_owning : ℕ → Owning
-new_owning slot = record { slot = slot; stage = Idle; published = 0; stood = false; found_set = false; taken = [] }
 
 -- what an owner with this view knows
 abbrev pub owning_of : View → Owning
@@ -238,6 +258,10 @@ owner_published number (Canceller asking) = Canceller asking
 abbrev pub owning_checked : Bool → Owning → Owning
 owning_checked clear owning =
     if clear then record owning { stage = Standing; stood = true } else record owning { found_set = true }
+
+-- an owner may take its use out once it has read the flag: it stands, or has found it set
+abbrev pub may_take_back : Owning → Bool
+may_take_back owning = is_standing owning.stage || owning.found_set
 
 -- an owner has swapped its use in, and has found the flag set then
 abbrev pub owning_found_set : ℕ → Owning → Owning

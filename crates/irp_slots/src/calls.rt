@@ -5,7 +5,7 @@ ghost use Rattle.irp_slots.specs.declared.answers.Publication.TheVariants.{Used}
 ghost use Rattle.irp_slots.specs.declared.answers.Withdrawal.TheVariants.{NotStanding};
 ghost use Rattle.irp_slots.specs.declared.answers.Request.TheVariants.{NoSlot};
 ghost use Rattle.irp_slots.specs.declared.views.Stage.TheVariants.{Idle, Published};
-ghost use Rattle.irp_slots.specs.Core.{flag, is_begun, is_standing, owning_published, owning_checked, asking_flagged};
+ghost use Rattle.irp_slots.specs.Core.{flag, is_begun, is_standing, may_take_back, owning_published, owning_checked, asking_flagged};
 ghost use Rattle.irp_slots.specs.Calls.{Publishes, PublishSteps, Withdraws, WithdrawSteps, Requests, RequestSteps};
 ghost use Rattle.irp_slots.specs.Calls.{SwappedIn, ReadFlag, TookBack, MissedIt, FlagSet, TookOut, FoundNone};
 ghost use Rattle.irp_slots.specs.Pairing.{IsOwnerOf, IsCancellerOf, slot_count};
@@ -29,6 +29,7 @@ impl Slots {
     pub fn publish(&self, owner: &mut SlotOwner, irp: IrpRef) -> Publication
         requires { IsOwnerOf self.now owner.old }
         ensures table { owner.new.table ≡ owner.old.table }
+        ensures slot { owner.new.owning.slot < slot_count self.now }
         ensures used { (result ≡ Used) ↔ (is_begun owner.old.owning.stage ≡ true) }
         ensures reply { Publishes irp.use_no owner.old owner.new result }
         ensures steps { PublishSteps irp.use_no owner.old.owning owner.new.owning result }
@@ -56,6 +57,7 @@ impl Slots {
     pub fn withdraw(&self, owner: &mut SlotOwner) -> Withdrawal
         requires { IsOwnerOf self.now owner.old }
         ensures table { owner.new.table ≡ owner.old.table }
+        ensures slot { owner.new.owning.slot < slot_count self.now }
         ensures none { (result ≡ NotStanding) ↔ (is_standing owner.old.owning.stage ≡ false) }
         ensures reply { Withdraws owner.old owner.new result }
         ensures steps { WithdrawSteps owner.old.owning owner.new.owning result }
@@ -77,6 +79,7 @@ impl Slots {
     pub fn request(&self, canceller: &mut Canceller, slot: u32) -> Request
         requires { IsCancellerOf self.now canceller.old }
         ensures table { canceller.new.table ≡ canceller.old.table }
+        ensures ended { slot < slot_count self.now → flag canceller.new.asking.ended slot ≡ true }
         ensures no_slot { (result ≡ NoSlot) ↔ (slot_count self.now ≤ slot) }
         ensures reply { Requests (slot_count self.now) slot canceller.old canceller.new result }
         ensures steps { RequestSteps slot canceller.old.asking canceller.new.asking result }
@@ -120,10 +123,11 @@ impl Slots {
         clear
     }
 
-    // Takes the use of an owner that has published out of its slot, if it still is there.
+    // Takes the use of an owner that has published and read the flag out of its slot, if it still is there.
     fn take_back(&self, owner: &mut SlotOwner) -> Option<Token>
         requires of { IsOwnerOf self.now owner.old }
         requires begun { is_begun owner.old.owning.stage ≡ true }
+        requires looked { may_take_back owner.old.owning ≡ true }
         ensures table { owner.new.table ≡ owner.old.table }
         ensures took { IfSome result (λ token. TookBack token owner.old.owning owner.new.owning) }
         ensures missed { IfNone result (MissedIt owner.old.owning owner.new.owning) }
@@ -156,6 +160,7 @@ impl Slots {
         requires slot { slot < slot_count self.now }
         requires flagged { flag canceller.old.asking.flagged slot ≡ true }
         ensures table { canceller.new.table ≡ canceller.old.table }
+        ensures ended { flag canceller.new.asking.ended slot ≡ true }
         ensures took { IfSome result (λ token.
             TookOut slot token canceller.old.asking canceller.new.asking) }
         ensures missed { IfNone result (FoundNone slot canceller.old.asking canceller.new.asking) }

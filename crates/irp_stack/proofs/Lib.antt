@@ -11,3 +11,4 @@ pub mod Detaching
 pub mod Deleting
 pub mod Creating
 pub mod Reading
+pub mod Heights

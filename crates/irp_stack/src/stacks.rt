@@ -28,7 +28,7 @@ const MOST_DEVICES: usize = 64;
 ///
 /// Contracts see it as the record `StacksValue`: the facts of each device, beside it its whole stack, bottom first, and
 /// the limit.
-#[derive(Drop)]
+#[derive(Clone, Drop)]
 pub struct Stacks {
     devices: Vec<Device>,
     limit: Limit,

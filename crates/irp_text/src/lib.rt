@@ -1,12 +1,28 @@
-//! The texts of scripts and transcripts, read and written, and that they are read again: one door to the crates that
-//! have a form each.
+//! The texts of scripts and transcripts, read and written.
+//!
+//! - [`read_script`] reads bytes as a script, or answers its first fault.
+//! - [`read_transcript`] reads bytes as a transcript, or answers the first line that is refused.
+//! - [`write_transcript`] writes a transcript, or answers how much of it went out.
+//!
+//! What was written is read again as the same: that is a law of the form of transcripts. So an entry of a line is
+//! guessed, and the guess is written: where what was written is the line, and the entry fits, the line is read as that
+//! entry (`entry_is_read`). Nothing is promised of a guess. Any other line is read as `irp_transcript_reader` does.
 #![tactic(auto)]
 
-pub use irp_quick_reader::read_transcript;
-pub use irp_round_trip::{entry_is_read, read_again, written_is_read};
+mod fits;
+mod guess;
+mod guessed_calls;
+mod guessed_parts;
+mod guessed_questions;
+mod laws;
+mod read;
+mod scan;
+
 pub use irp_script_reader::{
     Behaviour, CompletionRoutine, Fault, Named, Script, ScriptFault, ScriptForm, ScriptParts,
     ScriptRefusal, Section, Step, StepAct, read_script,
 };
 pub use irp_transcript_reader::ReadFault;
 pub use irp_transcript_writer::{Cause, Failed, Out, WriteFault, WriterOut, write_transcript};
+pub use laws::{entry_is_read, read_again, written_is_read};
+pub use read::read_transcript;

@@ -10,8 +10,8 @@ use Rattle.irp_forms.proofs.Texts.{some_text}
 use Rattle.irp_forms.specs.declared.unread.Unread.{Unread}
 use Rattle.irp_forms.specs.declared.unread.Unread.TheVariants as unread
 use Rattle.irp_types.specs.declared.entry.Entry.{Entry}
-use Rattle.irp_shared.specs.Transcripts.{TranscriptValue}
-use Rattle.irp_shared.specs.declared.{header.Form.Form, header.Header.Header}
+use Rattle.irp_transcript.specs.Transcripts.{TranscriptValue}
+use Rattle.irp_transcript.specs.declared.{header.Form.Form, header.Header.Header}
 use Rattle.irp_transcript_reader.specs.Lines.{entry_at}
 use Rattle.irp_transcript_reader.specs.Reading.{cut, is_entry, most_bytes, onto, with_entry, with_line, GivesLine, IsEntryLine, IsNext, IsNextUnder, ReadsFrom, Takes, TakesLine, TakesMemory, TakesValue, Refuses}
 use Rattle.irp_transcript_reader.specs.declared.read_fault.ReadFault.{ReadFault}

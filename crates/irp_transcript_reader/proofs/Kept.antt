@@ -4,8 +4,8 @@ use Rattle.std.proofs.lemmas.Option.{none-some, same_Some}
 use Rattle.serde_json.specs.Data.{Data}
 use Rattle.irp_forms.specs.Parts.{◌>>=◌}
 use Rattle.irp_types.specs.declared.entry.Entry.{Entry}
-use Rattle.irp_shared.specs.Transcripts.{TranscriptValue, IsTranscript}
-use Rattle.irp_shared.specs.declared.{header.Form.Form, header.Header.Header}
+use Rattle.irp_transcript.specs.Transcripts.{TranscriptValue, IsTranscript}
+use Rattle.irp_transcript.specs.declared.{header.Form.Form, header.Header.Header}
 use Rattle.irp_transcript_reader.specs.Forms.{has_entry, has_word}
 use Rattle.irp_transcript_reader.specs.Lines.{entry_at}
 use Rattle.irp_transcript_reader.specs.Reading.{IsNext, IsNextUnder, has_room, hands_within, is_entry, with_entry, with_line, with_word}

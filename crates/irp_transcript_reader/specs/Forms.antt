@@ -4,12 +4,12 @@ use Rattle.std.specs.List.{list_all}
 use Rattle.irp_types.specs.declared.answer.Plan.TheVariants as plans
 use Rattle.irp_types.specs.declared.{asked.Asked.Asked, entry.Entry.Entry}
 use Rattle.irp_types.specs.declared.asked.Asked.TheVariants as questions
-use Rattle.irp_shared.specs.Sharing.{needs_token}
-use Rattle.irp_shared.specs.declared.{header.Form.Form, word_line.Act.Act, word_line.WordLine.WordLine}
-use Rattle.irp_shared.specs.declared.word_line.WordReply.{WordReply}
-use Rattle.irp_shared.specs.declared.header.Form.TheVariants as forms
-use Rattle.irp_shared.specs.declared.word_line.Act.TheVariants as acts
-use Rattle.irp_shared.specs.declared.word_line.WordReply.TheVariants as word_replies
+use Rattle.irp_transcript.specs.Tokens.{needs_token}
+use Rattle.irp_transcript.specs.declared.{header.Form.Form, word_line.Act.Act, word_line.WordLine.WordLine}
+use Rattle.irp_transcript.specs.declared.word_line.WordReply.{WordReply}
+use Rattle.irp_transcript.specs.declared.header.Form.TheVariants as forms
+use Rattle.irp_transcript.specs.declared.word_line.Act.TheVariants as acts
+use Rattle.irp_transcript.specs.declared.word_line.WordReply.TheVariants as word_replies
 
 -- ---- form 1
 

@@ -8,8 +8,8 @@ use Rattle.irp_forms.specs.Names.{cancel_rule_at}
 use Rattle.irp_forms.specs.Values.{completions_at, handler_at, known_at}
 use Rattle.irp_types.specs.Limits.{most_routines}
 use Rattle.irp_types.specs.declared.entry.Entry.{Entry}
-use Rattle.irp_shared.specs.declared.{header.Header.Header, header.Form.Form}
-use Rattle.irp_shared.specs.declared.header.Form.TheVariants as forms
+use Rattle.irp_transcript.specs.declared.{header.Header.Header, header.Form.Form}
+use Rattle.irp_transcript.specs.declared.header.Form.TheVariants as forms
 use Rattle.irp_transcript_reader.specs.Calls.{entry_call_at}
 use Rattle.irp_forms.specs.Questions.{asked_at}
 use Rattle.irp_transcript_reader.specs.Replies.{reply_at}
@@ -39,7 +39,8 @@ entry_at form = if has_keys (codes "asked" ∷ codes "call" ∷ codes "n" ∷ co
 -- some where there are the keys of both forms and those beside them, and no others
 unfoldable pub header_keys_at : Keys → Data → Option (Unit {0})
 header_keys_at beside form =
-    only_keys (codes "cancels" ∷ codes "completions" ∷ codes "dispatches" ∷ codes "drivers" ∷ codes "form" ∷ codes "locks"
+    only_keys (codes "cancels" ∷ codes "completions" ∷ codes "dispatches" ∷ codes "drivers" ∷ codes "form"
+    ∷ codes "locks"
     ∷ codes "seats" ∷ beside) form
 
 -- the form of a header that has this number, by its keys: form 2 has `slots`, too

@@ -1,5 +1,6 @@
 -- Transcripts as the formats read them from bytes, line after line.
-use Rattle.std.specs.Prelude.{◌≡◌, ℕ, zero, suc, ◌+◌, ◌<◌, ◌≤◌, ◌==◌, ◌&&◌, nat_lt, List, [], ◌∷◌, ◌++◌, length, codes, Bool, true, is_some, IsUtf8, Option, Some, None, Result, Ok, Err, if◌then◌else◌}
+use Rattle.std.specs.Prelude.{◌≡◌, ℕ, zero, suc, ◌+◌, ◌<◌, ◌≤◌, ◌==◌, ◌&&◌, nat_lt, List, [], ◌∷◌, ◌++◌, length}
+use Rattle.std.specs.Prelude.{codes, Bool, true, is_some, IsUtf8, Option, Some, None, Result, Ok, Err, if◌then◌else◌}
 use Rattle.serde_json.specs.Data.{Data}
 use Rattle.serde_json.specs.Find.{get}
 use Rattle.serde_json.specs.Read.{read}
@@ -7,10 +8,10 @@ use Rattle.irp_forms.specs.Parts.{◌>>=◌}
 use Rattle.irp_forms.specs.declared.unread.Unread.{Unread}
 use Rattle.irp_forms.specs.declared.unread.Unread.TheVariants as unread
 use Rattle.irp_types.specs.declared.entry.Entry.{Entry}
-use Rattle.irp_shared.specs.Headers.{IsHeader}
-use Rattle.irp_shared.specs.Transcripts.{TranscriptValue}
-use Rattle.irp_shared.specs.declared.{header.Header.Header, header.Form.Form, word_line.Act.Act}
-use Rattle.irp_shared.specs.declared.word_line.Act.TheVariants as acts
+use Rattle.irp_transcript.specs.Headers.{IsHeader}
+use Rattle.irp_transcript.specs.Transcripts.{TranscriptValue}
+use Rattle.irp_transcript.specs.declared.{header.Header.Header, header.Form.Form, word_line.Act.Act}
+use Rattle.irp_transcript.specs.declared.word_line.Act.TheVariants as acts
 use Rattle.irp_transcript_reader.specs.Forms.{has_entry, has_word}
 use Rattle.irp_transcript_reader.specs.Lines.{entry_at, header_at}
 use Rattle.irp_transcript_reader.specs.WordLines.{word_line_at}
@@ -61,7 +62,9 @@ with_line kind seats before form =
 -- the next value makes the one transcript of the other: first a header that the formats accept, and then entries and
 -- word lines of its form and its seats
 abbrev pub IsNextUnder : Option Header → TranscriptValue → Data → TranscriptValue → Type 0
-IsNextUnder None before form after = (header : Header) × (header_at form ≡ Some header) × IsHeader header × (after ≡ record before { header = Some header })
+IsNextUnder None before form after =
+    (header : Header) × (header_at form ≡ Some header) × IsHeader header
+    × (after ≡ record before { header = Some header })
 IsNextUnder (Some header) before form after = with_line header.form header.seats before form ≡ Some after
 
 abbrev pub IsNext : TranscriptValue → Data → TranscriptValue → Type 0
@@ -88,7 +91,8 @@ Refuses before line = (after : TranscriptValue) → Takes before line after → 
 -- the lines make the one transcript of the other, one after another
 abbrev pub TakesAll : TranscriptValue → List (List ℕ) → TranscriptValue → Type 0
 TakesAll before [] after = before ≡ after
-TakesAll before (line ∷ others) after = (between : TranscriptValue) × Takes before line between × TakesAll between others after
+TakesAll before (line ∷ others) after =
+    (between : TranscriptValue) × Takes before line between × TakesAll between others after
 
 -- ---- bytes
 
@@ -111,7 +115,8 @@ pub record Splits (bytes line more : List ℕ) : Type 0 where
 abbrev pub RefusedAt : ℕ → TranscriptValue → List (List ℕ) × List ℕ → Type 0
 RefusedAt place before ([], rest) = (place ≡ 0) × (0 < length rest)
 RefusedAt zero before (line ∷ others, rest) = Refuses before line
-RefusedAt (suc place) before (line ∷ others, rest) = (between : TranscriptValue) × Takes before line between × RefusedAt place between (others, rest)
+RefusedAt (suc place) before (line ∷ others, rest) =
+    (between : TranscriptValue) × Takes before line between × RefusedAt place between (others, rest)
 
 -- a line that memory may run out for: it isn't empty and isn't too long
 abbrev pub TakesMemory : List ℕ → Type 0
@@ -121,14 +126,16 @@ TakesMemory line = (0 < length line) × (length line ≤ most_bytes)
 abbrev pub RunsOutAt : ℕ → TranscriptValue → List (List ℕ) → Type 0
 RunsOutAt place before [] = ⊥
 RunsOutAt zero before (line ∷ others) = TakesMemory line
-RunsOutAt (suc place) before (line ∷ others) = (between : TranscriptValue) × Takes before line between × RunsOutAt place between others
+RunsOutAt (suc place) before (line ∷ others) =
+    (between : TranscriptValue) × Takes before line between × RunsOutAt place between others
 
 -- what is read from the rest, after so many lines that made this transcript: the transcript of all lines, where each is
 -- taken and has its newline; or the number, from 1, of the first line that isn't taken; or that memory ran out at a
 -- line behind lines that are taken
 abbrev pub ReadsFrom : TranscriptValue → ℕ → Result TranscriptValue ReadFault → List (List ℕ) × List ℕ → Type 0
 ReadsFrom before count (Ok transcript) text = (text.1 ≡ []) × TakesAll before text.0 transcript
-ReadsFrom before count (Err (faults.Line line)) text = (place : ℕ) × (line ≡ count + place + 1) × RefusedAt place before text
+ReadsFrom before count (Err (faults.Line line)) text =
+    (place : ℕ) × (line ≡ count + place + 1) × RefusedAt place before text
 ReadsFrom before count (Err faults.NoMemory) text = (place : ℕ) × RunsOutAt place before text.0
 
 -- ---- what is read so far

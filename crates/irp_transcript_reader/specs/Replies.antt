@@ -46,11 +46,14 @@ unfoldable pub valued_reply_at : Data → Option Reply
 valued_reply_at form =
     if has_keys (codes "device" ∷ []) form then option_map replies.Device (field (codes "device") device_at form) else
     (if has_keys (codes "irp" ∷ []) form then option_map replies.Irp (field (codes "irp") irp_at form) else
-    (if has_keys (codes "previous" ∷ []) form then option_map replies.Previous (field (codes "previous") (or_null_at cancel_at) form) else
+    (if has_keys (codes "previous" ∷ []) form then
+    option_map replies.Previous (field (codes "previous") (or_null_at cancel_at) form) else
     (if has_keys (codes "status" ∷ []) form then option_map replies.Status (field (codes "status") status_at form) else
-    (if has_keys (codes "cancelled" ∷ []) form then option_map replies.Cancelled (field (codes "cancelled") as_bool form) else
+    (if has_keys (codes "cancelled" ∷ []) form then
+    option_map replies.Cancelled (field (codes "cancelled") as_bool form) else
     (if has_keys (codes "seen" ∷ []) form then option_map replies.Seen (field (codes "seen") seen_at form) else
-    (if has_keys (codes "refused" ∷ []) form then option_map replies.Refused (field (codes "refused") refusal_at form) else None))))))
+    (if has_keys (codes "refused" ∷ []) form then
+    option_map replies.Refused (field (codes "refused") refusal_at form) else None))))))
 
 -- a reply: its name, or its one value under its name
 unfoldable pub reply_at : Data → Option Reply

@@ -9,9 +9,9 @@ use Rattle.irp_forms.specs.Calls.{Keys}
 use Rattle.irp_forms.specs.Fields.{field}
 use Rattle.irp_forms.specs.SeatActs.{hand_at, lock_act_named, slot_alone_at}
 use Rattle.irp_types.specs.declared.seat_act.SlotAct.TheVariants.{Publish, Withdraw, Request}
-use Rattle.irp_shared.specs.declared.{word_line.Act.Act, word_line.WordLine.WordLine, word_line.WordReply.WordReply}
-use Rattle.irp_shared.specs.declared.word_line.Act.TheVariants as acts
-use Rattle.irp_shared.specs.declared.word_line.WordReply.TheVariants as word_replies
+use Rattle.irp_transcript.specs.declared.{word_line.Act.Act, word_line.WordLine.WordLine, word_line.WordReply.WordReply}
+use Rattle.irp_transcript.specs.declared.word_line.Act.TheVariants as acts
+use Rattle.irp_transcript.specs.declared.word_line.WordReply.TheVariants as word_replies
 
 -- a step's answer by its name: those of remove locks, then those of cancel slots
 unfoldable pub word_reply_named : List ℕ → Option WordReply
@@ -41,7 +41,8 @@ unfoldable pub valued_reply_at : Data → Option WordReply
 valued_reply_at form =
     if has_keys (codes "status" ∷ []) form then get (codes "status") form >>= u32_at >>= word_status else
     (if has_keys (codes "busy" ∷ []) form then option_map word_replies.Busy (field (codes "busy") u64_at form) else
-    (if has_keys (codes "taken" ∷ []) form then option_map word_replies.Taken (field (codes "taken") u64_at form) else None))
+    (if has_keys (codes "taken" ∷ []) form then
+    option_map word_replies.Taken (field (codes "taken") u64_at form) else None))
 
 -- what a step was answered: its name, or its one value under its name
 unfoldable pub word_reply_at : Data → Option WordReply
@@ -56,9 +57,12 @@ beside = codes "reply" ∷ codes "seat" ∷ codes "step" ∷ []
 unfoldable pub act_named : List ℕ → Data → Option Act
 act_named name form =
     if bytes_eq name (codes "hand") then option_map acts.Hand (hand_at beside form) else
-    (if bytes_eq name (codes "publish") then option_map (λ slot. acts.OnSlot (Publish slot)) (slot_alone_at beside form) else
-    (if bytes_eq name (codes "withdraw") then option_map (λ slot. acts.OnSlot (Withdraw slot)) (slot_alone_at beside form) else
-    (if bytes_eq name (codes "request") then option_map (λ slot. acts.OnSlot (Request slot)) (slot_alone_at beside form) else
+    (if bytes_eq name (codes "publish") then
+    option_map (λ slot. acts.OnSlot (Publish slot)) (slot_alone_at beside form) else
+    (if bytes_eq name (codes "withdraw") then
+    option_map (λ slot. acts.OnSlot (Withdraw slot)) (slot_alone_at beside form) else
+    (if bytes_eq name (codes "request") then
+    option_map (λ slot. acts.OnSlot (Request slot)) (slot_alone_at beside form) else
     (if bytes_eq name (codes "finish_taken") then option_map acts.FinishTaken (slot_alone_at beside form) else
     option_map acts.OnLock (lock_act_named name beside form)))))
 

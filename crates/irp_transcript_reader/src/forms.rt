@@ -4,7 +4,7 @@ ghost use Rattle.std.specs.Prelude.{◌≡◌};
 ghost use Rattle.std.specs.List.{list_all};
 ghost use Rattle.irp_transcript_reader.specs.Forms as spec;
 
-use irp_shared::{Act, Form, WordLine, WordReply, needs_token};
+use irp_transcript::{Act, Form, WordLine, WordReply, needs_token};
 use irp_types::{Asked, Entry, Plan};
 
 /// Whether form 1 has this question: its plan holds no packet in a cancel slot.

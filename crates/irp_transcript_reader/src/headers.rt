@@ -6,7 +6,7 @@ ghost use Rattle.irp_forms.specs.Parts.{Gives, keys_in};
 ghost use Rattle.irp_transcript_reader.specs.Lines as spec;
 
 use irp_forms::{FromJson, Unread, completions_at, form_of, list_at, only_keys, under};
-use irp_shared::{Form, Header};
+use irp_transcript::{Form, Header};
 use irp_types::limits::MOST_ROUTINES;
 use irp_types::{Known, Row};
 use serde_json::Value;

@@ -12,6 +12,6 @@ mod replies;
 mod word_lines;
 
 pub use calls::EntryCall;
-pub use read::{ByValue, TakeLine, read_lines, read_transcript};
+pub use read::{TakeLine, read_lines};
 pub use read_fault::ReadFault;
 pub use reading::{MOST_BYTES, Reading};

@@ -1,13 +1,13 @@
-//! Transcripts from bytes.
+//! Transcripts from bytes. Source: this project's own format (docs/FORMATS.md).
 
 ghost use Rattle.std.specs.Prelude.{◌≡◌, [], MatchOption};
-ghost use Rattle.irp_shared.specs.Transcripts.{IsTranscript, no_lines};
+ghost use Rattle.irp_transcript.specs.Transcripts.{IsTranscript, no_lines};
 ghost use Rattle.irp_transcript_reader.specs.Reading.{ReadsFrom, Splits, TakesLine, cut, so_far};
 
 use crate::read_fault::ReadFault;
 use crate::reading::Reading;
 use irp_forms::Unread;
-use irp_shared::Transcript;
+use irp_transcript::Transcript;
 use irp_types::Row;
 use memchr::memchr;
 use std::alloc::Global;
@@ -39,7 +39,7 @@ fn transcript_of(alloc: Global, reading: Reading) -> Transcript
     }
 }
 
-/// How each line is taken (this project's own interface).
+/// How each line is taken.
 pub trait TakeLine {
     /// Takes the next line, without its newline. After an error the reading is of no use.
     ///
@@ -50,24 +50,8 @@ pub trait TakeLine {
         ensures { TakesLine result (so_far reading.old) line.now (so_far reading.new) };
 }
 
-/// Each line is taken by its JSON value (this project's own rule).
-#[derive(Drop)]
-pub struct ByValue;
-
-impl TakeLine for ByValue {
-    fn take_line(
-        &mut self,
-        alloc: Global,
-        reading: &mut Reading,
-        line: &[u8],
-    ) -> Result<(), Unread> {
-        reading.take_line(alloc, line)
-    }
-}
-
-/// Reads a transcript: the header's line, then a line for each entry, then the word lines, each in order; no lines
-/// are the transcript without entries (this project's own format, docs/FORMATS.md). Each line goes to the
-/// taker.
+/// Reads a transcript: the header's line, then a line for each entry, then the word lines, each in order; no lines are
+/// the transcript without entries. Each line goes to the taker.
 ///
 /// # Errors
 ///
@@ -100,17 +84,4 @@ pub fn read_lines<T: TakeLine>(
         lines += 1;
     }
     Ok(transcript_of(alloc, reading))
-}
-
-/// Reads a transcript as `read_lines` does, each line by its JSON value: one at a time is held (this project's own
-/// format, docs/FORMATS.md).
-///
-/// # Errors
-///
-/// As `read_lines`: `ReadFault::Line` with the number, from 1, of the first line that is refused; `ReadFault::NoMemory`
-/// where memory ran out.
-pub fn read_transcript(alloc: Global, bytes: &[u8]) -> Result<Transcript, ReadFault>
-    ensures { ReadsFrom no_lines 0 result (cut bytes.now) }
-{
-    read_lines(alloc, bytes, &mut ByValue)
 }

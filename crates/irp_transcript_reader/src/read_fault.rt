@@ -1,8 +1,8 @@
-//! Why a transcript wasn't read.
+//! Why a transcript wasn't read. Source: this project's own rules.
 
 use thiserror::Error;
 
-/// Why a transcript wasn't read (this project's own rule).
+/// Why a transcript wasn't read.
 #[derive(Clone, Copy, Debug, PartialEq, Eq, Error)]
 pub enum ReadFault {
     /// The first line that is refused, counted from 1.

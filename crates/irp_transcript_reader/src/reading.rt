@@ -1,8 +1,8 @@
-//! What is read of a transcript so far.
+//! What is read of a transcript so far. Source: this project's own format (docs/FORMATS.md).
 
 ghost use Rattle.std.specs.Prelude.{◌≡◌};
 ghost use Rattle.serde_json.specs.View.{view};
-ghost use Rattle.irp_shared.specs.Transcripts.{no_lines};
+ghost use Rattle.irp_transcript.specs.Transcripts.{no_lines};
 ghost use Rattle.irp_transcript_reader.specs.Reading as spec;
 ghost use Rattle.irp_transcript_reader.specs.Reading.{GivesLine, TakesLine, so_far};
 
@@ -11,17 +11,16 @@ use crate::forms::{has_entry, has_word};
 use crate::headers::header_at;
 use crate::word_lines::word_line_at;
 use irp_forms::{Unread, form_of};
-use irp_shared::{Act, Form, Header, WordLine};
+use irp_transcript::{Act, Form, Header, WordLine};
 use irp_types::Entry;
 use irp_types::limits::MOST_ENTRIES;
 use serde_json::Value;
 use std::alloc::Global;
 
-/// As many bytes as a line may have, without its newline (this project's own format, docs/FORMATS.md).
+/// As many bytes as a line may have, without its newline.
 pub const MOST_BYTES: usize = 65_536;
 
-/// What is read of a transcript so far (this project's own format, docs/FORMATS.md). Contracts see it as the transcript
-/// `so_far`.
+/// What is read of a transcript so far. Contracts see it as the transcript `so_far`.
 #[derive(Drop)]
 pub struct Reading {
     /// The header, once its line is taken.
@@ -33,7 +32,7 @@ pub struct Reading {
 }
 
 impl Reading {
-    /// No lines. It takes no memory (this project's own rule).
+    /// No lines. It takes no memory.
     pub fn new(alloc: Global) -> Reading
         ensures { so_far result ≡ no_lines }
     {
@@ -100,8 +99,7 @@ impl Reading {
         }
     }
 
-    /// Takes the next line, without its newline, by its JSON value (this project's own format, docs/FORMATS.md). After
-    /// an error the reading is of no use.
+    /// Takes the next line, without its newline, by its JSON value. After an error the reading is of no use.
     ///
     /// # Errors
     ///
@@ -122,7 +120,7 @@ impl Reading {
     }
 
     /// Takes the next line, without its newline, of which the caller knows that it is read as this entry. Where the
-    /// header is there it makes no JSON value. The answer is that of `take_line` (this project's own rule).
+    /// header is there it makes no JSON value. The answer is that of `take_line`.
     ///
     /// # Errors
     ///

@@ -5,7 +5,7 @@ ghost use Rattle.serde_json.specs.View.{view};
 ghost use Rattle.irp_transcript_reader.specs.WordLines as spec;
 
 use irp_forms::{hand_at, has_keys, lock_act_named, slot_alone_at, under};
-use irp_shared::{Act, WordLine, WordReply};
+use irp_transcript::{Act, WordLine, WordReply};
 use irp_types::SlotAct;
 use serde_json::Value;
 

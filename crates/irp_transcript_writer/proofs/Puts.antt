@@ -12,9 +12,9 @@ use Rattle.irp_transcript_writer.specs.Json.{line_text}
 use Rattle.irp_transcript_writer.specs.Lines.{text_of, lines, header_lines, entry_json, word_json}
 use Rattle.irp_transcript_writer.specs.Puts.{told, Sent, Stopped}
 use Rattle.irp_types.specs.declared.entry.Entry.{Entry}
-use Rattle.irp_shared.specs.Transcripts.{TranscriptValue}
-use Rattle.irp_shared.specs.declared.header.Header.{Header}
-use Rattle.irp_shared.specs.declared.word_line.WordLine.{WordLine}
+use Rattle.irp_transcript.specs.Transcripts.{TranscriptValue}
+use Rattle.irp_transcript.specs.declared.header.Header.{Header}
+use Rattle.irp_transcript.specs.declared.word_line.WordLine.{WordLine}
 
 -- what a slice from a place on holds
 slice_rest : {T : Type 0} (done : ℕ) (items : List T) → take (length items - done) (drop done items) ≡ drop done items

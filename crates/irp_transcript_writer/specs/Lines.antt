@@ -21,12 +21,12 @@ use Rattle.irp_types.specs.declared.location.Owner.TheVariants as owner
 use Rattle.irp_types.specs.declared.reply.Reply.TheVariants as reply
 use Rattle.irp_types.specs.declared.seat_act.LockAct.TheVariants as on_lock
 use Rattle.irp_types.specs.declared.seat_act.SlotAct.TheVariants as on_slot
-use Rattle.irp_shared.specs.Transcripts.{TranscriptValue}
-use Rattle.irp_shared.specs.declared.{header.Header.Header, header.Form.Form, word_line.Act.Act}
-use Rattle.irp_shared.specs.declared.{word_line.WordLine.WordLine, word_line.WordReply.WordReply}
-use Rattle.irp_shared.specs.declared.header.Form.TheVariants as form
-use Rattle.irp_shared.specs.declared.word_line.Act.TheVariants as act
-use Rattle.irp_shared.specs.declared.word_line.WordReply.TheVariants as word_reply
+use Rattle.irp_transcript.specs.Transcripts.{TranscriptValue}
+use Rattle.irp_transcript.specs.declared.{header.Header.Header, header.Form.Form, word_line.Act.Act}
+use Rattle.irp_transcript.specs.declared.{word_line.WordLine.WordLine, word_line.WordReply.WordReply}
+use Rattle.irp_transcript.specs.declared.header.Form.TheVariants as form
+use Rattle.irp_transcript.specs.declared.word_line.Act.TheVariants as act
+use Rattle.irp_transcript.specs.declared.word_line.WordReply.TheVariants as word_reply
 
 -- a device by its number
 abbrev pub device_json : DeviceId → Data
@@ -74,11 +74,13 @@ flags_text setting = flags_name (flagged setting.on_success setting.on_error set
 -- a setting: rule, number, context and flags
 abbrev pub setting_json : Setting → Data
 setting_json setting =
-    list (string (rule_name setting.routine.rule) ∷ natural setting.routine.no ∷ natural setting.context ∷ string (flags_text setting) ∷ [])
+    list (string (rule_name setting.routine.rule) ∷ natural setting.routine.no ∷ natural setting.context
+    ∷ string (flags_text setting) ∷ [])
 
 -- a plan: its name and what it names
 abbrev pub plan_json : Plan → Data
-plan_json (plan.Finish status information) = list (string (codes "finish") ∷ status_json status ∷ natural information ∷ [])
+plan_json (plan.Finish status information) =
+    list (string (codes "finish") ∷ status_json status ∷ natural information ∷ [])
 plan_json (plan.Hold cancel) = list (string (codes "hold") ∷ or_null cancel_json cancel ∷ [])
 plan_json plan.HoldSlot = list (string (codes "hold_slot") ∷ [])
 plan_json plan.Skip = list (string (codes "skip") ∷ [])
@@ -111,9 +113,11 @@ abbrev pub asked_json : Asked → Data
 asked_json (asked.Dispatch id shown plan) =
     fields ((codes "dispatch", natural id.0) ∷ (codes "plan", plan_json plan) ∷ (codes "shown", shown_json shown) ∷ [])
 asked_json (asked.Completion id shown answer) =
-    fields ((codes "answer", answer_json answer) ∷ (codes "completion", routine_json id) ∷ (codes "shown", shown_json shown) ∷ [])
+    fields ((codes "answer", answer_json answer) ∷ (codes "completion", routine_json id)
+    ∷ (codes "shown", shown_json shown) ∷ [])
 asked_json (asked.Cancel id shown answer) =
-    fields ((codes "answer", cancel_answer_json answer) ∷ (codes "cancel", cancel_json id) ∷ (codes "shown", shown_json shown) ∷ [])
+    fields ((codes "answer", cancel_answer_json answer) ∷ (codes "cancel", cancel_json id)
+    ∷ (codes "shown", shown_json shown) ∷ [])
 
 -- a call on a packet, by its name and what it names behind the packet
 abbrev pub irp_call_json : List ℕ → IrpRef → List (List ℕ × Data) → Data
@@ -128,14 +132,19 @@ party_call_json word party irp others =
 -- was known to be drained
 abbrev pub call_json : Call → Option LockNo → Bool → Data
 call_json (call.CreateDevice driver lock) _ _ =
-    fields ((codes "do", string (codes "create_device")) ∷ (codes "driver", natural driver.0) ∷ (codes "lock", lock_json lock) ∷ [])
+    fields ((codes "do", string (codes "create_device")) ∷ (codes "driver", natural driver.0)
+    ∷ (codes "lock", lock_json lock) ∷ [])
 call_json (call.Attach device to) _ _ =
-    fields ((codes "device", device_json device) ∷ (codes "do", string (codes "attach")) ∷ (codes "to", device_json to) ∷ [])
-call_json (call.Detach lower) _ _ = fields ((codes "do", string (codes "detach")) ∷ (codes "lower", device_json lower) ∷ [])
+    fields ((codes "device", device_json device) ∷ (codes "do", string (codes "attach"))
+    ∷ (codes "to", device_json to) ∷ [])
+call_json (call.Detach lower) _ _ =
+    fields ((codes "do", string (codes "detach")) ∷ (codes "lower", device_json lower) ∷ [])
 call_json (call.Delete device) lock drained =
-    fields ((codes "device", device_json device) ∷ (codes "do", string (codes "delete")) ∷ (codes "drained", boolean drained)
+    fields ((codes "device", device_json device) ∷ (codes "do", string (codes "delete"))
+    ∷ (codes "drained", boolean drained)
     ∷ (codes "lock", or_null lock_json lock) ∷ [])
-call_json (call.Allocate size) _ _ = fields ((codes "do", string (codes "allocate")) ∷ (codes "size", natural size) ∷ [])
+call_json (call.Allocate size) _ _ =
+    fields ((codes "do", string (codes "allocate")) ∷ (codes "size", natural size) ∷ [])
 call_json (call.Free irp) _ _ = irp_call_json (codes "free") irp []
 call_json (call.Reuse irp status) _ _ = irp_call_json (codes "reuse") irp ((codes "status", status_json status) ∷ [])
 call_json (call.SetNext party irp major word) _ _ =
@@ -148,10 +157,12 @@ call_json (call.MarkPending party irp) _ _ = party_call_json (codes "mark_pendin
 call_json (call.CallDriver party irp target) _ _ =
     party_call_json (codes "call_driver") party irp ((codes "target", device_json target) ∷ [])
 call_json (call.Complete party irp status information) _ _ =
-    fields ((codes "by", party_json party) ∷ (codes "do", string (codes "complete")) ∷ (codes "information", natural information)
+    fields ((codes "by", party_json party) ∷ (codes "do", string (codes "complete"))
+    ∷ (codes "information", natural information)
     ∷ (codes "irp", irp_json irp) ∷ (codes "status", status_json status) ∷ [])
 call_json (call.FinishTaken irp token status information) _ _ =
-    fields ((codes "do", string (codes "finish_taken")) ∷ (codes "information", natural information) ∷ (codes "irp", irp_json irp)
+    fields ((codes "do", string (codes "finish_taken")) ∷ (codes "information", natural information)
+    ∷ (codes "irp", irp_json irp)
     ∷ (codes "status", status_json status) ∷ (codes "token", natural token) ∷ [])
 call_json (call.SetCancelRoutine party irp cancel) _ _ =
     fields ((codes "by", party_json party) ∷ (codes "cancel", or_null cancel_json cancel)
@@ -163,7 +174,8 @@ call_json (call.Look irp) _ _ = irp_call_json (codes "look") irp []
 abbrev pub seen_json : Seen → Data
 seen_json seen =
     list (owner_json seen.owner ∷ natural seen.current ∷ status_json seen.status ∷ natural seen.information
-    ∷ boolean seen.cancel ∷ or_null cancel_json seen.cancel_routine ∷ boolean seen.pending_returned ∷ boolean seen.marked ∷ [])
+    ∷ boolean seen.cancel ∷ or_null cancel_json seen.cancel_routine ∷ boolean seen.pending_returned
+    ∷ boolean seen.marked ∷ [])
 
 -- a reply: its name, or its one value under its name
 abbrev pub reply_json : Reply → Data
@@ -179,18 +191,22 @@ reply_json (reply.Refused reason) = fields ((codes "refused", string (refusal_na
 -- an entry: what was asked, the call, the entry's number, the reply and the seat
 abbrev pub entry_json : Entry → Data
 entry_json entry =
-    fields ((codes "asked", list (map asked_json entry.asked)) ∷ (codes "call", call_json entry.call entry.lock entry.drained)
-    ∷ (codes "n", natural entry.number) ∷ (codes "reply", reply_json entry.reply) ∷ (codes "seat", natural entry.seat) ∷ [])
+    fields ((codes "asked", list (map asked_json entry.asked))
+    ∷ (codes "call", call_json entry.call entry.lock entry.drained)
+    ∷ (codes "n", natural entry.number) ∷ (codes "reply", reply_json entry.reply) ∷ (codes "seat", natural entry.seat)
+    ∷ [])
 
 -- how many completion routines of each rule
 abbrev pub completions_json : Known → Data
 completions_json known =
-    list (natural known.watch ∷ natural known.change ∷ natural known.keeper ∷ natural known.keep_on_error ∷ natural known.free ∷ [])
+    list (natural known.watch ∷ natural known.change ∷ natural known.keeper ∷ natural known.keep_on_error
+    ∷ natural known.free ∷ [])
 
 -- the same, and how many cancel routines
 abbrev pub known_json : Known → Data
 known_json known =
-    list (natural known.watch ∷ natural known.change ∷ natural known.keeper ∷ natural known.keep_on_error ∷ natural known.free
+    list (natural known.watch ∷ natural known.change ∷ natural known.keeper ∷ natural known.keep_on_error
+    ∷ natural known.free
     ∷ natural known.cancel ∷ [])
 
 -- a major function code and its dispatch
@@ -204,9 +220,12 @@ driver_json handlers = list (map handler_json handlers)
 -- the members of a header's line, but for the number of cancel slots, with the number of its form
 abbrev pub header_members : ℕ → Header → List (List ℕ × Data) → List (List ℕ × Data)
 header_members number header others =
-    (codes "cancels", list (map cancel_rule_json header.cancels)) ∷ (codes "completions", completions_json header.completions)
-    ∷ (codes "dispatches", list (map known_json header.dispatches)) ∷ (codes "drivers", list (map driver_json header.drivers))
-    ∷ (codes "form", natural number) ∷ (codes "locks", natural header.locks) ∷ (codes "seats", natural header.seats) ∷ others
+    (codes "cancels", list (map cancel_rule_json header.cancels))
+    ∷ (codes "completions", completions_json header.completions)
+    ∷ (codes "dispatches", list (map known_json header.dispatches))
+    ∷ (codes "drivers", list (map driver_json header.drivers))
+    ∷ (codes "form", natural number) ∷ (codes "locks", natural header.locks) ∷ (codes "seats", natural header.seats)
+    ∷ others
 
 -- the line of a header of this form, which tells the number of cancel slots in form 2 alone
 abbrev pub line_of_form : Form → Header → Data
@@ -277,7 +296,8 @@ header_lines (Some header) = header_json header ∷ []
 
 -- the values of the lines, in order
 abbrev pub lines : TranscriptValue → List Data
-lines transcript = header_lines transcript.header ++ (map entry_json transcript.entries ++ map word_json transcript.words)
+lines transcript =
+    header_lines transcript.header ++ (map entry_json transcript.entries ++ map word_json transcript.words)
 
 -- the bytes of lines
 unfoldable pub text_of : List Data → List ℕ

@@ -5,7 +5,7 @@ use Rattle.serde_json.specs.Written.{compact_text}
 use Rattle.irp_transcript_writer.specs.Json.{natural}
 use Rattle.irp_transcript_writer.specs.Lines.{lock_json, word_reply_json}
 use Rattle.irp_types.specs.declared.names.LockNo.{LockNo}
-use Rattle.irp_shared.specs.declared.word_line.WordLine.{WordLine}
+use Rattle.irp_transcript.specs.declared.word_line.WordLine.{WordLine}
 
 -- a text, and then the compact text of a value
 abbrev pub behind : List ℕ → Data → List ℕ

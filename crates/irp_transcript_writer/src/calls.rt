@@ -1,4 +1,4 @@
-//! The forms of calls.
+//! The forms of calls. Source: this project's own format (docs/FORMATS.md).
 #![tactic(auto, unfolding(json::specs::Print::escape_byte))]
 
 ghost use Rattle.std.specs.Prelude.{◌≡◌, ◌++◌, codes, true, false, None, OnOk};
@@ -156,7 +156,7 @@ fn put_party_call(out: &mut Vec<u8>, call: Call) -> Result<(), AllocError>
 }
 
 /// Writes an entry's call, from the call and the entry's `lock` and `drained`, which only a delete tells. The one error
-/// is want of memory (this project's own format, docs/FORMATS.md).
+/// is want of memory.
 pub fn put_call(
     out: &mut Vec<u8>,
     call: Call,

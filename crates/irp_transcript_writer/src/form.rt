@@ -1,4 +1,4 @@
-//! Values as JSON text.
+//! Values as JSON text. Source: this project's own format (docs/FORMATS.md).
 
 ghost use Rattle.std.specs.Prelude.{◌≡◌, ◌++◌, map, decimal, OnOk, IfOk};
 ghost use Rattle.serde_json.specs.Data.{Data, boolean};
@@ -8,7 +8,7 @@ ghost use Rattle.irp_transcript_writer.specs.Json.{list, natural, or_null, line_
 use irp_types::Row;
 use std::alloc::{AllocError, Global};
 
-/// What is written as JSON (this project's own format, docs/FORMATS.md).
+/// What is written as JSON.
 pub trait Written {
     /// The form.
     ghost json: { Self → Data };
@@ -156,8 +156,7 @@ impl<T: Written> Written for Row<T> {
 }
 
 /// Writes the line of a value, the compact text of its form and a newline, in place of what the buffer has, whose room
-/// stays (this project's own format, docs/FORMATS.md). The one error is want of memory; then the buffer may have a part
-/// of the line.
+/// stays. The one error is want of memory; then the buffer may have a part of the line.
 #[tactic(auto, unfolding(crate::specs::Json::line_text))]
 pub fn write_line<T: Written>(line: &mut Vec<u8>, value: &T) -> Result<(), AllocError>
     ensures { OnOk result (line.new.items ≡ line_text (T.json value.now)) }
@@ -167,8 +166,7 @@ pub fn write_line<T: Written>(line: &mut Vec<u8>, value: &T) -> Result<(), Alloc
     put_text(line, "\n")
 }
 
-/// The line of a value: the compact text of its form, and a newline. The one error is want of memory
-/// (this project's own format, docs/FORMATS.md).
+/// The line of a value: the compact text of its form, and a newline. The one error is want of memory.
 pub fn line_of<T: Written>(alloc: Global, value: &T) -> Result<Vec<u8>, AllocError>
     ensures { IfOk result (λ line. line.items ≡ line_text (T.json value.now)) }
 {

@@ -8,7 +8,7 @@ ghost use Rattle.irp_transcript_writer.specs.Lines.{asked_json, completions_json
 
 use crate::calls::put_call;
 use crate::form::{Written, put, put_list, put_one, put_text, put_two};
-use irp_shared::{Form, Header};
+use irp_transcript::{Form, Header};
 use irp_types::{Asked, Entry, Known, Questions, Reply};
 use std::alloc::AllocError;
 

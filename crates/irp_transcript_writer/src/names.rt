@@ -1,4 +1,4 @@
-//! Names, letters and answers, as JSON texts.
+//! Names, letters and answers, as JSON texts. Source: this project's own format (docs/FORMATS.md).
 #![tactic(auto, unfolding(json::specs::Print::escape_byte))]
 
 ghost use Rattle.std.specs.Prelude.{◌≡◌, ◌++◌, OnOk};
@@ -46,7 +46,7 @@ impl Written for Refusal {
     }
 }
 
-/// The letters of the flags that are set, in the order s, e, c, in quotes (this project's own format, docs/FORMATS.md).
+/// The letters of the flags that are set, in the order s, e, c, in quotes.
 pub fn letters_of_flags(setting: Setting) -> &'static str
     ensures { result.now ≡ compact_text (string (flags_text setting)) }
 {
@@ -62,8 +62,7 @@ pub fn letters_of_flags(setting: Setting) -> &'static str
     }
 }
 
-/// The name of a completion routine's answer, which keeps the packet or continues, in quotes
-/// (this project's own format, docs/FORMATS.md).
+/// The name of a completion routine's answer, which keeps the packet or continues, in quotes.
 pub fn name_of_answer(keep: bool) -> &'static str
     ensures { result.now ≡ compact_text (string (answer_name keep)) }
 {

@@ -1,4 +1,4 @@
-//! Where a transcript goes.
+//! Where a transcript goes. Source: this project's own rules.
 
 ghost use Rattle.std.specs.Prelude.{◌≡◌, ◌<◌, ◌≤◌, ℕ, List, Option, length, take};
 ghost use Rattle.std.specs.Prelude.{IfErr, IfOk, OnErr, OnOk};
@@ -7,12 +7,12 @@ ghost use Rattle.irp_transcript_writer.specs.Out.{risen, counted};
 
 use thiserror::Error;
 
-/// A put that failed: the output took nothing (this project's own interface).
+/// A put that failed: the output took nothing.
 #[derive(Clone, Copy, Debug, PartialEq, Eq, Error)]
 #[error("the output failed")]
 pub struct Failed;
 
-/// An output that takes bytes in order and counts its failures (this project's own interface).
+/// An output that takes bytes in order and counts its failures.
 pub trait Out {
     /// What went out, where it is known.
     ghost gone: { Self → Option (List ℕ) };
@@ -28,7 +28,7 @@ pub trait Out {
         ensures count { failures self.new ≡ counted result piece.now (failures self.old) };
 }
 
-/// Puts all of the text, in as many puts as the output needs (this project's own rule).
+/// Puts all of the text, in as many puts as the output needs.
 ///
 /// # Errors
 ///

@@ -6,7 +6,7 @@ ghost use Rattle.irp_transcript_writer.specs.Lines.{word_json, word_reply_json};
 ghost use Rattle.irp_transcript_writer.specs.Texts.{locked_text, slot_text};
 
 use crate::form::{Written, put, put_one, put_text, put_two};
-use irp_shared::{Act, WordLine, WordReply};
+use irp_transcript::{Act, WordLine, WordReply};
 use irp_types::{LockAct, LockNo, SlotAct, Status};
 use std::alloc::AllocError;
 

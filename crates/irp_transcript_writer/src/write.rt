@@ -1,4 +1,4 @@
-//! Writing transcripts.
+//! Writing transcripts. Source: this project's own format (docs/FORMATS.md).
 
 ghost use Rattle.std.specs.Prelude.{map, OnOk, IfErr};
 ghost use Rattle.std.specs.Io.KnownBytes.{Appends};
@@ -9,11 +9,11 @@ ghost use Rattle.irp_transcript_writer.specs.Puts.{CountsFault, PutsText, Stoppe
 
 use crate::form::{Written, write_line};
 use crate::out::{Out, put_all};
-use irp_shared::{Header, Transcript};
+use irp_transcript::{Header, Transcript};
 use std::alloc::Global;
 use thiserror::Error;
 
-/// What stopped a write (this project's own rule).
+/// What stopped a write.
 #[derive(Clone, Copy, Debug, PartialEq, Eq, Error)]
 pub enum Cause {
     /// The output failed.
@@ -24,7 +24,7 @@ pub enum Cause {
     Memory,
 }
 
-/// A write that stopped (this project's own rule).
+/// A write that stopped.
 #[derive(Clone, Copy, Debug, PartialEq, Eq, Error)]
 #[error("{cause} after {written} bytes")]
 pub struct WriteFault {
@@ -92,8 +92,7 @@ fn put_header<O: Out>(
 }
 
 /// Writes a transcript: the header's line, where there is a header, then a line for each entry, then the word lines,
-/// each in order (this project's own format, docs/FORMATS.md). It makes one put a line, and more where the output takes
-/// less.
+/// each in order. It makes one put a line, and more where the output takes less.
 ///
 /// # Errors
 ///

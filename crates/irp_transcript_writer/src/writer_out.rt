@@ -1,12 +1,12 @@
-//! Any writer as an output.
+//! Any writer as an output. Source: this project's own rules.
 
 ghost use Rattle.std.specs.Prelude.{◌≡◌};
 
 use crate::out::{Failed, Out};
 use std::io::Write;
 
-/// A writer, and how often it failed, modulo 2^64. What went out is what std knows of the writer: all the bytes of
-/// a vector, and nothing of a standard stream (this project's own interface).
+/// A writer, and how often it failed, modulo 2^64. What went out is what std knows of the writer: all the bytes of a
+/// vector, and nothing of a standard stream.
 #[derive(Drop)]
 pub struct WriterOut<W> {
     writer: W,

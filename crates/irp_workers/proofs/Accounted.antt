@@ -6,7 +6,7 @@ use Rattle.std.specs.List.{count_by, enumerate_from, filter, flat_map}
 use Rattle.std.proofs.lemmas.List.{take_all}
 use Rattle.std.proofs.lemmas.List.Elements.{All-head, All-tail}
 use Rattle.std.proofs.lemmas.Option.{slice_get-get_or}
-use Rattle.irp_shared.specs.declared.word_line.WordLine.{WordLine}
+use Rattle.irp_transcript.specs.declared.word_line.WordLine.{WordLine}
 use Rattle.irp_script_reader.specs.declared.act.Step.{Step}
 use Rattle.irp_workers.specs.Accounts.{Accounts, calls_at, pair_at}
 use Rattle.irp_workers.specs.Made.{NoneTwice, SeatCalls, once_made}

@@ -7,7 +7,7 @@ use Rattle.std.proofs.lemmas.Option.{get_or_from_slice_get, slice_get_within}
 use Rattle.irp_types.specs.declared.seat_act.Hand.{Hand}
 use Rattle.irp_types.specs.Calls.{Call}
 use Rattle.irp_types.specs.declared.entry.Entry.{Entry}
-use Rattle.irp_shared.specs.declared.word_line.WordLine.{WordLine}
+use Rattle.irp_transcript.specs.declared.word_line.WordLine.{WordLine}
 use Rattle.irp_script_reader.specs.declared.act.Step.{Step}
 use Rattle.irp_workers.specs.declared.step_kind.StepKind.{StepKind}
 use Rattle.irp_workers.specs.declared.step_kind.StepKind.TheVariants.{Calls, OnLock, Hands, OnSlot, Finishes}

@@ -17,7 +17,7 @@ use Rattle.irp_slots.specs.Opening.{AreFreshOwners, IsFreshCanceller}
 use Rattle.irp_slot_parties.specs.AtSlots.{OwnTheirSlots}
 use Rattle.irp_shared.specs.Closing.{IsKept}
 use Rattle.irp_shared.specs.Opening.{AreNew, IsNew}
-use Rattle.irp_shared.specs.Transcripts.{TranscriptValue}
+use Rattle.irp_transcript.specs.Transcripts.{TranscriptValue}
 use Rattle.irp_script_reader.specs.Forms.{slots_of}
 use Rattle.irp_script_reader.specs.declared.script.Script.{Script}
 use Rattle.irp_workers.specs.Numbers.{EachAsOften}

@@ -4,7 +4,7 @@ use Rattle.std.specs.Option.{option_map}
 use Rattle.std.specs.Prelude.{IfSome}
 use Rattle.irp_types.specs.declared.names.IrpRef.{IrpRef}
 use Rattle.irp_types.specs.Calls.{Call}
-use Rattle.irp_shared.specs.Sharing.{needs_token}
+use Rattle.irp_transcript.specs.Tokens.{needs_token}
 use Rattle.irp_script_reader.specs.declared.act.StepAct.{StepAct}
 use Rattle.irp_script_reader.specs.declared.act.StepAct.TheVariants.{Call as Made, Allocate, OnLock, Hand, Publish, Withdraw, Request}
 use Rattle.irp_types.specs.declared.call.Call.TheVariants as calls

@@ -18,7 +18,7 @@ use Rattle.irp_manager.specs.Seats.{Seated}
 use Rattle.irp_remove.specs.Seats.{Holder}
 use Rattle.irp_slots.specs.declared.answers.Token.{Token}
 use Rattle.irp_shared.specs.Sharing.{Called, IsAsBefore, given_back}
-use Rattle.irp_shared.specs.declared.word_line.WordLine.{WordLine}
+use Rattle.irp_transcript.specs.declared.word_line.WordLine.{WordLine}
 use Rattle.irp_script_reader.specs.declared.act.Step.{Step}
 use Rattle.irp_workers.specs.declared.step_kind.StepKind.{StepKind}
 use Rattle.irp_workers.specs.declared.step_kind.StepKind.TheVariants.{Calls, OnLock, Hands, OnSlot, Finishes}

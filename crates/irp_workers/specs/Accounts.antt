@@ -1,6 +1,6 @@
 -- How the word lines and the calls of a script account for its steps.
 use Rattle.std.specs.Prelude.{◌≡◌, Bool, false, List, ◌++◌, map}
-use Rattle.irp_shared.specs.declared.word_line.WordLine.{WordLine}
+use Rattle.irp_transcript.specs.declared.word_line.WordLine.{WordLine}
 use Rattle.irp_script_reader.specs.declared.act.Step.{Step}
 use Rattle.irp_workers.specs.Made.{NoneTwice, SeatCalls, once_made, seat_calls}
 use Rattle.irp_workers.specs.Numbers.{EachAsOften, NoneMoreOften}

@@ -19,8 +19,8 @@ use Rattle.irp_remove.specs.declared.refusal.BeginRefusal.TheVariants as begin
 use Rattle.irp_remove.specs.declared.refusal.DrainRefusal.TheVariants as drain
 use Rattle.irp_remove.specs.declared.refusal.HandRefusal.TheVariants as hand
 use Rattle.irp_types.specs.declared.names.IrpRef.{IrpRef}
-use Rattle.irp_shared.specs.declared.word_line.WordReply.{WordReply}
-use Rattle.irp_shared.specs.declared.word_line.WordReply.TheVariants as answered
+use Rattle.irp_transcript.specs.declared.word_line.WordReply.{WordReply}
+use Rattle.irp_transcript.specs.declared.word_line.WordReply.TheVariants as answered
 use Rattle.irp_script_reader.specs.declared.act.StepAct.{StepAct}
 use Rattle.irp_slot_parties.specs.AtSlots.{AtSlots, Publishing, Requesting, Withdrawing}
 use Rattle.irp_types.specs.declared.seat_act.LockAct.{LockAct}

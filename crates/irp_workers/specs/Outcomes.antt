@@ -5,8 +5,8 @@ use Rattle.std.specs.List.{enumerate_from, filter}
 use Rattle.irp_types.specs.declared.names.IrpRef.{IrpRef}
 use Rattle.irp_types.specs.Calls.{Call}
 use Rattle.irp_types.specs.declared.call.Call.TheVariants.{FinishTaken}
-use Rattle.irp_shared.specs.declared.word_line.Act.{Act}
-use Rattle.irp_shared.specs.declared.word_line.Act.TheVariants as act
+use Rattle.irp_transcript.specs.declared.word_line.Act.{Act}
+use Rattle.irp_transcript.specs.declared.word_line.Act.TheVariants as act
 use Rattle.irp_script_reader.specs.declared.act.Step.{Step}
 use Rattle.irp_script_reader.specs.declared.act.StepAct.{StepAct}
 use Rattle.irp_workers.specs.declared.step_kind.StepKind.{StepKind}

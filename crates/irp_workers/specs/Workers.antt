@@ -2,7 +2,7 @@
 use Rattle.std.specs.Prelude.{ℕ, ◌≡◌, ◌%◌, All, Bool, false, List, [], sum_by}
 use Rattle.std.specs.List.{count_by}
 use Rattle.irp_remove.specs.declared.table.Locks.{Locks}
-use Rattle.irp_shared.specs.declared.word_line.WordLine.{WordLine}
+use Rattle.irp_transcript.specs.declared.word_line.WordLine.{WordLine}
 use Rattle.irp_script_reader.specs.declared.act.Step.{Step}
 use Rattle.irp_workers.specs.declared.script_seat.ScriptSeat.{ScriptSeat}
 use Rattle.irp_workers.specs.declared.worker.Worker.{Worker}

@@ -37,11 +37,11 @@ use Rattle.irp_remove.specs.Calls.{IsSameSeat}
 use Rattle.irp_remove.specs.Seats.{Holder}
 use Rattle.irp_slots.specs.declared.answers.Token.{Token}
 use Rattle.irp_shared.specs.Sharing.{Called, given_back}
-use Rattle.irp_shared.specs.declared.word_line.Act.{Act}
-use Rattle.irp_shared.specs.declared.word_line.Act.TheVariants as act
-use Rattle.irp_shared.specs.declared.word_line.WordLine.{WordLine}
-use Rattle.irp_shared.specs.declared.word_line.WordReply.{WordReply}
-use Rattle.irp_shared.specs.declared.word_line.WordReply.TheVariants.{NoToken}
+use Rattle.irp_transcript.specs.declared.word_line.Act.{Act}
+use Rattle.irp_transcript.specs.declared.word_line.Act.TheVariants as act
+use Rattle.irp_transcript.specs.declared.word_line.WordLine.{WordLine}
+use Rattle.irp_transcript.specs.declared.word_line.WordReply.{WordReply}
+use Rattle.irp_transcript.specs.declared.word_line.WordReply.TheVariants.{NoToken}
 use Rattle.irp_script_reader.specs.declared.act.Step.{Step}
 use Rattle.irp_workers.specs.declared.step_kind.StepKind.{StepKind}
 use Rattle.irp_workers.specs.declared.step_kind.StepKind.TheVariants.{

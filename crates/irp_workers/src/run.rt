@@ -2,7 +2,7 @@
 
 ghost use Rattle.std.specs.Prelude.{◌≡◌, ◌<◌, ℕ, Bool, All, IfOk, slice_index_or, vec_len};
 ghost use Rattle.std.specs.List.{count_by, list_any};
-ghost use Rattle.irp_shared.specs.declared.word_line.WordLine.{WordLine};
+ghost use Rattle.irp_transcript.specs.declared.word_line.WordLine.{WordLine};
 ghost use Rattle.irp_remove.specs.Pairing.{IsSeatOf, lock_count};
 ghost use Rattle.irp_slots.specs.Pairing.{IsCancellerOf, IsOwnerOf};
 ghost use Rattle.irp_workers.specs.Accounts.{Accounts};

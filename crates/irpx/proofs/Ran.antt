@@ -1,6 +1,6 @@
 -- The slots of a script.
 use Rattle.std.proofs.Common.{◌≡◌, refl}
-use Rattle.irp_shared.specs.Headers.{slots_of as slots_in}
+use Rattle.irp_transcript.specs.Headers.{slots_of as slots_in}
 use Rattle.irp_script_reader.specs.Forms.{slots_of}
 use Rattle.irp_script_reader.specs.declared.script.ScriptForm.{ScriptForm}
 use Rattle.irp_script_reader.specs.declared.script.ScriptForm.TheVariants as script_form

@@ -7,10 +7,10 @@ use Rattle.irp_manager.specs.Seats.{Seated}
 use Rattle.irp_shared.specs.Answered.{EachAnswered}
 use Rattle.irp_shared.specs.Closing.{AreSeated, Closes}
 use Rattle.irp_types.specs.Limits.{most_slots}
-use Rattle.irp_shared.specs.Headers.{IsHeader, fixed_of, limit_of, slots_of}
-use Rattle.irp_shared.specs.declared.header.Header.{Header}
-use Rattle.irp_shared.specs.Transcripts.{TranscriptValue}
-use Rattle.irp_shared.specs.declared.word_line.WordLine.{WordLine}
+use Rattle.irp_transcript.specs.Headers.{IsHeader, fixed_of, limit_of, slots_of}
+use Rattle.irp_transcript.specs.declared.header.Header.{Header}
+use Rattle.irp_transcript.specs.Transcripts.{TranscriptValue}
+use Rattle.irp_transcript.specs.declared.word_line.WordLine.{WordLine}
 use Rattle.irp_script_reader.specs.declared.script.Script.{Script}
 use Rattle.irp_script_reader.specs.declared.script.ScriptForm.{ScriptForm}
 use Rattle.irp_workers.specs.Numbers.{NoneMoreOften}

@@ -16,7 +16,7 @@ use Rattle.std.specs.Prelude.{
 }
 use Rattle.std.specs.Fmt.{decimal}
 use Rattle.std.specs.Io.KnownBytes.{Consumes}
-use Rattle.irp_shared.specs.Transcripts.{TranscriptValue, no_lines}
+use Rattle.irp_transcript.specs.Transcripts.{TranscriptValue, no_lines}
 use Rattle.irp_transcript_writer.specs.Out.{risen}
 use Rattle.irp_transcript_reader.specs.Reading.{ReadsFrom, cut}
 use Rattle.irp_transcript_reader.specs.declared.read_fault.ReadFault.TheVariants as fault

@@ -16,9 +16,9 @@ use Rattle.irp_types.specs.declared.reply.Reply.{Reply}
 use Rattle.irp_types.specs.declared.reply.Reply.TheVariants.{Device, Irp, Done, Status as StatusIs}
 use Rattle.irp_types.specs.Status.{success}
 use Rattle.irp_types.specs.declared.names.DeviceId.{DeviceId}
-use Rattle.irp_shared.specs.Headers.{fixed_of, IsHeader}
-use Rattle.irp_shared.specs.Transcripts.{TranscriptValue}
-use Rattle.irp_shared.specs.declared.header.Header.{Header}
+use Rattle.irp_transcript.specs.Headers.{fixed_of, IsHeader}
+use Rattle.irp_transcript.specs.Transcripts.{TranscriptValue}
+use Rattle.irp_transcript.specs.declared.header.Header.{Header}
 use Rattle.irp_transcript_writer.specs.Lines.{lines, text_of}
 use Rattle.irpx.specs.Bytes.{Bytes}
 

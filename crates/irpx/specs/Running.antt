@@ -30,13 +30,13 @@ use Rattle.irp_types.specs.declared.answer.Plan.{Plan}
 use Rattle.irp_types.specs.declared.entry.Entry.{Entry}
 use Rattle.irp_routines.specs.Tables.{by_major, no_tables}
 use Rattle.irp_shared.specs.Answered.{EachAnswered}
-use Rattle.irp_shared.specs.Headers.{fixed_of, limit_of, IsHeader}
+use Rattle.irp_transcript.specs.Headers.{fixed_of, limit_of, IsHeader}
 use Rattle.irp_shared.specs.Closing.{AreSeated}
-use Rattle.irp_shared.specs.Transcripts.{TranscriptValue}
-use Rattle.irp_shared.specs.declared.header.Form.{Form}
-use Rattle.irp_shared.specs.declared.header.Form.TheVariants.{One, Two}
-use Rattle.irp_shared.specs.declared.header.Header.{Header}
-use Rattle.irp_shared.specs.declared.word_line.WordLine.{WordLine}
+use Rattle.irp_transcript.specs.Transcripts.{TranscriptValue}
+use Rattle.irp_transcript.specs.declared.header.Form.{Form}
+use Rattle.irp_transcript.specs.declared.header.Form.TheVariants.{One, Two}
+use Rattle.irp_transcript.specs.declared.header.Header.{Header}
+use Rattle.irp_transcript.specs.declared.word_line.WordLine.{WordLine}
 use Rattle.irp_script_reader.specs.Scripts.{ReadsScript}
 use Rattle.irp_script_reader.specs.Sound.{with_all}
 use Rattle.irp_script_reader.specs.declared.refusal.ScriptFault.TheVariants as fault

@@ -17,8 +17,8 @@ ghost use Rattle.irpx.specs.Input.{TakesAtMost};
 
 use crate::input::{InputFault, read_up_to};
 use crate::writing::Unwritten;
-use irp_quick_reader::read_transcript;
 use irp_judge::{Verdict, check as verdict_of};
+use irp_text::read_transcript;
 use irp_transcript_reader::ReadFault;
 use irp_transcript_writer::{Out, put_all};
 use std::alloc::{AllocError, Global};

@@ -3,7 +3,7 @@
 ghost use Rattle.std.specs.Prelude.{◌≡◌, [], ◌∷◌, ◌++◌, IfErr, IfSome, OnErr, OnOk, false};
 ghost use Rattle.irp_types.specs.declared.limit.Limit.TheVariants.{Sixteen};
 ghost use Rattle.irp_shared.specs.Answered.{AnswersSo};
-ghost use Rattle.irp_shared.specs.Sharing.{needs_token};
+ghost use Rattle.irp_transcript.specs.Tokens.{needs_token};
 ghost use Rattle.irpx.specs.Demo.{
   calls_of,
   AreDemoCalls,

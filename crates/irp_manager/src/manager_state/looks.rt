@@ -4,6 +4,7 @@ ghost use Rattle.std.specs.Prelude.{◌≡◌, Bool, [], ◌∷◌, length};
 ghost use Rattle.std.specs.Option.{option_copied};
 ghost use Rattle.std.specs.FinMap as fin;
 ghost use Rattle.irp_types.specs.Checks.{first_failing, or_else};
+ghost use Rattle.irp_types.specs.Stacks.{create_checks};
 ghost use Rattle.irp_types.specs.State.{Fixed, live_at, packet_of};
 ghost use Rattle.irp_types.specs.Refusals.{ended_check, first_refusal, flight_check, packet_refusal, party_refusal, take_refusal, use_check};
 ghost use Rattle.irp_types.specs.declared.call.Call.TheVariants.{CreateDevice};
@@ -19,6 +20,16 @@ use irp_types::{Call, DriverId, IrpRef, Known, LockNo, Owner, Party, Refusal, St
 
 /// How many devices may ever be created.
 const MOST_DEVICES: u32 = 64;
+
+/// The refusal where the use was completed.
+fn no_more(packet: &Packet) -> Option<Refusal>
+    ensures { result ≡ first_failing (ended_check packet.now ∷ []) }
+{
+    if matches!(packet.owner(), Owner::Ended) {
+        return Some(Refusal::Ended);
+    }
+    None
+}
 
 impl<K: Keep> ManagerState<K> {
     /// The live packet of a slot, if there is one (this project's own rule).
@@ -53,6 +64,26 @@ impl<K: Keep> ManagerState<K> {
 
 // What a call would be refused with.
 impl<K: Keep> ManagerState<K> {
+    /// The refusal of a creation where as many devices were created as there may be.
+    fn no_device_left(&self) -> Option<Refusal>
+        ensures { result ≡ first_failing (create_checks self.now.stacks.devices) }
+    {
+        if self.stacks.len() >= MOST_DEVICES {
+            return Some(Refusal::Full);
+        }
+        None
+    }
+
+    /// The refusal where no use number is left.
+    fn no_use_left(&self) -> Option<Refusal>
+        ensures { result ≡ first_failing (use_check (state_of K.live self.now) ∷ []) }
+    {
+        if self.next_use >= USE_LIMIT {
+            return Some(Refusal::Full);
+        }
+        None
+    }
+
     /// The refusal of a creation, where there are so many drivers.
     fn creating(&self, drivers: u32, driver: DriverId, lock: LockNo) -> Option<Refusal>
         ensures { (fixed : Fixed) (drained : Bool) → length fixed.tables.drivers ≡ drivers
@@ -63,10 +94,7 @@ impl<K: Keep> ManagerState<K> {
         if let Some(refusal) = self.create_refusal(drivers, driver, lock) {
             return Some(refusal);
         }
-        if self.stacks.len() >= MOST_DEVICES {
-            return Some(Refusal::Full);
-        }
-        None
+        self.no_device_left()
     }
 
     /// The refusal of a call that names the packet of a reference, and of no party.
@@ -88,10 +116,7 @@ impl<K: Keep> ManagerState<K> {
         if let Some(refusal) = self.flight_refusal(irp) {
             return Some(refusal);
         }
-        if self.next_use >= USE_LIMIT {
-            return Some(Refusal::Full);
-        }
-        None
+        self.no_use_left()
     }
 
     /// The refusal to complete a packet that was taken from its cancel slot.
@@ -119,10 +144,7 @@ impl<K: Keep> ManagerState<K> {
         if let Some(refusal) = packets::packet_refusal(live, irp) {
             return Some(refusal);
         }
-        if matches!(live.packet.owner(), Owner::Ended) {
-            return Some(Refusal::Ended);
-        }
-        None
+        no_more(&live.packet)
     }
 
     /// The refusal of the owner's call by the call's own checks; none for a call that names no party.

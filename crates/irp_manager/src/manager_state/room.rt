@@ -28,7 +28,7 @@ pub(crate) fn give_back(room: &mut Vec<Asked>, used: usize)
 }
 
 impl<K: Keep> ManagerState<K> {
-    /// The position of a device in its stack, from 1 at the bottom, and 1 where it was never created (this project's own
+    /// The position of a device in its stack, from 1 at the bottom; 1 where it was never created (this project's own
     /// rule).
     #[inline]
     pub fn depth(&self, device: DeviceId) -> u32

@@ -31,9 +31,10 @@ impl Stacks {
     pub fn height(&self, device: DeviceId) -> u32
         ensures { result ≡ length (stack_of self.now.devices device.0) }
     {
-        let Some(own) = self.devices.get(device.0 as usize).copied() else {
+        if device.0 as usize >= self.devices.len() {
             return 0;
-        };
+        }
+        let own = record_at(&self.devices, device);
         let base = record_at(&self.devices, own.bottom);
         record_at(&self.devices, base.top).size
     }
@@ -74,9 +75,9 @@ impl Stacks {
             Ok(below) => below,
             Err(refusal) => return Some(refusal),
         };
-        if below.upper.is_none() {
-            return Some(Refusal::NothingAttached);
+        match below.upper {
+            None => Some(Refusal::NothingAttached),
+            Some(_) => None,
         }
-        None
     }
 }

@@ -1,6 +1,6 @@
 use Rattle.std.proofs.Common.{◌≡◌, List, length, Option, sym, ap, subst}
 use Rattle.irp_types.specs.declared.entry.Entry.{Entry}
-use Rattle.irp_shared.specs.Transcripts.{TranscriptValue}
+use Rattle.irp_transcript.specs.Transcripts.{TranscriptValue}
 use Rattle.irp_judge.specs.Checked.{IsVerdictOn, verdict_of}
 use Rattle.irp_judge.specs.declared.verdict.Wrong.{Wrong}
 use Rattle.irp_judge.proofs.checker.check.Goals as goal

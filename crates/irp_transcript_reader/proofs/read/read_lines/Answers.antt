@@ -1,6 +1,6 @@
 -- Each line is taken, or refused, or cut, and the last leaves nothing.
 use Rattle.std.proofs.Common.{◌≡◌, ℕ, ◌+◌, ◌<◌, Err, Ok, sym, subst, arith, length}
-use Rattle.irp_shared.specs.Transcripts.{TranscriptValue}
+use Rattle.irp_transcript.specs.Transcripts.{TranscriptValue}
 use Rattle.irp_transcript_reader.specs.Reading.{ReadsFrom, cut, so_far}
 use Rattle.irp_transcript_reader.specs.declared.read_fault.ReadFault.TheVariants.{Line, NoMemory}
 use Rattle.irp_transcript_reader.proofs.Cuts.{reads_on, reads_no_more, reads_less, reads_cut, reads_end}

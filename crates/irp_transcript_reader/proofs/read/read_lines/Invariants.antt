@@ -1,6 +1,6 @@
 -- What the rest gives is what the whole text gives.
 use Rattle.std.proofs.Common.{◌≤◌, ◌+◌, length, Result}
-use Rattle.irp_shared.specs.Transcripts.{TranscriptValue, IsTranscript, no_lines}
+use Rattle.irp_transcript.specs.Transcripts.{TranscriptValue, IsTranscript, no_lines}
 use Rattle.irp_transcript_reader.specs.Reading.{ReadsFrom, cut, so_far}
 use Rattle.irp_transcript_reader.specs.declared.read_fault.ReadFault.{ReadFault}
 use Rattle.irp_transcript_reader.proofs.read.read_lines.Given as goal

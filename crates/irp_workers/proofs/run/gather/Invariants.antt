@@ -1,6 +1,6 @@
 use Rattle.std.proofs.Common.{◌≡◌, vec_len, ◌+◌, Bool, ◌||◌}
 use Rattle.std.specs.List.{count_by, list_any}
-use Rattle.irp_shared.specs.declared.word_line.WordLine.{WordLine}
+use Rattle.irp_transcript.specs.declared.word_line.WordLine.{WordLine}
 use Rattle.irp_workers.specs.Workers.{count_lines, count_seats}
 use Rattle.irp_workers.proofs.run.gather.Given as goal
 

@@ -3,7 +3,7 @@ use Rattle.std.proofs.Common.{◌≡◌, List, [], ◌∷◌, ◌++◌, ap, sym,
 use Rattle.irp_types.specs.Histories.{IsLegal}
 use Rattle.irp_types.specs.declared.entry.Entry.{Entry}
 use Rattle.irp_manager.specs.Seats.{Seated}
-use Rattle.irp_shared.specs.Headers.{IsHeader}
+use Rattle.irp_transcript.specs.Headers.{IsHeader}
 use Rattle.irpx.specs.Demo.{calls_of, AreDemoCalls}
 use Rattle.irpx.proofs.OneSeat.{one_new, one_has_all}
 use Rattle.irpx.proofs.demo.session.Goals as goal

@@ -10,9 +10,9 @@ use Rattle.irp_types.specs.declared.entry.Entry.{Entry}
 use Rattle.irp_types.specs.State.{Fixed}
 use Rattle.irp_manager.specs.Seats.{Seated}
 use Rattle.irp_shared.specs.Closing.{AllHere, Closes}
-use Rattle.irp_shared.specs.Headers.{IsHeader, slots_of as slots_in}
+use Rattle.irp_transcript.specs.Headers.{IsHeader, slots_of as slots_in}
 use Rattle.irp_shared.specs.Answered.{EachAnswered}
-use Rattle.irp_shared.specs.Transcripts.{TranscriptValue}
+use Rattle.irp_transcript.specs.Transcripts.{TranscriptValue}
 use Rattle.irp_workers.specs.Accounts.{calls_at, pair_at}
 use Rattle.irp_workers.specs.Made.{NoneTwice, once_made, seat_calls}
 use Rattle.irp_workers.specs.Numbers.{EachAsOften}

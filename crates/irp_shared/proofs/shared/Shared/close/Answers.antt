@@ -11,10 +11,10 @@ use Rattle.irp_shared.proofs.shared.Shared.close.Goals as goal
 pub returns-clause-closes : goal.returns-clause-closes
 returns-clause-closes g c =
     let fixed : Fixed = g.L.Session.fixed in
-    let locked = c.into_inner-book.result in
+    let parts = c.into_parts-book in
     let history = c.end-locks.result.history.items in
-    let same : history ≡ locked.book.history = c.end-locks.ensures.history in
-    let legal : IsLegal fixed history = subst (λ (given : Fixed × List Entry). IsLegal given.0 given.1) (λ i. (locked.fixed i, sym same i)) c.end-locks.ensures.legal in
+    let same : history ≡ parts.result.0.history = c.end-locks.ensures.history in
+    let legal : IsLegal fixed history = subst (λ (given : Fixed × List Entry). IsLegal given.0 given.1) (λ i. (parts.ensures.book.0 i, sym same i)) c.end-locks.ensures.legal in
     let said : c.are_all.result ≡ true = search rules in
     let all_here : AllHere c.args.seats.items g.L.Session.seats =
     subst (λ (given : List Seated × ℕ). AllHere given.0 given.1) (λ i. (c.as_slice.ensures.value i, c.args.self.all i)) (c.are_all.ensures.yes said) in
@@ -23,11 +23,11 @@ returns-clause-closes g c =
     (subst (λ option. IfNone option (All (IsKept c.as_slice-2.result.now) c.args.seats.items)) c.in_default.is c.gather-all.ensures.same) in
     let many : vec_len c.args.seats ≡ g.L.Session.seats = search rules in
     let whole = c.audit.ensures.whole (c.gather-all.ensures.parts ∙ many ∙ c.requires) in
-    let counts : sum_by count_of c.args.seats.items ≡ length history = sym c.gather-all.ensures.amount ∙ whole ∙ locked.counted ∙ ap length (sym same) in
+    let counts : sum_by count_of c.args.seats.items ≡ length history = sym c.gather-all.ensures.amount ∙ whole ∙ parts.ensures.total ∙ ap length (sym same) in
     rw (c.new-2.ensures) (subst (λ (entries : List Entry). Closes fixed g.L.Session.seats c.args.seats.items (record { header = Some c.header_of-header.result; entries = entries; words = c.from_vec-words.result })) (sym c.from_vec.ensures) (record {
       header = c.header_of-header.result;
       told = refl;
-      tables = c.header_of-header.ensures.fixed ∙ sym c.end-locks.ensures.fixed ∙ locked.fixed;
+      tables = c.header_of-header.ensures.fixed ∙ sym c.end-locks.ensures.fixed ∙ parts.ensures.book.0;
       seats_told = c.header_of-header.ensures.seats ∙ c.args.self.all;
       no_slots = c.header_of-header.ensures.slots;
       no_words = c.from_vec-words.ensures ∙ c.new.ensures.items;

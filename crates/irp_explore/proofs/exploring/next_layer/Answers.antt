@@ -1,0 +1,51 @@
+use Rattle.std.proofs.Common.{arith, ◌+◌, inl, inr, Some, Contains}
+use Rattle.std.proofs.lemmas.List.Elements.{All-pop}
+use Rattle.irp_explore.specs.Nodes.{states_of, IsReached, IsExpanded}
+use Rattle.irp_explore.proofs.Weighing.{weigh_push}
+use Rattle.irp_explore.proofs.Ahead.{ahead_step, done_more, layer_expanded, nothing_contained}
+use Rattle.irp_explore.proofs.exploring.next_layer.Goals as goal
+
+pub loop-node-preserved : goal.loop-node-preserved
+loop-node-preserved g c =
+    let moves = g.M.Machine.moves c.args.machine.now in
+    let seats = g.M.Machine.seats c.args.machine.now in
+    let node = c.in-Some.node in
+    let parts = λ (start : g.row.M-State.Denot) (steps : _) (all : _).
+    All-pop (IsReached moves seats start (Some steps)) _ _ (Some node) c.in-Some.ensures.items (c.loop-node.invariant.left start steps all) in
+    let expanded = done_more moves seats c.expand.new.found.items c.expand.new.found.items c.expand.new.next.items c.in_ok-next.next.items node.state
+    (λ state held. held) c.in_ok-next.ensures.kept c.in_ok-expand.ensures.expanded in
+    record {
+      weight = λ number shared.
+          omega (arith, c.in_ok-expand.ensures.weight number shared, c.in_ok-next.ensures.weight number, weigh_push number c.loop-node.layer.items c.pop.new.self.items node c.in-Some.ensures.items, c.loop-node.invariant.weight number shared);
+      left = λ start steps all. (parts start steps all).0;
+      reached = λ start steps all.
+          c.in_ok-next.ensures.reached start (Some (steps + 1))
+          (c.in_ok-expand.ensures.reached start steps (parts start steps all).1 (c.loop-node.invariant.reached start steps all));
+      found = λ start steps all found. c.in_ok-expand.ensures.found start steps (parts start steps all).1 (c.loop-node.invariant.found start steps all found);
+      done = λ state first.
+          layer_expanded moves seats c.loop-node.found.items c.expand.new.found.items c.loop-node.next.items c.in_ok-next.next.items c.loop-node.layer.items c.pop.new.self.items node state c.in-Some.ensures.items
+          c.in_ok-expand.ensures.kept_found (λ state held. c.in_ok-next.ensures.kept state (c.in_ok-expand.ensures.kept_next state held)) expanded
+          (c.loop-node.invariant.done state first);
+      kept = λ state there. c.in_ok-expand.ensures.kept_found state (c.loop-node.invariant.kept state there);
+    }
+
+pub returns-clause-ahead : goal.returns-clause-ahead
+returns-clause-ahead g c = λ steps last ahead.
+    let moves = g.M.Machine.moves c.args.machine.now in
+    let seats = g.M.Machine.seats c.args.machine.now in
+    let next = ahead_step moves seats c.args.layer.items c.loop-node.next.items c.loop-node.found.items
+    (λ state held. elim (c.loop-node.invariant.done state held) as (λ _. IsExpanded moves seats c.loop-node.found.items c.loop-node.next.items state) [
+      | inl left ↦ absurd (nothing_contained c.loop-node.layer.items state (omega (arith, c.in_default.ensures.cases.0)) left)
+      | inr done ↦ done
+    ]) steps last ahead in
+    (next.0, next.1, c.in_ok-joined.ensures.kept next.0 next.2, next.3, next.4)
+
+pub returns-clause-ended : goal.returns-clause-ended
+returns-clause-ended g c = λ state held ended.
+    elim (c.loop-node.invariant.done state held) as (λ _. Contains (states_of c.loop-node.found.items) state) [
+      | inl left ↦ absurd (nothing_contained c.loop-node.layer.items state (omega (arith, c.in_default.ensures.cases.0)) left)
+      | inr done ↦ done.ended ended
+    ]
+
+pub returns-clause-reached : goal.returns-clause-reached
+returns-clause-reached g c = λ start steps all. c.in_ok-joined.ensures.reached start (Some (steps + 1)) (c.loop-node.invariant.reached start steps all)

@@ -1,0 +1,61 @@
+use Rattle.std.proofs.Common.{arith, ◌+◌, ◌*◌, ◌⊎◌, inl, inr, [], Some, Contains, ap, subst, ◌∙◌}
+use Rattle.std.proofs.lemmas.List.Elements.{All-nil, All-pop, All-same, Contains-push_cases}
+use Rattle.std.proofs.lemmas.List.Sums.{sum_by_push}
+use Rattle.std.proofs.lemmas.List.Sorted.{All-permutation, Contains-permutation, IsPermutation-map, sum_by-IsPermutation}
+use Rattle.irp_explore.specs.declared.node.Node.{Node}
+use Rattle.irp_explore.specs.Nodes.{weigh, states_of, IsReached}
+use Rattle.irp_explore.proofs.Weighing.{pushed_states}
+use Rattle.irp_explore.proofs.Apart.{apart_none}
+use Rattle.irp_explore.proofs.Ahead.{nothing_contained}
+use Rattle.irp_explore.proofs.joining.join_equal.Goals as goal
+
+pub loop-node-init : goal.loop-node-init
+loop-node-init g c =
+    let moves = g.M.Machine.moves c.args.machine.now in
+    let seats = g.M.Machine.seats c.args.machine.now in
+    record {
+      weight = λ number.
+          ap (λ items. weigh number items + weigh number c.sort_by_key.new.self.items) c.new-joined.ensures.items
+          ∙ omega (arith, sum_by-IsPermutation (λ (node : Node _). node.orders * number node.state) c.args.nodes.items c.sort_by_key.new.self.items c.in_ok-sort_by_key.ensures.permutation);
+      reached = λ start steps all. (
+        All-permutation (IsReached moves seats start steps) c.args.nodes.items c.sort_by_key.new.self.items c.in_ok-sort_by_key.ensures.permutation all,
+        All-same (IsReached moves seats start steps) c.new-joined.result.items [] c.new-joined.ensures.items (All-nil (IsReached moves seats start steps)),
+      );
+      kept = λ state held. inl (Contains-permutation (states_of c.args.nodes.items) (states_of c.sort_by_key.new.self.items) state
+          (IsPermutation-map (λ (node : Node g.row.M-State.Denot). node.state) c.args.nodes.items c.sort_by_key.new.self.items c.in_ok-sort_by_key.ensures.permutation) held);
+      apart = λ all. rw c.new-joined.ensures.items apart_none;
+    }
+
+pub loop-node-preserved : goal.loop-node-preserved
+loop-node-preserved g c =
+    let moves = g.M.Machine.moves c.args.machine.now in
+    let seats = g.M.Machine.seats c.args.machine.now in
+    record {
+      weight = λ number.
+          let popped = ap (weigh number) c.in-Some.ensures.items in
+          let split = sum_by_push (λ (node : Node _). node.orders * number node.state) c.pop.new.self.items c.in-Some.node in
+          omega (arith, popped, split, c.in_ok-join_one.ensures.weight number, c.loop-node.invariant.weight number);
+      reached = λ start steps all.
+          let before = c.loop-node.invariant.reached start steps all in
+          let parts = All-pop (IsReached moves seats start steps) c.loop-node.nodes.items c.pop.new.self.items (Some c.in-Some.node) c.in-Some.ensures.items before.0 in
+          (parts.0, c.in_ok-join_one.ensures.reached start steps before.1 parts.1);
+      kept = λ state held.
+          elim (c.loop-node.invariant.kept state held) as (λ _. Contains (states_of c.pop.new.self.items) state ⊎ Contains (states_of c.join_one.new.joined.items) state) [
+            | inl left ↦
+                (elim (Contains-push_cases (states_of c.pop.new.self.items) c.in-Some.node.state state
+                (subst (λ states. Contains states state) (pushed_states c.pop.new.self.items c.loop-node.nodes.items c.in-Some.node c.in-Some.ensures.items) left))
+                as (λ _. Contains (states_of c.pop.new.self.items) state ⊎ Contains (states_of c.join_one.new.joined.items) state) [
+                  | inl still ↦ inl still
+                  | inr same ↦ inr (subst (λ state. Contains (states_of c.join_one.new.joined.items) state) same c.in_ok-join_one.ensures.held)
+                ])
+            | inr there ↦ inr (c.in_ok-join_one.ensures.kept state there)
+          ];
+      apart = λ all. c.in_ok-join_one.ensures.apart all (c.loop-node.invariant.apart all);
+    }
+
+pub returns-clause-kept : goal.returns-clause-kept
+returns-clause-kept g c = λ state held.
+    elim (c.loop-node.invariant.kept state held) as (λ _. Contains (states_of c.loop-node.joined.items) state) [
+      | inl left ↦ absurd (nothing_contained c.loop-node.nodes.items state (omega (arith, c.in_default.ensures.cases.0)) left)
+      | inr there ↦ there
+    ]

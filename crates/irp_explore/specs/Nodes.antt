@@ -1,0 +1,51 @@
+-- Nodes: how orders lead to them, what they weigh, and what lies ahead of them.
+use Rattle.std.specs.Prelude.{ℕ, ◌≡◌, ◌≢◌, ◌<◌, Some, ◌+◌, ◌*◌, Option, IfSome, IfNone, List, ◌++◌, map, length, sum_by, AllPairs, Contains}
+use Rattle.irp_explore.specs.Orders.{Moves, Leads, HasEnded, AreSuccessors}
+use Rattle.irp_explore.specs.declared.node.Node.{Node}
+
+-- what was found: the node's path leads to its state, in which no seat has a step left
+pub record IsFound {S : Type 0} (moves : Moves S) (seats : ℕ) (start : S) (node : Node S) : Type 0 where
+  pub path : Leads moves seats start node.path.items node.state
+  pub ended : HasEnded moves seats node.state
+
+-- what a number that each state has adds up to over nodes, each as often as orders lead to it
+abbrev pub weigh : {S : Type 0} → (S → ℕ) → List (Node S) → ℕ
+weigh number nodes = sum_by (λ node. node.orders * number node.state) nodes
+
+-- the states of nodes
+abbrev pub states_of : {S : Type 0} → List (Node S) → List S
+states_of nodes = map (λ node. node.state) nodes
+
+-- no two nodes have one state
+abbrev pub AreApart : {S : Type 0} → List (Node S) → Type 0
+AreApart nodes = AllPairs (λ one other. one.state ≢ other.state) nodes
+
+-- some order has this many steps
+abbrev pub HasOrderOf : {S : Type 0} → Moves S → ℕ → S → ℕ → Type 0
+HasOrderOf {S} moves seats start steps =
+    (path : List ℕ) × (last : S) × Leads moves seats start path last × (length path ≡ steps)
+
+-- a node's path leads to its state. In a layer each path has the same number of steps; where no number is given, the
+-- state has ended
+pub record IsReached {S : Type 0} (moves : Moves S) (seats : ℕ) (start : S) (steps : Option ℕ) (node : Node S) : Type 0 where
+  pub path : Leads moves seats start node.path.items node.state
+  pub long : IfSome steps (λ steps. length node.path.items ≡ steps)
+  pub ended : IfNone steps (HasEnded moves seats node.state)
+
+-- so many steps lead from one of the nodes to a state
+abbrev pub IsAhead : {S : Type 0} → Moves S → ℕ → List (Node S) → ℕ → S → Type 0
+IsAhead {S} moves seats nodes steps last =
+    (state : S) × (path : List ℕ) × Contains (states_of nodes) state × Leads moves seats state path last
+    × (length path ≡ steps)
+
+-- behind the old nodes there is a node for each successor of a node
+pub record AddsSuccessors {S : Type 0} (moves : Moves S) (seats : ℕ) (node : Node S) (old new : List (Node S)) : Type 0 where
+  pub states : List S
+  pub follow : AreSuccessors moves seats node.state states
+  pub listed : states_of new ≡ states_of old ++ states
+  pub weight : (number : S → ℕ) → weigh number new ≡ weigh number old + node.orders * sum_by number states
+
+-- each successor of a state is in the next layer, and the state is found where it has ended
+pub record IsExpanded {S : Type 0} (moves : Moves S) (seats : ℕ) (found nexts : List (Node S)) (state : S) : Type 0 where
+  pub follow : (seat : ℕ) (after : S) → seat < seats → moves state seat (Some after) → Contains (states_of nexts) after
+  pub ended : HasEnded moves seats state → Contains (states_of found) state

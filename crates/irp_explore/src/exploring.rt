@@ -1,0 +1,209 @@
+//! Exploring, layer by layer: a layer has the states that orders of equally many steps lead to.
+
+ghost use Rattle.std.specs.Prelude.{◌≡◌, ℕ, ◌+◌, ◌*◌, ◌<◌, ◌≤◌, ◌++◌, ◌∷◌, [], Option, Some, None, List, All, Contains, length, IfOk, IfErr, OnOk};
+ghost use Rattle.irp_explore.specs.declared.node.Node.{Node};
+ghost use Rattle.irp_explore.specs.declared.refusal.NotExplored.TheVariants.{Steps};
+ghost use Rattle.irp_explore.specs.Orders.{Leads, HasEnded, IsSharedOut};
+ghost use Rattle.irp_explore.specs.Nodes.{AreApart, IsAhead, IsExpanded, IsFound, HasOrderOf, IsReached, AddsSuccessors, states_of, weigh};
+
+use crate::joining::join_equal;
+use crate::machine::Machine;
+use crate::node::Node;
+use crate::refusal::{LayerRefusal, NotExplored};
+use std::alloc::Global;
+
+/// A path and one more seat.
+fn longer(alloc: Global, path: &[u32], seat: u32) -> Result<Vec<u32>, LayerRefusal>
+    ensures { IfOk result (λ longer. longer.items ≡ path.now ++ seat ∷ []) }
+{
+    let mut longer = Vec::new(alloc);
+    longer.extend_from_slice(path)?;
+    longer.push(seat)?;
+    Ok(longer)
+}
+
+/// Appends a node for each state that the next step of some seat leads to.
+fn add_successors<M: Machine>(
+    alloc: Global,
+    machine: &M,
+    node: &Node<M::State>,
+    nodes: &mut Vec<Node<M::State>>,
+) -> Result<(), LayerRefusal>
+    ensures successors { OnOk result (AddsSuccessors (M.moves machine.now) (M.seats machine.now)
+        node.now nodes.old.items nodes.new.items) }
+    ensures reached { OnOk result ((start : M.State) (steps : ℕ)
+        → let reached = IsReached (M.moves machine.now) (M.seats machine.now) start in
+        reached (Some steps) node.now → All (reached (Some (steps + 1))) nodes.old.items
+        → All (reached (Some (steps + 1))) nodes.new.items) }
+{
+    for seat in 0..machine.seats() {
+        if let Some(state) = machine.step(alloc, &node.state, seat)? {
+            let mark = machine.mark(&state);
+            nodes.push(Node {
+                state,
+                mark,
+                orders: node.orders,
+                path: longer(alloc, &node.path, seat)?,
+            })?;
+        }
+    }
+    Ok(())
+}
+
+/// Appends the successors of a node to the next layer, and the node itself to what was found where it has none.
+fn expand<M: Machine>(
+    alloc: Global,
+    machine: &M,
+    node: Node<M::State>,
+    next: &mut Vec<Node<M::State>>,
+    found: &mut Vec<Node<M::State>>,
+) -> Result<(), LayerRefusal>
+    ensures weight { OnOk result ((number : M.State → ℕ)
+        → IsSharedOut (M.moves machine.now) (M.seats machine.now) number
+        → weigh number found.new.items + weigh number next.new.items
+        ≡ weigh number found.old.items + weigh number next.old.items
+        + node.orders * number node.state) }
+    ensures expanded { OnOk result (IsExpanded (M.moves machine.now) (M.seats machine.now)
+        found.new.items next.new.items node.state) }
+    ensures kept_next { OnOk result ((state : M.State)
+        → Contains (states_of next.old.items) state → Contains (states_of next.new.items) state) }
+    ensures kept_found { OnOk result ((state : M.State)
+        → Contains (states_of found.old.items) state
+        → Contains (states_of found.new.items) state) }
+    ensures reached { OnOk result ((start : M.State) (steps : ℕ)
+        → let reached = IsReached (M.moves machine.now) (M.seats machine.now) start in
+        reached (Some steps) node → All (reached (Some (steps + 1))) next.old.items
+        → All (reached (Some (steps + 1))) next.new.items) }
+    ensures found { OnOk result ((start : M.State) (steps : ℕ)
+        → let reached = IsReached (M.moves machine.now) (M.seats machine.now) start in
+        reached (Some steps) node → All (reached None) found.old.items
+        → All (reached None) found.new.items) }
+{
+    let before = next.len();
+    add_successors(alloc, machine, &node, next)?;
+    if next.len() != before {
+        return Ok(());
+    }
+    found.push(node)?;
+    Ok(())
+}
+
+/// Joins nodes where they are more than twice as many as may stay; else it gives them back as they are.
+fn join_where_many<M: Machine>(
+    alloc: Global,
+    machine: &M,
+    nodes: Vec<Node<M::State>>,
+    most_states: usize,
+) -> Result<Vec<Node<M::State>>, LayerRefusal>
+    ensures weight { IfOk result (λ joined. (number : M.State → ℕ)
+        → weigh number joined.items ≡ weigh number nodes.items) }
+    ensures reached { IfOk result (λ joined. (start : M.State) (steps : Option ℕ)
+        → let reached = IsReached (M.moves machine.now) (M.seats machine.now) start steps in
+        All reached nodes.items → All reached joined.items) }
+    ensures kept { IfOk result (λ joined. (state : M.State)
+        → Contains (states_of nodes.items) state → Contains (states_of joined.items) state) }
+{
+    if nodes.len() / 2 <= most_states {
+        return Ok(nodes);
+    }
+    join_equal(alloc, machine, nodes, most_states, false)
+}
+
+/// Makes one more step in each order that leads to a layer: the next layer, and behind what was found the nodes that
+/// have ended. The next layer is joined whenever it has grown beyond twice `most_states`, so it never takes much more.
+fn next_layer<M: Machine>(
+    alloc: Global,
+    machine: &M,
+    mut layer: Vec<Node<M::State>>,
+    most_states: usize,
+    found: &mut Vec<Node<M::State>>,
+) -> Result<Vec<Node<M::State>>, LayerRefusal>
+    ensures weight { IfOk result (λ next. (number : M.State → ℕ)
+        → IsSharedOut (M.moves machine.now) (M.seats machine.now) number
+        → weigh number found.new.items + weigh number next.items
+        ≡ weigh number found.old.items + weigh number layer.items) }
+    ensures ahead { IfOk result (λ next. (steps : ℕ) (last : M.State)
+        → let ahead = IsAhead (M.moves machine.now) (M.seats machine.now) in
+        ahead layer.items (steps + 1) last → ahead next.items steps last) }
+    ensures ended { OnOk result ((state : M.State) → Contains (states_of layer.items) state
+        → HasEnded (M.moves machine.now) (M.seats machine.now) state
+        → Contains (states_of found.new.items) state) }
+    ensures kept { OnOk result ((state : M.State) → Contains (states_of found.old.items) state
+        → Contains (states_of found.new.items) state) }
+    ensures reached { IfOk result (λ next. (start : M.State) (steps : ℕ)
+        → let reached = IsReached (M.moves machine.now) (M.seats machine.now) start in
+        All (reached (Some steps)) layer.items → All (reached (Some (steps + 1))) next.items) }
+    ensures found { OnOk result ((start : M.State) (steps : ℕ)
+        → let reached = IsReached (M.moves machine.now) (M.seats machine.now) start in
+        All (reached (Some steps)) layer.items → All (reached None) found.old.items
+        → All (reached None) found.new.items) }
+{
+    let mut next = Vec::new(alloc);
+    while let Some(node) = layer.pop() {
+        expand(alloc, machine, node, &mut next, found)?;
+        next = join_where_many(alloc, machine, next, most_states)?;
+    }
+    let joined = join_equal(alloc, machine, next, most_states, false)?;
+    Ok(joined)
+}
+
+/// Explores each order of the steps of a machine's seats, from a state on. Returns each state in which an order ends,
+/// with how many orders end there and one of them, in the order of their marks (this project's own rule).
+///
+/// # Errors
+///
+/// `Steps` only where some order has `most_steps` steps or more; `States` where orders of equally many steps lead to
+/// more than `most_states` states, or where orders end in more; `Orders` where 2^128 orders or more lead to one state;
+/// `Memory` where memory runs out.
+pub fn explore<M: Machine>(
+    alloc: Global,
+    machine: &M,
+    start: M::State,
+    most_steps: u32,
+    most_states: usize,
+) -> Result<Vec<Node<M::State>>, NotExplored>
+    // Each state that was found has ended, and its path is an order that leads to it.
+    ensures sound { IfOk result (λ found.
+        All (IsFound (M.moves machine.now) (M.seats machine.now) start) found.items) }
+    // No state is found twice.
+    ensures once { IfOk result (λ found. AreApart found.items) }
+    // Each state that has ended and to which some order leads is found.
+    ensures complete { IfOk result (λ found. (path : List ℕ) (last : M.State)
+        → Leads (M.moves machine.now) (M.seats machine.now) start path last
+        → HasEnded (M.moves machine.now) (M.seats machine.now) last
+        → Contains (states_of found.items) last) }
+    // A number that each state with a step left shares out among its successors adds up to the start's over what was
+    // found, each as often as orders lead to it: such as how many orders there are, or how many of them end somewhere.
+    ensures orders { IfOk result (λ found. (number : M.State → ℕ)
+        → IsSharedOut (M.moves machine.now) (M.seats machine.now) number
+        → weigh number found.items ≡ number start) }
+    // No order has more steps than were allowed, and no more states are found.
+    ensures steps { IfOk result (λ found. (path : List ℕ) (last : M.State)
+        → Leads (M.moves machine.now) (M.seats machine.now) start path last
+        → length path < most_steps) }
+    ensures few { IfOk result (λ found. length found.items ≤ most_states) }
+    // Some order has as many steps as were allowed where the answer says so.
+    ensures too_long { IfErr result (λ refusal. refusal ≡ Steps
+        → HasOrderOf (M.moves machine.now) (M.seats machine.now) start most_steps) }
+{
+    let mut found = Vec::new(alloc);
+    let mut layer = Vec::new(alloc);
+    let mark = machine.mark(&start);
+    layer.push(Node {
+        state: start,
+        mark,
+        orders: 1,
+        path: Vec::new(alloc),
+    })?;
+    let mut left = most_steps;
+    while left > 0 {
+        left -= 1;
+        layer = next_layer(alloc, machine, layer, most_states, &mut found)?;
+        found = join_where_many(alloc, machine, found, most_states)?;
+    }
+    if !layer.is_empty() {
+        return Err(NotExplored::Steps);
+    }
+    let joined = join_equal(alloc, machine, found, most_states, true)?;
+    Ok(joined)
+}

@@ -1,0 +1,13 @@
+//! Explores every order of the steps of several seats. Orders that lead to equal states are joined and counted.
+#![tactic(auto)]
+
+mod exploring;
+mod joining;
+mod machine;
+mod node;
+mod refusal;
+
+pub use exploring::explore;
+pub use machine::Machine;
+pub use node::Node;
+pub use refusal::NotExplored;

@@ -1,0 +1,13 @@
+//! A state that orders lead to.
+
+/// A state, how many orders lead to it, and one of them (this project's own rule).
+#[derive(Drop)]
+pub struct Node<S> {
+    pub state: S,
+    /// The number by which nodes are sorted.
+    pub(crate) mark: u64,
+    /// How many orders lead to the state, 1 to 2^128 - 1.
+    pub orders: u128,
+    /// One of these orders: the seats of its steps, one after another.
+    pub path: Vec<u32>,
+}

@@ -1,5 +1,0 @@
-use Rattle.std.proofs.Common.{ℕ, ◌<◌, subst}
-use Rattle.irp_shared.proofs.shared.Shared.record.Goals as goal
-
-pub returns-clause-behind : goal.returns-clause-behind
-returns-clause-behind g c = λ told is. subst (λ (seen : ℕ). told < seen) c.room.ensures.same.1 ((c.call.ensures.behind told).0 is).1

@@ -1,0 +1,196 @@
+-- Which transcripts are read again as they were written. Most conditions are the ranges of the numbers' types, which
+-- every value in a program keeps; the others are a packet's slot below 2 to the 32nd, and what a reader takes.
+use Rattle.std.specs.Prelude.{◌≡◌, ◌<◌, ◌≤◌, ◌^◌, Bool, true, false, IfSome, length, Option, None, ⊤}
+use Rattle.std.specs.List.{All}
+use Rattle.serde_json.specs.Data.{Data}
+use Rattle.serde_json.specs.Written.{compact_text}
+use Rattle.irp_types.specs.Rules.{CanShow}
+use Rattle.irp_types.specs.declared.{answer.Answer.Answer, answer.CancelAnswer.CancelAnswer, answer.Plan.Plan}
+use Rattle.irp_types.specs.declared.{answer.Replacement.Replacement, asked.Asked.Asked, call.Party.Party}
+use Rattle.irp_types.specs.declared.{entry.Entry.Entry, location.Owner.Owner, names.CancelId.CancelId}
+use Rattle.irp_types.specs.declared.{names.DeviceId.DeviceId, names.IrpRef.IrpRef, names.LockNo.LockNo}
+use Rattle.irp_types.specs.declared.{reply.Reply.Reply, reply.Seen.Seen, routine.Setting.Setting, shown.Shown.Shown}
+use Rattle.irp_types.specs.declared.status.Status.{Status}
+use Rattle.irp_types.specs.declared.answer.CancelAnswer.TheVariants as cancel_answer
+use Rattle.irp_types.specs.declared.answer.Plan.TheVariants as plan
+use Rattle.irp_types.specs.declared.asked.Asked.TheVariants as asked
+use Rattle.irp_types.specs.Calls.{Call}
+use Rattle.irp_types.specs.declared.call.Call.TheVariants as call
+use Rattle.irp_types.specs.declared.call.Party.TheVariants as party
+use Rattle.irp_types.specs.declared.location.Owner.TheVariants as owner
+use Rattle.irp_types.specs.declared.reply.Reply.TheVariants as reply
+use Rattle.irp_types.specs.declared.seat_act.LockAct.TheVariants as on_lock
+use Rattle.irp_types.specs.declared.seat_act.SlotAct.TheVariants as on_slot
+use Rattle.irp_transcript.specs.Transcripts.{TranscriptValue}
+use Rattle.irp_transcript.specs.declared.{header.Header.Header, word_line.Act.Act, word_line.WordLine.WordLine}
+use Rattle.irp_transcript.specs.declared.word_line.WordReply.{WordReply}
+use Rattle.irp_transcript.specs.declared.word_line.Act.TheVariants as act
+use Rattle.irp_transcript.specs.declared.word_line.WordReply.TheVariants as word_reply
+use Rattle.irp_transcript_reader.specs.Forms.{has_entry, has_word}
+use Rattle.irp_transcript_reader.specs.Reading.{hands_within, most_bytes, most_entries}
+use Rattle.irp_transcript_writer.specs.Lines.{entry_json, header_json, word_json}
+
+-- ---- parts of an entry
+
+abbrev pub DeviceFits : DeviceId → Type 0
+DeviceFits device = device.0 < 2 ^ 32
+
+abbrev pub CancelFits : CancelId → Type 0
+CancelFits cancel = cancel.0 < 2 ^ 32
+
+abbrev pub LockFits : LockNo → Type 0
+LockFits lock = lock.0 < 2 ^ 32
+
+abbrev pub StatusFits : Status → Type 0
+StatusFits status = status.0 < 2 ^ 32
+
+-- a packet whose slot's number has 32 bits, as its use's number has 64
+abbrev pub IrpFits : IrpRef → Type 0
+IrpFits irp = (irp.slot < 2 ^ 32) × (irp.use_no < 2 ^ 64)
+
+abbrev pub PartyFits : Party → Type 0
+PartyFits party.Originator = ⊤
+PartyFits (party.Device device) = DeviceFits device
+
+abbrev pub OwnerFits : Owner → Type 0
+OwnerFits owner.Originator = ⊤
+OwnerFits (owner.Device device) = DeviceFits device
+OwnerFits owner.Ended = ⊤
+
+abbrev pub SettingFits : Setting → Type 0
+SettingFits setting = (setting.routine.no < 2 ^ 32) × (setting.context < 2 ^ 64)
+
+abbrev pub ReplacementFits : Replacement → Type 0
+ReplacementFits replacement = StatusFits replacement.status × (replacement.information < 2 ^ 64)
+
+abbrev pub PlanFits : Plan → Type 0
+PlanFits (plan.Finish status information) = StatusFits status × (information < 2 ^ 64)
+PlanFits (plan.Hold cancel) = IfSome cancel CancelFits
+PlanFits plan.HoldSlot = ⊤
+PlanFits plan.Skip = ⊤
+PlanFits (plan.Forward setting) = IfSome setting SettingFits
+PlanFits (plan.ForwardPend setting) = IfSome setting SettingFits
+
+abbrev pub AnswerFits : Answer → Type 0
+AnswerFits answer = IfSome answer.replacement ReplacementFits
+
+abbrev pub CancelAnswerFits : CancelAnswer → Type 0
+CancelAnswerFits (cancel_answer.Finish information) = information < 2 ^ 64
+CancelAnswerFits cancel_answer.Leave = ⊤
+
+-- what is shown is within its ranges, and the slot's number has 32 bits
+abbrev pub ShownFits : Shown → Type 0
+ShownFits shown = CanShow shown × (shown.irp.slot < 2 ^ 32)
+
+abbrev pub AskedFits : Asked → Type 0
+AskedFits (asked.Dispatch id shown plan) = (id.0 < 2 ^ 32) × ShownFits shown × PlanFits plan
+AskedFits (asked.Completion id shown answer) = (id.no < 2 ^ 32) × ShownFits shown × AnswerFits answer
+AskedFits (asked.Cancel id shown answer) = CancelFits id × ShownFits shown × CancelAnswerFits answer
+
+abbrev pub CallFits : Call → Type 0
+CallFits (call.CreateDevice driver lock) = (driver.0 < 2 ^ 32) × LockFits lock
+CallFits (call.Attach device to) = DeviceFits device × DeviceFits to
+CallFits (call.Detach lower) = DeviceFits lower
+CallFits (call.Delete device) = DeviceFits device
+CallFits (call.Allocate size) = size < 2 ^ 8
+CallFits (call.Free irp) = IrpFits irp
+CallFits (call.Reuse irp status) = IrpFits irp × StatusFits status
+CallFits (call.SetNext party irp major word) = PartyFits party × IrpFits irp × (major < 2 ^ 8) × (word < 2 ^ 64)
+CallFits (call.CopyToNext party irp) = PartyFits party × IrpFits irp
+CallFits (call.Skip party irp) = PartyFits party × IrpFits irp
+CallFits (call.SetRoutine party irp setting) = PartyFits party × IrpFits irp × SettingFits setting
+CallFits (call.MarkPending party irp) = PartyFits party × IrpFits irp
+CallFits (call.CallDriver party irp target) = PartyFits party × IrpFits irp × DeviceFits target
+CallFits (call.Complete party irp status information) =
+    PartyFits party × IrpFits irp × StatusFits status × (information < 2 ^ 64)
+CallFits (call.FinishTaken irp token status information) =
+    IrpFits irp × (token < 2 ^ 64) × StatusFits status × (information < 2 ^ 64)
+CallFits (call.SetCancelRoutine party irp cancel) = PartyFits party × IrpFits irp × IfSome cancel CancelFits
+CallFits (call.Cancel irp) = IrpFits irp
+CallFits (call.Look irp) = IrpFits irp
+
+-- an entry of a delete tells its lock, and whether that was known to be drained; any other entry has no lock
+abbrev pub TellsLock : Call → Option LockNo → Bool → Type 0
+TellsLock (call.Delete device) lock drained = IfSome lock LockFits
+TellsLock other lock drained = (lock ≡ None) × (drained ≡ false)
+
+abbrev pub SeenFits : Seen → Type 0
+SeenFits seen =
+    OwnerFits seen.owner × (seen.current < 2 ^ 32) × StatusFits seen.status × (seen.information < 2 ^ 64)
+    × IfSome seen.cancel_routine CancelFits
+
+abbrev pub ReplyFits : Reply → Type 0
+ReplyFits reply.Done = ⊤
+ReplyFits (reply.Device device) = DeviceFits device
+ReplyFits (reply.Irp irp) = IrpFits irp
+ReplyFits (reply.Status status) = StatusFits status
+ReplyFits (reply.Previous cancel) = IfSome cancel CancelFits
+ReplyFits (reply.Cancelled cancelled) = ⊤
+ReplyFits (reply.Seen seen) = SeenFits seen
+ReplyFits (reply.Refused reason) = ⊤
+
+-- ---- lines
+
+-- an entry that its form tells whole
+pub record EntryFits (entry : Entry) : Type 0 where
+  pub number : entry.number < 2 ^ 64
+  pub seat : entry.seat < 2 ^ 32
+  pub call : CallFits entry.call
+  pub lock : TellsLock entry.call entry.lock entry.drained
+  pub asked : All AskedFits entry.asked
+  pub reply : ReplyFits entry.reply
+
+abbrev pub ActFits : Act → Type 0
+ActFits (act.OnLock (on_lock.Acquire lock tag)) = LockFits lock × (tag < 2 ^ 32)
+ActFits (act.OnLock (on_lock.Release lock tag)) = LockFits lock × (tag < 2 ^ 32)
+ActFits (act.OnLock (on_lock.BeginRemove lock tag)) = LockFits lock × (tag < 2 ^ 32)
+ActFits (act.OnLock (on_lock.Drained lock)) = LockFits lock
+ActFits (act.Hand hand) = LockFits hand.lock × (hand.tag < 2 ^ 32) × (hand.to < 2 ^ 32)
+ActFits (act.OnSlot (on_slot.Publish slot)) = slot < 2 ^ 32
+ActFits (act.OnSlot (on_slot.Withdraw slot)) = slot < 2 ^ 32
+ActFits (act.OnSlot (on_slot.Request slot)) = slot < 2 ^ 32
+ActFits (act.FinishTaken slot) = slot < 2 ^ 32
+
+abbrev pub WordReplyFits : WordReply → Type 0
+WordReplyFits (word_reply.Busy word) = word < 2 ^ 64
+WordReplyFits (word_reply.Taken use_no) = use_no < 2 ^ 64
+WordReplyFits other = ⊤
+
+-- a word line that its form tells whole
+pub record WordFits (line : WordLine) : Type 0 where
+  pub seat : line.seat < 2 ^ 32
+  pub step : line.step < 2 ^ 32
+  pub act : ActFits line.act
+  pub reply : WordReplyFits line.reply
+
+-- the line of this form isn't longer than a reader takes
+abbrev pub IsShort : Data → Type 0
+IsShort form = length (compact_text form) ≤ most_bytes
+
+-- ---- transcripts
+
+-- the entry fits, its seat is one that the header counts, its form is the header's, and its line is short
+pub record EntryUnder (header : Header) (entry : Entry) : Type 0 where
+  pub fits : EntryFits entry
+  pub seated : entry.seat < header.seats
+  pub of_form : has_entry header.form entry ≡ true
+  pub short : IsShort (entry_json entry)
+
+-- the same of a word line, and of the seat that it hands to
+pub record WordUnder (header : Header) (line : WordLine) : Type 0 where
+  pub fits : WordFits line
+  pub seated : line.seat < header.seats
+  pub hands : hands_within header.seats line.act ≡ true
+  pub of_form : has_word header.form line ≡ true
+  pub short : IsShort (word_json line)
+
+-- each line fits under the header, whose own line is short
+pub record FitsUnder (transcript : TranscriptValue) (header : Header) : Type 0 where
+  pub short : IsShort (header_json header)
+  pub few : length transcript.entries ≤ most_entries
+  pub entries : All (EntryUnder header) transcript.entries
+  pub words : All (WordUnder header) transcript.words
+
+-- a transcript that is read again as it was written
+abbrev pub Fits : TranscriptValue → Type 0
+Fits transcript = IfSome transcript.header (FitsUnder transcript)

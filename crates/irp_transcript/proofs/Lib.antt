@@ -1,0 +1,3 @@
+pub mod Each
+mod Accepted
+mod Rising

@@ -1,0 +1,3 @@
+pub mod Headers
+pub mod Tokens
+pub mod Transcripts
