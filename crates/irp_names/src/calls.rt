@@ -86,6 +86,7 @@ impl fmt::Display for CallWords {
             Call::Attach { device, to } => write!(f, "(D{}, the stack of D{})", device.0, to.0),
             Call::Detach { lower } => write!(f, "(what stands on D{})", lower.0),
             Call::Delete { device } => write!(f, "{}", Deletion(device, self.drained)),
+            Call::Allocate { size: 1 } => f.write_str("(1 location)"),
             Call::Allocate { size } => write!(f, "({} locations)", size),
             Call::SetNext {
                 irp,

@@ -2,7 +2,7 @@
 
 use crate::small::RoutineWords;
 use crate::statuses::ResultWords;
-use irp_types::{Answer, Asked, CancelAnswer, Plan, Setting};
+use irp_types::{Answer, Asked, CancelAnswer, Plan, Setting, Shown};
 use std::fmt;
 
 /// A closure by its name, as `dispatch 2`, `keeper 0` or `cancel routine 1`.
@@ -140,6 +140,29 @@ impl fmt::Display for CancelAnswerWords {
                 )
             }
             CancelAnswer::Leave => f.write_str("leaves the packet with its device"),
+        }
+    }
+}
+
+/// What a question showed.
+pub fn shown_of(question: Asked) -> Shown {
+    match question {
+        Asked::Dispatch { shown, .. } => shown,
+        Asked::Completion { shown, .. } => shown,
+        Asked::Cancel { shown, .. } => shown,
+    }
+}
+
+/// What a closure answered.
+#[derive(Clone, Copy)]
+pub struct AnsweredWords(pub Asked);
+
+impl fmt::Display for AnsweredWords {
+    fn fmt<W: fmt::Write>(&self, f: &mut fmt::Formatter<W>) -> fmt::Result {
+        match self.0 {
+            Asked::Dispatch { plan, .. } => write!(f, "{}", PlanWords(plan)),
+            Asked::Completion { answer, .. } => write!(f, "{}", AnswerWords(answer)),
+            Asked::Cancel { answer, .. } => write!(f, "{}", CancelAnswerWords(answer)),
         }
     }
 }

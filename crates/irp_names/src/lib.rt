@@ -13,7 +13,9 @@ mod statuses;
 
 pub use acts::{HandWords, LockActWords, SlotActWords};
 pub use calls::{CallWords, CancelWords, call_name, caller_of, rules_name};
-pub use closures::{AnswerWords, CancelAnswerWords, ClosureWords, PlanWords, SettingWords};
+pub use closures::{
+    AnswerWords, AnsweredWords, CancelAnswerWords, ClosureWords, PlanWords, SettingWords, shown_of,
+};
 pub use majors::{MajorWords, major_name};
 pub use refusals::{RefusalWords, refusal_meaning, refusal_name, windows_name};
 pub use replies::{ReplyWords, SeenWords};
