@@ -4,3 +4,4 @@ pub mod Answers
 pub mod Causes
 pub mod Checked
 pub mod Judging
+pub mod Judges

@@ -20,8 +20,8 @@ fn first_wrong(
     ensures { IfOk result (λ wrong. IsFirstWrong (fixed_of header.now) entries.now wrong) }
 {
     let mut judge = Judge::new(alloc, header);
-    for entry in entries {
-        judge.feed(entry)?;
+    for place in 0..entries.len() {
+        judge.feed(&entries[place])?;
     }
     Ok(judge.into_wrong())
 }

@@ -2,8 +2,13 @@
 
 ghost use Rattle.std.specs.Prelude.{◌≡◌, ◌+◌, ◌<◌, ◌^◌, List, [], ◌∷◌, ◌++◌, length, OnErr, OnOk};
 ghost use Rattle.std.specs.Option.{option_copied};
+ghost use Rattle.std.proofs.Props.{props};
 ghost use Rattle.irp_types.specs.Refusals.{first_refusal};
+ghost use Rattle.irp_types.specs.Standing.{StandingFacts};
+ghost use Rattle.irp_types.specs.State.{AreTables};
 ghost use Rattle.irp_types.specs.declared.entry.Entry.{Entry};
+ghost use Rattle.irp_manager.specs.Keeps.{mapped};
+ghost use Rattle.irp_manager.specs.ManagerStates.{Agrees, state_of};
 ghost use Rattle.irp_transcript.specs.Headers.{IsHeader, fixed_of};
 ghost use Rattle.irp_judge.specs.Causes.{cause_of};
 ghost use Rattle.irp_judge.specs.Checked.{IsVerdict};
@@ -18,50 +23,32 @@ use irp_manager::{ManagerState, MapKeep};
 use irp_transcript::Header;
 use irp_types::{Call, Entry, Refusal, history_goes_on, history_settles_states};
 use std::alloc::{AllocError, Global};
-use std::marker::Model;
 
 /// Judges a history that is fed to it, entry by entry. It keeps the state that the sequential manager is in, and what
 /// is wrong with the first entry that isn't legal; it doesn't keep the entries. At any moment its answers are those of
 /// `check` and `explain` on what it was fed (this project's own rule).
 ///
-/// Contracts see it as the record `JudgeValue`: the header, how many entries it was fed, what is wrong, and the state.
+/// Contracts see it as the record `JudgeValue`: the header, how many entries it was fed, what is wrong, and the manager's
+/// state.
 #[derive(Drop)]
 pub struct Judge<'a> {
     header: &'a Header,
     core: ManagerState<MapKeep>,
     fed: u64,
     wrong: Option<Wrong>,
-}
-
-impl<'a> Model for Judge<'a> {
-    ghost use Rattle.irp_types.specs.Standing.{StandingFacts};
-    ghost use Rattle.irp_manager.specs.Keeps.{mapped};
-    ghost use Rattle.irp_manager.specs.ManagerStates.{Agrees, state_of};
-    ghost use Rattle.irp_transcript.specs.Headers.{IsHeader, fixed_of};
-    ghost use Rattle.irp_judge.specs.Judging.{JudgeValue};
-
-    ghost Value = { JudgeValue };
-
-    ghost view = { λ own. record {
-      header = own.header.now;
-      fed = own.fed;
-      wrong = own.wrong;
-      state = state_of mapped own.core;
-    } };
-
-    ghost invariant = { λ own. record {
-      accepted : IsHeader own.header.now;
-      stands : StandingFacts own.header.now.completions (state_of mapped own.core);
-      agrees : Agrees (fixed_of own.header.now) own.core;
-    } };
+    ghost agree: { AreTables (fixed_of header.now).tables } by { Prim.hlevel props },
+    ghost stands: { StandingFacts header.now.completions (state_of mapped core) } by { Prim.hlevel props },
+    ghost agrees: { Agrees (fixed_of header.now) core } by { Prim.hlevel props },
 }
 
 impl<'a> Judge<'a> {
+    ghost use Rattle.irp_judge.specs.Judges.{seen};
+
     /// A judge that was fed nothing yet, on condition that the formats accept the header. It takes no memory.
     pub fn new(alloc: Global, header: &'a Header) -> Judge<'a>
         requires { IsHeader header.now }
-        ensures header { result.header ≡ header.now }
-        ensures judged { HasJudged result [] }
+        ensures header { (seen result).header ≡ header.now }
+        ensures judged { HasJudged (seen result) [] }
     {
         let keep = MapKeep::new(alloc);
         Judge {
@@ -74,12 +61,12 @@ impl<'a> Judge<'a> {
 
     /// Makes the next entry again, unless one before it wasn't legal, and keeps what is wrong with it. It doesn't count.
     fn make_again(&mut self, entry: &Entry) -> Result<(), AllocError>
-        ensures header { self.new.header ≡ self.old.header }
+        ensures header { (seen self.new).header ≡ (seen self.old).header }
         ensures fed { self.new.fed ≡ self.old.fed }
-        ensures judged { (history : List Entry) → HasJudged self.old history
-            → OnOk result (HasJudged (record self.new { fed = self.old.fed + 1 })
+        ensures judged { (history : List Entry) → HasJudged (seen self.old) history
+            → OnOk result (HasJudged (record (seen self.new) { fed = self.new.fed + 1 })
             (history ++ entry.now ∷ [])) }
-        ensures err { OnErr result (self.new ≡ self.old) }
+        ensures err { OnErr result (seen self.new ≡ seen self.old) }
     {
         if self.wrong.is_some() {
             return Ok(());
@@ -87,22 +74,23 @@ impl<'a> Judge<'a> {
         history_goes_on();
         history_settles_states();
         let made = made_of(&mut self.core, self.header, entry, self.fed)?;
-        if let Some(difference) = first_difference(entry, &made) {
-            self.wrong = Some(Wrong {
-                at: self.fed,
-                difference,
-                cause: cause_in(&self.core, made.call, made.reply),
-                made,
-            });
-        }
+        let Some(difference) = first_difference(entry, &made) else {
+            return Ok(());
+        };
+        self.wrong = Some(Wrong {
+            at: self.fed,
+            difference,
+            cause: cause_in(&self.core, made.call, made.reply),
+            made,
+        });
         Ok(())
     }
 
     /// Counts one entry more.
     fn count(&mut self)
-        ensures header { self.new.header ≡ self.old.header }
+        ensures header { (seen self.new).header ≡ (seen self.old).header }
         ensures counted { self.old.fed + 1 < 2 ^ 64
-            → self.new ≡ record self.old { fed = self.old.fed + 1 } }
+            → seen self.new ≡ record (seen self.old) { fed = self.old.fed + 1 } }
     {
         self.fed = self.fed.saturating_add(1);
     }
@@ -114,11 +102,11 @@ impl<'a> Judge<'a> {
     ///
     /// `AllocError` where a growth was refused. Nothing changes then, and the entry may be fed again.
     pub fn feed(&mut self, entry: &Entry) -> Result<(), AllocError>
-        ensures header { self.new.header ≡ self.old.header }
-        ensures judged { (history : List Entry) → HasJudged self.old history
+        ensures header { (seen self.new).header ≡ (seen self.old).header }
+        ensures judged { (history : List Entry) → HasJudged (seen self.old) history
             → length history + 1 < 2 ^ 64
-            → OnOk result (HasJudged self.new (history ++ entry.now ∷ [])) }
-        ensures err { OnErr result (self.new ≡ self.old) }
+            → OnOk result (HasJudged (seen self.new) (history ++ entry.now ∷ [])) }
+        ensures err { OnErr result (seen self.new ≡ seen self.old) }
     {
         self.make_again(entry)?;
         self.count();
@@ -127,14 +115,14 @@ impl<'a> Judge<'a> {
 
     /// How many entries it was fed.
     pub fn fed(&self) -> u64
-        ensures { result ≡ self.now.fed }
+        ensures { result ≡ (seen self.now).fed }
     {
         self.fed
     }
 
     /// What is wrong with what it was fed; none where that is a legal history.
     pub fn wrong(&self) -> Option<&Wrong>
-        ensures { option_copied result ≡ self.now.wrong }
+        ensures { option_copied result ≡ (seen self.now).wrong }
     {
         self.wrong.as_ref()
     }
@@ -148,8 +136,8 @@ impl<'a> Judge<'a> {
 
     /// The verdict on what it was fed.
     pub fn verdict(&self) -> Verdict
-        ensures { (history : List Entry) → HasJudged self.now history
-            → IsVerdict (fixed_of self.now.header) history result }
+        ensures { (history : List Entry) → HasJudged (seen self.now) history
+            → IsVerdict (fixed_of (seen self.now).header) history result }
     {
         match &self.wrong {
             None => Verdict::Legal { entries: self.fed },
@@ -161,7 +149,7 @@ impl<'a> Judge<'a> {
     /// caller would know of the lock of the device that a Delete names. Behind an entry that isn't legal the state is
     /// that behind the manager's own entry in its place.
     pub fn would(&self, call: Call, drained: bool) -> Option<Refusal>
-        ensures { result ≡ first_refusal (fixed_of self.now.header) self.now.state drained call }
+        ensures { result ≡ first_refusal (fixed_of (seen self.now).header) (seen self.now).state drained call }
     {
         let drivers = self.header.drivers.as_slice().len() as u32;
         self.core
@@ -170,7 +158,7 @@ impl<'a> Judge<'a> {
 
     /// What of the present state a refusal of this call comes from.
     pub fn cause(&self, call: Call, refusal: Refusal) -> Cause
-        ensures { result ≡ cause_of self.now.state call refusal }
+        ensures { result ≡ cause_of (seen self.now).state call refusal }
     {
         cause_of(&self.core, call, refusal)
     }
