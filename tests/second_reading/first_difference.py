@@ -1,5 +1,5 @@
-"""What is wrong with a transcript: the first entry that isn't legal, and the first part in which it differs from the one
-that the manager makes of its call."""
+"""What is wrong with a transcript: the first entry that isn't legal, and the first part in which it differs from the
+one that the manager makes of its call."""
 
 import json
 
