@@ -15,7 +15,8 @@ use Rattle.irp_script_reader.specs.Taking.{◌>>=◌, unless, with_item}
 use Rattle.irp_script_reader.specs.declared.{act.Step.Step, lists.Cancels.Cancels, lists.Completions.Completions}
 use Rattle.irp_script_reader.specs.declared.{lists.Dispatches.Dispatches, lists.Drivers.Drivers, lists.Steps.Steps}
 use Rattle.irp_script_reader.specs.declared.refusal.Fault.{Fault}
-use Rattle.irp_script_reader.specs.declared.refusal.Fault.TheVariants.{BadField, RuleBroken, NoRoutine, BadDispatch, TooMany}
+use Rattle.irp_script_reader.specs.declared.refusal.Fault.TheVariants.{BadField, RuleBroken, NoRoutine}
+use Rattle.irp_script_reader.specs.declared.refusal.Fault.TheVariants.{BadDispatch, TooMany}
 
 -- a completion routine, whose behaviours are those of its rule, and of which there is room for one more
 unfoldable pub takes_completion : Completions → Data → Result Completions Fault
@@ -53,7 +54,8 @@ takes_driver list form = do
 -- whether a list may have the step: its seat is there, `setup` may have it, and the seat may do it
 abbrev pub may_have : Steps → Step → Bool
 may_have list step =
-    nat_lt step.seat list.seats && ((not list.in_setup || suits_setup step.act) && may_do list.form list.seats step.seat step.act)
+    nat_lt step.seat list.seats && ((not list.in_setup || suits_setup step.act)
+    && may_do list.form list.seats step.seat step.act)
 
 -- a step, and the label that it names
 unfoldable pub takes_step : Steps → Data → Result Steps Fault
@@ -61,4 +63,10 @@ takes_step list form = do
   step ← ok_or (step_at (place_among list.labels (label_at form)) form) BadField
   may ← unless (may_have list step) BadField
   labels ← with_labels list.labels (label_at form)
-  Ok (record { form = list.form; seats = list.seats; in_setup = list.in_setup; labels = labels; steps = with_item list.steps step })
+  Ok (record {
+    form = list.form;
+    seats = list.seats;
+    in_setup = list.in_setup;
+    labels = labels;
+    steps = with_item list.steps step;
+  })

@@ -65,7 +65,8 @@ takes_behaviours Free on_ok on_err = true
 -- whether a routine's behaviours are those of its rule
 abbrev pub obeys_its_rule : CompletionRoutine → Bool
 obeys_its_rule routine =
-    can_complete routine.on_ok && (can_complete routine.on_err && takes_behaviours routine.rule routine.on_ok routine.on_err)
+    can_complete routine.on_ok && (can_complete routine.on_err
+    && takes_behaviours routine.rule routine.on_ok routine.on_err)
 
 -- one more than so many routines of one kind, where there may be one more
 abbrev pub one_more : ℕ → Option ℕ

@@ -1,6 +1,7 @@
 -- Whole scripts. The first fault is given: the text's length, whether it is JSON, its form, its keys, and then the
 -- parts in order.
-use Rattle.std.specs.Prelude.{◌≡◌, ◌⊎◌, ℕ, ◌<◌, ◌≤◌, ◌==◌, ◌&&◌, Bool, List, [], ◌∷◌, length, codes, IsUtf8, true, false, nat_le, Option, Some, None, Result, Ok, Err, if◌then◌else◌}
+use Rattle.std.specs.Prelude.{◌≡◌, ◌⊎◌, ℕ, ◌<◌, ◌≤◌, ◌==◌, ◌&&◌, Bool, List, [], ◌∷◌, length, codes, IsUtf8}
+use Rattle.std.specs.Prelude.{true, false, nat_le, Option, Some, None, Result, Ok, Err, if◌then◌else◌}
 use Rattle.std.specs.Option.{ok_or, option_and_then}
 use Rattle.serde_json.specs.Data.{Data}
 use Rattle.serde_json.specs.Find.{get}
@@ -13,8 +14,10 @@ use Rattle.irp_script_reader.specs.Members.{takes_cancel, takes_completion, take
 use Rattle.irp_script_reader.specs.Taking.{◌>>=◌, list_at}
 use Rattle.irp_script_reader.specs.declared.{act.Step.Step, read.FormKey.FormKey}
 use Rattle.irp_script_reader.specs.declared.lists.{Cancels.Cancels, Drivers.Drivers, Steps.Steps}
-use Rattle.irp_script_reader.specs.declared.refusal.{ScriptFault.ScriptFault, ScriptRefusal.ScriptRefusal, Section.Section}
-use Rattle.irp_script_reader.specs.declared.script.{CompletionRoutine.CompletionRoutine, Script.Script, ScriptForm.ScriptForm}
+use Rattle.irp_script_reader.specs.declared.refusal.{ScriptFault.ScriptFault, ScriptRefusal.ScriptRefusal}
+use Rattle.irp_script_reader.specs.declared.refusal.{Section.Section}
+use Rattle.irp_script_reader.specs.declared.script.{CompletionRoutine.CompletionRoutine, Script.Script}
+use Rattle.irp_script_reader.specs.declared.script.{ScriptForm.ScriptForm}
 use Rattle.irp_script_reader.specs.declared.script.ScriptParts.{ScriptParts}
 use Rattle.irp_script_reader.specs.declared.read.FormKey.TheVariants as keys
 use Rattle.irp_script_reader.specs.declared.refusal.Fault.TheVariants.{BadField}
@@ -82,7 +85,8 @@ tables_at form known whole = do
 
 -- nothing read yet of `setup`, or else of `steps`, after these labels
 abbrev pub no_steps : ScriptForm → ℕ → Bool → List (List ℕ) → Steps
-no_steps form seats in_setup labels = record { form = form; seats = seats; in_setup = in_setup; labels = labels; steps = [] }
+no_steps form seats in_setup labels =
+    record { form = form; seats = seats; in_setup = in_setup; labels = labels; steps = [] }
 
 -- the steps of `setup` and those of `steps`, in a script of this form with so many seats. They share their labels.
 unfoldable pub steps_at : ScriptForm → ℕ → Data → Result (List Step × Steps) ScriptRefusal

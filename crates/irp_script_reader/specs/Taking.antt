@@ -1,5 +1,6 @@
 -- A script's lists are read member by member, each into what was read of the list before it.
-use Rattle.std.specs.Prelude.{◌≡◌, ℕ, ◌+◌, List, ◌∷◌, [], ◌++◌, Bool, Option, Some, None, Result, Ok, Err, if◌then◌else◌}
+use Rattle.std.specs.Prelude.{◌≡◌, ℕ, ◌+◌, List, ◌∷◌, [], ◌++◌, Bool, Option, Some, None, Result, Ok, Err}
+use Rattle.std.specs.Prelude.{if◌then◌else◌}
 use Rattle.std.specs.Option.{option_and_then}
 use Rattle.serde_json.specs.Data.{Data, Items, no_items, item}
 use Rattle.serde_json.specs.Find.{as_array, get}
@@ -54,5 +55,6 @@ if_list takes section empty (Some members) = members_at takes section 0 empty me
 
 -- what is read of the list under a key, from what is given as empty on; where no array is under the key it is S4 with
 -- the index 0
-unfoldable pub list_at : {L : Type 0} → (L → Data → Result L Fault) → Section → List ℕ → L → Data → Result L ScriptRefusal
+unfoldable pub list_at : {L : Type 0} → (L → Data → Result L Fault) → Section → List ℕ → L → Data
+    → Result L ScriptRefusal
 list_at takes section key empty whole = if_list takes section empty (option_and_then as_array (get key whole))

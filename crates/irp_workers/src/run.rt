@@ -250,8 +250,9 @@ fn gather<'a, L: Session>(
 /// line tells what was answered. A finish of a taken packet is one call with a token that this seat took from that
 /// slot and hasn't spent, and where there is none, one word line. A token that comes out of a slot stays with the
 /// seat, and so does one that a finish gives back. The next link goes on from there. No other seat changes, but for
-/// the one that a hand names, and all seats of the worker have seen the entry of a call. A chain ends early only where its worker stopped, in front of a step of its own.
-/// The seats and the word lines that come back are those that the chains end with.
+/// the one that a hand names, and all seats of the worker have seen the entry of a call. A chain ends early only where
+/// its worker stopped, in front of a step of its own. The seats and the word lines that come back are those that the
+/// chains end with.
 ///
 /// Each word line has the seat, the place and the act of one of the script's `steps` on locks and slots. No such step
 /// has two lines, and where nothing stopped, each has its line, a finish of a taken packet only where it found no

@@ -154,8 +154,8 @@ impl<'a, L: Session> Worker<'a, L> {
         Some(())
     }
 
-    /// Makes a step, which has this place. All its seats have then seen what was recorded. None where it wasn't recorded, found no memory, or has a seat or an owner
-    /// of a slot that isn't there.
+    /// Makes a step, which has this place. All its seats have then seen what was recorded. None where it wasn't
+    /// recorded, found no memory, or has a seat or an owner of a slot that isn't there.
     fn step<A: Ask>(
         &mut self,
         rt: &impl Wait,
