@@ -2,7 +2,8 @@
 use Rattle.std.specs.Prelude.{ℕ, ◌≡◌, not, ◌==◌, List, [], ◌∷◌, ◌++◌, Option, Some, None, nat_le}
 use Rattle.irp_types.specs.Limits.{use_limit}
 use Rattle.irp_types.specs.Checks.{first_failing, or_else}
-use Rattle.irp_types.specs.Packet.{PacketValue, with_status, after_set_next, after_copy, after_skip, after_set_routine, after_mark, after_take, after_reset}
+use Rattle.irp_types.specs.Packet.{PacketValue, with_status, after_set_next, after_copy, after_skip, after_set_routine}
+use Rattle.irp_types.specs.Packet.{after_mark, after_take, after_reset}
 use Rattle.irp_types.specs.Stacks.{DevicesValue}
 use Rattle.irp_types.specs.State.{LivePacket, Tables}
 use Rattle.irp_types.specs.Descent.{Descended}
@@ -70,7 +71,8 @@ Marks asked reply old new = (new ≡ after_mark old old.current) × (asked ≡ [
 
 -- the packet was given a cancel routine, or none
 abbrev pub SetsCancel : Option CancelId → List Asked → Reply → PacketValue → PacketValue → Type 0
-SetsCancel cancel asked reply old new = (new ≡ record old { cancel_routine = cancel }) × (asked ≡ []) × (reply ≡ Previous old.cancel_routine)
+SetsCancel cancel asked reply old new =
+    (new ≡ record old { cancel_routine = cancel }) × (asked ≡ []) × (reply ≡ Previous old.cancel_routine)
 
 -- the next location was given a completion routine
 abbrev pub Sets : Setting → List Asked → Reply → PacketValue → PacketValue → Type 0
@@ -78,15 +80,18 @@ Sets setting asked reply old new = (new ≡ after_set_routine old setting) × (a
 
 -- the packet was sent
 abbrev pub Sends : Tables → IrpRef → DevicesValue → ℕ → List Asked → Reply → PacketValue → PacketValue → Type 0
-Sends tables irp devices target asked reply old new = (status : Status) × Descended tables irp devices old target asked new status × (reply ≡ StatusIs status)
+Sends tables irp devices target asked reply old new =
+    (status : Status) × Descended tables irp devices old target asked new status × (reply ≡ StatusIs status)
 
 -- the packet was completed
 abbrev pub Finishes : IrpRef → Status → ℕ → List Asked → Reply → PacketValue → PacketValue → Type 0
-Finishes irp status information asked reply old new = Completes irp (with_status old status information) asked new × (reply ≡ Done)
+Finishes irp status information asked reply old new =
+    Completes irp (with_status old status information) asked new × (reply ≡ Done)
 
 -- the packet was taken from its cancel slot and completed
 abbrev pub Takes : IrpRef → Status → ℕ → List Asked → Reply → PacketValue → PacketValue → Type 0
-Takes irp status information asked reply old new = Completes irp (with_status (after_take old) status information) asked new × (reply ≡ Done)
+Takes irp status information asked reply old new =
+    Completes irp (with_status (after_take old) status information) asked new × (reply ≡ Done)
 
 -- the packet was cancelled
 abbrev pub IsCancelled : Tables → IrpRef → List Asked → Reply → PacketValue → PacketValue → Type 0

@@ -21,7 +21,9 @@ use Rattle.irp_unwind.specs.Laws.{IsReplyOf}
 
 -- where the call allocates a packet, both replies name one slot
 abbrev pub IsSameSlot : Call → Reply → Reply → Type 0
-IsSameSlot call reply other = (size : ℕ) (irp another : IrpRef) → call ≡ Allocate size → reply ≡ Irp irp → other ≡ Irp another → irp.slot ≡ another.slot
+IsSameSlot call reply other =
+    (size : ℕ) (irp another : IrpRef) → call ≡ Allocate size → reply ≡ Irp irp → other ≡ Irp another
+    → irp.slot ≡ another.slot
 
 -- where each closure has one answer to what it is shown, a state, a call, whether the lock is known to be drained, and
 -- the slot of a new packet settle what is asked, the reply and the next state

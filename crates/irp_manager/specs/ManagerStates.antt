@@ -20,7 +20,8 @@ use Rattle.irp_manager.specs.declared.manager_state.ManagerState.{ManagerState}
 
 -- the state of a manager, by what its keep has
 abbrev pub state_of : {K : Type 0} → (K → Slots) → ManagerState K → StateValue
-state_of live manager = record { live = live manager.keep; devices = manager.stacks.devices; next_use = manager.next_use }
+state_of live manager =
+    record { live = live manager.keep; devices = manager.stacks.devices; next_use = manager.next_use }
 
 -- what is fixed of a manager whose asker has these tables
 abbrev pub fixed_with : {K : Type 0} → ManagerState K → Tables → Fixed
@@ -36,25 +37,35 @@ KeepsFixed old new = (new.locks ≡ old.locks) × (new.stacks.limit ≡ old.stac
 
 -- a call was answered by its step, and the standing facts are kept
 pub record Stepped {K : Type 0} (live : K → Slots) (tables : Tables) (drained : Bool) (old : ManagerState K) (call : Call) (asked : List Asked) (reply : Reply) (new : ManagerState K) : Type 0 where
-  pub step : (fixed : Fixed) → fixed.tables ≡ tables → Agrees fixed old → Step fixed (state_of live old) drained call asked reply (state_of live new)
+  pub step :
+      (fixed : Fixed) → fixed.tables ≡ tables → Agrees fixed old
+      → Step fixed (state_of live old) drained call asked reply (state_of live new)
   pub stands : StandingFacts tables.counts (state_of live new)
   pub fixed : KeepsFixed old new
 
 -- a call was answered by its step, whatever the tables, where the standing facts held
-abbrev pub SteppedAny : {K : Type 0} → (K → Slots) → ManagerState K → Call → List Asked → Reply → ManagerState K → Type 0
-SteppedAny live old call asked reply new = (tables : Tables) (drained : Bool) → StandingFacts tables.counts (state_of live old) → Stepped live tables drained old call asked reply new
+abbrev pub SteppedAny :
+    {K : Type 0} → (K → Slots) → ManagerState K → Call → List Asked → Reply → ManagerState K → Type 0
+SteppedAny live old call asked reply new =
+    (tables : Tables) (drained : Bool) → StandingFacts tables.counts (state_of live old)
+    → Stepped live tables drained old call asked reply new
 
 -- where the reply to the sender of this packet is a status, the packet stands as `StaysUp` says
 abbrev pub SentStays : {K : Type 0} → (K → Slots) → ManagerState K → IrpRef → Reply → ManagerState K → Type 0
-SentStays live old irp reply new = (status : Status) → reply ≡ StatusIs status → StaysUp (packet_of (state_of live old) irp) (packet_of (state_of live new) irp) status
+SentStays live old irp reply new =
+    (status : Status) → reply ≡ StatusIs status
+    → StaysUp (packet_of (state_of live old) irp) (packet_of (state_of live new) irp) status
 
 -- where the call sends a packet, that packet stands as `StaysUp` says
 abbrev pub SenderStays : {K : Type 0} → (K → Slots) → ManagerState K → Call → Reply → ManagerState K → Type 0
-SenderStays live old call reply new = (party : Party) (irp : IrpRef) (target : DeviceId) → call ≡ CallDriver party irp target → SentStays live old irp reply new
+SenderStays live old call reply new =
+    (party : Party) (irp : IrpRef) (target : DeviceId) → call ≡ CallDriver party irp target
+    → SentStays live old irp reply new
 
 -- where the call allocates a packet, its slot is as the keep promises for the wish
 abbrev pub SlotGranted : {K : Type 0} → (K → Option ℕ → ℕ → Type 0) → ManagerState K → Option ℕ → Call → Reply → Type 0
-SlotGranted grants old wish call reply = (size : ℕ) (irp : IrpRef) → call ≡ Allocate size → reply ≡ Irp irp → grants old.keep wish irp.slot
+SlotGranted grants old wish call reply =
+    (size : ℕ) (irp : IrpRef) → call ≡ Allocate size → reply ≡ Irp irp → grants old.keep wish irp.slot
 
 -- the old keep has a packet at this slot; and what the keep promises of giving back holds of the old keep, the slot and
 -- the new keep

@@ -30,7 +30,8 @@ pub record PassesCancel (tables : Tables) (own : Type 0) (may : CancelId → Sho
 
 -- so was all answered that was asked
 abbrev pub ArePassed :
-    Tables → Type 0 → (DispatchId → Shown → Plan → Type 0) → (RoutineId → Shown → Answer → Type 0) → (CancelId → Shown → CancelAnswer → Type 0)
+    Tables → Type 0 → (DispatchId → Shown → Plan → Type 0) → (RoutineId → Shown → Answer → Type 0)
+    → (CancelId → Shown → CancelAnswer → Type 0)
     → List Asked → Type 0
 ArePassed tables own may_plan may_answer may_cancel =
     AreAnswered (PassesPlan tables own may_plan) (PassesAnswer tables own may_answer) (PassesCancel tables own may_cancel)

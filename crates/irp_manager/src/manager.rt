@@ -8,7 +8,8 @@ ghost use Rattle.irp_types.specs.Standing.{StandingFacts};
 ghost use Rattle.irp_routines.specs.Answers.{AreAnswered};
 ghost use Rattle.irp_manager.specs.Notes.{known_by};
 ghost use Rattle.irp_manager.specs.Keeps.{slabbed, IsNext};
-ghost use Rattle.irp_manager.specs.ManagerStates.{state_of, most_asked, KeepsFixed, Stepped, SenderStays, SlotGranted, SlotGivenBack};
+ghost use Rattle.irp_manager.specs.ManagerStates.{state_of, most_asked, KeepsFixed, Stepped, SenderStays, SlotGranted};
+ghost use Rattle.irp_manager.specs.ManagerStates.{SlotGivenBack};
 
 use crate::manager_state::{Applied, ManagerState};
 use crate::note::DrainNote;

@@ -4,7 +4,8 @@ mod looks;
 mod owner_calls;
 pub(crate) mod room;
 
-ghost use Rattle.std.specs.Prelude.{◌≡◌, ◌+◌, ◌<◌, ◌≤◌, ◌^◌, Option, Some, None, length, false, [], ◌∷◌, Bool, vec_len, vec_capacity, IfOk, OnErr};
+ghost use Rattle.std.specs.Prelude.{◌≡◌, ◌+◌, ◌<◌, ◌≤◌, ◌^◌, Option, Some, None, length, false, [], ◌∷◌, Bool, vec_len};
+ghost use Rattle.std.specs.Prelude.{vec_capacity, IfOk, OnErr};
 ghost use Rattle.std.specs.FinMap as fin;
 ghost use Rattle.irp_types.specs.declared.limit.Limit.TheVariants.{ThirtyTwo};
 ghost use Rattle.irp_types.specs.Limits.{most_locations};
@@ -13,7 +14,9 @@ ghost use Rattle.irp_types.specs.Stacks.{create_checks};
 ghost use Rattle.irp_types.specs.State.{Fixed, Tables, opening_state, packet_of};
 ghost use Rattle.irp_types.specs.Refusals.{flight_check, packet_refusal, first_refusal};
 ghost use Rattle.irp_types.specs.Histories.{lock_of};
-ghost use Rattle.irp_types.specs.declared.call.Call.TheVariants.{CreateDevice, Attach, Detach, Delete, Allocate, Free, Reuse, CallDriver, Complete, FinishTaken, Cancel, Look};
+ghost use Rattle.irp_types.specs.declared.call.Call.TheVariants.{CreateDevice, Attach, Detach, Delete, Allocate, Free};
+ghost use Rattle.irp_types.specs.declared.call.Call.TheVariants.{Reuse, CallDriver, Complete, FinishTaken, Cancel};
+ghost use Rattle.irp_types.specs.declared.call.Call.TheVariants.{Look};
 ghost use Rattle.irp_types.specs.Standing.{StandingFacts};
 ghost use Rattle.irp_types.specs.declared.routine.Known.{Known};
 ghost use Rattle.irp_types.specs.declared.names.IrpRef.{IrpRef};
@@ -21,7 +24,8 @@ ghost use Rattle.irp_types.specs.declared.reply.Reply.TheVariants.{Done, Irp};
 ghost use Rattle.irp_routines.specs.Answers.{AreAnswered};
 ghost use Rattle.irp_manager.specs.Notes.{known_by};
 ghost use Rattle.irp_manager.specs.Rooms.{can_ask};
-ghost use Rattle.irp_manager.specs.ManagerStates.{state_of, most_asked, Stepped, SteppedAny, SenderStays, SlotGranted, SlotGivenBack, WasGivenBack, Agrees, KeepsFixed};
+ghost use Rattle.irp_manager.specs.ManagerStates.{state_of, most_asked, Stepped, SteppedAny, SenderStays, SlotGranted};
+ghost use Rattle.irp_manager.specs.ManagerStates.{SlotGivenBack, WasGivenBack, Agrees, KeepsFixed};
 
 use crate::keep::Keep;
 use crate::note::DrainNote;
@@ -37,23 +41,6 @@ use std::alloc::{AllocError, Global};
 
 /// How many packets may be live.
 const MOST_LIVE: usize = 4096;
-
-/// How many questions one call can ask at most: one to each of 32 devices, and one to each of 32 locations.
-const MOST_ASKED: usize = 64;
-
-/// How many questions a call may ask: 64 where it sends, completes or cancels a packet, or finishes one
-/// that was taken from a cancel slot, else none (this project's own rule).
-pub fn most_asked(call: Call) -> usize
-    ensures { result ≡ most_asked call }
-{
-    match call {
-        Call::CallDriver { .. }
-        | Call::Complete { .. }
-        | Call::FinishTaken { .. }
-        | Call::Cancel { .. } => MOST_ASKED,
-        _ => 0,
-    }
-}
 
 /// What a call did: the lock of the device that a Delete names, where that one was created; whether the note knew that
 /// lock to be drained; what was asked, in order; and the reply.

@@ -1,10 +1,13 @@
 //! What a call does to one live packet.
 
-ghost use Rattle.std.specs.Prelude.{◌≡◌, ◌+◌, ◌<◌, ◌≤◌, false, true, Option, Some, None, [], length, vec_capacity, vec_len};
+ghost use Rattle.std.specs.Prelude.{◌≡◌, ◌+◌, ◌<◌, ◌≤◌, false, true, Option, Some, None, [], length, vec_capacity};
+ghost use Rattle.std.specs.Prelude.{vec_len};
 ghost use Rattle.irp_types.specs.Checks.{or_else};
-ghost use Rattle.irp_types.specs.Packet.{size_of, is_nothing, set_next_refusal, copy_to_next_refusal, mark_pending_refusal};
+ghost use Rattle.irp_types.specs.Packet.{size_of, is_nothing, set_next_refusal, copy_to_next_refusal};
+ghost use Rattle.irp_types.specs.Packet.{mark_pending_refusal};
 ghost use Rattle.irp_types.specs.Stacks.{stack_size_of};
-ghost use Rattle.irp_types.specs.Refusals.{is_owner, is_wrong_target, leave_refusal, routine_refusal, cancel_refusal, send_refusal, complete_refusal, take_refusal};
+ghost use Rattle.irp_types.specs.Refusals.{is_owner, is_wrong_target, leave_refusal, routine_refusal, cancel_refusal};
+ghost use Rattle.irp_types.specs.Refusals.{send_refusal, complete_refusal, take_refusal};
 ghost use Rattle.irp_types.specs.Descent.{StaysUp};
 ghost use Rattle.irp_types.specs.Steps.{seen_of};
 ghost use Rattle.irp_types.specs.Standing.{IsSound};
@@ -13,7 +16,9 @@ ghost use Rattle.irp_types.specs.declared.reply.Reply.TheVariants.{Status as Sta
 ghost use Rattle.irp_routines.specs.Answers.{AreAnswered};
 ghost use Rattle.irp_unwind.specs.Endings.{can_ask_up};
 ghost use Rattle.irp_unwind.specs.Descents.{can_ask_down};
-ghost use Rattle.irp_manager.specs.Calls.{packet_refusal_in, party_refusal_in, flight_refusal_in, reuse_refusal_in, Renews, Goes, Fills, Copies, Leaves, Sets, Marks, Sends, Finishes, Takes, SetsCancel};
+ghost use Rattle.irp_manager.specs.Calls.{packet_refusal_in, party_refusal_in, flight_refusal_in, reuse_refusal_in};
+ghost use Rattle.irp_manager.specs.Calls.{Renews, Goes, Fills, Copies, Leaves, Sets, Marks, Sends, Finishes, Takes};
+ghost use Rattle.irp_manager.specs.Calls.{SetsCancel};
 
 use crate::keep::Live;
 use irp_packet::Packet;
@@ -109,7 +114,7 @@ pub fn copy_to_next(live: &mut Live, party: Party, irp: IrpRef) -> Reply
 
 /// The refusal of an owner that has no location of its own to mark or to skip; none where it has one.
 #[inline]
-pub fn location_check(packet: &Packet) -> Option<Refusal>
+pub fn own_location_check(packet: &Packet) -> Option<Refusal>
     ensures { result ≡ mark_pending_refusal packet.now }
 {
     let skipped = matches!(packet.preparation(), Preparation::Skipped);
@@ -142,7 +147,7 @@ pub fn next_check(packet: &Packet, major: u8) -> Option<Refusal>
 pub fn copy_check(packet: &Packet) -> Option<Refusal>
     ensures { result ≡ copy_to_next_refusal packet.now }
 {
-    if let Some(refusal) = location_check(packet) {
+    if let Some(refusal) = own_location_check(packet) {
         return Some(refusal);
     }
     if packet.current() <= 1 {
@@ -155,7 +160,7 @@ pub fn copy_check(packet: &Packet) -> Option<Refusal>
 pub fn leave_check(packet: &Packet) -> Option<Refusal>
     ensures { result ≡ leave_refusal packet.now }
 {
-    if let Some(refusal) = location_check(packet) {
+    if let Some(refusal) = own_location_check(packet) {
         return Some(refusal);
     }
     if packet.cancel_routine().is_some() {
@@ -201,7 +206,7 @@ pub fn mark_pending(live: &mut Live, party: Party, irp: IrpRef) -> Reply
 pub fn cancel_check(packet: &Packet, counts: Known, cancel: Option<CancelId>) -> Option<Refusal>
     ensures { result ≡ cancel_refusal counts packet.now cancel }
 {
-    if let Some(refusal) = location_check(packet) {
+    if let Some(refusal) = own_location_check(packet) {
         return Some(refusal);
     }
     if let Some(routine) = cancel {
@@ -404,7 +409,7 @@ pub fn complete_check(packet: &Packet, status: Status) -> Option<Refusal>
     ensures placed { result ≡ None → packet.now.current ≤ size_of packet.now }
     ensures free { result ≡ None → packet.now.cancel_routine ≡ None }
 {
-    if let Some(refusal) = location_check(packet) {
+    if let Some(refusal) = own_location_check(packet) {
         return Some(refusal);
     }
     if !status.is_completable() {

@@ -1,11 +1,15 @@
-//! A packet, its readers, and the calls that a packet answers by itself.
+//! A packet, its readers, and the calls that a packet answers by itself. That refusals come in the order in which they
+//! are listed is this project's own rule.
 
 mod steps;
 
 ghost use Rattle.std.specs.Prelude.{◌≡◌, ◌+◌, ◌<◌, ◌≤◌, ◌==◌, ◌||◌, if◌then◌else◌, nat_lt, false, replicate};
 ghost use Rattle.irp_types.specs.Limits.{most_locations};
 ghost use Rattle.irp_types.specs.Checks.{answer_unless, value_unless};
-ghost use Rattle.irp_types.specs.Packet.{size_of, cleared, location_at, found_location, new_packet, is_nothing, set_next_refusal, copy_to_next_refusal, skip_refusal, set_routine_refusal, mark_pending_refusal, after_set_next, after_copy, after_skip, after_set_routine, after_mark};
+ghost use Rattle.irp_types.specs.Packet.{size_of, cleared, location_at, found_location, new_packet, is_nothing};
+ghost use Rattle.irp_types.specs.Packet.{set_next_refusal, copy_to_next_refusal, skip_refusal, set_routine_refusal};
+ghost use Rattle.irp_types.specs.Packet.{mark_pending_refusal, after_set_next, after_copy, after_skip};
+ghost use Rattle.irp_types.specs.Packet.{after_set_routine, after_mark};
 ghost use Rattle.irp_types.specs.declared.refusal.Refusal.TheVariants.{BadSize};
 
 use arrayvec::ArrayVec;
@@ -208,7 +212,7 @@ impl Packet {
         self.preparation
     }
 
-    /// Whether it stands in a cancel slot, and only who takes it from there completes it (this project's own rule).
+    /// Whether it stands in a cancel slot, where FinishTaken alone completes it (this project's own rule).
     #[inline]
     pub fn slot_held(&self) -> bool
         ensures { result ≡ self.now.slot_held }
@@ -244,8 +248,8 @@ impl Packet {
     ///
     /// # Errors
     ///
-    /// In this order (this project's own rule), and then the packet stays as it was: `AfterSkip` where the owner gave
-    /// its location away, `TooShort` where `current` is 1, `BadMajor` where `major` is above 0x1b.
+    /// In this order, and then the packet stays as it was: `AfterSkip` where the owner gave its location away,
+    /// `TooShort` where `current` is 1, `BadMajor` where `major` is above 0x1b.
     #[inline]
     pub fn set_next(&mut self, major: u8, word: u64) -> Result<(), Refusal>
         ensures answer { result ≡ answer_unless (set_next_refusal self.old major) tt }
@@ -277,9 +281,9 @@ impl Packet {
     ///
     /// # Errors
     ///
-    /// In this order (this project's own rule), and then the packet stays as it was: `NoLocation` where the packet
-    /// stands above its highest location and nothing was skipped, `AfterSkip` where the owner gave its location away,
-    /// `TooShort` where `current` is 1.
+    /// In this order, and then the packet stays as it was: `NoLocation` where the packet stands above its highest
+    /// location and nothing was skipped, `AfterSkip` where the owner gave its location away, `TooShort` where `current`
+    /// is 1.
     pub fn copy_to_next(&mut self) -> Result<(), Refusal>
         ensures answer { result ≡ answer_unless (copy_to_next_refusal self.old) tt }
         ensures changed { self.new
@@ -298,8 +302,8 @@ impl Packet {
     ///
     /// # Errors
     ///
-    /// In this order (this project's own rule), and then the packet stays as it was: `NoLocation` where the packet
-    /// stands above its highest location and nothing was skipped, `AfterSkip` where the owner gave its location away.
+    /// In this order, and then the packet stays as it was: `NoLocation` where the packet stands above its highest
+    /// location and nothing was skipped, `AfterSkip` where the owner gave its location away.
     pub fn skip(&mut self) -> Result<(), Refusal>
         ensures answer { result ≡ answer_unless (skip_refusal self.old) tt }
         ensures changed { self.new
@@ -320,8 +324,8 @@ impl Packet {
     ///
     /// # Errors
     ///
-    /// In this order (this project's own rule), and then the packet stays as it was: `AfterSkip` where the owner gave
-    /// its location away, `NotPrepared` where the next lower location wasn't filled.
+    /// In this order, and then the packet stays as it was: `AfterSkip` where the owner gave its location away,
+    /// `NotPrepared` where the next lower location wasn't filled.
     pub fn set_routine(&mut self, setting: Setting) -> Result<(), Refusal>
         ensures answer { result ≡ answer_unless (set_routine_refusal self.old) tt }
         ensures changed { self.new
@@ -343,8 +347,8 @@ impl Packet {
     ///
     /// # Errors
     ///
-    /// In this order (this project's own rule), and then the packet stays as it was: `NoLocation` where the packet
-    /// stands above its highest location and nothing was skipped, `AfterSkip` where the owner gave its location away.
+    /// In this order, and then the packet stays as it was: `NoLocation` where the packet stands above its highest
+    /// location and nothing was skipped, `AfterSkip` where the owner gave its location away.
     pub fn mark_pending(&mut self) -> Result<(), Refusal>
         ensures answer { result ≡ answer_unless (mark_pending_refusal self.old) tt }
         ensures changed { self.new

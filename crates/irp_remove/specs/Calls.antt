@@ -2,7 +2,8 @@
 -- case names it.
 -- A step is described by the view before and after, and by some state in which the rule allows it. Where a parity is
 -- given, the word in that state has it. No clause says that it is the word which the running table had.
-use Rattle.std.specs.Prelude.{◌≡◌, ◌≢◌, ◌⊎◌, ℕ, ◌+◌, ◌-◌, ◌%◌, ◌<◌, ◌≤◌, true, false, List, [], ◌∷◌, ◌++◌, length, Contains, Some, slice_get, slice_set, remove, bit_or}
+use Rattle.std.specs.Prelude.{◌≡◌, ◌≢◌, ◌⊎◌, ℕ, ◌+◌, ◌-◌, ◌%◌, ◌<◌, ◌≤◌, true, false, List, [], ◌∷◌, ◌++◌, length}
+use Rattle.std.specs.Prelude.{Contains, Some, slice_get, slice_set, remove, bit_or}
 use Rattle.irp_remove.specs.declared.refusal.AcquireRefusal.{AcquireRefusal}
 use Rattle.irp_remove.specs.declared.refusal.AcquireRefusal.TheVariants as acquire
 use Rattle.irp_remove.specs.declared.refusal.ReleaseRefusal.{ReleaseRefusal}
@@ -34,13 +35,15 @@ KnowsRemoved lock holder = ObserverKnowsRemoved lock holder ⊎ (0 < total (saw 
 -- one step by an idle stake: it found the removal not begun, and holds the lock
 abbrev pub StakeTook : ℕ → ℕ → View → View → Type 0
 StakeTook lock tag idle_view held_view =
-    (seen : List ℕ) × (word : ℕ) × (idle_view ≡ Stake Idle seen) × (held_view ≡ Stake (Held lock tag) seen) × (word % 2 ≡ 0)
+    (seen : List ℕ) × (word : ℕ) × (idle_view ≡ Stake Idle seen) × (held_view ≡ Stake (Held lock tag) seen)
+    × (word % 2 ≡ 0)
     × IsEvent lock word (word + 2) idle_view held_view
 
 -- two steps by an idle stake: it found the removal begun, and took back what it had added
 abbrev pub StakeMissed : ℕ → View → View → Type 0
 StakeMissed lock view after =
-    (seen : List ℕ) × (word : ℕ) × (later_word : ℕ) × (view ≡ Stake Idle seen) × (after ≡ Stake Idle (lock ∷ seen)) × (word % 2 ≡ 1)
+    (seen : List ℕ) × (word : ℕ) × (later_word : ℕ) × (view ≡ Stake Idle seen) × (after ≡ Stake Idle (lock ∷ seen))
+    × (word % 2 ≡ 1)
     × IsEvent lock word (word + 2) view (Stake (Trying lock) (lock ∷ seen))
     × IsEvent lock later_word (later_word - 2) (Stake (Trying lock) (lock ∷ seen)) after
 
@@ -53,13 +56,15 @@ StakeGave lock tag held_view idle_view =
 -- the last idle stake has taken a reference
 abbrev pub OneMore : ℕ → ℕ → Holder → Holder → Type 0
 OneMore lock tag before after =
-    (idle_view : View) × (held_view : View) × StakeTook lock tag idle_view held_view × (before.idle_views ≡ after.idle_views ++ idle_view ∷ [])
+    (idle_view : View) × (held_view : View) × StakeTook lock tag idle_view held_view
+    × (before.idle_views ≡ after.idle_views ++ idle_view ∷ [])
     × (after.held_views ≡ before.held_views ++ held_view ∷ []) × (after.held ≡ before.held ++ (lock, tag) ∷ [])
 
 -- acquire answered Ok
 abbrev pub Acquired : ℕ → ℕ → ℕ → Holder → Holder → Type 0
 Acquired count lock tag before after =
-    (lock < count) × (length before.held < 64) × (flag before.watch.began lock ≡ false) × (flag before.watch.saw lock ≡ false)
+    (lock < count) × (length before.held < 64) × (flag before.watch.began lock ≡ false)
+    × (flag before.watch.saw lock ≡ false)
     × OneMore lock tag before after × (after.watch ≡ before.watch)
 
 -- the last idle stake tried, and knows the lock removed
@@ -134,8 +139,10 @@ ChangedOwners lock tag giver giver_after taker taker_after =
     (place : ℕ) × (held_view : View) × (idle_view : View)
     × (slice_get giver.held place ≡ Some (lock, tag)) × (slice_get giver.held_views place ≡ Some held_view)
     × (giver_after.held ≡ remove giver.held place) × (giver_after.held_views ≡ remove giver.held_views place)
-    × (taker_after.held ≡ taker.held ++ (lock, tag) ∷ []) × (taker_after.held_views ≡ taker.held_views ++ held_view ∷ [])
-    × (taker.idle_views ≡ taker_after.idle_views ++ idle_view ∷ []) × (giver_after.idle_views ≡ giver.idle_views ++ idle_view ∷ [])
+    × (taker_after.held ≡ taker.held ++ (lock, tag) ∷ [])
+    × (taker_after.held_views ≡ taker.held_views ++ held_view ∷ [])
+    × (taker.idle_views ≡ taker_after.idle_views ++ idle_view ∷ [])
+    × (giver_after.idle_views ≡ giver.idle_views ++ idle_view ∷ [])
 
 -- hand answered Ok
 abbrev pub Handed : ℕ → ℕ → ℕ → Holder → Holder → Holder → Holder → Type 0
@@ -150,4 +157,5 @@ HandRefused count lock tag giver giver_after taker taker_after hand.NoLock =
 HandRefused count lock tag giver giver_after taker taker_after hand.NotHeld =
     (lock < count) × (¬ Contains giver.held (lock, tag)) × (giver_after ≡ giver) × (taker_after ≡ taker)
 HandRefused count lock tag giver giver_after taker taker_after hand.SeatFull =
-    (lock < count) × Contains giver.held (lock, tag) × (length taker.held ≡ 64) × (giver_after ≡ giver) × (taker_after ≡ taker)
+    (lock < count) × Contains giver.held (lock, tag) × (length taker.held ≡ 64) × (giver_after ≡ giver)
+    × (taker_after ≡ taker)

@@ -1,6 +1,7 @@
 -- The core of the remove locks: the word of each lock, what each seat knows, and what each step does.
 -- A word is the removed bit plus twice the number of stakes that hold the lock or are trying it.
-use Rattle.std.specs.Prelude.{◌≡◌, ℕ, ◌+◌, ◌-◌, ◌*◌, ◌%◌, ◌^◌, ◌<◌, ◌≤◌, Bool, true, false, ◌||◌, List, [], ◌∷◌, length, slice_index, slice_index_or, slice_set, replicate, if◌then◌else◌, nat_eq, bit_or}
+use Rattle.std.specs.Prelude.{◌≡◌, ℕ, ◌+◌, ◌-◌, ◌*◌, ◌%◌, ◌^◌, ◌<◌, ◌≤◌, Bool, true, false, ◌||◌, List, [], ◌∷◌, length}
+use Rattle.std.specs.Prelude.{slice_index, slice_index_or, slice_set, replicate, if◌then◌else◌, nat_eq, bit_or}
 use mathlib.Core.Option.{some}
 use lib.ListN.{get_elem?}
 use Rattle.atomic_table.specs.Table.{State, Me, Step}
@@ -149,7 +150,8 @@ looked lock word (Stake stage seen) = Stake stage seen
 abbrev pub IsEvent : ℕ → ℕ → ℕ → View → View → Type 0
 IsEvent lock word word_after view view_after =
     (key : Parties) × (state : State (Unit {0}) View) × (party : ℕ)
-    × Kept key state × (lock < key.locks) × (get_elem? state.views party ≡ some view) × (slice_index state.words lock ≡ word)
+    × Kept key state × (lock < key.locks) × (get_elem? state.views party ≡ some view)
+    × (slice_index state.words lock ≡ word)
     × Kept key (record { words = slice_set state.words lock word_after; homes = state.homes; views = slice_set state.views party view_after })
 
 -- a party of the table, in a step

@@ -5,7 +5,8 @@ use lib.ListN.{get_elem?}
 use Rattle.atomic_table.specs.Table.{State}
 use Rattle.irp_remove.specs.declared.views.View.{View}
 use Rattle.irp_remove.specs.declared.views.Parties.{Parties}
-use Rattle.irp_remove.specs.Core.{total, began, staked, held, saw, knows_drained, Kept, at_first, acquired, given_back, begun, looked}
+use Rattle.irp_remove.specs.Core.{total, began, staked, held, saw, knows_drained, Kept, at_first, acquired, given_back}
+use Rattle.irp_remove.specs.Core.{begun, looked}
 
 -- a table under this rule keeps `Kept`
 abbrev pub Keeps : (Parties → State (Unit {0}) View → Type 0) → Type 0

@@ -1,12 +1,21 @@
 //! The calls on remove locks. A refusal that leaves a seat as it was leaves each view of the seat's parties as it was.
-ghost use Rattle.std.specs.Prelude.{◌≡◌, ◌<◌, ◌≤◌, Contains, Err, length, MatchResult, IfSome, IfNone, slice_get, Some, map};
+//! That refusals come in the order in which they are listed is this project's own rule.
+ghost use Rattle.std.specs.Prelude.{◌≡◌, ◌<◌, ◌≤◌, Contains, Err, length, MatchResult, IfSome, IfNone, slice_get, Some};
+ghost use Rattle.std.specs.Prelude.{map};
 ghost use mathlib.Core.Logic.{◌↔◌};
-ghost use Rattle.irp_remove.specs.declared.refusal.AcquireRefusal.TheVariants.{NoLock as acquire_NoLock, SeatFull as acquire_SeatFull};
-ghost use Rattle.irp_remove.specs.declared.refusal.ReleaseRefusal.TheVariants.{NoLock as release_NoLock, NotHeld as release_NotHeld};
-ghost use Rattle.irp_remove.specs.declared.refusal.BeginRefusal.TheVariants.{NoLock as begin_NoLock, NotHeld as begin_NotHeld};
+ghost use Rattle.irp_remove.specs.declared.refusal.AcquireRefusal.TheVariants.{NoLock as acquire_NoLock};
+ghost use Rattle.irp_remove.specs.declared.refusal.AcquireRefusal.TheVariants.{SeatFull as acquire_SeatFull};
+ghost use Rattle.irp_remove.specs.declared.refusal.ReleaseRefusal.TheVariants.{NoLock as release_NoLock};
+ghost use Rattle.irp_remove.specs.declared.refusal.ReleaseRefusal.TheVariants.{NotHeld as release_NotHeld};
+ghost use Rattle.irp_remove.specs.declared.refusal.BeginRefusal.TheVariants.{NoLock as begin_NoLock};
+ghost use Rattle.irp_remove.specs.declared.refusal.BeginRefusal.TheVariants.{NotHeld as begin_NotHeld};
 ghost use Rattle.irp_remove.specs.declared.refusal.DrainRefusal.TheVariants.{NoLock as drain_NoLock};
-ghost use Rattle.irp_remove.specs.declared.refusal.HandRefusal.TheVariants.{NoLock as hand_NoLock, NotHeld as hand_NotHeld, SeatFull as hand_SeatFull};
-ghost use Rattle.irp_remove.specs.Calls.{IsSameSeat, StakeTook, StakeMissed, StakeGave, Acquired, AcquireRefused, Released, ReleaseRefused, Begun, BeginRefused, Looked, DrainRefused, Handed, HandRefused};
+ghost use Rattle.irp_remove.specs.declared.refusal.HandRefusal.TheVariants.{NoLock as hand_NoLock};
+ghost use Rattle.irp_remove.specs.declared.refusal.HandRefusal.TheVariants.{NotHeld as hand_NotHeld};
+ghost use Rattle.irp_remove.specs.declared.refusal.HandRefusal.TheVariants.{SeatFull as hand_SeatFull};
+ghost use Rattle.irp_remove.specs.Calls.{IsSameSeat, StakeTook, StakeMissed, StakeGave, Acquired, AcquireRefused};
+ghost use Rattle.irp_remove.specs.Calls.{Released, ReleaseRefused, Begun, BeginRefused, Looked, DrainRefused, Handed};
+ghost use Rattle.irp_remove.specs.Calls.{HandRefused};
 ghost use Rattle.irp_remove.specs.Pairing.{IsSeatOf, lock_count};
 ghost use Rattle.irp_remove.specs.Seats.{pair_of, view_of, IsIdle, IsHeld};
 
@@ -69,8 +78,8 @@ impl Locks {
 
     /// Gives back one reference to a lock under a tag (WDK: "IoReleaseRemoveLock").
     ///
-    /// It is refused, and leaves the seat as it was, with the first of these that holds (this project's own rule):
-    /// `NoLock` if there is no such lock; `NotHeld` if the seat holds no reference to the lock under the tag.
+    /// It is refused, and leaves the seat as it was, with the first of these that holds: `NoLock` if there is no such
+    /// lock; `NotHeld` if the seat holds no reference to the lock under the tag.
     pub fn release(
         &self,
         seat: &mut RemoveSeat,
@@ -102,10 +111,9 @@ impl Locks {
     /// (WDK: "IoReleaseRemoveLockAndWait"; that it doesn't wait is this project's own rule: `drained` tells when it is
     /// over).
     ///
-    /// It is refused with the first of these that holds (this project's own rule): `NoLock` if there is no such lock;
-    /// `NotHeld` if the seat holds no reference to the lock under the tag; `AlreadyRemoving` if the removal had begun.
-    /// The first two leave the seat as it was. After `AlreadyRemoving` it keeps the reference, and knows the lock
-    /// removed.
+    /// It is refused with the first of these that holds: `NoLock` if there is no such lock; `NotHeld` if the seat holds
+    /// no reference to the lock under the tag; `AlreadyRemoving` if the removal had begun. The first two leave the seat
+    /// as it was. After `AlreadyRemoving` it keeps the reference, and knows the lock removed.
     pub fn begin_remove(
         &self,
         seat: &mut RemoveSeat,
@@ -143,10 +151,9 @@ impl Locks {
     /// Whether the removal of a lock has begun and nobody holds it or tries it any more. `Ok` is Yes, and then the seat
     /// knows it for good (WDK: "IoReleaseRemoveLockAndWait", where it waits).
     ///
-    /// It is refused with the first of these that holds (this project's own rule): `NoLock` if there is no such lock,
-    /// which leaves the seat as it was; `Busy` with the word found, which isn't 1. The references are unchanged. (The
-    /// clauses tie this word to the one that the seat's view tells from then on. That it stood in the table is not
-    /// proved.)
+    /// It is refused with the first of these that holds: `NoLock` if there is no such lock, which leaves the seat as it
+    /// was; `Busy` with the word found, which isn't 1. The references are unchanged. (The clauses tie this word to the
+    /// one that the seat's view tells from then on. That it stood in the table is not proved.)
     pub fn drained(&self, seat: &mut RemoveSeat, lock: LockNo) -> Result<(), DrainRefusal>
         requires { IsSeatOf self.now seat.old }
         ensures seat { IsSameSeat seat.old seat.new }

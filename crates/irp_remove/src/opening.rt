@@ -1,7 +1,8 @@
 //! How locks and their seats are made.
 ghost use Rattle.std.specs.Prelude.{◌≡◌, ◌<◌, ◌≤◌, ◌*◌, ◌-◌, All, Err, IfOk, MatchResult, length, vec_len};
 ghost use Rattle.irp_remove.specs.Core.{observers, stakes};
-ghost use Rattle.irp_remove.specs.Opening.{IsBadCount, IsGoodCount, OpenRefused, IsFresh, AreFresh, parties_of, IsAllIdle};
+ghost use Rattle.irp_remove.specs.Opening.{IsBadCount, IsGoodCount, OpenRefused, IsFresh, AreFresh, parties_of};
+ghost use Rattle.irp_remove.specs.Opening.{IsAllIdle};
 ghost use Rattle.irp_remove.specs.declared.refusal.OpenRefusal.TheVariants.{BadCount};
 ghost use mathlib.Core.Logic.{◌↔◌};
 ghost use Rattle.irp_remove.specs.Pairing.{lock_count};

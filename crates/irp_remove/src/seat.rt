@@ -1,4 +1,4 @@
-//! A remove seat: one observer and 64 stakes.
+//! A remove seat: one observer and 64 stakes. All of this is this project's own rule.
 ghost use Rattle.std.specs.Prelude.{◌≡◌, ◌<◌, map};
 ghost use Rattle.irp_remove.specs.Core.{flag};
 ghost use Rattle.irp_remove.specs.Seats.{IsWhole};
@@ -11,8 +11,7 @@ use irp_manager::DrainNote;
 use irp_types::LockNo;
 use std::marker::Model;
 
-/// One user of the locks that it was opened with. It holds up to 64 references, and knows which locks it found drained
-/// (this project's own rule).
+/// One user of the locks that it was opened with. It holds up to 64 references, and knows which locks it found drained.
 ///
 /// It can be moved to another thread. A seat that is dropped while it holds a reference gives nothing back: the lock is
 /// never drained from then on.
@@ -49,7 +48,7 @@ impl Model for RemoveSeat {
 }
 
 impl RemoveSeat {
-    /// Its number among the seats that were opened together, from 0 (this project's own rule).
+    /// Its number among the seats that were opened together, from 0.
     pub fn number(&self) -> u32
         ensures { result ≡ self.now.number }
     {
@@ -58,7 +57,7 @@ impl RemoveSeat {
 
     /// Tells that the views of its stakes say what it holds: each of its references is a stake that holds that lock
     /// under that tag, its other stakes are idle, and there are 64 of them together. (That each is a party of the
-    /// seat's own table is kept by this type.) It answers nothing (this project's own rule).
+    /// seat's own table is kept by this type.) It answers nothing.
     pub fn holds_what_it_lists(&self)
         ensures { IsWhole self.now }
     {
@@ -67,7 +66,7 @@ impl RemoveSeat {
 }
 
 /// A seat is what its owner knows of the locks: those for which its own `drained` answered Yes. Once it knows a lock
-/// drained it does for good; it knows nothing of a lock that there isn't (this project's own rule).
+/// drained it does for good; it knows nothing of a lock that there isn't.
 impl DrainNote for RemoveSeat {
     ghost knows_drained = { λ seat lock. flag seat.watch.drained lock.0 };
 

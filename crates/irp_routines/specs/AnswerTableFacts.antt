@@ -16,8 +16,10 @@ use Rattle.irp_types.specs.declared.answer.Answer.{Answer}
 use Rattle.irp_types.specs.declared.answer.CancelAnswer.{CancelAnswer}
 use Rattle.irp_types.specs.declared.answer.Plan.{Plan}
 use Rattle.irp_routines.specs.Guarded.{fixed_answer}
-use Rattle.irp_routines.specs.GuardedFacts.{fixed_allowed, guarded_allowed, guarded_plan_allowed, guarded_cancel_allowed}
-use Rattle.irp_routines.specs.AnswerTables.{reaction_to, as_answer, behaved, table_answer, IsTableAnswer, IsTablePlan, IsTableCancel}
+use Rattle.irp_routines.specs.GuardedFacts.{fixed_allowed, guarded_allowed, guarded_plan_allowed}
+use Rattle.irp_routines.specs.GuardedFacts.{guarded_cancel_allowed}
+use Rattle.irp_routines.specs.AnswerTables.{reaction_to, as_answer, behaved, table_answer, IsTableAnswer, IsTablePlan}
+use Rattle.irp_routines.specs.AnswerTables.{IsTableCancel}
 use Rattle.irp_routines.specs.declared.behaviour.Behaviour.{Behaviour}
 
 -- what is true of one answer is true of the same
@@ -34,10 +36,13 @@ behaved_allowed rule shown (Some behaviour) answer is =
 
 allowed_of : (change free : List Behaviour) (rule : Rule) (number : ℕ) (shown : Shown) (answer : Answer)
     → table_answer change free rule number shown ≡ Some answer → is_allowed rule shown answer ≡ true
-allowed_of change free Watch number shown answer is = some_allowed Watch shown (fixed_answer Watch shown) answer (fixed_allowed Watch shown) is
+allowed_of change free Watch number shown answer is =
+    some_allowed Watch shown (fixed_answer Watch shown) answer (fixed_allowed Watch shown) is
 allowed_of change free Change number shown answer is = behaved_allowed Change shown _ answer is
-allowed_of change free Keeper number shown answer is = some_allowed Keeper shown (fixed_answer Keeper shown) answer (fixed_allowed Keeper shown) is
-allowed_of change free KeepOnError number shown answer is = some_allowed KeepOnError shown (fixed_answer KeepOnError shown) answer (fixed_allowed KeepOnError shown) is
+allowed_of change free Keeper number shown answer is =
+    some_allowed Keeper shown (fixed_answer Keeper shown) answer (fixed_allowed Keeper shown) is
+allowed_of change free KeepOnError number shown answer is =
+    some_allowed KeepOnError shown (fixed_answer KeepOnError shown) answer (fixed_allowed KeepOnError shown) is
 allowed_of change free Free number shown answer is = behaved_allowed Free shown _ answer is
 
 pub table_answer_allowed : (tables : Tables) (change free : List Behaviour) (id : RoutineId) (shown : Shown) (answer : Answer)

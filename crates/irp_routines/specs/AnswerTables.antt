@@ -25,7 +25,8 @@ reaction_to behaviour shown = if is_success shown.status then behaviour.on_succe
 
 -- a reaction as an answer, with the mark that it may have
 abbrev pub as_answer : Shown → Reaction → Answer
-as_answer shown reaction = record { keep = reaction.keep; mark = right_mark shown reaction.keep; replacement = reaction.replacement }
+as_answer shown reaction =
+    record { keep = reaction.keep; mark = right_mark shown reaction.keep; replacement = reaction.replacement }
 
 -- what a completion routine of this rule and behaviour answers
 abbrev pub behaved : Rule → Shown → Behaviour → Answer

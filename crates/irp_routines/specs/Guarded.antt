@@ -24,7 +24,8 @@ fixed_keep Free shown = false
 
 -- an answer that the rule of a completion routine always allows
 abbrev pub fixed_answer : Rule → Shown → Answer
-fixed_answer rule shown = record { keep = fixed_keep rule shown; mark = right_mark shown (fixed_keep rule shown); replacement = None }
+fixed_answer rule shown =
+    record { keep = fixed_keep rule shown; mark = right_mark shown (fixed_keep rule shown); replacement = None }
 
 -- a plan that every dispatch may answer
 abbrev pub fixed_plan : Plan

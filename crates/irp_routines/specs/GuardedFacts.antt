@@ -13,7 +13,8 @@ use Rattle.irp_types.specs.declared.shown.Shown.{Shown}
 use Rattle.irp_types.specs.declared.answer.Answer.{Answer}
 use Rattle.irp_types.specs.declared.answer.CancelAnswer.{CancelAnswer}
 use Rattle.irp_types.specs.declared.answer.Plan.{Plan}
-use Rattle.irp_routines.specs.Guarded.{fixed_answer, fixed_plan, fixed_cancel, guarded_answer, guarded_plan, guarded_cancel}
+use Rattle.irp_routines.specs.Guarded.{fixed_answer, fixed_plan, fixed_cancel, guarded_answer, guarded_plan}
+use Rattle.irp_routines.specs.Guarded.{guarded_cancel}
 
 -- what passes a test, or else one that is known to pass it
 pub chosen_passes : {T : Type 0} (test : T → Bool) (given fixed : T) (passes : Bool) → test given ≡ passes → test fixed ≡ true → test (if passes then given else fixed) ≡ true
@@ -38,7 +39,8 @@ pub guarded_allowed : (rule : Rule) (shown : Shown) (answer : Answer) → is_all
 guarded_allowed rule shown answer = chosen_passes (is_allowed rule shown) answer (fixed_answer rule shown) (is_allowed rule shown answer) refl (fixed_allowed rule shown)
 
 pub guarded_plan_allowed : (known : Known) (shown : Shown) (plan : Plan) → is_plan_allowed known shown (guarded_plan known shown plan) ≡ true
-guarded_plan_allowed known shown plan = chosen_passes (is_plan_allowed known shown) plan fixed_plan (is_plan_allowed known shown plan) refl refl
+guarded_plan_allowed known shown plan =
+    chosen_passes (is_plan_allowed known shown) plan fixed_plan (is_plan_allowed known shown plan) refl refl
 
 fixed_cancel_allowed : (rule : CancelRule) → is_cancel_allowed rule (fixed_cancel rule) ≡ true
 fixed_cancel_allowed MustFinish = refl

@@ -1,5 +1,6 @@
 -- What adding to a store's tables makes of them, and why it is refused.
-use Rattle.std.specs.Prelude.{ℕ, ◌+◌, ◌==◌, ◌||◌, if◌then◌else◌, nat_lt, nat_le, not, List, [], ◌∷◌, ◌++◌, map, take, length, slice_index_or, Option, Some, None, Result, Ok, Err, ◌&&◌, Bool}
+use Rattle.std.specs.Prelude.{ℕ, ◌+◌, ◌==◌, ◌||◌, if◌then◌else◌, nat_lt, nat_le, not, List, [], ◌∷◌, ◌++◌, map, take}
+use Rattle.std.specs.Prelude.{length, slice_index_or, Option, Some, None, Result, Ok, Err, ◌&&◌, Bool}
 use Rattle.std.specs.List.{list_any, filter_map, range_with_len}
 use Rattle.std.specs.Option.{option_or, option_map}
 use Rattle.irp_types.specs.Limits.{last_major, most_drivers, most_routines, most_dispatches}
@@ -105,7 +106,8 @@ dispatch_refusal tables known =
 
 -- why a driver isn't added: a pair that can't be in its table, else there are as many as there may be
 abbrev pub driver_refusal : Tables → List Entrance → Option Reason
-driver_refusal tables pairs = option_or (pairs_refusal (length tables.dispatches) pairs) (full_at most_drivers (length tables.drivers))
+driver_refusal tables pairs =
+    option_or (pairs_refusal (length tables.dispatches) pairs) (full_at most_drivers (length tables.drivers))
 
 -- the reason, or this answer where there is none
 abbrev pub answer_unless : {A : Type 0} → Option Reason → A → Result A Reason

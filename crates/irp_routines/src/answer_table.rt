@@ -1,12 +1,14 @@
 //! Answers by plain tables.
 
-ghost use Rattle.std.specs.Prelude.{◌≡◌, ◌<◌, ◌++◌, ◌∷◌, [], length, slice_get, Some, None, Err, IfOk, OnOk, IfErr, OnErr};
+ghost use Rattle.std.specs.Prelude.{◌≡◌, ◌<◌, ◌++◌, ◌∷◌, [], length, slice_get, Some, None, Err, IfOk, OnOk, IfErr};
+ghost use Rattle.std.specs.Prelude.{OnErr};
 ghost use Rattle.std.proofs.Props.{props};
 ghost use Rattle.irp_types.specs.State.{AreTables};
 ghost use Rattle.irp_types.specs.Rules.{count_of_rule};
 ghost use Rattle.irp_types.specs.declared.routine.Rule.TheVariants.{Change, Free};
 ghost use Rattle.irp_routines.specs.Shelves.{put_under};
-ghost use Rattle.irp_routines.specs.Tables.{no_tables, with_routine, with_cancel, with_dispatch, with_driver, by_major, routine_refusal, cancel_refusal, dispatch_refusal, driver_refusal};
+ghost use Rattle.irp_routines.specs.Tables.{no_tables, with_routine, with_cancel, with_dispatch, with_driver, by_major};
+ghost use Rattle.irp_routines.specs.Tables.{routine_refusal, cancel_refusal, dispatch_refusal, driver_refusal};
 ghost use Rattle.irp_routines.specs.AnswerTables.{behaved, IsTableAnswer, IsTablePlan, IsTableCancel};
 ghost use Rattle.irp_routines.specs.AnswerTableFacts.{table_answer_allowed, table_plan_allowed, table_cancel_allowed};
 ghost use Rattle.irp_routines.specs.declared.not_added.Reason.{Reason};

@@ -20,7 +20,7 @@ use irp_types::{
 ///
 /// The tables are fixed. What a closure may answer is a relation that contracts alone see, and by law it is within
 /// what the tables allow: the rule beside a completion or cancel routine, the routines that a dispatch may name. No
-/// call takes memory.
+/// call takes memory of its own; a closure may.
 pub trait Ask {
     /// The counts of the routines, the drivers' dispatches by major function code, the routines that each dispatch may
     /// name, and the rules of the cancel routines.

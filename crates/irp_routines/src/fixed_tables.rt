@@ -4,7 +4,9 @@ ghost use Rattle.std.specs.Prelude.{◌≡◌, ◌<◌, length, Some, None, Err,
 ghost use Rattle.irp_types.specs.Limits.{most_routines};
 ghost use Rattle.irp_types.specs.State.{AreTables, dispatch_for};
 ghost use Rattle.irp_types.specs.Rules.{count_of_rule};
-ghost use Rattle.irp_routines.specs.Tables.{no_tables, one_more, with_routine, with_cancel, with_dispatch, with_driver, by_major, answer_unless, value_unless, routine_refusal, cancel_refusal, dispatch_refusal, driver_refusal};
+ghost use Rattle.irp_routines.specs.Tables.{no_tables, one_more, with_routine, with_cancel, with_dispatch, with_driver};
+ghost use Rattle.irp_routines.specs.Tables.{by_major, answer_unless, value_unless, routine_refusal, cancel_refusal};
+ghost use Rattle.irp_routines.specs.Tables.{dispatch_refusal, driver_refusal};
 ghost use Rattle.irp_routines.specs.declared.not_added.Reason.{Reason};
 ghost use Rattle.irp_routines.specs.declared.not_added.Reason.TheVariants.{Memory};
 

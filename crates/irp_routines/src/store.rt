@@ -1,6 +1,7 @@
 //! The store of closures.
 
-ghost use Rattle.std.specs.Prelude.{◌≡◌, ◌++◌, ◌∷◌, [], OnOk, length, map, replicate, Some, None, Err, IfOk, IfErr, IfSome, OnErr, slice_get};
+ghost use Rattle.std.specs.Prelude.{◌≡◌, ◌++◌, ◌∷◌, [], OnOk, length, map, replicate, Some, None, Err, IfOk, IfErr};
+ghost use Rattle.std.specs.Prelude.{IfSome, OnErr, slice_get};
 ghost use Rattle.std.proofs.Props.{props};
 ghost use Rattle.irp_types.specs.State.{AreTables};
 ghost use Rattle.irp_types.specs.Rules.{count_of_rule};
@@ -9,7 +10,8 @@ ghost use Rattle.irp_types.specs.declared.routine.Rule.TheVariants.{Watch, Chang
 ghost use Rattle.irp_routines.specs.Behaving.{cancel_may, dispatch_may, routine_may};
 ghost use Rattle.irp_routines.specs.Closures.{rules_set, cancel_rules_set, known_set};
 ghost use Rattle.irp_routines.specs.Shelves.{of_rule, put_under};
-ghost use Rattle.irp_routines.specs.Tables.{no_tables, with_routine, with_cancel, with_dispatch, with_driver, by_major, routine_refusal, cancel_refusal, dispatch_refusal, driver_refusal};
+ghost use Rattle.irp_routines.specs.Tables.{no_tables, with_routine, with_cancel, with_dispatch, with_driver, by_major};
+ghost use Rattle.irp_routines.specs.Tables.{routine_refusal, cancel_refusal, dispatch_refusal, driver_refusal};
 ghost use Rattle.irp_routines.specs.declared.not_added.Reason.{Reason};
 ghost use Rattle.irp_routines.specs.declared.not_added.Reason.TheVariants.{Memory};
 

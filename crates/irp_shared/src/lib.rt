@@ -2,12 +2,12 @@
 #![tactic(auto)]
 
 mod closing;
+mod lock_turn;
 mod locked;
 mod mismatch;
 mod open_refused;
 mod session;
 mod shared;
-mod turn;
 
 pub use irp_manager::Seat;
 pub use irp_transcript::{

@@ -17,11 +17,11 @@ ghost use Rattle.irp_shared.specs.declared.open_refused.OpenRefused.TheVariants.
 ghost use Rattle.irp_shared.specs.declared.mismatch.Mismatch.TheVariants.{Seats as OtherSeats, Entry as OtherEntry};
 
 use crate::closing::{Difference, are_all, gather, taken_out};
+use crate::lock_turn::take_turn;
 use crate::locked::Locked;
 use crate::mismatch::Mismatch;
 use crate::open_refused::OpenRefused;
 use crate::session::Session;
-use crate::turn::take_turn;
 use irp_manager::{Book, DrainNote, KnowsNothing, Manager, NotRecorded, Receipt, Recorded, Seat};
 use irp_routines::{Ask, FixedTables, Parts};
 use irp_slots::Token;

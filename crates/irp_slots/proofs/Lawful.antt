@@ -9,9 +9,9 @@ use Rattle.irp_slots.specs.declared.views.Owning.{Owning}
 use Rattle.irp_slots.specs.declared.views.View.{View}
 use Rattle.irp_slots.specs.declared.views.View.TheVariants.{First, Owner, Canceller}
 use Rattle.irp_slots.specs.declared.views.Parties.{Parties}
-use Rattle.irp_slots.specs.Core.{total, one_if, flag, times, is_begun, is_resting, is_standing, owns, published, taken, resting, standing, ended, new_canceller}
-use Rattle.irp_slots.specs.Laws.{HasOwner, OnceLaw, IsPublicationOnce, IsNothingElse, RestLaw, IsEmptyOnceAsked, IsEndedForGood, IsOwnView, EmptyLaw, IsTakenByCanceller, LostLaw, FlagLaw}
-use Rattle.irp_slots.proofs.Totals.{total_set, part_of_total, published_owned, ended_flagged}
+use Rattle.irp_slots.specs.Core.{total, one_if, flag, times, is_begun, is_resting, is_standing, owns, published, taken, resting, standing, ended, new_canceller, IsInOrder}
+use Rattle.irp_slots.specs.Laws.{HasOwner, OnceLaw, IsPublicationOnce, IsNothingElse, RestLaw, IsEmptyOnceAsked, IsEndedForGood, IsOwnView, EmptyLaw, IsTakenByCanceller, LostLaw, FlagLaw, OrderLaw}
+use Rattle.irp_slots.proofs.Totals.{total_set, part_of_total, published_owned, ended_flagged, all_at}
 
 same_number : (a : ℕ) → eqb a a ≡ true
 same_number a = eq-eqb a a refl
@@ -116,3 +116,6 @@ lost_law key s party o has done some_use none_taken =
 pub flag_law : FlagLaw
 flag_law key s slot r inside =
     ((r.flag_only slot inside, r.flag_set slot inside), λ h. let le = ended_flagged slot s.views r.in_order in r.flag_set slot inside (omega arith), r.found slot inside)
+
+pub order_law : OrderLaw
+order_law key s party view r at = all_at IsInOrder s.views party view at r.in_order

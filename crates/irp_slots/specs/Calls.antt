@@ -14,7 +14,8 @@ use Rattle.irp_slots.specs.declared.answers.Withdrawal.{Withdrawal}
 use Rattle.irp_slots.specs.declared.answers.Withdrawal.TheVariants as withdrawal
 use Rattle.irp_slots.specs.declared.answers.Request.{Request}
 use Rattle.irp_slots.specs.declared.answers.Request.TheVariants as request
-use Rattle.irp_slots.specs.Core.{is_begun, is_standing, flag_word, content_word, owning_published, owning_found_set, asking_flagged, IsEvent}
+use Rattle.irp_slots.specs.Core.{is_begun, is_standing, flag_word, content_word, owning_published, owning_found_set}
+use Rattle.irp_slots.specs.Core.{asking_flagged, IsEvent}
 use Rattle.irp_slots.specs.Models.{Publisher, Asker}
 
 -- What publish does. The use is the owner's publication unless it is answered Used. Taken and Lost come only where

@@ -1,7 +1,9 @@
 -- The core of the cancel slots: two words for each slot, what each party knows, and what each step does. Slot k has
--- its flag in word 2 k and its content in word 2 k + 1; one spare word stands behind them. The flag is set by the
--- first canceller that asks. The content is the use that stands in the slot, or 0.
-use Rattle.std.specs.Prelude.{◌≡◌, ◌⊎◌, replicate, ℕ, zero, suc, ◌+◌, ◌-◌, ◌*◌, ◌/◌, ◌%◌, ◌<◌, ◌≤◌, Bool, true, false, not, ◌&&◌, ◌||◌, List, [], ◌∷◌, length, All, slice_index, slice_index_or, slice_set, if◌then◌else◌, nat_eq, bit_or}
+-- its flag in word 2 k and its content in word 2 k + 1; one spare word stands behind them, so that a table always has
+-- a word. The flag is set by the first canceller that asks. The content is the use that stands in the slot, or 0.
+use Rattle.std.specs.Prelude.{◌≡◌, ◌⊎◌, replicate, ℕ, zero, suc, ◌+◌, ◌-◌, ◌*◌, ◌/◌, ◌%◌, ◌<◌, ◌≤◌, Bool, true, false}
+use Rattle.std.specs.Prelude.{not, ◌&&◌, ◌||◌, List, [], ◌∷◌, length, All, slice_index, slice_index_or, slice_set}
+use Rattle.std.specs.Prelude.{if◌then◌else◌, nat_eq, bit_or}
 use mathlib.Core.Option.{some}
 use lib.ListN.{get_elem?}
 use Rattle.atomic_table.specs.Table.{State, Me, Step}
@@ -246,7 +248,8 @@ out_of found taken = if nat_eq found 0 then taken else found ∷ taken
 
 -- an owner has swapped its use into the content
 abbrev pub owning_published : ℕ → Owning → Owning
-owning_published number owning = record owning { stage = Published; published = number; stood = false; found_set = false }
+owning_published number owning =
+    record owning { stage = Published; published = number; stood = false; found_set = false }
 
 -- the same, of a view
 abbrev pub owner_published : ℕ → View → View

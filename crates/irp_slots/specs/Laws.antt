@@ -10,7 +10,9 @@ use Rattle.irp_slots.specs.declared.views.Asking.{Asking}
 use Rattle.irp_slots.specs.declared.views.View.{View}
 use Rattle.irp_slots.specs.declared.views.View.TheVariants.{Owner, Canceller}
 use Rattle.irp_slots.specs.declared.views.Parties.{Parties}
-use Rattle.irp_slots.specs.Core.{total, one_if, flag, times, times_of, is_begun, is_resting, published, taken, flagged, ended, found_flagged, flag_of, content_of, Kept, at_first, owner_published, owner_checked, owner_done, slot_flagged, slot_ended}
+use Rattle.irp_slots.specs.Core.{total, one_if, flag, times, times_of, is_begun, is_resting, published, taken, flagged}
+use Rattle.irp_slots.specs.Core.{ended, found_flagged, flag_of, content_of, IsInOrder, Kept, at_first, owner_published}
+use Rattle.irp_slots.specs.Core.{owner_checked, owner_done, slot_flagged, slot_ended}
 
 -- a table under this rule keeps `Kept`
 abbrev pub Keeps : (Parties → State (Unit {0}) View → Type 0) → Type 0
@@ -100,3 +102,9 @@ FlagLaw =
     → ((flag_of s.words slot % 2 ≡ 1) ↔ (0 < total (flagged slot) s.views))
     × (0 < total (ended slot) s.views → flag_of s.words slot % 2 ≡ 1)
     × (0 < total (found_flagged slot) s.views → flag_of s.words slot % 2 ≡ 1)
+
+-- what each party knows comes of its steps in their order
+abbrev pub OrderLaw : Type 0
+OrderLaw =
+    (key : Parties) (s : State (Unit {0}) View) (party : ℕ) (view : View) → Kept key s
+    → get_elem? s.views party ≡ some view → IsInOrder view

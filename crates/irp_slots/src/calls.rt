@@ -5,7 +5,8 @@ ghost use Rattle.irp_slots.specs.declared.answers.Publication.TheVariants.{Used}
 ghost use Rattle.irp_slots.specs.declared.answers.Withdrawal.TheVariants.{NotStanding};
 ghost use Rattle.irp_slots.specs.declared.answers.Request.TheVariants.{NoSlot};
 ghost use Rattle.irp_slots.specs.declared.views.Stage.TheVariants.{Idle, Published};
-ghost use Rattle.irp_slots.specs.Core.{flag, is_begun, is_standing, may_take_back, owning_published, owning_checked, asking_flagged};
+ghost use Rattle.irp_slots.specs.Core.{flag, is_begun, is_standing, may_take_back, owning_published, owning_checked};
+ghost use Rattle.irp_slots.specs.Core.{asking_flagged};
 ghost use Rattle.irp_slots.specs.Calls.{Publishes, PublishSteps, Withdraws, WithdrawSteps, Requests, RequestSteps};
 ghost use Rattle.irp_slots.specs.Calls.{SwappedIn, ReadFlag, TookBack, MissedIt, FlagSet, TookOut, FoundNone};
 ghost use Rattle.irp_slots.specs.Pairing.{IsOwnerOf, IsCancellerOf, slot_count};

@@ -17,8 +17,8 @@ mod views;
 pub use answers::{OpenRefusal, Publication, Request, Token, Withdrawal};
 pub use canceller::Canceller;
 pub use laws::{
-    empty_once_asked, flag_tells_of_a_request, lost_is_taken, resting_is_empty, table_keeps_rule,
-    taken_once,
+    empty_once_asked, flag_tells_of_a_request, lost_is_taken, parties_keep_order, resting_is_empty,
+    table_keeps_rule, taken_once,
 };
 pub use opening::open;
 pub use owner::SlotOwner;

@@ -2,7 +2,8 @@
 ghost use Rattle.std.specs.Prelude.{◌≡◌, ◌+◌, ◌-◌, ◌<◌, [], All, Err, IfErr, IfOk, vec_len};
 ghost use mathlib.Core.Logic.{◌↔◌};
 ghost use Rattle.irp_slots.specs.Core.{span, first_from, no_owner_left, canceller_count, new_owning};
-ghost use Rattle.irp_slots.specs.Opening.{IsBadCount, IsGoodCount, OpenRefused, parties_of, AreFreshOwners, IsFreshCanceller, IsAllEmpty};
+ghost use Rattle.irp_slots.specs.Opening.{IsBadCount, IsGoodCount, OpenRefused, parties_of, AreFreshOwners};
+ghost use Rattle.irp_slots.specs.Opening.{IsFreshCanceller, IsAllEmpty};
 ghost use Rattle.irp_slots.specs.declared.answers.OpenRefusal.TheVariants.{BadCount};
 ghost use Rattle.irp_slots.specs.declared.views.View.TheVariants.{First};
 ghost use Rattle.irp_slots.specs.Pairing.{slot_count, table_of, key_of};
@@ -19,7 +20,8 @@ use std::alloc::{AllocError, Global};
 
 /// Makes up to 64 slots, numbered from 0, an owner for each in their order, and 1 to 64 cancellers (this project's
 /// own rule). The owners are idle and no canceller has asked: the table has no other owners and cancellers than
-/// these, and where they are as they were made every slot is empty and every flag clear.
+/// these, and where they are as they were made every slot is empty and every flag clear. Making one of them loads the
+/// first word, which is slot 0's flag (the spare word where there are no slots), and changes none.
 ///
 /// The error is `BadCount` exactly where more than 64 slots, or none or more than 64 cancellers were asked for. It is
 /// `Memory` only where the counts are good.

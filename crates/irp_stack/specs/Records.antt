@@ -1,5 +1,6 @@
 -- The records of the devices, and the stacks that they describe.
-use Rattle.std.specs.Prelude.{ℕ, ◌≡◌, ◌+◌, ◌-◌, ◌<◌, ◌≤◌, ◌||◌, Bool, true, false, is_some, List, [], ◌∷◌, length, map, Some, None, slice_set, slice_index_or, zero, suc, Result, Ok, Err}
+use Rattle.std.specs.Prelude.{ℕ, ◌≡◌, ◌+◌, ◌-◌, ◌<◌, ◌≤◌, ◌||◌, Bool, true, false, is_some, List, [], ◌∷◌, length, map}
+use Rattle.std.specs.Prelude.{Some, None, slice_set, slice_index_or, zero, suc, Result, Ok, Err}
 use Rattle.std.specs.Option.{option_map_or}
 use Rattle.irp_types.specs.Limits.{most_locations}
 use Rattle.irp_types.specs.Checks.{first_failing}
@@ -79,17 +80,25 @@ pub record DescribesStack (records : List Device) (stack : List ℕ) : Type 0 wh
   pub known : (place : ℕ) → place < length stack → member_at stack place < length records
   pub size : (place : ℕ) → place < length stack → (record_of records (member_at stack place)).size ≡ place + 1
   pub first : (record_of records (member_at stack 0)).lower ≡ None
-  pub lower : (place : ℕ) → place + 1 < length stack → (record_of records (member_at stack (place + 1))).lower ≡ Some (id (member_at stack place))
-  pub upper : (place : ℕ) → place + 1 < length stack → (record_of records (member_at stack place)).upper ≡ Some (id (member_at stack (place + 1)))
+  pub lower :
+      (place : ℕ) → place + 1 < length stack
+      → (record_of records (member_at stack (place + 1))).lower ≡ Some (id (member_at stack place))
+  pub upper :
+      (place : ℕ) → place + 1 < length stack
+      → (record_of records (member_at stack place)).upper ≡ Some (id (member_at stack (place + 1)))
   pub last : (record_of records (member_at stack (length stack - 1))).upper ≡ None
-  pub bottom : (place : ℕ) → place < length stack → (record_of records (member_at stack place)).bottom ≡ id (member_at stack 0)
+  pub bottom :
+      (place : ℕ) → place < length stack → (record_of records (member_at stack place)).bottom ≡ id (member_at stack 0)
   pub top : (record_of records (member_at stack 0)).top ≡ id (member_at stack (length stack - 1))
-  pub live : (place : ℕ) → 1 < length stack → place < length stack → (record_of records (member_at stack place)).live ≡ true
+  pub live :
+      (place : ℕ) → 1 < length stack → place < length stack → (record_of records (member_at stack place)).live ≡ true
 
 -- a device stands in its stack, which is the stack of each member
 pub record IsPlaced (records : List Device) (stacks : List (List ℕ)) (device : ℕ) : Type 0 where
   pub line : DescribesStack records (list_of stacks device)
-  pub same : (place : ℕ) → place < length (list_of stacks device) → list_of stacks (member_at (list_of stacks device) place) ≡ list_of stacks device
+  pub same :
+      (place : ℕ) → place < length (list_of stacks device)
+      → list_of stacks (member_at (list_of stacks device) place) ≡ list_of stacks device
   pub some : 0 < (record_of records device).size
   pub within : (record_of records device).size ≤ length (list_of stacks device)
   pub own : member_at (list_of stacks device) ((record_of records device).size - 1) ≡ device

@@ -3,7 +3,8 @@
 ghost use Rattle.std.specs.Prelude.{◌≡◌, ◌+◌, ◌-◌, ◌<◌, ◌≤◌, length};
 ghost use Rattle.std.specs.List.{AllByRecursion};
 ghost use Rattle.irp_types.specs.Limits.{most_locations};
-ghost use Rattle.irp_stack.specs.Records.{FoundLive, walk, renumbered, put_above, cut_between, dead, edit, record_of, names_neighbour};
+ghost use Rattle.irp_stack.specs.Records.{FoundLive, walk, renumbered, put_above, cut_between, dead, edit, record_of};
+ghost use Rattle.irp_stack.specs.Records.{names_neighbour};
 
 use irp_types::{DeviceId, DriverId, LockNo, Refusal};
 

@@ -1,4 +1,4 @@
-//! The devices and their stacks.
+//! The devices and their stacks. That refusals come in the order in which they are listed is this project's own rule.
 
 mod looks;
 
@@ -6,11 +6,14 @@ ghost use Rattle.std.specs.Prelude.{◌≡◌, ◌+◌, ◌<◌, ◌≤◌, leng
 ghost use Rattle.std.specs.Option.{option_map};
 ghost use Rattle.irp_types.specs.Limits.{most_locations};
 ghost use Rattle.irp_types.specs.Checks.{first_failing, answer_unless, value_unless};
-ghost use Rattle.irp_types.specs.Stacks.{no_devices, AreStacks, create_checks, attach_checks, detach_checks, delete_checks, after_create, after_attach, after_detach, after_delete, top_of, cut_off_by, lower_of, stack_size_of};
+ghost use Rattle.irp_types.specs.Stacks.{no_devices, AreStacks, create_checks, attach_checks, detach_checks};
+ghost use Rattle.irp_types.specs.Stacks.{delete_checks, after_create, after_attach, after_detach, after_delete, top_of};
+ghost use Rattle.irp_types.specs.Stacks.{cut_off_by, lower_of, stack_size_of};
 ghost use Rattle.irp_types.specs.declared.limit.Limit.TheVariants.{ThirtyTwo};
 ghost use Rattle.irp_types.specs.declared.refusal.Refusal.TheVariants.{Full};
 ghost use Rattle.irp_stack.specs.Records.{id, facts_shown};
-ghost use Rattle.irp_stack.specs.declared.stacks.NotCreated.TheVariants.{Full as NotCreated_Full, Memory as NotCreated_Memory};
+ghost use Rattle.irp_stack.specs.declared.stacks.NotCreated.TheVariants.{Full as NotCreated_Full};
+ghost use Rattle.irp_stack.specs.declared.stacks.NotCreated.TheVariants.{Memory as NotCreated_Memory};
 
 use crate::device::{Device, cut_between, live_device, put_above, record_at, renumber, retire};
 use irp_types::{DeviceId, DriverId, Limit, LockNo, Refusal};
@@ -128,10 +131,10 @@ impl Stacks {
     /// Puts `device`, which stands alone, on the present top of the stack of `to`, and answers that former top
     /// (WDK: "IoAttachDeviceToDeviceStack").
     ///
-    /// It is refused, and changes nothing, with the first of these that holds (this project's own rule): `NoDevice` if
-    /// `device` was never created, `DeviceGone` if it was deleted; both likewise of `to`; `SameStack` if the two are in
-    /// one stack, as a device is with itself; `StillAttached` if `device` has a neighbour; `TooDeep` if the stack of
-    /// `to` has as many devices as the limit allows. It takes constant time.
+    /// It is refused, and changes nothing, with the first of these that holds: `NoDevice` if `device` was never
+    /// created, `DeviceGone` if it was deleted; both likewise of `to`; `SameStack` if the two are in one stack, as a
+    /// device is with itself; `StillAttached` if `device` has a neighbour; `TooDeep` if the stack of `to` has as many
+    /// devices as the limit allows. It takes constant time.
     pub fn attach(&mut self, device: DeviceId, to: DeviceId) -> Result<DeviceId, Refusal>
         ensures answer { result ≡ answer_unless
             (first_failing (attach_checks self.old.limit self.old.devices device.0 to.0))
@@ -162,9 +165,9 @@ impl Stacks {
     /// from now on (WDK: "IoDetachDevice"; that those above stay on it, with stack sizes from 1, is this project's own
     /// rule).
     ///
-    /// It is refused, and changes nothing, with the first of these that holds (this project's own rule): `NoDevice` if
-    /// `lower` was never created, `DeviceGone` if it was deleted, `NothingAttached` if it is the top of its stack. It
-    /// goes once over the devices above the cut.
+    /// It is refused, and changes nothing, with the first of these that holds: `NoDevice` if `lower` was never created,
+    /// `DeviceGone` if it was deleted, `NothingAttached` if it is the top of its stack. It goes once over the devices
+    /// above the cut.
     pub fn detach(&mut self, lower: DeviceId) -> Result<DeviceId, Refusal>
         ensures answer { result ≡ answer_unless
             (first_failing (detach_checks self.old.devices lower.0))
@@ -186,9 +189,9 @@ impl Stacks {
 
     /// Marks a device that stands alone as gone, for ever (WDK: "IoDeleteDevice"). Its number stays its own.
     ///
-    /// It is refused, and changes nothing, with the first of these that holds (this project's own rule): `NoDevice` if
-    /// the device was never created, `DeviceGone` if it was deleted before, `StillAttached` if it has a neighbour. It
-    /// doesn't look at packets or remove locks.
+    /// It is refused, and changes nothing, with the first of these that holds: `NoDevice` if the device was never
+    /// created, `DeviceGone` if it was deleted before, `StillAttached` if it has a neighbour. It doesn't look at
+    /// packets or remove locks.
     pub fn delete(&mut self, device: DeviceId) -> Result<(), Refusal>
         ensures answer { result ≡ answer_unless
             (first_failing (delete_checks self.old.devices device.0)) tt }

@@ -14,8 +14,8 @@ mod guess;
 mod guessed_calls;
 mod guessed_parts;
 mod guessed_questions;
-mod laws;
 mod read;
+mod round_trip;
 mod scan;
 
 pub use irp_script_reader::{
@@ -24,5 +24,5 @@ pub use irp_script_reader::{
 };
 pub use irp_transcript_reader::ReadFault;
 pub use irp_transcript_writer::{Cause, Failed, Out, WriteFault, WriterOut, write_transcript};
-pub use laws::{entry_is_read, read_again, written_is_read};
 pub use read::read_transcript;
+pub use round_trip::{entry_is_read, read_again, written_is_read};

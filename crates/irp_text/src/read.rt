@@ -6,7 +6,7 @@ ghost use Rattle.irp_transcript_reader.specs.Reading.{IsEntryLine, ReadsFrom, cu
 
 use crate::fits::fits;
 use crate::guess::guess_entry;
-use crate::laws::entry_is_read;
+use crate::round_trip::entry_is_read;
 use irp_forms::Unread;
 use irp_transcript::Transcript;
 use irp_transcript_reader::{MOST_BYTES, ReadFault, Reading, TakeLine, read_lines};

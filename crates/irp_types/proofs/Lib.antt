@@ -13,3 +13,4 @@ mod SettledStates
 mod Lent
 mod Examples
 pub mod Deciding
+pub mod HeldPackets

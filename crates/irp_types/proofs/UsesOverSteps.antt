@@ -123,16 +123,16 @@ given_back old slot = record {
 }
 
 -- a check that did not fail, and the others
-passed : (fails : Bool) (refusal : Refusal) (others : List Check) → first_failing ((fails, refusal) ∷ others) ≡ None → (fails ≡ false) × (first_failing others ≡ None)
+pub passed : (fails : Bool) (refusal : Refusal) (others : List Check) → first_failing ((fails, refusal) ∷ others) ≡ None → (fails ≡ false) × (first_failing others ≡ None)
 passed true refusal others none = absurd (none-some refusal (sym none))
 passed false refusal others none = (refl, none)
 
 -- the checks of two groups passed
-both_passed : (one two : Option Refusal) → or_else one two ≡ None → (one ≡ None) × (two ≡ None)
+pub both_passed : (one two : Option Refusal) → or_else one two ≡ None → (one ≡ None) × (two ≡ None)
 both_passed None two none = (refl, none)
 both_passed (Some refusal) two none = absurd (none-some refusal (sym none))
 
-is_so : (fact : Bool) → not fact ≡ false → fact ≡ true
+pub is_so : (fact : Bool) → not fact ≡ false → fact ≡ true
 is_so true is = refl
 is_so false is = absurd (false≢true (sym is))
 

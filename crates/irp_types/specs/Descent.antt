@@ -1,5 +1,7 @@
 -- Descent: which devices a sent packet came to, in which location, what each planned, and what is left of the packet.
-use Rattle.std.specs.Prelude.{ℕ, ◌≡◌, ◌+◌, ◌-◌, ◌<◌, ◌≤◌, ◌==◌, Bool, true, false, ◌&&◌, ◌||◌, if◌then◌else◌, is_some, List, [], ◌∷◌, ◌++◌, map, filter, length, take, reverse, count_by, slice_index_or, Option, Some, None, MatchOption, EachIndex, unwrap_or}
+use Rattle.std.specs.Prelude.{ℕ, ◌≡◌, ◌+◌, ◌-◌, ◌<◌, ◌≤◌, ◌==◌, Bool, true, false, ◌&&◌, ◌||◌, if◌then◌else◌, is_some}
+use Rattle.std.specs.Prelude.{List, [], ◌∷◌, ◌++◌, map, filter, length, take, reverse, count_by, slice_index_or, Option}
+use Rattle.std.specs.Prelude.{Some, None, MatchOption, EachIndex, unwrap_or}
 use Rattle.std.specs.List.{list_any, flat_map, last_or, AllByRecursion}
 use Rattle.std.specs.Option.{option_map_or}
 use Rattle.irp_types.specs.Status.{pending, invalid_device_request}
@@ -110,7 +112,8 @@ shown_to irp packet devices frame =
 -- a dispatch is there, and its plan is allowed, given the routines that it may name
 abbrev pub IsPlanOf : Tables → DispatchId → Shown → Option Plan → Type 0
 IsPlanOf tables dispatch shown plan =
-    (known : Known) × (answer : Plan) × (known_of tables dispatch ≡ Some known) × (plan ≡ Some answer) × (is_plan_allowed known shown answer ≡ true)
+    (known : Known) × (answer : Plan) × (known_of tables dispatch ≡ Some known) × (plan ≡ Some answer)
+    × (is_plan_allowed known shown answer ≡ true)
 
 -- a frame has no plan exactly where its driver has no dispatch for the major function code, and else one that is
 -- allowed
@@ -130,7 +133,8 @@ as_question shown (Some dispatch) (Some plan) = Dispatch dispatch shown plan ∷
 
 -- the question at a frame
 abbrev pub question_at : Tables → DevicesValue → Frame → Shown → List Asked
-question_at tables devices frame shown = as_question shown (dispatch_at tables devices frame.device shown.major) frame.plan
+question_at tables devices frame shown =
+    as_question shown (dispatch_at tables devices frame.device shown.major) frame.plan
 
 -- the questions to dispatches, in the order of the frames
 abbrev pub questions_of : Tables → IrpRef → PacketValue → DevicesValue → List Frame → List Asked
@@ -174,20 +178,28 @@ used_location packet frames number =
 pub record PassedDown (packet : PacketValue) (frames : List Frame) (reached : PacketValue) : Type 0 where
   pub size : size_of reached ≡ size_of packet
   pub lowest : 1 ≤ (last_frame frames).location
-  pub used : (number : ℕ) → (last_frame frames).location ≤ number → number ≤ first_location packet → location_at reached number ≡ used_location packet frames number
-  pub below : (number : ℕ) → 1 ≤ number → number < (last_frame frames).location → location_at reached number ≡ location_at packet number
+  pub used :
+      (number : ℕ) → (last_frame frames).location ≤ number → number ≤ first_location packet
+      → location_at reached number ≡ used_location packet frames number
+  pub below :
+      (number : ℕ) → 1 ≤ number → number < (last_frame frames).location
+      → location_at reached number ≡ location_at packet number
   pub above : (number : ℕ) → first_location packet < number → location_at reached number ≡ location_at packet number
-  pub others : reached ≡ record packet { locations = reached.locations; current = (last_frame frames).location; preparation = Nothing }
+  pub others :
+      reached
+      ≡ record packet { locations = reached.locations; current = (last_frame frames).location; preparation = Nothing }
 
 -- how a descent ends: the last device holds the packet, with a cancel routine or for a cancel slot, or it is finished
 -- and unwound
 abbrev pub Ends : IrpRef → Frame → PacketValue → List Asking → PacketValue → Option Plan → Type 0
 Ends irp last reached asked new None = Unwound irp (with_status reached invalid_device_request 0) asked new
-Ends irp last reached asked new (Some (Finish status information)) = Unwound irp (with_status reached status information) asked new
+Ends irp last reached asked new (Some (Finish status information)) =
+    Unwound irp (with_status reached status information) asked new
 Ends irp last reached asked new (Some (Hold cancel)) =
     (asked ≡ []) × (new ≡ record reached { owner = Device (record { 0 = last.device }); cancel_routine = cancel })
 Ends irp last reached asked new (Some HoldSlot) =
-    (asked ≡ []) × (new ≡ record reached { owner = Device (record { 0 = last.device }); cancel_routine = None; slot_held = true })
+    (asked ≡ [])
+    × (new ≡ record reached { owner = Device (record { 0 = last.device }); cancel_routine = None; slot_held = true })
 Ends irp last reached asked new (Some Skip) = ⊥
 Ends irp last reached asked new (Some (Forward set)) = ⊥
 Ends irp last reached asked new (Some (ForwardPend set)) = ⊥
@@ -204,7 +216,8 @@ final_status (Some (ForwardPend set)) = pending
 
 -- the status of the reply: PENDING if some frame pends, else the one that the packet was finished with
 abbrev pub replied_status : List Frame → Status
-replied_status frames = if list_any (plans marks_location) frames then pending else final_status (last_frame frames).plan
+replied_status frames =
+    if list_any (plans marks_location) frames then pending else final_status (last_frame frames).plan
 
 -- a packet was sent to the target: what was asked, the packet that is left, and the status of the reply
 pub record Descended (tables : Tables) (irp : IrpRef) (devices : DevicesValue) (old : PacketValue) (target : ℕ) (asked : List Asked) (new : PacketValue) (status : Status) : Type 0 where

@@ -1,5 +1,6 @@
 -- Histories: which the sequential manager could have made, and what is read off one.
-use Rattle.std.specs.Prelude.{ℕ, ◌≡◌, ◌≤◌, ◌+◌, ◌-◌, ◌==◌, Bool, false, not, ◌&&◌, List, [], ◌∷◌, ◌++◌, length, filter, find, slice_get, slice_index_or, Option, Some, None}
+use Rattle.std.specs.Prelude.{ℕ, ◌≡◌, ◌≤◌, ◌+◌, ◌-◌, ◌==◌, Bool, false, not, ◌&&◌, List, [], ◌∷◌, ◌++◌, length, filter}
+use Rattle.std.specs.Prelude.{find, slice_get, slice_index_or, Option, Some, None}
 use Rattle.std.specs.Option.{option_map, option_map_or}
 use Rattle.std.specs.List.{range_with_len}
 use Rattle.std.specs.FinMap as fin
@@ -14,7 +15,8 @@ use Rattle.irp_types.specs.declared.call.Call.TheVariants.{Delete}
 
 -- the lock of the device that a Delete names, where that device was created
 abbrev pub lock_of : StateValue → Call → Option LockNo
-lock_of state (Delete device) = option_map (λ (facts : DeviceFacts). facts.lock) (slice_get state.devices.facts device.0)
+lock_of state (Delete device) =
+    option_map (λ (facts : DeviceFacts). facts.lock) (slice_get state.devices.facts device.0)
 lock_of state _ = None
 
 -- an entry has this number, and its step leads from the one state to the other
@@ -49,7 +51,8 @@ IsLegal fixed history = (states : List StateValue) × LeadsThrough fixed history
 abbrev pub HistoryGoesOn : Type 0
 HistoryGoesOn =
     (fixed : Fixed) (history : List Entry) (old : StateValue) (entry : Entry) (new : StateValue)
-    → LeadsTo fixed history old → IsEntryAt fixed (length history) old entry new → LeadsTo fixed (history ++ entry ∷ []) new
+    → LeadsTo fixed history old → IsEntryAt fixed (length history) old entry new
+    → LeadsTo fixed (history ++ entry ∷ []) new
 
 -- an entry leads from a state to one state only
 abbrev pub EntrySettlesNextState : Type 0
@@ -73,11 +76,13 @@ packet_of_use state use_no = find (λ (live : LivePacket). live.use_no == use_no
 
 -- the use's packet is live, and not ended
 abbrev pub is_open : StateValue → ℕ → Bool
-is_open state use_no = option_map_or (λ (live : LivePacket). not (has_ended live.packet.owner)) (packet_of_use state use_no) false
+is_open state use_no =
+    option_map_or (λ (live : LivePacket). not (has_ended live.packet.owner)) (packet_of_use state use_no) false
 
 -- the use's packet is live, and ended
 abbrev pub is_ended : StateValue → ℕ → Bool
-is_ended state use_no = option_map_or (λ (live : LivePacket). has_ended live.packet.owner) (packet_of_use state use_no) false
+is_ended state use_no =
+    option_map_or (λ (live : LivePacket). has_ended live.packet.owner) (packet_of_use state use_no) false
 
 -- the numbers of the entries that completed a use: before them its packet isn't ended, and after them it is
 abbrev pub completions : List StateValue → ℕ → List ℕ
@@ -95,7 +100,8 @@ HistoryCompletesOnce =
 -- a legal history that completes each use at most once
 abbrev pub CompletesOnce : Fixed → List Entry → Type 0
 CompletesOnce fixed history =
-    (states : List StateValue) × LeadsThrough fixed history states × ((use_no : ℕ) → length (completions states use_no) ≤ 1)
+    (states : List StateValue) × LeadsThrough fixed history states
+    × ((use_no : ℕ) → length (completions states use_no) ≤ 1)
 
 -- each legal history completes each use at most once
 abbrev pub LegalCompletesOnce : Type 0

@@ -6,4 +6,6 @@ use Rattle.irp_types.specs.declared.routine.Known.{Known}
 
 -- the standing facts of a state stay where there are at least as many routines of each rule
 abbrev pub StandWithMore : Type 0
-StandWithMore = (fewer more : Known) (state : StateValue) → IsWithin fewer more → StandingFacts fewer state → StandingFacts more state
+StandWithMore =
+    (fewer more : Known) (state : StateValue) → IsWithin fewer more → StandingFacts fewer state
+    → StandingFacts more state

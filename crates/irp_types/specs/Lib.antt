@@ -16,3 +16,4 @@ pub mod Histories
 pub mod Standing
 pub mod Lending
 pub mod Sharing
+pub mod Taking

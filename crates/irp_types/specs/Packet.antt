@@ -1,5 +1,6 @@
 -- A packet as a value, its own checks, and what its own calls make of it.
-use Rattle.std.specs.Prelude.{ℕ, ◌-◌, ◌+◌, Bool, true, false, not, ◌&&◌, if◌then◌else◌, nat_lt, nat_le, List, [], ◌∷◌, length, Option, Some, None, replicate, slice_get, slice_set, slice_index_or}
+use Rattle.std.specs.Prelude.{ℕ, ◌-◌, ◌+◌, Bool, true, false, not, ◌&&◌, if◌then◌else◌, nat_lt, nat_le, List, [], ◌∷◌}
+use Rattle.std.specs.Prelude.{length, Option, Some, None, replicate, slice_get, slice_set, slice_index_or}
 use Rattle.irp_types.specs.Limits.{last_major}
 use Rattle.irp_types.specs.Status.{success}
 use Rattle.irp_types.specs.Checks.{Check, first_failing}
@@ -26,7 +27,7 @@ pub record PacketValue : Type 0 where
   pub cancel_routine : Option CancelId
   pub owner : Owner
   pub preparation : Preparation
-  -- whether it stands in a cancel slot, and only who takes it from there completes it
+  -- whether it stands in a cancel slot: FinishTaken alone completes it then
   pub slot_held : Bool
 
 -- how many locations a packet has

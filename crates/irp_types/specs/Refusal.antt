@@ -1,7 +1,13 @@
 -- The numbers of refusals.
 use Rattle.std.specs.Prelude.{ℕ}
 use Rattle.irp_types.specs.declared.refusal.Refusal.{Refusal}
-use Rattle.irp_types.specs.declared.refusal.Refusal.TheVariants.{NoIrp, Stale, NoDevice, DeviceGone, NotOwner, NoLocation, NotPrepared, AfterSkip, TooShort, WrongTarget, NoRoutine, BadStatus, CancelRoutineSet, AlreadyCancelled, InFlight, StillAttached, SameStack, TooDeep, Full, NothingAttached, NotDrained, BadSize, BadMajor, NoDriver, Ended, HistoryFull, NoLock, SlotHeld, NotSlotHeld}
+use Rattle.irp_types.specs.declared.refusal.Refusal.TheVariants.{NoIrp, Stale, NoDevice, DeviceGone, NotOwner}
+use Rattle.irp_types.specs.declared.refusal.Refusal.TheVariants.{NoLocation, NotPrepared, AfterSkip, TooShort}
+use Rattle.irp_types.specs.declared.refusal.Refusal.TheVariants.{WrongTarget, NoRoutine, BadStatus, CancelRoutineSet}
+use Rattle.irp_types.specs.declared.refusal.Refusal.TheVariants.{AlreadyCancelled, InFlight, StillAttached, SameStack}
+use Rattle.irp_types.specs.declared.refusal.Refusal.TheVariants.{TooDeep, Full, NothingAttached, NotDrained, BadSize}
+use Rattle.irp_types.specs.declared.refusal.Refusal.TheVariants.{BadMajor, NoDriver, Ended, HistoryFull, NoLock}
+use Rattle.irp_types.specs.declared.refusal.Refusal.TheVariants.{SlotHeld, NotSlotHeld}
 
 -- each refusal's own number
 abbrev pub refusal_number : Refusal → ℕ

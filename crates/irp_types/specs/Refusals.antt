@@ -1,5 +1,6 @@
 -- Which check of a call fails first.
-use Rattle.std.specs.Prelude.{ℕ, ◌-◌, ◌==◌, Bool, true, false, not, ◌||◌, ◌&&◌, nat_lt, nat_le, is_some, List, [], ◌∷◌, ◌++◌, length, Option}
+use Rattle.std.specs.Prelude.{ℕ, ◌-◌, ◌==◌, Bool, true, false, not, ◌||◌, ◌&&◌, nat_lt, nat_le, is_some, List, [], ◌∷◌}
+use Rattle.std.specs.Prelude.{◌++◌, length, Option}
 use Rattle.std.specs.List.{list_any}
 use Rattle.std.specs.Option.{option_map_or}
 use Rattle.std.specs.FinMap as fin
@@ -7,9 +8,12 @@ use Rattle.irp_types.specs.Limits.{most_under, most_live, use_limit}
 use Rattle.irp_types.specs.Status.{is_completable}
 use Rattle.irp_types.specs.Checks.{Check, first_failing, or_else}
 use Rattle.irp_types.specs.Rules.{is_known}
-use Rattle.irp_types.specs.Packet.{PacketValue, size_of, location_at, location_check, skip_check, preparation_check, set_next_refusal, copy_to_next_refusal, skip_refusal, set_routine_refusal, mark_pending_refusal}
+use Rattle.irp_types.specs.Packet.{PacketValue, size_of, location_at, location_check, skip_check, preparation_check}
+use Rattle.irp_types.specs.Packet.{set_next_refusal, copy_to_next_refusal, skip_refusal, set_routine_refusal}
+use Rattle.irp_types.specs.Packet.{mark_pending_refusal}
 use Rattle.irp_types.specs.Unwinding.{from_to}
-use Rattle.irp_types.specs.Stacks.{DevicesValue, stack_size_of, lower_of, device_checks, create_checks, attach_checks, detach_checks, delete_checks}
+use Rattle.irp_types.specs.Stacks.{DevicesValue, stack_size_of, lower_of, device_checks, create_checks, attach_checks}
+use Rattle.irp_types.specs.Stacks.{detach_checks, delete_checks}
 use Rattle.irp_types.specs.State.{StateValue, LivePacket, Fixed, live_at, packet_at, packet_of}
 use Rattle.irp_types.specs.declared.status.Status.{Status}
 use Rattle.irp_types.specs.declared.names.IrpRef.{IrpRef}
@@ -22,9 +26,16 @@ use Rattle.irp_types.specs.declared.routine.Setting.{Setting}
 use Rattle.irp_types.specs.declared.call.Party.{Party}
 use Rattle.irp_types.specs.declared.call.Party.TheVariants.{Originator as ByOriginator, Device as ByDevice}
 use Rattle.irp_types.specs.Calls.{Call}
-use Rattle.irp_types.specs.declared.call.Call.TheVariants.{CreateDevice, Attach, Detach, Delete, Allocate, Free, Reuse, SetNext, CopyToNext, Skip, SetRoutine, MarkPending, CallDriver, Complete, FinishTaken, SetCancelRoutine, Cancel, Look}
+use Rattle.irp_types.specs.declared.call.Call.TheVariants.{CreateDevice, Attach, Detach, Delete, Allocate, Free, Reuse}
+use Rattle.irp_types.specs.declared.call.Call.TheVariants.{SetNext, CopyToNext, Skip, SetRoutine, MarkPending}
+use Rattle.irp_types.specs.declared.call.Call.TheVariants.{CallDriver, Complete, FinishTaken, SetCancelRoutine, Cancel}
+use Rattle.irp_types.specs.declared.call.Call.TheVariants.{Look}
 use Rattle.irp_types.specs.declared.refusal.Refusal.{Refusal}
-use Rattle.irp_types.specs.declared.refusal.Refusal.TheVariants.{NoIrp, Stale, NotOwner, TooShort, WrongTarget, NoRoutine, BadStatus, CancelRoutineSet, AlreadyCancelled, InFlight, Full, NotDrained, BadSize, NoDriver, Ended as HasEnded, NoLock, SlotHeld, NotSlotHeld}
+use Rattle.irp_types.specs.declared.refusal.Refusal.TheVariants.{NoIrp, Stale, NotOwner, TooShort, WrongTarget}
+use Rattle.irp_types.specs.declared.refusal.Refusal.TheVariants.{NoRoutine, BadStatus, CancelRoutineSet}
+use Rattle.irp_types.specs.declared.refusal.Refusal.TheVariants.{AlreadyCancelled, InFlight, Full, NotDrained, BadSize}
+use Rattle.irp_types.specs.declared.refusal.Refusal.TheVariants.{NoDriver, Ended as HasEnded, NoLock, SlotHeld}
+use Rattle.irp_types.specs.declared.refusal.Refusal.TheVariants.{NotSlotHeld}
 
 -- the use was completed
 abbrev pub has_ended : Owner → Bool
@@ -69,7 +80,8 @@ party_refusal state party irp =
 
 -- why the owner can't skip, or none
 abbrev pub leave_refusal : PacketValue → Option Refusal
-leave_refusal packet = or_else (skip_refusal packet) (first_failing ((is_some packet.cancel_routine, CancelRoutineSet) ∷ []))
+leave_refusal packet =
+    or_else (skip_refusal packet) (first_failing ((is_some packet.cancel_routine, CancelRoutineSet) ∷ []))
 
 -- why the owner can't set a completion routine, where there are so many of each rule, or none
 abbrev pub routine_refusal : Known → PacketValue → Setting → Option Refusal
@@ -79,7 +91,8 @@ routine_refusal counts packet setting =
 -- a device sends elsewhere than to the device below it
 abbrev pub is_wrong_target : DevicesValue → Party → ℕ → Bool
 is_wrong_target devices ByOriginator target = false
-is_wrong_target devices (ByDevice sender) target = option_map_or (λ lower. not (lower == target)) (lower_of devices sender.0) true
+is_wrong_target devices (ByDevice sender) target =
+    option_map_or (λ lower. not (lower == target)) (lower_of devices sender.0) true
 
 -- why a party that owns a packet can't send it to a device, or none
 abbrev pub send_refusal : DevicesValue → Party → PacketValue → ℕ → Option Refusal
@@ -122,7 +135,8 @@ flight_check packet = (is_owned_by_device packet.owner, InFlight)
 
 -- a device stands in a location of a packet
 abbrev pub stands_at : PacketValue → ℕ → ℕ → Bool
-stands_at packet device number = option_map_or (λ (there : DeviceId). there.0 == device) (location_at packet number).device false
+stands_at packet device number =
+    option_map_or (λ (there : DeviceId). there.0 == device) (location_at packet number).device false
 
 -- a device has a packet: it owns it, or stands in a location of it from the current one up
 abbrev pub has_packet : ℕ → PacketValue → Bool
@@ -141,8 +155,10 @@ use_check state = (nat_le use_limit state.next_use, Full)
 -- why a call is refused, or none
 abbrev pub first_refusal : Fixed → StateValue → Bool → Call → Option Refusal
 first_refusal fixed state drained (CreateDevice driver lock) = first_failing (
-    (nat_le (length fixed.tables.drivers) driver.0, NoDriver) ∷ (nat_le fixed.locks lock.0, NoLock) ∷ create_checks state.devices)
-first_refusal fixed state drained (Attach device to) = first_failing (attach_checks fixed.limit state.devices device.0 to.0)
+    (nat_le (length fixed.tables.drivers) driver.0, NoDriver) ∷ (nat_le fixed.locks lock.0, NoLock)
+    ∷ create_checks state.devices)
+first_refusal fixed state drained (Attach device to) =
+    first_failing (attach_checks fixed.limit state.devices device.0 to.0)
 first_refusal fixed state drained (Detach lower) = first_failing (detach_checks state.devices lower.0)
 first_refusal fixed state drained (Delete device) = first_failing (
     delete_checks state.devices device.0
@@ -151,7 +167,8 @@ first_refusal fixed state drained (Delete device) = first_failing (
 first_refusal fixed state drained (Allocate size) = first_failing (
     ((size == 0) || nat_lt (most_under fixed.limit) size, BadSize)
     ∷ (nat_le most_live (fin.len state.live) || nat_le use_limit state.next_use, Full) ∷ [])
-first_refusal fixed state drained (Free irp) = or_else (packet_refusal state irp) (first_failing (flight_check (packet_of state irp) ∷ []))
+first_refusal fixed state drained (Free irp) =
+    or_else (packet_refusal state irp) (first_failing (flight_check (packet_of state irp) ∷ []))
 first_refusal fixed state drained (Reuse irp status) =
     or_else (packet_refusal state irp) (first_failing (flight_check (packet_of state irp) ∷ use_check state ∷ []))
 first_refusal fixed state drained (SetNext party irp major word) =
@@ -172,5 +189,6 @@ first_refusal fixed state drained (FinishTaken irp token status information) =
     or_else (packet_refusal state irp) (take_refusal (packet_of state irp) irp.use_no token status)
 first_refusal fixed state drained (SetCancelRoutine party irp cancel) =
     or_else (party_refusal state party irp) (cancel_refusal fixed.tables.counts (packet_of state irp) cancel)
-first_refusal fixed state drained (Cancel irp) = or_else (packet_refusal state irp) (first_failing (ended_check (packet_of state irp) ∷ []))
+first_refusal fixed state drained (Cancel irp) =
+    or_else (packet_refusal state irp) (first_failing (ended_check (packet_of state irp) ∷ []))
 first_refusal fixed state drained (Look irp) = packet_refusal state irp

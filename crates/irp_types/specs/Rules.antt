@@ -67,11 +67,13 @@ is_watch Free = false
 -- what a dispatch that may name these routines may plan
 abbrev pub is_plan_allowed : Known → Shown → Plan → Bool
 is_plan_allowed known shown (Finish status information) = is_completable status
-is_plan_allowed known shown (Hold cancel) = option_map_or (λ (routine : CancelId). not shown.cancel && nat_lt routine.0 known.cancel) cancel true
+is_plan_allowed known shown (Hold cancel) =
+    option_map_or (λ (routine : CancelId). not shown.cancel && nat_lt routine.0 known.cancel) cancel true
 is_plan_allowed known shown HoldSlot = true
 is_plan_allowed known shown Skip = shown.has_lower
 is_plan_allowed known shown (Forward set) =
-    shown.has_lower && option_map_or (λ (setting : Setting). is_watch setting.routine.rule && is_known known setting) set true
+    shown.has_lower
+    && option_map_or (λ (setting : Setting). is_watch setting.routine.rule && is_known known setting) set true
 is_plan_allowed known shown (ForwardPend set) = shown.has_lower && option_map_or (is_known known) set true
 
 -- each number is within the range of its field's type

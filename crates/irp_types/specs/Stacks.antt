@@ -1,13 +1,16 @@
 -- Device stacks. A stack is a list of device numbers, bottom first; beside each device stands the whole stack that
 -- it is in.
-use Rattle.std.specs.Prelude.{ℕ, ◌≡◌, ◌+◌, ◌-◌, ◌<◌, ◌≤◌, ◌==◌, Bool, true, false, not, if◌then◌else◌, nat_lt, nat_le, is_some, List, [], ◌∷◌, ◌++◌, length, take, drop, fold, position, slice_get, slice_set, slice_index_or, Option, None, unwrap_or}
+use Rattle.std.specs.Prelude.{ℕ, ◌≡◌, ◌+◌, ◌-◌, ◌<◌, ◌≤◌, ◌==◌, Bool, true, false, not, if◌then◌else◌, nat_lt, nat_le}
+use Rattle.std.specs.Prelude.{is_some, List, [], ◌∷◌, ◌++◌, length, take, drop, fold, position, slice_get, slice_set}
+use Rattle.std.specs.Prelude.{slice_index_or, Option, None, unwrap_or}
 use Rattle.std.specs.List.{list_any}
 use Rattle.irp_types.specs.declared.limit.Limit.{Limit}
 use Rattle.irp_types.specs.Limits.{most_locations, most_under, most_devices}
 use Rattle.irp_types.specs.Checks.{Check}
 use Rattle.irp_types.specs.declared.names.LockNo.{LockNo}
 use Rattle.irp_types.specs.declared.names.DriverId.{DriverId}
-use Rattle.irp_types.specs.declared.refusal.Refusal.TheVariants.{NoDevice, DeviceGone, StillAttached, SameStack, TooDeep, Full, NothingAttached}
+use Rattle.irp_types.specs.declared.refusal.Refusal.TheVariants.{NoDevice, DeviceGone, StillAttached, SameStack}
+use Rattle.irp_types.specs.declared.refusal.Refusal.TheVariants.{TooDeep, Full, NothingAttached}
 
 -- what is kept of a device that was created
 pub record DeviceFacts : Type 0 where
@@ -75,7 +78,8 @@ has_neighbour devices device = nat_lt 1 (length (stack_of devices device))
 
 -- the checks of a device that a call names
 abbrev pub device_checks : DevicesValue → ℕ → List Check
-device_checks devices device = (not (is_created devices device), NoDevice) ∷ (not (is_live devices device), DeviceGone) ∷ []
+device_checks devices device =
+    (not (is_created devices device), NoDevice) ∷ (not (is_live devices device), DeviceGone) ∷ []
 
 -- the checks of a creation
 abbrev pub create_checks : DevicesValue → List Check
@@ -91,7 +95,8 @@ attach_checks limit devices device to =
 
 -- the checks of a detachment of what stands on a device
 abbrev pub detach_checks : DevicesValue → ℕ → List Check
-detach_checks devices lower = device_checks devices lower ++ (not (is_some (upper_of devices lower)), NothingAttached) ∷ []
+detach_checks devices lower =
+    device_checks devices lower ++ (not (is_some (upper_of devices lower)), NothingAttached) ∷ []
 
 -- the checks of a deletion that look at the stack alone
 abbrev pub delete_checks : DevicesValue → ℕ → List Check
@@ -110,7 +115,8 @@ after_create devices driver lock = record {
 
 -- a device that stands alone is put on top of another's stack
 abbrev pub after_attach : DevicesValue → ℕ → ℕ → DevicesValue
-after_attach devices device to = record devices { stacks = regrouped devices.stacks (stack_of devices to ++ device ∷ []) }
+after_attach devices device to =
+    record devices { stacks = regrouped devices.stacks (stack_of devices to ++ device ∷ []) }
 
 -- the stack is cut above `lower`, and the upper part is a stack of its own
 abbrev pub after_detach : DevicesValue → ℕ → DevicesValue
@@ -121,7 +127,8 @@ after_detach devices lower =
 
 -- a device is gone
 abbrev pub after_delete : DevicesValue → ℕ → DevicesValue
-after_delete devices device = record devices { facts = slice_set devices.facts device (record (facts_of devices device) { live = false }) }
+after_delete devices device =
+    record devices { facts = slice_set devices.facts device (record (facts_of devices device) { live = false }) }
 
 -- a device stands in its own stack, at its depth
 pub record StandsInStack (devices : DevicesValue) (device : ℕ) : Type 0 where
@@ -139,6 +146,9 @@ pub record IsMember (devices : DevicesValue) (device place : ℕ) : Type 0 where
 pub record AreStacks (devices : DevicesValue) : Type 0 where
   pub counted : length devices.stacks ≡ length devices.facts
   pub stands : (device : ℕ) → device < length devices.facts → StandsInStack devices device
-  pub members : (device place : ℕ) → device < length devices.facts → place < length (stack_of devices device) → IsMember devices device place
+  pub members :
+      (device place : ℕ) → device < length devices.facts → place < length (stack_of devices device)
+      → IsMember devices device place
   pub few : (device : ℕ) → device < length devices.facts → length (stack_of devices device) ≤ most_locations
-  pub live : (device : ℕ) → device < length devices.facts → has_neighbour devices device ≡ true → is_live devices device ≡ true
+  pub live :
+      (device : ℕ) → device < length devices.facts → has_neighbour devices device ≡ true → is_live devices device ≡ true

@@ -52,10 +52,14 @@ pub record IsSound (counts : Known) (packet : PacketValue) : Type 0 where
   -- a packet that a device owns is marked pending in the device's own location
   pub marked : is_owned_by_device packet.owner ≡ true → (location_at packet (own_location packet)).pending ≡ true
   -- each location from the current one up has a device, and what the originator owns stands above the top
-  pub devices : (number : ℕ) → packet.current ≤ number → number ≤ size_of packet → is_some (location_at packet number).device ≡ true
+  pub devices :
+      (number : ℕ) → packet.current ≤ number → number ≤ size_of packet
+      → is_some (location_at packet number).device ≡ true
   pub originator : packet.owner ≡ Originator → packet.current ≡ size_of packet + 1
   -- each routine that the packet names is there
-  pub routines : (number : ℕ) (setting : Setting) → (location_at packet number).setting ≡ Some setting → is_known counts setting ≡ true
+  pub routines :
+      (number : ℕ) (setting : Setting) → (location_at packet number).setting ≡ Some setting
+      → is_known counts setting ≡ true
   pub cancel : (routine : CancelId) → packet.cancel_routine ≡ Some routine → IsCancellable counts packet routine
   pub slots : packet.slot_held ≡ true → IsInSlot packet
   -- above a routine that may keep the packet, the location is marked
@@ -74,5 +78,7 @@ pub record StandingFacts (counts : Known) (state : StateValue) : Type 0 where
   pub counter : 1 ≤ state.next_use
   pub positive : (slot : ℕ) (live : LivePacket) → live_at state slot ≡ Some live → 1 ≤ live.use_no
   pub drawn : (slot : ℕ) (live : LivePacket) → live_at state slot ≡ Some live → live.use_no < state.next_use
-  pub apart : (slot other : ℕ) (live another : LivePacket) → live_at state slot ≡ Some live → live_at state other ≡ Some another → live.use_no ≡ another.use_no → slot ≡ other
+  pub apart :
+      (slot other : ℕ) (live another : LivePacket) → live_at state slot ≡ Some live → live_at state other ≡ Some another
+      → live.use_no ≡ another.use_no → slot ≡ other
   pub stacks : AreStacks state.devices

@@ -1,5 +1,6 @@
 -- The manager's state, and what is fixed while a manager lives.
-use Rattle.std.specs.Prelude.{ℕ, ◌≡◌, ◌<◌, ◌≤◌, ◌==◌, List, [], map, length, find, slice_get, slice_index_or, All, Option, unwrap_or}
+use Rattle.std.specs.Prelude.{ℕ, ◌≡◌, ◌<◌, ◌≤◌, ◌==◌, List, [], map, length, find, slice_get, slice_index_or, All}
+use Rattle.std.specs.Prelude.{Option, unwrap_or}
 use Rattle.std.specs.List.Sorted.{IsStrictlyIncreasing}
 use Rattle.std.specs.Ordering.{nat_cmp}
 use Rattle.std.specs.Option.{option_map}
@@ -36,7 +37,8 @@ Entrance = ℕ × DispatchId
 
 -- the dispatch for a major function code among these
 abbrev pub dispatch_in : List Entrance → ℕ → Option DispatchId
-dispatch_in entrances major = option_map (λ (entrance : Entrance). entrance.1) (find (λ (entrance : Entrance). entrance.0 == major) entrances)
+dispatch_in entrances major =
+    option_map (λ (entrance : Entrance). entrance.1) (find (λ (entrance : Entrance). entrance.0 == major) entrances)
 
 -- the store's tables: how many routines there are, each driver's dispatches by major function code, which routines
 -- each dispatch may name, and the rules of the cancel routines

@@ -1,9 +1,11 @@
 -- One step of the manager.
-use Rattle.std.specs.Prelude.{ℕ, ◌≡◌, ◌+◌, Bool, true, false, if◌then◌else◌, List, [], ◌∷◌, map, length, Option, Some, None, MatchOption}
+use Rattle.std.specs.Prelude.{ℕ, ◌≡◌, ◌+◌, Bool, true, false, if◌then◌else◌, List, [], ◌∷◌, map, length, Option, Some}
+use Rattle.std.specs.Prelude.{None, MatchOption}
 use Rattle.std.specs.FinMap as fin
 use Rattle.irp_types.specs.Status.{cancelled}
 use Rattle.irp_types.specs.Allowed.{IsCancelAllowed}
-use Rattle.irp_types.specs.Packet.{PacketValue, location_at, new_packet, with_status, after_set_next, after_copy, after_skip, after_set_routine, after_mark, after_take, after_reset, is_above_top}
+use Rattle.irp_types.specs.Packet.{PacketValue, location_at, new_packet, with_status, after_set_next, after_copy}
+use Rattle.irp_types.specs.Packet.{after_skip, after_set_routine, after_mark, after_take, after_reset, is_above_top}
 use Rattle.irp_types.specs.Unwinding.{Asking, as_asked, Unwound}
 use Rattle.irp_types.specs.Stacks.{top_of, cut_off_by, after_create, after_attach, after_detach, after_delete}
 use Rattle.irp_types.specs.State.{StateValue, Fixed, Tables, live_at, packet_of, with_packet}
@@ -21,10 +23,14 @@ use Rattle.irp_types.specs.declared.answer.CancelAnswer.TheVariants.{Finish, Lea
 use Rattle.irp_types.specs.declared.asked.Asked.{Asked}
 use Rattle.irp_types.specs.declared.asked.Asked.TheVariants.{Cancel as CancelAsked}
 use Rattle.irp_types.specs.Calls.{Call}
-use Rattle.irp_types.specs.declared.call.Call.TheVariants.{CreateDevice, Attach, Detach, Delete, Allocate, Free, Reuse, SetNext, CopyToNext, Skip, SetRoutine, MarkPending, CallDriver, Complete, FinishTaken, SetCancelRoutine, Cancel, Look}
+use Rattle.irp_types.specs.declared.call.Call.TheVariants.{CreateDevice, Attach, Detach, Delete, Allocate, Free, Reuse}
+use Rattle.irp_types.specs.declared.call.Call.TheVariants.{SetNext, CopyToNext, Skip, SetRoutine, MarkPending}
+use Rattle.irp_types.specs.declared.call.Call.TheVariants.{CallDriver, Complete, FinishTaken, SetCancelRoutine, Cancel}
+use Rattle.irp_types.specs.declared.call.Call.TheVariants.{Look}
 use Rattle.irp_types.specs.declared.reply.Seen.{Seen}
 use Rattle.irp_types.specs.declared.reply.Reply.{Reply}
-use Rattle.irp_types.specs.declared.reply.Reply.TheVariants.{Done, Device, Irp, Status as StatusIs, Previous, Cancelled, Seen as SeenAs, Refused}
+use Rattle.irp_types.specs.declared.reply.Reply.TheVariants.{Done, Device, Irp, Status as StatusIs, Previous, Cancelled}
+use Rattle.irp_types.specs.declared.reply.Reply.TheVariants.{Seen as SeenAs, Refused}
 
 -- what Look shows of a packet
 abbrev pub seen_of : PacketValue → Seen
@@ -108,7 +114,8 @@ Effect fixed old (Delete device) asked reply new =
 Effect fixed old (Allocate size) asked reply new =
     (slot : ℕ) × (live_at old slot ≡ None)
     × Unasked asked reply new (Irp (record { slot = slot; use_no = old.next_use })) (with_new_packet old slot (new_packet size))
-Effect fixed old (Free irp) asked reply new = Unasked asked reply new Done (record old { live = fin.remove old.live irp.slot })
+Effect fixed old (Free irp) asked reply new =
+    Unasked asked reply new Done (record old { live = fin.remove old.live irp.slot })
 Effect fixed old (Reuse irp status) asked reply new =
     Unasked asked reply new (Irp (record { slot = irp.slot; use_no = old.next_use })) (with_new_packet old irp.slot (after_reset (packet_of old irp) status))
 Effect fixed old (SetNext party irp major word) asked reply new =

@@ -1,7 +1,8 @@
 -- Unwinding: which completion routines are asked, in which order, shown what, and what is left of the packet.
 -- Each definition is about the packet as it stands when unwinding begins, and about the list of the completion
 -- routines that were asked, the first one first.
-use Rattle.std.specs.Prelude.{ℕ, ◌≡◌, ◌+◌, ◌-◌, Bool, true, false, not, ◌&&◌, ◌||◌, if◌then◌else◌, nat_lt, is_some, List, [], ◌∷◌, ◌++◌, map, filter, find, drop, replicate, Option, Some, None}
+use Rattle.std.specs.Prelude.{ℕ, ◌≡◌, ◌+◌, ◌-◌, Bool, true, false, not, ◌&&◌, ◌||◌, if◌then◌else◌, nat_lt, is_some}
+use Rattle.std.specs.Prelude.{List, [], ◌∷◌, ◌++◌, map, filter, find, drop, replicate, Option, Some, None}
 use Rattle.std.specs.List.{list_any, filter_map, range_with_len, AllByRecursion}
 use Rattle.std.specs.Option.{option_map_or}
 use Rattle.irp_types.specs.Status.{is_success}
@@ -52,7 +53,8 @@ outcome_at packet asked number =
 -- whether a status, or the cancel flag, meets the flags of a setting
 abbrev pub meets_flags : Setting → Bool → Status → Bool
 meets_flags setting cancel status =
-    (is_success status && setting.on_success) || ((not (is_success status) && setting.on_error) || (cancel && setting.on_cancel))
+    (is_success status && setting.on_success)
+    || ((not (is_success status) && setting.on_error) || (cancel && setting.on_cancel))
 
 -- whether a location has a routine whose flags are met there
 abbrev pub is_met_at : PacketValue → List Asking → ℕ → Bool
@@ -65,7 +67,8 @@ from_to first last = range_with_len first ((last + 1) - first)
 
 -- PendingReturned at a location: whether one from the current up to it was marked
 abbrev pub pending_returned_at : PacketValue → ℕ → Bool
-pending_returned_at packet number = list_any (λ lower. (location_at packet lower).pending) (from_to packet.current number)
+pending_returned_at packet number =
+    list_any (λ lower. (location_at packet lower).pending) (from_to packet.current number)
 
 -- the first routine that kept the packet
 abbrev pub keeper_of : List Asking → Option Asking
@@ -116,7 +119,8 @@ owner_from (Some device) = Device device
 
 -- the owner once unwinding has stopped
 abbrev pub owner_after : PacketValue → List Asking → Owner
-owner_after packet asked = if is_some (keeper_of asked) then owner_from (device_above packet (stop_of packet asked)) else Ended
+owner_after packet asked =
+    if is_some (keeper_of asked) then owner_from (device_above packet (stop_of packet asked)) else Ended
 
 -- the packet that unwinding leaves
 abbrev pub unwound_packet : PacketValue → List Asking → PacketValue

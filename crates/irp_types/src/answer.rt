@@ -37,8 +37,8 @@ pub enum Plan {
     Finish { status: Status, information: u64 },
     /// Marks it pending and keeps it, with this cancel routine.
     Hold { cancel: Option<CancelId> },
-    /// Marks it pending and keeps it for a cancel slot: from then on only who takes it from the slot completes it (this
-    /// project's own plan).
+    /// Marks it pending and keeps it for a cancel slot: from then on `FinishTaken` alone completes it, with its use
+    /// number as the token (this project's own plan). That the token came out of a slot, no manager looks at.
     HoldSlot,
     /// Passes it down in the dispatch's own location.
     Skip,

@@ -1,4 +1,4 @@
-//! The entries of a history.
+//! The entries of a history. All of this is this project's own rule.
 
 ghost use Rattle.std.specs.Prelude.{◌≡◌, ◌≤◌, [], length, vec_capacity, IsTrue};
 ghost use mathlib.Core.Logic.{◌↔◌};
@@ -10,7 +10,7 @@ use crate::questions::Questions;
 use crate::reply::Reply;
 use std::mem;
 
-/// One recorded call (this project's own rule). Large fields come first, since fields lie in this order.
+/// One recorded call. Large fields come first, since fields lie in this order.
 #[derive(Drop)]
 pub struct Entry {
     /// The entry's place in the history, from 0.
@@ -53,7 +53,7 @@ impl Entry {
     }
 
     /// An equal entry, whose questions lie in the room given: an empty vector with room for as many as this entry has.
-    /// It takes no memory, and can't fail (this project's own rule).
+    /// It takes no memory, and can't fail.
     pub fn copy_into(&self, room: Vec<Asked>) -> Entry
         requires empty { room.items ≡ [] }
         requires ample { length self.now.asked ≤ vec_capacity room }
@@ -68,7 +68,7 @@ impl Entry {
 
     /// An equal entry, which shares its questions with this one where it may. Else they are put into the room, which is
     /// an empty vector with room for as many as this entry has, and the room is left without any. It takes no memory,
-    /// and can't fail (this project's own rule).
+    /// and can't fail.
     #[inline]
     pub fn shared_copy(&self, room: &mut Vec<Asked>) -> Entry
         requires empty { room.old.items ≡ [] }

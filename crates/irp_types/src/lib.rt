@@ -25,8 +25,8 @@ pub use asked::Asked;
 pub use call::{Call, Party};
 pub use entry::Entry;
 pub use laws::{
-    entry_settles_next_state, history_completes_once, history_goes_on, history_settles_states,
-    standing_facts_stay,
+    entry_settles_next_state, held_packet_is_finished_taken, history_completes_once,
+    history_goes_on, history_settles_states, standing_facts_stay,
 };
 pub use limit::Limit;
 pub use location::{Location, Owner, Preparation};

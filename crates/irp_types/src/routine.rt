@@ -1,12 +1,14 @@
-//! Completion routines and cancel routines by their rules, and what a store has of them.
+//! Completion routines and cancel routines by their rules, and what a store has of them. What names no page of the WDK
+//! is this project's own rule.
 
 ghost use Rattle.std.specs.Prelude.{◌≡◌, ◌↔◌, true};
-ghost use Rattle.irp_types.specs.Rules.{is_allowed, is_cancel_allowed, is_plan_allowed, is_known, count_of_rule, right_mark, obeys, IsWithin};
+ghost use Rattle.irp_types.specs.Rules.{is_allowed, is_cancel_allowed, is_plan_allowed, is_known, count_of_rule};
+ghost use Rattle.irp_types.specs.Rules.{right_mark, obeys, IsWithin};
 
 use crate::answer::{Answer, CancelAnswer, Plan};
 use crate::shown::Shown;
 
-/// What a completion routine promised of its answers (this project's own rule).
+/// What a completion routine promised of its answers.
 #[derive(Clone, Copy, PartialEq, Eq, Debug)]
 pub enum Rule {
     /// Continues, and replaces nothing.
@@ -22,16 +24,15 @@ pub enum Rule {
 }
 
 impl Rule {
-    /// The one mark that an answer may have: a routine that continues marks the location above its own exactly where
-    /// it is shown PendingReturned and a device (this project's own rule).
+    /// The one mark that an answer may have: a routine that continues marks the location above its own exactly where it
+    /// is shown PendingReturned and a device.
     pub fn right_mark(shown: Shown, keep: bool) -> bool
         ensures { result ≡ right_mark shown keep }
     {
         !keep && shown.pending_returned && shown.device.is_some()
     }
 
-    /// Whether a completion routine of this rule may give this answer to what it is shown (this project's own
-    /// rule).
+    /// Whether a completion routine of this rule may give this answer to what it is shown.
     pub fn allows(self, shown: Shown, answer: Answer) -> bool
         ensures { result ≡ is_allowed self shown answer }
     {
@@ -59,7 +60,7 @@ impl Rule {
     }
 }
 
-/// What a cancel routine promised of its answers (this project's own rule).
+/// What a cancel routine promised of its answers.
 #[derive(Clone, Copy, PartialEq, Eq, Debug)]
 pub enum CancelRule {
     /// Finishes the packet.
@@ -71,7 +72,7 @@ pub enum CancelRule {
 }
 
 impl CancelRule {
-    /// Whether a cancel routine of this rule may give this answer (this project's own rule).
+    /// Whether a cancel routine of this rule may give this answer.
     pub fn allows(self, answer: CancelAnswer) -> bool
         ensures { result ≡ is_cancel_allowed self answer }
     {
@@ -159,10 +160,10 @@ impl Known {
         setting.routine.no < self.count_of(setting.routine.rule)
     }
 
-    /// Whether a dispatch that may name these routines may plan so when it is shown this (this project's own rule): it
-    /// finishes with a status that can complete a packet; holds a packet for a cancel slot always; passes down only
-    /// where a device stands below; names a cancel routine only for a packet that isn't cancelled; sets only a routine
-    /// of rule Watch where it doesn't mark its location; and names only routines within these counts.
+    /// Whether a dispatch that may name these routines may plan so when it is shown this: it finishes with a status
+    /// that can complete a packet; holds a packet for a cancel slot always; passes down only where a device stands
+    /// below; names a cancel routine only for a packet that isn't cancelled; sets only a routine of rule Watch where it
+    /// doesn't mark its location; and names only routines within these counts.
     pub fn allows(self, shown: Shown, plan: Plan) -> bool
         ensures { result ≡ is_plan_allowed self shown plan }
     {

@@ -1,4 +1,5 @@
-//! What a seat does on a remove lock, as scripts and transcripts tell it, or on a cancel slot, as transcripts do.
+//! What a seat does on a remove lock, as scripts and transcripts tell it, or on a cancel slot, as transcripts do. What
+//! names no page of the WDK is this project's own rule.
 
 use crate::names::LockNo;
 
@@ -12,11 +13,11 @@ pub enum LockAct {
     /// Begins the removal, and gives back one reference with this tag; it doesn't wait
     /// (WDK: "IoReleaseRemoveLockAndWait").
     BeginRemove { lock: LockNo, tag: u32 },
-    /// Asks whether removal has begun and nobody holds the lock (this project's own call).
+    /// Asks whether removal has begun and nobody holds the lock.
     Drained { lock: LockNo },
 }
 
-/// One reference to a remove lock with this tag, handed to another seat (this project's own call).
+/// One reference to a remove lock with this tag, handed to another seat.
 #[derive(Clone, Copy, PartialEq, Eq, Debug)]
 pub struct Hand {
     pub lock: LockNo,
@@ -25,7 +26,7 @@ pub struct Hand {
     pub to: u32,
 }
 
-/// What a seat does on a cancel slot (this project's own call).
+/// What a seat does on a cancel slot.
 #[derive(Clone, Copy, PartialEq, Eq, Debug)]
 pub enum SlotAct {
     /// Puts a use of a packet into the slot.

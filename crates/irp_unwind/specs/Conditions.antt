@@ -9,7 +9,8 @@ use Rattle.irp_types.specs.declared.routine.Known.{Known}
 
 -- each location from this one up has a device
 pub record HasDevices (packet : PacketValue) (lowest : ℕ) : Type 0 where
-  pub there : (number : ℕ) → lowest ≤ number → number ≤ size_of packet → is_some (location_at packet number).device ≡ true
+  pub there :
+      (number : ℕ) → lowest ≤ number → number ≤ size_of packet → is_some (location_at packet number).device ≡ true
 
 -- whether a location has no routine, or one that is there
 abbrev pub has_known_routine : Known → Location → Bool

@@ -19,7 +19,9 @@ pub record Descends (may : Asked → Type 0) (tables : Tables) (irp : IrpRef) (d
   pub descended : Descended tables irp devices old target asked new sent.status
   pub listed : after ≡ before ++ asked
   pub given : AllByRecursion may asked
-  pub ended : sent.ending ≡ ending_at (last_frame descended.frames) descended.reached descended.unwinding (last_frame descended.frames).plan
+  pub ended :
+      sent.ending
+      ≡ ending_at (last_frame descended.frames) descended.reached descended.unwinding (last_frame descended.frames).plan
 
 -- how many locations a packet can come to on its way down through so many devices, and up again: those from the lowest
 -- that it reaches

@@ -71,7 +71,8 @@ pub record IsPlannedHere (may : Asked → Type 0) (tables : Tables) (irp : IrpRe
 -- how it ends with this frame
 abbrev pub ending_at : Frame → PacketValue → List Asking → Option Plan → Ending
 ending_at last reached asked None = ending_of (with_status reached invalid_device_request 0) asked
-ending_at last reached asked (Some (Finish status information)) = ending_of (with_status reached status information) asked
+ending_at last reached asked (Some (Finish status information)) =
+    ending_of (with_status reached status information) asked
 ending_at last reached asked (Some (Hold cancel)) = Held (record { 0 = last.device })
 ending_at last reached asked (Some HoldSlot) = Held (record { 0 = last.device })
 ending_at last reached asked (Some Skip) = Ended

@@ -22,7 +22,8 @@ use Rattle.irp_routines.specs.Answers.{IsAnswered}
 abbrev pub AreRepliesOf : (RoutineId → Shown → Answer) → List Asking → Type 0
 AreRepliesOf reply asked = AllByRecursion (λ asking. asking.answer ≡ reply asking.id asking.shown) asked
 
--- where each routine has one answer to what it is shown, a packet settles which routines are asked and what is left of it
+-- where each routine has one answer to what it is shown, a packet that stands in a location settles which routines are
+-- asked and what is left of it
 abbrev pub UnwindingIsSettled : Type 0
 UnwindingIsSettled =
     (reply : RoutineId → Shown → Answer) (irp : IrpRef) (packet first second : PacketValue) (asked others : List Asking)
@@ -35,7 +36,8 @@ UnwindingIsSettled =
     → (asked ≡ others) × (first ≡ second)
 
 -- a question was answered as the function for its kind of closure says
-abbrev pub IsReplyOf : (DispatchId → Shown → Plan) → (RoutineId → Shown → Answer) → (CancelId → Shown → CancelAnswer) → Asked → Type 0
+abbrev pub IsReplyOf :
+    (DispatchId → Shown → Plan) → (RoutineId → Shown → Answer) → (CancelId → Shown → CancelAnswer) → Asked → Type 0
 IsReplyOf plan_of reply cancel_reply asked =
     IsAnswered (λ id shown plan. plan ≡ plan_of id shown) (λ id shown answer. answer ≡ reply id shown) (λ id shown answer. answer ≡ cancel_reply id shown) asked
 

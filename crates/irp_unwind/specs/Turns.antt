@@ -1,5 +1,6 @@
 -- One location of an unwinding: who is asked there, and what is left when the packet rises from it.
-use Rattle.std.specs.Prelude.{◌≡◌, ◌+◌, ◌-◌, ◌≤◌, Bool, true, false, if◌then◌else◌, unwrap_or, not, ◌&&◌, is_some, List, [], ◌∷◌, ◌++◌, slice_set, slice_index_or, take, drop, replicate, Option, Some, None, ◌⊎◌}
+use Rattle.std.specs.Prelude.{◌≡◌, ◌+◌, ◌-◌, ◌≤◌, Bool, true, false, if◌then◌else◌, unwrap_or, not, ◌&&◌, is_some, List}
+use Rattle.std.specs.Prelude.{[], ◌∷◌, ◌++◌, slice_set, slice_index_or, take, drop, replicate, Option, Some, None, ◌⊎◌}
 use Rattle.std.specs.Option.{option_map_or}
 use Rattle.irp_types.specs.Rules.{is_allowed}
 use Rattle.irp_types.specs.Packet.{PacketValue, location_at, cleared}
@@ -80,7 +81,8 @@ pub record IsUnasked (packet : PacketValue) (before after : List Asked) (answer 
   pub answered : answer ≡ unasked packet
 
 -- the routine of the current location was asked exactly where its flags are met
-abbrev pub IsConsulted : (RoutineId → Shown → Answer → Type 0) → IrpRef → PacketValue → List Asked → List Asked → Answer → Type 0
+abbrev pub IsConsulted :
+    (RoutineId → Shown → Answer → Type 0) → IrpRef → PacketValue → List Asked → List Asked → Answer → Type 0
 IsConsulted may_answer irp packet before after answer =
     IsUnasked packet before after answer ⊎ IsListed may_answer irp packet before after answer
 
@@ -112,7 +114,8 @@ pub record IsBare (packet : PacketValue) : Type 0 where
 
 -- the packet with the locations below the current one cleared
 abbrev pub bared : PacketValue → PacketValue
-bared packet = record packet { locations = replicate (packet.current - 1) cleared ++ drop (packet.current - 1) packet.locations }
+bared packet =
+    record packet { locations = replicate (packet.current - 1) cleared ++ drop (packet.current - 1) packet.locations }
 
 -- what is left of a packet whose unwinding ends at the current location, with this outcome and owner
 abbrev pub ended_packet : PacketValue → Replacement → Owner → PacketValue

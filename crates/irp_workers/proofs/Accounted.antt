@@ -14,7 +14,7 @@ use Rattle.irp_workers.specs.Numbers.{AreSame, EachAsOften}
 use Rattle.irp_workers.specs.Outcomes.{Outcome, Test, is_own_placed, outcome, outcomes, own_placed}
 use Rattle.irp_workers.specs.Pairs.{Pair}
 use Rattle.irp_workers.specs.Words.{WordStep, told_by, word_steps}
-use Rattle.irp_workers.specs.Working.{AtWork, CatchUp, IsOwn, Left, MakesOwn, RunsScript, WorkAfter, WorkApart, Working, caught_up, working}
+use Rattle.irp_workers.specs.Working.{AtWork, IsOwn, Left, MakesOwn, RunsScript, WorkAfter, WorkApart, Working, working}
 use Rattle.irp_workers.proofs.Chains.{chained, rising}
 use Rattle.irp_workers.proofs.Making.{once_both}
 use Rattle.irp_workers.proofs.Numbers.{count_map, none_of, sum_at, sum_at_most, sum_from, sum_same}
@@ -167,23 +167,6 @@ apart_called count workers steps ready after lines stopped work each share going
     ∙ work.seats (λ own. test (once_made outs (calls_at own)))
     ∙ sym (count_map calls_at (λ (told : SeatCalls). test (once_made outs told)) ready)
 
--- seats that have caught up are the same pairs, and have made the same calls
-pairs_caught : (before after : List AtWork) → CatchUp before after → (test : Pair → Bool) → count_by test (map pair_at after) ≡ count_by test (map pair_at before)
-pairs_caught before after caught test =
-    count_map pair_at test after ∙ caught.each (λ own. test (pair_at own))
-    ∙ count_map (caught_up caught.last) (λ own. test (pair_at own)) before ∙ sym (count_map pair_at test before)
-
-calls_caught : (before after : List AtWork) → CatchUp before after → (test : SeatCalls → Bool) → count_by test (map calls_at after) ≡ count_by test (map calls_at before)
-calls_caught before after caught test =
-    count_map calls_at test after ∙ caught.each (λ own. test (calls_at own))
-    ∙ count_map (caught_up caught.last) (λ own. test (calls_at own)) before ∙ sym (count_map calls_at test before)
-
-once_caught : (before after : List AtWork) → CatchUp before after → NoneTwice (map pair_at before) → NoneTwice (map pair_at after)
-once_caught before after caught once number =
-    let few = once number in
-    let same = pairs_caught before after caught (λ pair. pair.seat == number) in
-    omega (arith, few, same)
-
 -- the one worker of the setup has all steps
 alone_all : (all : List (ℕ × Step)) → filter (is_own_placed 0 1) all ≡ all
 alone_all [] = refl
@@ -231,19 +214,17 @@ accounted_after count workers setup steps before after lines stopped ready true 
   all_told = λ going. absurd (true≢false (sym rest.2 ∙ going));
   all_called = λ going. absurd (true≢false (sym rest.2 ∙ going));
 }
-accounted_after count workers setup steps before after lines stopped ready false some first on =
-    let rest = on.apart in
-    let shared = all_shares count workers steps on.begun after lines stopped rest in
+accounted_after count workers setup steps before after lines stopped ready false some first rest =
+    let shared = all_shares count workers steps ready.seats after lines stopped rest in
     let begun = setup_called count setup before ready first in
     let tokenless = whole shared.0 workers in
     record {
       tokenless_first = begun.0;
       tokenless = tokenless;
-      told = apart_told count workers steps on.begun after lines stopped rest shared.0 shared.1 some;
-      all_told = λ going. apart_all_told count workers steps on.begun after lines stopped rest shared.0 shared.1 some going;
+      told = apart_told count workers steps ready.seats after lines stopped rest shared.0 shared.1 some;
+      all_told = λ going. apart_all_told count workers steps ready.seats after lines stopped rest shared.0 shared.1 some going;
       all_called = λ going once test.
-          apart_called count workers steps on.begun after lines stopped rest shared.0 shared.1 going (once_caught ready.seats on.begun on.caught (subst NoneTwice (sym begun.1) once)) test
-          ∙ calls_caught ready.seats on.begun on.caught (λ told. test (once_made (outcomes tokenless steps) told))
+          apart_called count workers steps ready.seats after lines stopped rest shared.0 shared.1 going (subst NoneTwice (sym begun.1) once) test
           ∙ ap (count_by (λ (told : SeatCalls). test (once_made (outcomes tokenless steps) told))) (begun.2 once)
           ∙ both_made (outcomes begun.0 setup) (outcomes tokenless steps) before test;
     }
@@ -258,9 +239,8 @@ after_pairs : (count workers : ℕ) (setup steps : List Step) (before after : Li
     → map pair_at ready.seats ≡ map pair_at before → WorkAfter halted count workers steps ready.seats after lines stopped
     → EachAsOften (map pair_at before) (map pair_at after)
 after_pairs count workers setup steps before after lines stopped ready true same rest = λ test. ap (count_by test) (ap (map pair_at) rest.0 ∙ same)
-after_pairs count workers setup steps before after lines stopped ready false same on = λ test.
-    let rest = on.apart in
-    let shared = all_shares count workers steps on.begun after lines stopped rest in
+after_pairs count workers setup steps before after lines stopped ready false same rest = λ test.
+    let shared = all_shares count workers steps ready.seats after lines stopped rest in
     count_map pair_at test after ∙ rest.back (λ own. test (pair_at own)) ∙ count_flat (λ own. test (pair_at own)) (λ (one : Left). one.work.seats) rest.left
     ∙ sum_same (λ seats. count_by (λ own. test (pair_at own)) seats) (λ (one : Left). count_by (λ own. test (pair_at own)) one.work.seats) rest.dealt rest.left (rest.many.1 ∙ sym rest.many.0)
     (λ k d e lt.
@@ -272,7 +252,7 @@ after_pairs count workers setup steps before after lines stopped ready false sam
     ∙ ap (λ seats. count_by (λ own. test (pair_at own)) seats) (get_or_any rest.dealt k [] d lt))
     ∙ sym (count_flat (λ own. test (pair_at own)) (λ seats. seats) rest.dealt)
     ∙ rest.seats (λ own. test (pair_at own))
-    ∙ sym (count_map pair_at test on.begun) ∙ pairs_caught ready.seats on.begun on.caught test ∙ ap (count_by test) same
+    ∙ sym (count_map pair_at test ready.seats) ∙ ap (count_by test) same
 
 pub same_pairs : (count workers : ℕ) (setup steps : List Step) (before after : List AtWork) (lines : List WordLine) (stopped : Bool)
     → RunsScript count workers setup steps before after lines stopped → EachAsOften (map pair_at before) (map pair_at after)

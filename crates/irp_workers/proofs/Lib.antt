@@ -10,6 +10,9 @@ pub mod Pairs
 pub mod Places
 pub mod Ran
 pub mod Shares
+pub mod Showing
+pub mod Slotted
 pub mod StepCalls
 pub mod Told
+pub mod Tokens
 pub mod Working

@@ -4,6 +4,7 @@ use Rattle.std.specs.Option.{option_to_list}
 use Rattle.std.specs.List.{cons_option}
 use Rattle.std.proofs.lemmas.List.{append-nil, get_or-set_other, length-set, map_push}
 use Rattle.std.proofs.lemmas.Option.{get_or_from_slice_get, slice_get_within}
+use Rattle.std.proofs.lemmas.Simd.{map-map}
 use Rattle.irp_types.specs.declared.seat_act.Hand.{Hand}
 use Rattle.irp_types.specs.Calls.{Call}
 use Rattle.irp_types.specs.declared.entry.Entry.{Entry}
@@ -16,7 +17,7 @@ use Rattle.irp_workers.specs.StepKinds.{kind_of}
 use Rattle.irp_workers.specs.Made.{NoneTwice, SeatCalls, calls_in, nameless, once_made}
 use Rattle.irp_workers.specs.Outcomes.{Outcome, nameless_call, told_act}
 use Rattle.irp_workers.specs.Words.{told_by, word_step, word_step_of}
-use Rattle.irp_workers.specs.Working.{AtWork, Does, Makes, MakesAlone, MakesBy, MakesHand, Working}
+use Rattle.irp_workers.specs.Working.{AtWork, Does, Makes, MakesAlone, MakesBy, MakesHand, Working, caught_up, news}
 use Rattle.irp_workers.proofs.Making.{called_at}
 use Rattle.irp_workers.proofs.Numbers.{map_set_same}
 use Rattle.irp_workers.proofs.StepCalls.{nameless_of}
@@ -105,13 +106,14 @@ alone : (count place : ℕ) (step : Step) (before after : Working) → MakesAlon
 alone count place step before after made =
     let out = came_out count place step (kind_of step.act) made.old made.new before.lines after.lines made.did in
     let lt = slice_get_within before.seats made.at made.old made.there in
-    let here = get_or_from_slice_get before.seats made.at made.old made.old made.there in (
+    let here = get_or_from_slice_get before.seats made.at made.old made.old made.there in
+    let length = news made.old.seat.seen made.new.seat.seen in (
       out.tokenless,
       record {
         told = out.told;
-        pairs = ap (map pair_at) made.others ∙ map_set_same pair_at before.seats made.at made.new made.old (out.pair ∙ ap pair_at (sym here)) lt;
+        pairs = ap (map pair_at) made.others ∙ map-map pair_at (caught_up length) (set before.seats made.at made.new) ∙ map_set_same pair_at before.seats made.at made.new made.old (out.pair ∙ ap pair_at (sym here)) lt;
         called = λ once.
-            ap (map calls_at) made.others
+            ap (map calls_at) made.others ∙ map-map calls_at (caught_up length) (set before.seats made.at made.new)
             ∙ called_at calls_at before.seats made.at made.new made.old (out_of place step out.tokenless) lt (ap (λ own. own.seat.number) here ∙ made.named)
             (once_own place step out.tokenless made.old made.new out.pair made.named out.calls ∙ ap (λ own. once_made (out_of place step out.tokenless ∷ []) (calls_at own)) (sym here)) once;
       },

@@ -14,7 +14,7 @@ use Rattle.irp_remove.specs.Opening.{AreFresh}
 use Rattle.irp_remove.specs.Seats.{Holder}
 use Rattle.irp_slots.specs.Models.{Asker, Publisher}
 use Rattle.irp_slots.specs.Opening.{AreFreshOwners, IsFreshCanceller}
-use Rattle.irp_slot_parties.specs.AtSlots.{OwnTheirSlots}
+use Rattle.irp_workers.specs.AtSlots.{OwnTheirSlots}
 use Rattle.irp_shared.specs.Closing.{IsKept}
 use Rattle.irp_shared.specs.Opening.{AreNew, IsNew}
 use Rattle.irp_transcript.specs.Transcripts.{TranscriptValue}

@@ -1,8 +1,9 @@
 -- What a worker makes of its seats and lines, step by step, and what the workers of a script make together.
-use Rattle.std.proofs.Common.{◌≡◌, ◌<◌, ◌+◌, ◌%◌, ◌==◌, ◌||◌, ℕ, zero, suc, All, Bool, true, false, cond, Option, Some, None, List, [], ◌∷◌, ◌++◌, length, map, take, get_or, set, refl, sym, subst, ap, ◌∙◌, arith}
-use Rattle.std.specs.Prelude.{IfOk, MatchOption, Result, Ok, Err, slice_get, slice_set, sum_by}
+use Rattle.std.proofs.Common.{◌≡◌, ◌<◌, ◌+◌, ◌%◌, ◌==◌, ◌||◌, ℕ, zero, suc, All, Bool, true, false, cond, eq-eqb, Option, Some, None, List, [], ◌∷◌, ◌++◌, length, map, take, get_or, set, refl, sym, subst, ap, ◌∙◌, arith}
+use Rattle.std.specs.Prelude.{IfOk, MatchOption, Result, Ok, Err, nat_lt, slice_get, slice_set, sum_by}
 use Rattle.std.specs.Option.{option_map, unwrap_or}
 use Rattle.std.specs.List.{count_by, enumerate_from, filter, flat_map, list_any}
+use Rattle.std.proofs.lemmas.Bool.{le-ltb}
 use Rattle.std.proofs.lemmas.List.{get_or-map, length-map, length-take-le, map-set, set-get_or, take_more}
 use Rattle.std.proofs.lemmas.List.Elements.{All-nil, All-cons, All-head, All-tail, filter-append}
 use Rattle.std.proofs.lemmas.List.Concat.{flat_map-cons}
@@ -22,12 +23,12 @@ use Rattle.irp_transcript.specs.declared.word_line.WordLine.{WordLine}
 use Rattle.irp_script_reader.specs.declared.act.Step.{Step}
 use Rattle.irp_workers.specs.declared.step_kind.StepKind.{StepKind}
 use Rattle.irp_workers.specs.declared.step_kind.StepKind.TheVariants.{Calls, OnLock, Hands, OnSlot, Finishes}
-use Rattle.irp_slot_parties.specs.declared.taken.Taken.{Taken}
-use Rattle.irp_slot_parties.specs.AtSlots.{AtSlots, fresh}
+use Rattle.irp_workers.specs.declared.taken.Taken.{Taken}
+use Rattle.irp_workers.specs.AtSlots.{AtSlots, fresh}
 use Rattle.irp_workers.specs.Calling.{CallsFor, found_drained}
 use Rattle.irp_workers.specs.StepKinds.{IsNamed, kind_of}
 use Rattle.irp_workers.specs.Outcomes.{is_own_placed, own_placed}
-use Rattle.irp_workers.specs.Working.{AtWork, Does, FinishesTaken, IsOwn, Left, Makes, MakesAlone, MakesBy, MakesCall, MakesEach, MakesOwn, Stays, WorkApart, Working, at_work, if_own, roomless, working}
+use Rattle.irp_workers.specs.Working.{AtWork, Does, FinishesTaken, IsOwn, Left, Makes, MakesAlone, MakesBy, MakesCall, MakesEach, MakesOwn, Stays, WorkApart, Working, at_work, caught_up, if_own, news, roomless, working}
 use Rattle.irp_workers.proofs.Chains.{enumerate-append}
 use Rattle.irp_workers.proofs.Numbers.{count_map, map_set_same}
 
@@ -132,14 +133,33 @@ by_alone count place step (OnLock on) before after made = made
 by_alone count place step (OnSlot on) before after made = made
 by_alone count place step (Finishes slot status information) before after made = made
 
-pub made_at : {S T : Type 0} (result : Option T) (f : S → AtWork) (seats : List S) (at : ℕ) (new old : S) (lines longer : List WordLine) (count place : ℕ) (step : Step)
+-- nothing to learn
+none_below : (n : ℕ) → nat_lt n 0 ≡ false
+none_below n = le-ltb n 0 (omega arith)
+
+none_learned : (seats : List AtWork) → map (caught_up 0) seats ≡ seats
+none_learned [] = refl
+none_learned (own ∷ seats) =
+    let same : caught_up 0 own ≡ own = ap (λ b. record own { seat = record own.seat { seen = cond b 0 own.seat.seen } }) (none_below own.seat.seen) in
+    λ i. same i ∷ none_learned seats i
+
+no_news : (n : ℕ) → news n n ≡ 0
+no_news n = ap (λ b. cond b 0 n) (eq-eqb n n refl)
+
+-- what one seat makes of a step, and all have seen what was recorded; one that wasn't made leaves all as they are
+pub made_at : {S T : Type 0} (result : Option T) (f : S → AtWork) (seats after : List S) (at : ℕ) (new old : S) (lines longer : List WordLine) (count place : ℕ) (step : Step) (shows : ℕ)
     → at < length seats → old ≡ get_or seats at old → (f old).seat.number ≡ step.seat
+    → shows ≡ news (f old).seat.seen (f new).seat.seen
+    → map f after ≡ map (caught_up shows) (map f (set seats at new))
     → MatchOption result (Stays (f old) (f new) lines longer) (λ _. Does count place step (kind_of step.act) (f old) (f new) lines longer)
-    → MatchOption result (working (map f (set seats at new)) longer ≡ working (map f seats) lines) (λ _. Makes count place step (working (map f seats) lines) (working (map f (set seats at new)) longer))
-made_at None f seats at new old lines longer count place step lt there named stays =
-    let all : map f (set seats at new) ≡ map f seats = map_set_same f seats at new old (stays.0 ∙ ap f there) lt in
+    → MatchOption result (working (map f after) longer ≡ working (map f seats) lines) (λ _. Makes count place step (working (map f seats) lines) (working (map f after) longer))
+made_at None f seats after at new old lines longer count place step shows lt there named shown saw stays =
+    let none : shows ≡ 0 = shown ∙ ap (λ (own : AtWork). news (f old).seat.seen own.seat.seen) stays.0 ∙ no_news (f old).seat.seen in
+    let all : map f after ≡ map f seats =
+    saw ∙ ap (λ n. map (caught_up n) (map f (set seats at new))) none ∙ none_learned (map f (set seats at new))
+    ∙ map_set_same f seats at new old (stays.0 ∙ ap f there) lt in
     λ i. working (all i) (stays.1 i)
-made_at (Some x) f seats at new old lines longer count place step lt there named did = by_alone count place step (kind_of step.act) _ _ record {
+made_at (Some x) f seats after at new old lines longer count place step shows lt there named shown saw did = by_alone count place step (kind_of step.act) _ _ record {
   at = at;
   old = f old;
   new = f new;
@@ -148,7 +168,7 @@ made_at (Some x) f seats at new old lines longer count place step lt there named
       ∙ ap Some (get_or-map f seats at old (f old) lt ∙ ap f (sym there));
   named = named;
   did = did;
-  others = map-set f seats at new;
+  others = saw ∙ ap (λ n. map (caught_up n) (map f (set seats at new))) shown ∙ ap (map (caught_up (news (f old).seat.seen (f new).seat.seen))) (map-set f seats at new);
 }
 
 -- a turn of the worker: it makes the step if it is its own

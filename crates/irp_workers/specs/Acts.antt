@@ -22,7 +22,7 @@ use Rattle.irp_types.specs.declared.names.IrpRef.{IrpRef}
 use Rattle.irp_transcript.specs.declared.word_line.WordReply.{WordReply}
 use Rattle.irp_transcript.specs.declared.word_line.WordReply.TheVariants as answered
 use Rattle.irp_script_reader.specs.declared.act.StepAct.{StepAct}
-use Rattle.irp_slot_parties.specs.AtSlots.{AtSlots, Publishing, Requesting, Withdrawing}
+use Rattle.irp_workers.specs.AtSlots.{AtSlots, Publishing, Requesting, Withdrawing}
 use Rattle.irp_types.specs.declared.seat_act.LockAct.{LockAct}
 use Rattle.irp_types.specs.declared.seat_act.LockAct.TheVariants.{
   Acquire,

@@ -1,5 +1,6 @@
 pub mod Accounts
 pub mod Acts
+pub mod AtSlots
 pub mod Behaviours
 pub mod Calling
 pub mod Labels

@@ -8,7 +8,7 @@ use Rattle.irp_remove.specs.declared.table.Locks.{Locks}
 use Rattle.irp_slots.specs.Models.{Asker, Publisher}
 use Rattle.irp_slots.specs.Pairing.{IsCancellerOf, slot_count}
 use Rattle.irp_slots.specs.declared.table.Slots.{Slots}
-use Rattle.irp_slot_parties.specs.AtSlots.{AtSlots, IsFresh}
+use Rattle.irp_workers.specs.AtSlots.{AtSlots, IsFresh}
 use Rattle.irp_workers.specs.declared.script_seat.ScriptSeat.{ScriptSeat}
 use Rattle.irp_workers.specs.Pairs.{Pair, pair_of}
 use Rattle.irp_workers.specs.Working.{AtWork, at_work}

@@ -6,6 +6,7 @@ use Rattle.std.specs.Prelude.{
   ◌⊎◌,
   ◌≤◌,
   ◌%◌,
+  ◌==◌,
   All,
   Bool,
   true,
@@ -52,7 +53,7 @@ use Rattle.irp_workers.specs.declared.step_kind.StepKind.TheVariants.{
   Finishes,
 }
 use Rattle.irp_workers.specs.Acts.{Acts, HandActs, SlotActs}
-use Rattle.irp_slot_parties.specs.AtSlots.{AtSlots, IsSpent, fresh}
+use Rattle.irp_workers.specs.AtSlots.{AtSlots, IsSpent, fresh}
 use Rattle.irp_workers.specs.Calling.{CallsFor}
 use Rattle.irp_workers.specs.StepKinds.{IsNamed, kind_of}
 use Rattle.irp_workers.specs.Outcomes.{is_own_step, own_placed}
@@ -154,7 +155,18 @@ Does count place step (Finishes slot status information) before after lines long
     ⊎ FindsNoToken place step slot before after lines longer
 Does count place step (Hands hand) before after lines longer = ⊥
 
--- the seat that the step names made it, and the others stay
+-- the seat has seen so many entries of the history, or more if it had seen more
+abbrev pub caught_up : ℕ → AtWork → AtWork
+caught_up last own = record own {
+  seat = record own.seat { seen = if nat_lt own.seat.seen last then last else own.seat.seen };
+}
+
+-- how much of the history shows what a seat recorded: all that it has seen behind its call, and 0 where it made none
+abbrev pub news : ℕ → ℕ → ℕ
+news before after = if before == after then 0 else after
+
+-- the seat that the step names made it. All seats of the worker have then seen the entry of its call, if it was one. So
+-- the calls of one worker stand in the history in the order of its steps. Nothing else changes
 pub record MakesAlone (count place : ℕ) (step : Step) (kind : StepKind) (before after : Working)
     : Type 0 where
   pub at : ℕ
@@ -163,7 +175,7 @@ pub record MakesAlone (count place : ℕ) (step : Step) (kind : StepKind) (befor
   pub there : slice_get before.seats at ≡ Some old
   pub named : old.seat.number ≡ step.seat
   pub did : Does count place step kind old new before.lines after.lines
-  pub others : after.seats ≡ slice_set before.seats at new
+  pub others : after.seats ≡ map (caught_up (news old.seat.seen new.seat.seen)) (slice_set before.seats at new)
 
 -- a reference to one of so many locks went from the one seat to the other, or was refused
 pub record HandsOver (count : ℕ) (lock : LockNo) (tag : ℕ)
@@ -256,40 +268,16 @@ pub record WorkApart (count workers : ℕ) (steps : List Step) (ready after : Li
   pub told : EachAsOften (flat_map (λ (one : Left). one.work.lines) left) lines
   pub halted : stopped ≡ list_any (λ (one : Left). one.stopped) left
 
--- the seat has seen so many entries of the history, or more if it had seen more
-abbrev pub caught_up : ℕ → AtWork → AtWork
-caught_up last own = record own {
-  seat = record own.seat { seen = if nat_lt own.seat.seen last then last else own.seat.seen };
-}
-
--- so many entries were seen by the seat that had seen most
-pub record IsMostSeen (last : ℕ) (seats : List AtWork) : Type 0 where
-  pub most : All (λ own. own.seat.seen ≤ last) seats
-  pub least : (other : ℕ) → All (λ own. own.seat.seen ≤ other) seats → last ≤ other
-
--- the same seats, in some order, each of which has seen as much of the history as any of them had
-pub record CatchUp (before after : List AtWork) : Type 0 where
-  pub last : ℕ
-  pub seen : IsMostSeen last before
-  pub each : EachAsOften (map (caught_up last) before) after
-
--- so many workers made the steps, with seats that have seen the whole setup: so each of their calls stands behind all
--- calls of the setup
-pub record WorkOn (count workers : ℕ) (steps : List Step) (ready after : List AtWork)
-    (lines : List WordLine) (stopped : Bool) : Type 0 where
-  pub begun : List AtWork
-  pub caught : CatchUp ready begun
-  pub apart : WorkApart count workers steps begun after lines stopped
-
 -- what came behind the setup: nothing, where its worker was stopped, and else the steps
 abbrev pub WorkAfter : Bool → ℕ → ℕ → List Step → List AtWork → List AtWork
     → List WordLine → Bool → Type 0
 WorkAfter true count workers steps ready after lines stopped =
     (after ≡ ready) × (lines ≡ []) × (stopped ≡ true)
 WorkAfter false count workers steps ready after lines stopped =
-    WorkOn count workers steps ready after lines stopped
+    WorkApart count workers steps ready after lines stopped
 
--- one worker made the setup with all seats, and then, unless it was stopped, so many made the steps
+-- one worker made the setup with all seats, and then, unless it was stopped, so many made the steps. All seats have seen
+-- the whole setup then, so each call of the steps stands behind all calls of the setup in the history
 pub record RunsScript (count workers : ℕ) (setup steps : List Step)
     (before after : List AtWork) (lines : List WordLine) (stopped : Bool) : Type 0 where
   pub ready : Working

@@ -1,4 +1,5 @@
-//! Scripts at work: what their closures answer, and the workers that run their steps.
+//! Scripts at work: what their closures answer, what their seats have at the cancel slots, and the workers that run
+//! their steps.
 #![tactic(auto)]
 
 mod behaviours;
@@ -9,8 +10,11 @@ mod run;
 mod run_context;
 mod script_seat;
 mod seat_steps;
+mod slot_parties;
+mod slot_replies;
 mod step_call;
 mod step_kind;
+mod taken;
 mod words;
 mod worker;
 mod worker_steps;

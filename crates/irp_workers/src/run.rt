@@ -6,7 +6,7 @@ ghost use Rattle.irp_transcript.specs.declared.word_line.WordLine.{WordLine};
 ghost use Rattle.irp_remove.specs.Pairing.{IsSeatOf, lock_count};
 ghost use Rattle.irp_slots.specs.Pairing.{IsCancellerOf, IsOwnerOf};
 ghost use Rattle.irp_workers.specs.Accounts.{Accounts};
-ghost use Rattle.irp_slot_parties.specs.AtSlots.{OwnTheirSlots};
+ghost use Rattle.irp_workers.specs.AtSlots.{OwnTheirSlots};
 ghost use Rattle.irp_workers.specs.Numbers.{AreSame, EachAsOften};
 ghost use Rattle.irp_workers.specs.Seats.{
   HasAllSlots,
@@ -25,20 +25,20 @@ ghost use Rattle.irp_workers.specs.Seats.{
 };
 ghost use Rattle.irp_workers.specs.Words.{AreInOrder};
 ghost use Rattle.irp_workers.specs.Workers.{IsIdle, IsReady, RunsOwn, count_lines, count_seats};
-ghost use Rattle.irp_workers.specs.Working.{CatchUp, IsMostSeen, RunsScript};
+ghost use Rattle.irp_workers.specs.Working.{RunsScript};
 
 use crate::gate::{AlwaysOpen, Gate};
 use crate::labels::Labels;
 use crate::meeting::Meeting;
 use crate::run_context::RunContext;
 use crate::script_seat::ScriptSeat;
+use crate::slot_parties::SlotParties;
 use crate::words::put_in_order;
 use crate::worker::Worker;
 use irp_remove::{Locks, RemoveSeat};
 use irp_routines::Ask;
 use irp_script_reader::{ScriptParts, Step};
 use irp_shared::{Seat, Session, Shared, WordLine};
-use irp_slot_parties::SlotParties;
 use irp_slots::{Canceller, SlotOwner, Slots};
 use std::alloc::{AllocError, Global};
 use std::sync::Wait;
@@ -130,38 +130,6 @@ pub fn script_seats<'a, L: Session>(
         own.own(owner)?;
     }
     Ok(pairs)
-}
-
-/// How many entries of the history the seat has seen that has seen most; 0 where there is no seat.
-fn most_seen<L: Session>(seats: &[ScriptSeat<'_, L>]) -> u64
-    ensures { IsMostSeen result (seats_at_work seats.now) }
-{
-    let mut most = 0u64;
-    for own in seats {
-        most = most.max(own.seen());
-    }
-    most
-}
-
-/// The same seats, in some order, each of which has seen as much of the history as any of them had.
-fn catch_up<'a, L: Session>(
-    alloc: Global,
-    locks: &'a Locks,
-    mut seats: Vec<ScriptSeat<'a, L>>,
-) -> Result<Vec<ScriptSeat<'a, L>>, AllocError>
-    requires { All (IsAtLocks locks.now) seats.items }
-    ensures fits { IfOk result (λ all. All (IsAtLocks locks.now) all.items) }
-    ensures caught { IfOk result (λ all.
-        CatchUp (seats_at_work seats.entry.items) (seats_at_work all.items)) }
-{
-    let _ = locks;
-    let most = most_seen(seats.as_slice());
-    let mut all = Vec::new(alloc);
-    while let Some(mut own) = seats.pop() {
-        own.saw(most);
-        all.push(own)?;
-    }
-    Ok(all)
 }
 
 /// So many workers without seats.
@@ -260,11 +228,11 @@ fn gather<'a, L: Session>(
 /// Runs a script: its setup in order, on this thread, and then so many workers in threads of their own, of which
 /// worker w runs, in the order of the script, the steps whose seat's number leaves w when divided by their number.
 /// The workers meet before each of their first 32 steps, so that short scripts mix: each waits for the others for a
-/// bounded time (no clause says so; tests show it). With one worker all steps are run in the order of the script (of
-/// steps of different seats no clause says so; examples show it).
+/// bounded time (no clause says so; tests show it). With one worker all steps are made in the order of the script.
 ///
-/// Between the setup and the steps all seats learn how much of the history any of them has seen. So where one of them
-/// had learned a receipt of another session, all are behind until the history is as long, and their workers stop.
+/// All seats of a worker learn of each entry that one of them has recorded. So each call of a worker stands in the
+/// history behind all calls that the worker made before, and behind all calls of the setup. A seat that had learned a
+/// receipt of another session may be behind, and then its worker stops.
 ///
 /// Labels are shared by all seats: one that isn't bound yet stands for a packet that is never live. A step whose seat
 /// isn't there, one whose call isn't recorded, a hand to a seat that its worker doesn't have, and a publish or a
@@ -276,14 +244,13 @@ fn gather<'a, L: Session>(
 /// All remove seats were opened with these locks, and all that the seats have at slots with these slots, which are the
 /// conditions of this call.
 ///
-/// What was done is a chain for the setup, and then one for each worker over the seats that it was dealt. These seats
-/// have seen the whole setup, so each of their calls stands behind all calls of the setup in the history. Each link
+/// What was done is a chain for the setup, and then one for each worker over the seats that it was dealt. Each link
 /// is one of its own steps, in the order of the script, made by the seat that the step names: one call, with what
 /// this seat's own remove seat knew of the locks, or one act on remove locks or on a cancel slot, of which one word
 /// line tells what was answered. A finish of a taken packet is one call with a token that this seat took from that
 /// slot and hasn't spent, and where there is none, one word line. A token that comes out of a slot stays with the
-/// seat, and so does one that a finish gives back. The next link goes on from there, and no other seat changes, but
-/// for the one that a hand names. A chain ends early only where its worker stopped, in front of a step of its own.
+/// seat, and so does one that a finish gives back. The next link goes on from there. No other seat changes, but for
+/// the one that a hand names, and all seats of the worker have seen the entry of a call. A chain ends early only where its worker stopped, in front of a step of its own.
 /// The seats and the word lines that come back are those that the chains end with.
 ///
 /// Each word line has the seat, the place and the act of one of the script's `steps` on locks and slots. No such step
@@ -348,8 +315,7 @@ pub fn run_workers<
         });
     }
     let steps = script.steps.as_slice();
-    let begun = catch_up(alloc, locks, ready.seats)?;
-    let groups = deal(alloc, locks, workers, begun)?;
+    let groups = deal(alloc, locks, workers, ready.seats)?;
     let meeting = Meeting::new(workers);
     let done = run_all(rt, &context, &meeting, gate, steps, groups)?;
     gather(alloc, done)

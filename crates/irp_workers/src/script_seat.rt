@@ -3,9 +3,9 @@
 ghost use Rattle.std.specs.Prelude.{◌≡◌, ◌++◌, ◌∷◌, [], IfOk, OnErr};
 ghost use Rattle.irp_remove.specs.Pairing.{IsSeatOf, lock_count};
 
+use crate::slot_parties::SlotParties;
 use irp_remove::{Locks, RemoveSeat};
 use irp_shared::{Seat, Session};
-use irp_slot_parties::SlotParties;
 use irp_slots::SlotOwner;
 use std::alloc::AllocError;
 

@@ -13,7 +13,9 @@ ghost use Rattle.std.specs.Prelude.{
   true,
   false,
   All,
+  if◌then◌else◌,
   length,
+  map,
   slice_get,
   vec_len,
   Contains,
@@ -26,7 +28,7 @@ ghost use Rattle.std.specs.Prelude.{
 ghost use Rattle.irp_workers.specs.Outcomes.{is_own_step};
 ghost use Rattle.irp_workers.specs.Seats.{IsAtLocks, numbers_of, seats_at_work};
 ghost use Rattle.irp_workers.specs.Workers.{IsSameWorker, RunsOwn, work_of};
-ghost use Rattle.irp_workers.specs.Working.{HandsBetween, Makes, MakesEach, MakesHand, if_own};
+ghost use Rattle.irp_workers.specs.Working.{HandsBetween, Makes, MakesEach, MakesHand, caught_up, if_own, news};
 
 use crate::gate::Gate;
 use crate::meeting::Meeting;
@@ -81,6 +83,26 @@ fn hand_between<'a, L: Session>(
     reply
 }
 
+/// How much of the history shows what a seat recorded that had seen so many entries and has seen so many now; 0 where
+/// it recorded nothing.
+fn news(before: u64, after: u64) -> u64
+    ensures { result ≡ news before after }
+{
+    if before == after { 0 } else { after }
+}
+
+/// All seats have seen this many entries of the history, or more where they had seen more. All are at these locks.
+fn all_saw<'a, L: Session>(locks: &'a Locks, seats: &mut [ScriptSeat<'a, L>], length: u64)
+    requires { All (IsAtLocks locks.now) seats.old }
+    ensures fits { All (IsAtLocks locks.now) seats.new }
+    ensures saw { seats_at_work seats.new ≡ map (caught_up length) (seats_at_work seats.old) }
+{
+    let _ = locks;
+    for own in seats.iter_mut() {
+        own.saw(length);
+    }
+}
+
 impl<'a, L: Session> Worker<'a, L> {
     /// Gives it a seat, whose remove seat was opened with its locks.
     ///
@@ -132,7 +154,7 @@ impl<'a, L: Session> Worker<'a, L> {
         Some(())
     }
 
-    /// Makes a step, which has this place. None where it wasn't recorded, found no memory, or has a seat or an owner
+    /// Makes a step, which has this place. All its seats have then seen what was recorded. None where it wasn't recorded, found no memory, or has a seat or an owner
     /// of a slot that isn't there.
     fn step<A: Ask>(
         &mut self,
@@ -150,7 +172,11 @@ impl<'a, L: Session> Worker<'a, L> {
         }
         let at = self.place_of(step.seat)?;
         let own = &mut self.seats[at];
-        own.step(rt, context, index, step, &mut self.words)
+        let before = own.seen();
+        let made = own.step(rt, context, index, step, &mut self.words);
+        let length = news(before, own.seen());
+        all_saw(self.locks, self.seats.as_mut_slice(), length);
+        made
     }
 
     /// Makes a step between the calls of the gate. None where it wasn't made.

@@ -1,9 +1,13 @@
 -- The words `NAME demo`, `NAME check` and `NAME run` are taken, and stand for the subcommand of their name.
-use Rattle.std.proofs.Common.{◌≡◌, ℕ, List, [], ◌∷◌, Some, None, Result, Ok, Err, OnOk, MatchResult, true, codes, option_map, refl, sym, subst, ap, ap₂, ◌∙◌}
+use Rattle.std.proofs.Common.{◌≡◌, inl, inr, ℕ, List, [], ◌∷◌, Some, None, Result, Ok, Err, OnOk, MatchResult, true, codes, option_map, refl, sym, subst, ap, ap₂, ◌∙◌}
 use Rattle.std.specs.Box.{box_value}
 use Rattle.clap.specs.Matches.{subcommand_name_of}
 use Rattle.clap.specs.Simple.{App, HasMatchesOf, subcommand_rows, subcommand_rows_of}
+use Rattle.clap.specs.Kinds.{HasKind}
+use Rattle.clap.specs.Values.{kind_of}
 use Rattle.clap.specs.Words.{Row, fault_of, is_simple, is_simple_and_free, subcommand_of, takes}
+use Rattle.clap.specs.declared.error.Error.{Error}
+use Rattle.clap.specs.declared.error.kind.ErrorKind.TheVariants.{OutOfMemory}
 use Rattle.clap.specs.declared.parser.matches.ArgMatches.{ArgMatches}
 use Rattle.clap.specs.declared.parser.matches.ArgMatches.TheViews.{out-ArgMatches, out-SubCommand}
 use Rattle.clap.proofs.OnLiterals.{clap_on_literals}
@@ -59,9 +63,9 @@ with_rows : (app : App) (matches : ArgMatches) (words line : List (List ℕ)) �
 with_rows app matches words line app_is words_are has =
     ap (option_map (λ found. found.1)) ((has (ap is_simple app_is ∙ command_line_is_simple)).1 ∙ ap₂ subcommand_of app_is words_are)
 
--- clap's matches of words that name `run`, with these rows
-pub run_is_named : (app : App) (matches : ArgMatches) (words : List (List ℕ)) (rows : List Row) → app ≡ command_line → subcommand_of command_line words ≡ Some (codes "run", rows) → HasMatchesOf app words matches → subcommand_name_of matches ≡ Some (codes "run")
-run_is_named app matches words rows app_is met has =
+-- clap's matches of words that name a subcommand, with these rows
+pub is_named : (app : App) (matches : ArgMatches) (words : List (List ℕ)) (name : List ℕ) (rows : List Row) → app ≡ command_line → subcommand_of command_line words ≡ Some (name, rows) → HasMatchesOf app words matches → subcommand_name_of matches ≡ Some name
+is_named app matches words name rows app_is met has =
     named app matches words words app_is refl has ∙ ap (option_map (λ found. found.0)) met
 
 pub run_has_rows : (app : App) (matches : ArgMatches) (words : List (List ℕ)) (rows : List Row) → app ≡ command_line → subcommand_of command_line words ≡ Some (codes "run", rows) → HasMatchesOf app words matches → option_map (λ found. found.1) (subcommand_rows_of matches) ≡ Some rows
@@ -85,6 +89,15 @@ check_is_named app matches name words app_is words_are has =
 -- clap finds no fault in words that it takes
 pub no_fault : (app : App) (words : List (List ℕ)) → app ≡ command_line → (is_simple_and_free app ≡ true → fault_of app words ≡ []) → fault_of command_line words ≡ []
 no_fault app words app_is free = ap (λ this. fault_of this words) (sym app_is) ∙ free (ap is_simple_and_free app_is ∙ command_line_is_free)
+
+-- words in which clap finds no fault are refused for want of memory alone
+pub memory_alone : (app : App) (words : List (List ℕ)) (error : Error) → app ≡ command_line → fault_of command_line words ≡ [] → (is_simple_and_free app ≡ true → HasKind (fault_of app words) error) → kind_of error ≡ OutOfMemory
+memory_alone app words error app_is none kinds =
+    by (subst (λ faults. HasKind faults error) (ap (λ this. fault_of this words) app_is ∙ none) (kinds (ap is_simple_and_free app_is ∙ command_line_is_free)))
+  where
+    by : HasKind [] error → kind_of error ≡ OutOfMemory
+    by (inl memory) = memory
+    by (inr other) = absurd other
 
 -- clap takes `NAME demo`
 pub takes_demo : (app : App) (name : List ℕ) (words : List (List ℕ)) → app ≡ command_line → words ≡ name ∷ codes "demo" ∷ [] → takes app words ≡ true

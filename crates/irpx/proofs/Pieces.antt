@@ -3,7 +3,7 @@ use Rattle.std.proofs.Common.{◌≡◌, ℕ, ◌≤◌, List, [], ◌++◌, ◌
 use Rattle.std.proofs.lemmas.Grind.{common_steps}
 use Rattle.std.proofs.lemmas.List.{length-take-le, take_at}
 use Rattle.std.specs.Io.KnownBytes.{Consumes, IsAtEnd, Keeps}
-use Rattle.irpx.specs.Input.{TakesAtMost}
+use Rattle.irpx.specs.Streams.{TakesAtMost}
 
 pub reads_none : (old : Option (List ℕ)) → Consumes old old []
 reads_none None = tt

@@ -23,14 +23,14 @@ use Rattle.irp_transcript_reader.specs.declared.read_fault.ReadFault.TheVariants
 use Rattle.irp_judge.specs.Checked.{IsVerdictOn}
 use Rattle.irp_judge.specs.declared.verdict.Verdict.{Verdict}
 use Rattle.irp_judge.specs.declared.verdict.Verdict.TheVariants as verdict
-use Rattle.irpx.specs.Bytes.{Bytes}
-use Rattle.irpx.specs.Writing.{Begins, IsQuiet, Written}
+use Rattle.irpx.specs.Streams.{Bytes, IsQuiet, Output, Streams}
+use Rattle.irpx.specs.Writing.{Begins, Written}
 use Rattle.irpx.specs.declared.checking.CheckFault.{CheckFault}
 use Rattle.irpx.specs.declared.checking.CheckFault.TheVariants as unchecked
 use Rattle.irpx.specs.declared.checking.Unjudged.{Unjudged}
 use Rattle.irpx.specs.declared.checking.Unjudged.TheVariants.{Input, RefusedLine, NoMemory}
-use Rattle.irpx.specs.declared.writing.Unwritten.{Unwritten}
-use Rattle.irpx.specs.declared.writing.Unwritten.TheVariants as unwritten
+use Rattle.irpx.specs.declared.input.StreamFault.{StreamFault}
+use Rattle.irpx.specs.declared.input.StreamFault.TheVariants as stream
 
 -- as many bytes as the text of a transcript may have that is checked
 abbrev pub most_bytes : ℕ
@@ -79,25 +79,22 @@ NotRead old new (Input fault) = Unit {0}
 NotRead old new NoMemory = Unit {0}
 
 -- what goes out and the count of failures where a verdict is written: its line
-abbrev pub Told : Verdict → Bytes → Bytes → ℕ → ℕ → Type 0
-Told verdict old new before after = Written (verdict_line verdict) old new before after
+abbrev pub Told : Verdict → Output → Output → Type 0
+Told verdict before after = Written (verdict_line verdict) before after
 
 -- the same where it isn't: a beginning of its line where the output failed, else nothing
-abbrev pub Untold : Verdict → Bytes → Bytes → ℕ → ℕ → Unwritten → Type 0
-Untold verdict old new before after unwritten.Failed =
-    Begins (verdict_line verdict) old new × (after ≡ risen before)
-Untold verdict old new before after unwritten.NoMemory = IsQuiet old new before after
+abbrev pub Untold : Verdict → Output → Output → StreamFault → Type 0
+Untold verdict before after stream.Failed =
+    Begins (verdict_line verdict) before.gone after.gone × (after.failures ≡ risen before.failures)
+Untold verdict before after stream.NoMemory = IsQuiet before after
 
--- what `check` did where it writes no verdict. Where there is none nothing went out. Else the input holds a transcript,
--- whose verdict wasn't written.
-abbrev pub Unchecked : Bytes → Bytes → Bytes → Bytes → ℕ → ℕ → CheckFault → Type 0
-Unchecked input left old new before after (unchecked.Unjudged fault) =
-    NotRead input left fault × IsQuiet old new before after
-Unchecked input left old new before after (unchecked.Untold fault) =
-    (verdict : Verdict) × HasVerdict input left verdict × Untold verdict old new before after fault
-
--- what `check` did: the input holds a transcript, whose verdict was written; or it wrote none
-abbrev pub Checks : Bytes → Bytes → Bytes → Bytes → ℕ → ℕ → Result Verdict CheckFault → Type 0
-Checks input left old new before after (Ok verdict) =
-    HasVerdict input left verdict × Told verdict old new before after
-Checks input left old new before after (Err fault) = Unchecked input left old new before after fault
+-- what `check` did: the input holds a transcript, whose verdict was written. Where there is no verdict nothing went
+-- out. Else the verdict wasn't written
+abbrev pub Checks : Streams → Streams → Result Verdict CheckFault → Type 0
+Checks before after (Ok verdict) =
+    HasVerdict before.left after.left verdict × Told verdict before.output after.output
+Checks before after (Err (unchecked.Unjudged fault)) =
+    NotRead before.left after.left fault × IsQuiet before.output after.output
+Checks before after (Err (unchecked.Untold fault)) =
+    (verdict : Verdict) × HasVerdict before.left after.left verdict
+    × Untold verdict before.output after.output fault

@@ -23,13 +23,13 @@ use Rattle.std.specs.Prelude.{
   MatchResult,
   if◌then◌else◌,
 }
-use Rattle.clap.specs.Words.{Rule, new_rule}
+use Rattle.clap.specs.Words.{Row, Rule, fault_of, new_rule, subcommand_of}
 use Rattle.clap.specs.Simple.{App, new_app, on_top, with_rule, with_subcommand}
 use Rattle.clap.specs.declared.builder.ArgAction.TheVariants.{Set}
 use Rattle.irpx.specs.declared.orders.Order.{Order}
 use Rattle.irpx.specs.declared.orders.Order.TheVariants.{Demo, Run, Check}
 use Rattle.irpx.specs.declared.orders.Unread.{Unread}
-use Rattle.irpx.specs.declared.orders.Unread.TheVariants.{Usage, Memory}
+use Rattle.irpx.specs.declared.orders.Unread.TheVariants.{Usage, NoMemory}
 
 -- the option `--workers`, which takes a text
 abbrev pub workers_option : Rule
@@ -50,6 +50,11 @@ command_line =
 -- the program's name, whatever it is, and this one word
 abbrev pub IsOneWord : List ℕ → List (List ℕ) → Type 0
 IsOneWord word words = (name : List ℕ) × (words ≡ name ∷ word ∷ [])
+
+-- clap finds no fault in the words, and in them this subcommand, with these rows of options
+abbrev pub Finds : List ℕ → List Row → List (List ℕ) → Type 0
+Finds name rows words =
+    (fault_of command_line words ≡ []) × (subcommand_of command_line words ≡ Some (name, rows))
 
 abbrev pub is_digit : ℕ → Bool
 is_digit byte = nat_le 48 byte && nat_le byte 57
@@ -77,7 +82,7 @@ run_in (Some text) = run_with (workers_in text)
 
 -- this order comes of the words, if memory doesn't run out
 abbrev pub IsOrderOrMemory : Order → Result Order Unread → Type 0
-IsOrderOrMemory order given = MatchResult given (λ it. it ≡ order) (λ unread. unread ≡ Memory)
+IsOrderOrMemory order given = MatchResult given (λ it. it ≡ order) (λ unread. unread ≡ NoMemory)
 
 -- a run has 1 to 64 workers
 abbrev pub IsOrder : Order → Type 0

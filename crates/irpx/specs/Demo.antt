@@ -1,6 +1,5 @@
 -- What the demonstration writes.
-use Rattle.std.specs.Prelude.{ℕ, ◌≡◌, ◌<◌, ◌⊎◌, List, [], ◌∷◌, ◌++◌, map, length, Some}
-use Rattle.std.specs.Io.KnownBytes.{Appends}
+use Rattle.std.specs.Prelude.{ℕ, ◌≡◌, ◌⊎◌, List, [], ◌∷◌, map, Result, Ok, Err, Some}
 use Rattle.irp_types.specs.Histories.{IsLegal}
 use Rattle.irp_types.specs.declared.entry.Entry.{Entry}
 use Rattle.irp_types.specs.Calls.{Call}
@@ -20,7 +19,9 @@ use Rattle.irp_transcript.specs.Headers.{fixed_of, IsHeader}
 use Rattle.irp_transcript.specs.Transcripts.{TranscriptValue}
 use Rattle.irp_transcript.specs.declared.header.Header.{Header}
 use Rattle.irp_transcript_writer.specs.Lines.{lines, text_of}
-use Rattle.irpx.specs.Bytes.{Bytes}
+use Rattle.irpx.specs.Streams.{Output}
+use Rattle.irpx.specs.Writing.{Begins, Written, count_after}
+use Rattle.irpx.specs.declared.input.StreamFault.{StreamFault}
 
 -- the calls of a history, in order, each with the seat that made it and with its reply
 abbrev pub calls_of : List Entry → List (ℕ × Call × Reply)
@@ -43,33 +44,13 @@ pub record IsDemoTranscript (transcript : TranscriptValue) : Type 0 where
   pub legal : IsLegal (fixed_of header) transcript.entries
   pub calls : AreDemoCalls (calls_of transcript.entries)
 
--- the text of a header and a history, with no word lines
-abbrev pub text_with : Header → List Entry → List ℕ
-text_with header history =
-    text_of (lines (record { header = Some header; entries = history; words = [] }))
-
--- the text of a header and of a legal history with the calls of the demonstration went out
-pub record WritesLegal (old new : Bytes) : Type 0 where
-  pub header : Header
-  pub history : List Entry
-  pub fits : IsHeader header
-  pub legal : IsLegal (fixed_of header) history
-  pub calls : AreDemoCalls (calls_of history)
-  pub written : Appends old new (text_with header history)
-
--- a beginning of such a text went out, which isn't the whole text
-pub record BeginsText (old new : Bytes) : Type 0 where
-  pub header : Header
-  pub history : List Entry
-  pub fits : IsHeader header
-  pub legal : IsLegal (fixed_of header) history
-  pub calls : AreDemoCalls (calls_of history)
-  pub front : List ℕ
-  pub rest : List ℕ
-  pub whole : text_with header history ≡ front ++ rest
-  pub short : 0 < length rest
-  pub gone : Appends old new front
-
+-- what the demonstration leaves: the text of such a transcript went out, and nothing failed; or a fault came, and
 -- nothing went out, or a beginning of such a text
-abbrev pub BeginsLegal : Bytes → Bytes → Type 0
-BeginsLegal old new = (new ≡ old) ⊎ BeginsText old new
+abbrev pub AfterDemo : {T : Type 0} → Output → Output → Result T StreamFault → Type 0
+AfterDemo before after (Ok done) =
+    (transcript : TranscriptValue) × IsDemoTranscript transcript
+    × Written (text_of (lines transcript)) before after
+AfterDemo before after (Err fault) =
+    ((after.gone ≡ before.gone) ⊎ ((transcript : TranscriptValue) × IsDemoTranscript transcript
+    × Begins (text_of (lines transcript)) before.gone after.gone))
+    × (after.failures ≡ count_after fault before.failures)

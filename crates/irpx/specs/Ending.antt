@@ -1,5 +1,5 @@
 -- The exit statuses, and the lines for standard error.
-use Rattle.std.specs.Prelude.{ℕ, List, ◌++◌, codes, Bool, true, false, Option, Some, None}
+use Rattle.std.specs.Prelude.{ℕ, List, ◌++◌, codes, Bool, true, false, Option, Some, None, Result, Ok, Err}
 use Rattle.std.specs.Fmt.{decimal}
 use Rattle.irp_judge.specs.declared.verdict.Verdict.{Verdict}
 use Rattle.irp_judge.specs.declared.verdict.Verdict.TheVariants as verdict
@@ -21,41 +21,32 @@ use Rattle.irpx.specs.declared.ending.Ending.TheVariants.{
   OtherWords,
   Failed,
 }
-use Rattle.irpx.specs.declared.input.InputFault.{InputFault}
-use Rattle.irpx.specs.declared.input.InputFault.TheVariants as input
+use Rattle.irpx.specs.declared.input.StreamFault.{StreamFault}
+use Rattle.irpx.specs.declared.input.StreamFault.TheVariants as stream
 use Rattle.irpx.specs.declared.orders.Unread.{Unread}
 use Rattle.irpx.specs.declared.orders.Unread.TheVariants as unread
 use Rattle.irpx.specs.declared.running.RunFault.{RunFault}
 use Rattle.irpx.specs.declared.running.RunFault.TheVariants as run_fault
-use Rattle.irpx.specs.declared.running.Unfinished.{Unfinished}
-use Rattle.irpx.specs.declared.running.Unfinished.TheVariants as unfinished
 use Rattle.irpx.specs.declared.running.Unrun.{Unrun}
 use Rattle.irpx.specs.declared.running.Unrun.TheVariants as unrun
 use Rattle.irpx.specs.declared.running.Unscripted.{Unscripted}
 use Rattle.irpx.specs.declared.running.Unscripted.TheVariants as unscripted
-use Rattle.irpx.specs.declared.writing.Unwritten.{Unwritten}
-use Rattle.irpx.specs.declared.writing.Unwritten.TheVariants as unwritten
 
 -- ---- what each phase's fault ends with
 
 -- other words, or want of memory for them
 abbrev pub of_words : Unread → Ending
 of_words unread.Usage = OtherWords
-of_words unread.Memory = NoMemory
+of_words unread.NoMemory = NoMemory
 
--- an input that wasn't read
-abbrev pub of_input : InputFault → Ending
-of_input input.Failed = Failed
-of_input input.Memory = NoMemory
-
--- a text that wasn't written whole
-abbrev pub of_writing : Unwritten → Ending
-of_writing unwritten.Failed = Failed
-of_writing unwritten.NoMemory = NoMemory
+-- an input that wasn't read, or an output that wasn't written whole
+abbrev pub of_stream : StreamFault → Ending
+of_stream stream.Failed = Failed
+of_stream stream.NoMemory = NoMemory
 
 -- no script
 abbrev pub of_script : Unscripted → Ending
-of_script (unscripted.Input fault) = of_input fault
+of_script (unscripted.Input fault) = of_stream fault
 of_script (unscripted.Refused refusal) = RefusedScript refusal
 of_script unscripted.NoMemory = NoMemory
 
@@ -64,33 +55,34 @@ abbrev pub of_session : Unrun → Ending
 of_session unrun.ReceiptsDiffer = ReceiptsDiffer
 of_session unrun.NoMemory = NoMemory
 
--- a script that wasn't run to its end
-abbrev pub of_unfinished : Unfinished → Ending
-of_unfinished (unfinished.NoTranscript fault) = of_session fault
-of_unfinished unfinished.Stopped = NoMemory
-of_unfinished (unfinished.Unwritten fault) = of_writing fault
-
 -- a fault of `run`
 abbrev pub of_run : RunFault → Ending
 of_run (run_fault.Unread fault) = of_script fault
 of_run (run_fault.HandsBetween step) = RefusedScript (At BadField Steps step)
-of_run (run_fault.Unfinished fault) = of_unfinished fault
+of_run (run_fault.NoTranscript fault) = of_session fault
+of_run run_fault.Stopped = NoMemory
+of_run (run_fault.Unwritten fault) = of_stream fault
 
 -- no verdict
 abbrev pub of_judging : Unjudged → Ending
-of_judging (unjudged.Input fault) = of_input fault
+of_judging (unjudged.Input fault) = of_stream fault
 of_judging (unjudged.RefusedLine line) = RefusedLine line
 of_judging unjudged.NoMemory = NoMemory
 
 -- a fault of `check`
 abbrev pub of_check : CheckFault → Ending
 of_check (unchecked.Unjudged fault) = of_judging fault
-of_check (unchecked.Untold fault) = of_writing fault
+of_check (unchecked.Untold fault) = of_stream fault
 
 -- a verdict that was written
 abbrev pub of_verdict : Verdict → Ending
 of_verdict (verdict.Legal entries) = Done
 of_verdict (verdict.Illegal at) = Illegal
+
+-- what a result ends with
+abbrev pub ending_of : {T E : Type 0} → (T → Ending) → (E → Ending) → Result T E → Ending
+ending_of of_value of_fault (Ok value) = of_value value
+ending_of of_value of_fault (Err fault) = of_fault fault
 
 -- ---- what an ending is seen by
 

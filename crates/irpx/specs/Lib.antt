@@ -1,9 +1,8 @@
-pub mod Bytes
 pub mod Checking
 pub mod CommandLine
 pub mod Demo
 pub mod Ending
-pub mod Input
 pub mod Program
 pub mod Running
+pub mod Streams
 pub mod Writing

@@ -52,13 +52,17 @@ use Rattle.irp_workers.specs.Outcomes.{Outcome, Test, outcomes}
 use Rattle.irp_workers.specs.Told.{IsTold}
 use Rattle.irp_workers.specs.Words.{AreInOrder, told_by, word_steps}
 use Rattle.irp_transcript_writer.specs.Lines.{lines, text_of}
-use Rattle.irpx.specs.Bytes.{Bytes}
 use Rattle.irp_workers.specs.Ran.{Ran}
-use Rattle.irpx.specs.Writing.{BreaksOff, IsQuiet, Written}
+use Rattle.irpx.specs.Streams.{Bytes, IsQuiet, Output, Streams}
+use Rattle.irpx.specs.Writing.{BreaksOff, Written}
 use Rattle.irpx.specs.declared.running.RunFault.{RunFault}
-use Rattle.irpx.specs.declared.running.RunFault.TheVariants as run_fault
-use Rattle.irpx.specs.declared.running.Unfinished.{Unfinished}
-use Rattle.irpx.specs.declared.running.Unfinished.TheVariants.{NoTranscript, Stopped, Unwritten}
+use Rattle.irpx.specs.declared.running.RunFault.TheVariants.{
+  Unread,
+  HandsBetween,
+  NoTranscript,
+  Stopped,
+  Unwritten,
+}
 use Rattle.irpx.specs.declared.running.Unscripted.{Unscripted}
 use Rattle.irpx.specs.declared.running.Unscripted.TheVariants.{Input, Refused, NoMemory}
 
@@ -175,63 +179,40 @@ run_transcript form words transcript = record transcript {
 abbrev pub text_with : TranscriptValue → List ℕ
 text_with transcript = text_of (lines transcript)
 
--- what came of a script with these tables that so many workers ran to its end: the transcript of a run was written,
--- which shows each step, and comes of what ran
-abbrev pub RunsToItsEnd : ℕ → Script → Tables → Bytes → Bytes → ℕ → ℕ → Type 0
-RunsToItsEnd workers script tables old new before after =
+-- what came of a script with these tables that so many workers were to run. To its end: the transcript of a run was
+-- written, which shows each step, and comes of what ran. Else there is no transcript, and nothing went out; or the
+-- transcript of a run was written, which comes of what ran, and steps may be missing in it; or a beginning of such a
+-- one went out
+abbrev pub AfterScript : {T : Type 0} → ℕ → Script → Tables → Output → Output
+    → Result T RunFault → Type 0
+AfterScript workers script tables before after (Ok done) =
     (transcript : TranscriptValue) × IsRun script tables transcript × ShowsEach script transcript
-    × Ran workers script transcript false × Written (text_with transcript) old new before after
-
--- the same where it wasn't: there is no transcript, and nothing went out; or the transcript of a run was written, which
--- comes of what ran, and steps may be missing in it; or a beginning of such a one went out
-abbrev pub BreaksOffRun : ℕ → Script → Tables → Bytes → Bytes → ℕ → ℕ → Unfinished → Type 0
-BreaksOffRun workers script tables old new before after (NoTranscript fault) =
-    IsQuiet old new before after
-BreaksOffRun workers script tables old new before after Stopped =
+    × Ran workers script transcript false × Written (text_with transcript) before after
+AfterScript workers script tables before after (Err (NoTranscript fault)) = IsQuiet before after
+AfterScript workers script tables before after (Err Stopped) =
     (transcript : TranscriptValue) × IsRun script tables transcript
-    × Ran workers script transcript true × Written (text_with transcript) old new before after
-BreaksOffRun workers script tables old new before after (Unwritten fault) =
+    × Ran workers script transcript true × Written (text_with transcript) before after
+AfterScript workers script tables before after (Err (Unwritten fault)) =
     (transcript : TranscriptValue) × IsRun script tables transcript
     × ((stopped : Bool) × Ran workers script transcript stopped)
-    × BreaksOff (text_with transcript) old new before after fault
-
--- what came of a script with these tables that so many workers were to run
-abbrev pub AfterScript : {T : Type 0} → ℕ → Script → Tables → Bytes → Bytes → ℕ → ℕ
-    → Result T Unfinished → Type 0
-AfterScript workers script tables old new before after (Ok done) =
-    RunsToItsEnd workers script tables old new before after
-AfterScript workers script tables old new before after (Err fault) =
-    BreaksOffRun workers script tables old new before after fault
+    × BreaksOff (text_with transcript) before after fault
+AfterScript workers script tables before after (Err other) = ⊥
 
 -- the first step that hands a reference between seats that fall to different of so many workers is this one, or there
 -- is none; and the input holds the script
-abbrev pub HandsFirst : ℕ → Option ℕ → Bytes → Bytes → Script → Type 0
-HandsFirst workers place input left script =
-    HoldsScript input left script × (position (hands_between workers) script.steps ≡ place)
+abbrev pub HandsFirst : ℕ → Option ℕ → Streams → Streams → Script → Type 0
+HandsFirst workers place before after script =
+    HoldsScript before.left after.left script
+    × (position (hands_between workers) script.steps ≡ place)
 
--- what `run` did with so many workers where all was done: the input holds a script that hands nothing between workers,
--- which was run
-abbrev pub Runs : ℕ → Bytes → Bytes → Bytes → Bytes → ℕ → ℕ → Type 0
-Runs workers input left old new before after =
-    (script : Script) × HandsFirst workers None input left script
-    × RunsToItsEnd workers script (tables_of script) old new before after
-
--- the same where it wasn't: there is no script, or one that hands a reference between workers, and nothing went out; or
--- the input holds another, which wasn't run to its end
-abbrev pub Unran : ℕ → Bytes → Bytes → Bytes → Bytes → ℕ → ℕ → RunFault → Type 0
-Unran workers input left old new before after (run_fault.Unread fault) =
-    NoScript input left fault × IsQuiet old new before after
-Unran workers input left old new before after (run_fault.HandsBetween step) =
-    (script : Script) × HandsFirst workers (Some step) input left script
-    × IsQuiet old new before after
-Unran workers input left old new before after (run_fault.Unfinished fault) =
-    (script : Script) × HandsFirst workers None input left script
-    × BreaksOffRun workers script (tables_of script) old new before after fault
-
--- what `run` did: the input holds a script, which was run to its end; or it wasn't
-abbrev pub AfterRun : {T : Type 0} → ℕ → Bytes → Bytes → Bytes → Bytes → ℕ → ℕ
-    → Result T RunFault → Type 0
-AfterRun workers input left old new before after (Ok done) =
-    Runs workers input left old new before after
-AfterRun workers input left old new before after (Err fault) =
-    Unran workers input left old new before after fault
+-- what `run` did with so many workers: there is no script, or one that hands a reference between workers, and nothing
+-- went out; or the input holds one that hands nothing between them, which was run to its end or not
+abbrev pub AfterRun : {T : Type 0} → ℕ → Streams → Streams → Result T RunFault → Type 0
+AfterRun workers before after (Err (Unread fault)) =
+    NoScript before.left after.left fault × IsQuiet before.output after.output
+AfterRun workers before after (Err (HandsBetween step)) =
+    (script : Script) × HandsFirst workers (Some step) before after script
+    × IsQuiet before.output after.output
+AfterRun workers before after other =
+    (script : Script) × HandsFirst workers None before after script
+    × AfterScript workers script (tables_of script) before.output after.output other

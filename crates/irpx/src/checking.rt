@@ -13,10 +13,9 @@ ghost use Rattle.irpx.specs.Checking.{
   most_taken,
   verdict_line,
 };
-ghost use Rattle.irpx.specs.Input.{TakesAtMost};
+ghost use Rattle.irpx.specs.Streams.{TakesAtMost, output_of, streams_of};
 
-use crate::input::{InputFault, read_up_to};
-use crate::writing::Unwritten;
+use crate::input::{StreamFault, read_up_to};
 use irp_judge::{Verdict, check as verdict_of};
 use irp_text::read_transcript;
 use irp_transcript_reader::ReadFault;
@@ -31,19 +30,19 @@ const MOST_BYTES: usize = 1_073_741_824;
 #[derive(Clone, Copy)]
 pub enum Unjudged {
     /// The input wasn't read. One that is too long counts as failed.
-    Input(InputFault),
+    Input(StreamFault),
     /// The text isn't a transcript's: this line, from 1, is the first that is refused.
     RefusedLine { line: u64 },
     /// Memory ran out for the transcript or its verdict.
     NoMemory,
 }
 
-impl From<InputFault> for Unjudged {
+impl From<StreamFault> for Unjudged {
     ghost use Rattle.irpx.specs.declared.checking.Unjudged.TheVariants.{Input};
 
     ghost from_gives = { λ fault unjudged. unjudged ≡ Input fault };
 
-    fn from(fault: InputFault) -> Unjudged {
+    fn from(fault: StreamFault) -> Unjudged {
         Unjudged::Input(fault)
     }
 }
@@ -54,7 +53,7 @@ pub enum CheckFault {
     /// There is no verdict.
     Unjudged(Unjudged),
     /// The verdict wasn't written.
-    Untold(Unwritten),
+    Untold(StreamFault),
 }
 
 impl From<Unjudged> for CheckFault {
@@ -67,25 +66,25 @@ impl From<Unjudged> for CheckFault {
     }
 }
 
-impl From<Unwritten> for CheckFault {
+impl From<StreamFault> for CheckFault {
     ghost use Rattle.irpx.specs.declared.checking.CheckFault.TheVariants.{Untold as NotTold};
 
     ghost from_gives = { λ fault unchecked. unchecked ≡ NotTold fault };
 
-    fn from(fault: Unwritten) -> CheckFault {
+    fn from(fault: StreamFault) -> CheckFault {
         CheckFault::Untold(fault)
     }
 }
 
 /// What is left of the input. It fails where it can't be read, or is too long.
-fn text_of<R: Read>(alloc: Global, input: &mut R) -> Result<Vec<u8>, InputFault>
+fn text_of<R: Read>(alloc: Global, input: &mut R) -> Result<Vec<u8>, StreamFault>
     ensures ok { IfOk result (λ text.
         IsInput (R.remaining input.old) (R.remaining input.new) text.items) }
     ensures took { TakesAtMost most_taken (R.remaining input.old) (R.remaining input.new) }
 {
     let text = read_up_to(alloc, input, MOST_BYTES + 1)?;
     if text.len() > MOST_BYTES {
-        return Err(InputFault::Failed);
+        return Err(StreamFault::Failed);
     }
     Ok(text)
 }
@@ -126,18 +125,18 @@ fn line_of(alloc: Global, verdict: Verdict) -> Result<String, AllocError>
 }
 
 /// Tells the output a verdict.
-fn tell<O: Out>(alloc: Global, output: &mut O, verdict: Verdict) -> Result<(), Unwritten>
-    ensures ok { OnOk result (Told verdict (O.gone output.old) (O.gone output.new)
-        (O.failures output.old) (O.failures output.new)) }
-    ensures err { IfErr result (Untold verdict (O.gone output.old) (O.gone output.new)
-        (O.failures output.old) (O.failures output.new)) }
+fn tell<O: Out>(alloc: Global, output: &mut O, verdict: Verdict) -> Result<(), StreamFault>
+    ensures ok { OnOk result (Told verdict (output_of (O.gone output.old) (O.failures output.old))
+        (output_of (O.gone output.new) (O.failures output.new))) }
+    ensures err { IfErr result (Untold verdict (output_of (O.gone output.old) (O.failures output.old))
+        (output_of (O.gone output.new) (O.failures output.new))) }
 {
     let Ok(line) = line_of(alloc, verdict) else {
-        return Err(Unwritten::NoMemory);
+        return Err(StreamFault::NoMemory);
     };
     match put_all(output, line.as_bytes()) {
         Ok(()) => Ok(()),
-        Err(_) => Err(Unwritten::Failed),
+        Err(_) => Err(StreamFault::Failed),
     }
 }
 
@@ -159,9 +158,8 @@ pub fn check<R: Read, O: Out>(
     input: &mut R,
     output: &mut O,
 ) -> Result<Verdict, CheckFault>
-    ensures checks { Checks (R.remaining input.old) (R.remaining input.new)
-        (O.gone output.old) (O.gone output.new)
-        (O.failures output.old) (O.failures output.new) result }
+    ensures checks { Checks (streams_of (R.remaining input.old) (O.gone output.old) (O.failures output.old))
+        (streams_of (R.remaining input.new) (O.gone output.new) (O.failures output.new)) result }
     ensures took { TakesAtMost most_taken (R.remaining input.old) (R.remaining input.new) }
 {
     let verdict = judged(alloc, input)?;

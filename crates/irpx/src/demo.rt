@@ -1,19 +1,14 @@
 //! The demonstration: one device and one packet, from the first call to the printed history.
 
-ghost use Rattle.std.specs.Prelude.{◌≡◌, [], ◌∷◌, ◌++◌, IfErr, IfSome, OnErr, OnOk, false};
+ghost use Rattle.std.specs.Prelude.{◌≡◌, [], ◌∷◌, ◌++◌, IfSome, false};
 ghost use Rattle.irp_types.specs.declared.limit.Limit.TheVariants.{Sixteen};
 ghost use Rattle.irp_shared.specs.Answered.{AnswersSo};
 ghost use Rattle.irp_transcript.specs.Tokens.{needs_token};
-ghost use Rattle.irpx.specs.Demo.{
-  calls_of,
-  AreDemoCalls,
-  IsDemoTranscript,
-  WritesLegal,
-  BeginsLegal,
-};
-ghost use Rattle.irpx.specs.Writing.{count_after};
+ghost use Rattle.irpx.specs.Demo.{calls_of, AfterDemo, AreDemoCalls, IsDemoTranscript};
+ghost use Rattle.irpx.specs.Streams.{output_of};
 
-use crate::writing::{Unwritten, write};
+use crate::input::StreamFault;
+use crate::writing::write;
 use irp_manager::KnowsNothing;
 use irp_routines::{Ask, Dispatch, Store};
 use irp_shared::{Seat, Session, Shared, Transcript, open_with_limit};
@@ -141,23 +136,20 @@ fn transcript(rt: &impl Wait, alloc: Global, dispatch: Dispatch) -> Option<Trans
 ///
 /// `Failed` where the output failed, and exactly then its count of failures rises; `NoMemory` where memory ran out.
 /// After either nothing went out, or a beginning of such a text, and not the whole.
-pub fn demo<O: Out>(rt: &impl Wait, alloc: Global, output: &mut O) -> Result<(), Unwritten>
-    ensures done { OnOk result (WritesLegal (O.gone output.old) (O.gone output.new)) }
-    ensures begins { OnErr result (BeginsLegal (O.gone output.old) (O.gone output.new)) }
-    ensures calm { OnOk result (O.failures output.new ≡ O.failures output.old) }
-    ensures fault { IfErr result (λ fault.
-        O.failures output.new ≡ count_after fault (O.failures output.old)) }
+pub fn demo<O: Out>(rt: &impl Wait, alloc: Global, output: &mut O) -> Result<(), StreamFault>
+    ensures { AfterDemo (output_of (O.gone output.old) (O.failures output.old))
+        (output_of (O.gone output.new) (O.failures output.new)) result }
 {
     let finish = |_shown: Shown| Plan::Finish {
         status: Status::SUCCESS,
         information: 5,
     };
     let Ok(finish) = Box::new(alloc, finish) else {
-        return Err(Unwritten::NoMemory);
+        return Err(StreamFault::NoMemory);
     };
     let dispatch = Dispatch::new(Known::NONE, finish);
     let Some(transcript) = transcript(rt, alloc, dispatch) else {
-        return Err(Unwritten::NoMemory);
+        return Err(StreamFault::NoMemory);
     };
     write(alloc, output, &transcript)
 }

@@ -5,23 +5,20 @@ ghost use Rattle.std.specs.Process.{exit_status};
 ghost use Rattle.irpx.specs.Ending.{
   has_line,
   of_check,
-  of_input,
   of_judging,
   of_run,
   of_script,
   of_session,
-  of_unfinished,
+  of_stream,
   of_verdict,
   of_words,
-  of_writing,
   status_of,
 };
 
 use crate::checking::{CheckFault, Unjudged};
-use crate::input::InputFault;
+use crate::input::StreamFault;
 use crate::orders::Unread;
-use crate::running::{RunFault, Unfinished, Unrun, Unscripted};
-use crate::writing::Unwritten;
+use crate::running::{RunFault, Unrun, Unscripted};
 use irp_judge::Verdict;
 use irp_script_reader::{Fault, ScriptRefusal, Section};
 use std::fmt;
@@ -105,29 +102,18 @@ impl From<Unread> for Ending {
     fn from(given: Unread) -> Ending {
         match given {
             Unread::Usage => Ending::OtherWords,
-            Unread::Memory => Ending::NoMemory,
+            Unread::NoMemory => Ending::NoMemory,
         }
     }
 }
 
-impl From<InputFault> for Ending {
-    ghost from_gives = { λ given ending. ending ≡ of_input given };
+impl From<StreamFault> for Ending {
+    ghost from_gives = { λ given ending. ending ≡ of_stream given };
 
-    fn from(given: InputFault) -> Ending {
+    fn from(given: StreamFault) -> Ending {
         match given {
-            InputFault::Failed => Ending::Failed,
-            InputFault::Memory => Ending::NoMemory,
-        }
-    }
-}
-
-impl From<Unwritten> for Ending {
-    ghost from_gives = { λ given ending. ending ≡ of_writing given };
-
-    fn from(given: Unwritten) -> Ending {
-        match given {
-            Unwritten::Failed => Ending::Failed,
-            Unwritten::NoMemory => Ending::NoMemory,
+            StreamFault::Failed => Ending::Failed,
+            StreamFault::NoMemory => Ending::NoMemory,
         }
     }
 }
@@ -155,18 +141,6 @@ impl From<Unrun> for Ending {
     }
 }
 
-impl From<Unfinished> for Ending {
-    ghost from_gives = { λ given ending. ending ≡ of_unfinished given };
-
-    fn from(given: Unfinished) -> Ending {
-        match given {
-            Unfinished::NoTranscript(fault) => Ending::from(fault),
-            Unfinished::Stopped => Ending::NoMemory,
-            Unfinished::Unwritten(fault) => Ending::from(fault),
-        }
-    }
-}
-
 impl From<RunFault> for Ending {
     ghost from_gives = { λ given ending. ending ≡ of_run given };
 
@@ -180,7 +154,9 @@ impl From<RunFault> for Ending {
                     index: step,
                 },
             },
-            RunFault::Unfinished(fault) => Ending::from(fault),
+            RunFault::NoTranscript(fault) => Ending::from(fault),
+            RunFault::Stopped => Ending::NoMemory,
+            RunFault::Unwritten(fault) => Ending::from(fault),
         }
     }
 }

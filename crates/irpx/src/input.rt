@@ -2,7 +2,7 @@
 
 ghost use Rattle.std.specs.Prelude.{◌≡◌, ◌≤◌, take, vec_len, IfOk, IfSome};
 ghost use Rattle.std.specs.Io.KnownBytes.{Consumes};
-ghost use Rattle.irpx.specs.Input.{TakesAtMost};
+ghost use Rattle.irpx.specs.Streams.{TakesAtMost};
 
 use std::alloc::Global;
 use std::io::Read;
@@ -10,13 +10,13 @@ use std::io::Read;
 /// How many bytes are asked for in one turn, at most.
 const PIECE: usize = 65_536;
 
-/// Why an input was not read.
+/// Why an input was not read, or an output not written whole.
 #[derive(Clone, Copy)]
-pub enum InputFault {
-    /// A read failed, or was interrupted.
+pub enum StreamFault {
+    /// The input or the output failed; an interrupted read is a failed one.
     Failed,
     /// Memory ran out.
-    Memory,
+    NoMemory,
 }
 
 /// The first bytes of the input, at most so many; no more are taken from it. Each turn takes a byte or is the last, and
@@ -24,12 +24,12 @@ pub enum InputFault {
 ///
 /// # Errors
 ///
-/// `Failed` where a read failed, and `Memory` where memory ran out. Then too at most so many bytes are taken from it.
+/// `Failed` where a read failed, and `NoMemory` where memory ran out. Then too at most so many bytes are taken from it.
 pub fn read_up_to<R: Read>(
     alloc: Global,
     reader: &mut R,
     limit: usize,
-) -> Result<Vec<u8>, InputFault>
+) -> Result<Vec<u8>, StreamFault>
     ensures bound { IfOk result (λ read. vec_len read ≤ limit) }
     ensures bytes { IfOk result (λ read.
         IfSome (R.remaining reader.old) (λ input. read.items ≡ take limit input)) }
@@ -43,13 +43,13 @@ pub fn read_up_to<R: Read>(
         let wanted = PIECE.min(limit - bytes.len());
         let piece = &mut buffer[..wanted];
         let Ok(taken) = reader.read(piece) else {
-            return Err(InputFault::Failed);
+            return Err(StreamFault::Failed);
         };
         if taken == 0 {
             return Ok(bytes);
         }
         if bytes.extend_from_slice(&piece[..taken]).is_err() {
-            return Err(InputFault::Memory);
+            return Err(StreamFault::NoMemory);
         }
     }
     Ok(bytes)

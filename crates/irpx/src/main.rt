@@ -15,6 +15,7 @@ mod writing;
 ghost use Rattle.std.specs.Prelude.{IfOk};
 ghost use Rattle.irpx.specs.CommandLine.{IsOrder};
 ghost use Rattle.irpx.specs.Program.{Obeys, ReadsFor};
+ghost use Rattle.irpx.specs.Streams.{streams_of};
 
 use crate::ending::Ending;
 use crate::orders::{Order, Unread};
@@ -26,12 +27,12 @@ use std::process::ExitCode;
 use std::sync::Wait;
 use std::thread::Threads;
 
-/// The words that the program was given. `Usage` where they can't be had, and `Memory` where memory was missing for
+/// The words that the program was given. `Usage` where they can't be had, and `NoMemory` where memory was missing for
 /// them.
 fn words_of(rt: &HostRuntime) -> Result<Vec<String>, Unread> {
     let words = match env::args(rt) {
         Ok(words) => words,
-        Err(error) if error.kind() == io::ErrorKind::OutOfMemory => return Err(Unread::Memory),
+        Err(error) if error.kind() == io::ErrorKind::OutOfMemory => return Err(Unread::NoMemory),
         Err(_) => return Err(Unread::Usage),
     };
     Ok(words.collect(rt.alloc())?)
@@ -54,10 +55,12 @@ fn run<R: Read, O: Out, T: Threads + Wait + Sync>(
     order: Result<Order, Unread>,
 ) -> Ending
     requires { IfOk order IsOrder }
-    ensures read { ReadsFor order (R.remaining input.old) (R.remaining input.new) }
-    ensures obeys { Obeys order (R.remaining input.old) (R.remaining input.new)
-        (O.gone output.old) (O.gone output.new)
-        (O.failures output.old) (O.failures output.new) result }
+    ensures read { ReadsFor order
+        (streams_of (R.remaining input.old) (O.gone output.old) (O.failures output.old))
+        (streams_of (R.remaining input.new) (O.gone output.new) (O.failures output.new)) }
+    ensures obeys { Obeys order
+        (streams_of (R.remaining input.old) (O.gone output.old) (O.failures output.old))
+        (streams_of (R.remaining input.new) (O.gone output.new) (O.failures output.new)) result }
 {
     match order {
         Ok(Order::Demo) => match demo::demo(rt, alloc, output) {

@@ -19,16 +19,16 @@ pub enum Unread {
     /// The words are none that the program takes; a request for help is one of these.
     Usage,
     /// Memory ran out.
-    Memory,
+    NoMemory,
 }
 
 impl From<AllocError> for Unread {
     ghost use Rattle.std.specs.Prelude.{◌≡◌};
-    ghost use Rattle.irpx.specs.declared.orders.Unread.TheVariants.{Memory};
+    ghost use Rattle.irpx.specs.declared.orders.Unread.TheVariants.{NoMemory};
 
-    ghost from_gives = { λ _ unread. unread ≡ Memory };
+    ghost from_gives = { λ _ unread. unread ≡ NoMemory };
 
     fn from(_error: AllocError) -> Unread {
-        Unread::Memory
+        Unread::NoMemory
     }
 }

@@ -13,8 +13,6 @@ ghost use Rattle.irp_script.specs.Between.{hands_between};
 ghost use Rattle.irp_workers.specs.Numbers.{EachAsOften};
 ghost use Rattle.irp_workers.specs.Seats.{seats_of};
 ghost use Rattle.irp_workers.specs.Told.{AnswersAll, IsTold};
-ghost use Rattle.irpx.specs.Bytes.{Bytes};
-ghost use Rattle.irpx.specs.Input.{TakesAtMost};
 ghost use Rattle.irp_workers.specs.Ran.{Ran};
 ghost use Rattle.irpx.specs.Running.{
   AfterRun,
@@ -30,11 +28,12 @@ ghost use Rattle.irpx.specs.Running.{
   most_taken,
   tables_of,
 };
+ghost use Rattle.irpx.specs.Streams.{Bytes, TakesAtMost, output_of, streams_of};
 
-use crate::input::{InputFault, read_up_to};
+use crate::input::{StreamFault, read_up_to};
 use crate::planned::Planned;
 use crate::told::{cancel_told, dispatch_told, routine_told};
-use crate::writing::{Unwritten, write};
+use crate::writing::write;
 use irp_routines::{Ask, Store};
 use irp_script::hand_between;
 use irp_script_reader::{Script, ScriptFault, ScriptForm, ScriptParts, ScriptRefusal, read_script};
@@ -60,19 +59,19 @@ const TOO_MANY_BYTES: usize = 1_048_577;
 #[derive(Clone, Copy)]
 pub enum Unscripted {
     /// The input wasn't read.
-    Input(InputFault),
+    Input(StreamFault),
     /// The text is refused.
     Refused { refusal: ScriptRefusal },
     /// Memory ran out for the script.
     NoMemory,
 }
 
-impl From<InputFault> for Unscripted {
+impl From<StreamFault> for Unscripted {
     ghost use Rattle.irpx.specs.declared.running.Unscripted.TheVariants.{Input};
 
     ghost from_gives = { λ fault unscripted. unscripted ≡ Input fault };
 
-    fn from(fault: InputFault) -> Unscripted {
+    fn from(fault: StreamFault) -> Unscripted {
         Unscripted::Input(fault)
     }
 }
@@ -96,57 +95,19 @@ impl From<AllocError> for Unrun {
     }
 }
 
-/// Why a script that was read wasn't run to its end, or its transcript not written whole.
-#[derive(Clone, Copy)]
-pub enum Unfinished {
-    /// There is no transcript.
-    NoTranscript(Unrun),
-    /// A step found no memory or wasn't recorded. The transcript of what was recorded is written.
-    Stopped,
-    /// The transcript wasn't written whole.
-    Unwritten(Unwritten),
-}
-
-impl From<Unrun> for Unfinished {
-    ghost use Rattle.irpx.specs.declared.running.Unfinished.TheVariants.{NoTranscript};
-
-    ghost from_gives = { λ fault unfinished. unfinished ≡ NoTranscript fault };
-
-    fn from(fault: Unrun) -> Unfinished {
-        Unfinished::NoTranscript(fault)
-    }
-}
-
-impl<T: Drop> From<AllocFailed<T>> for Unfinished {
-    ghost use Rattle.irpx.specs.declared.running.Unfinished.TheVariants.{NoTranscript};
-    ghost use Rattle.irpx.specs.declared.running.Unrun.TheVariants.{NoMemory};
-
-    ghost from_gives = { λ _ unfinished. unfinished ≡ NoTranscript NoMemory };
-
-    fn from(_error: AllocFailed<T>) -> Unfinished {
-        Unfinished::NoTranscript(Unrun::NoMemory)
-    }
-}
-
-impl From<Unwritten> for Unfinished {
-    ghost use Rattle.irpx.specs.declared.running.Unfinished.TheVariants.{Unwritten as NotWritten};
-
-    ghost from_gives = { λ fault unfinished. unfinished ≡ NotWritten fault };
-
-    fn from(fault: Unwritten) -> Unfinished {
-        Unfinished::Unwritten(fault)
-    }
-}
-
-/// Why a script wasn't run, or not to its end.
+/// Why a script wasn't run, or not to its end (this project's own command line, README.md).
 #[derive(Clone, Copy)]
 pub enum RunFault {
     /// There is no script.
     Unread(Unscripted),
     /// There is one, and this is the first of its steps that hands a reference between seats of different workers.
     HandsBetween { step: usize },
-    /// There is one, and it wasn't run to its end, or its transcript not written whole.
-    Unfinished(Unfinished),
+    /// There is one, and no transcript of it.
+    NoTranscript(Unrun),
+    /// A step found no memory or wasn't recorded. The transcript of what was recorded is written.
+    Stopped,
+    /// The transcript wasn't written whole.
+    Unwritten(StreamFault),
 }
 
 impl From<Unscripted> for RunFault {
@@ -159,13 +120,34 @@ impl From<Unscripted> for RunFault {
     }
 }
 
-impl From<Unfinished> for RunFault {
-    ghost use Rattle.irpx.specs.declared.running.RunFault.TheVariants.{Unfinished as NotFinished};
+impl From<Unrun> for RunFault {
+    ghost use Rattle.irpx.specs.declared.running.RunFault.TheVariants.{NoTranscript};
 
-    ghost from_gives = { λ fault unrun. unrun ≡ NotFinished fault };
+    ghost from_gives = { λ fault unrun. unrun ≡ NoTranscript fault };
 
-    fn from(fault: Unfinished) -> RunFault {
-        RunFault::Unfinished(fault)
+    fn from(fault: Unrun) -> RunFault {
+        RunFault::NoTranscript(fault)
+    }
+}
+
+impl<T: Drop> From<AllocFailed<T>> for RunFault {
+    ghost use Rattle.irpx.specs.declared.running.RunFault.TheVariants.{NoTranscript};
+    ghost use Rattle.irpx.specs.declared.running.Unrun.TheVariants.{NoMemory};
+
+    ghost from_gives = { λ _ unrun. unrun ≡ NoTranscript NoMemory };
+
+    fn from(_error: AllocFailed<T>) -> RunFault {
+        RunFault::NoTranscript(Unrun::NoMemory)
+    }
+}
+
+impl From<StreamFault> for RunFault {
+    ghost use Rattle.irpx.specs.declared.running.RunFault.TheVariants.{Unwritten as NotWritten};
+
+    ghost from_gives = { λ fault unrun. unrun ≡ NotWritten fault };
+
+    fn from(fault: StreamFault) -> RunFault {
+        RunFault::Unwritten(fault)
     }
 }
 
@@ -325,42 +307,23 @@ fn session<A: Ask + Send + Drop, L: Session + Send + Sync, T: Threads + Wait + S
 }
 
 /// Writes the transcript that a run left. `Stopped` where it is written, but a step found no memory or wasn't recorded.
-fn write_finished<O: Out>(alloc: Global, output: &mut O, run: &Finished) -> Result<(), Unfinished>
+fn write_finished<O: Out>(alloc: Global, output: &mut O, run: &Finished) -> Result<(), RunFault>
     ensures { (workers : ℕ) → (script : Script) → (tables : Tables)
         → IsRun script tables run.now.transcript
         → (run.now.stopped ≡ false → ShowsEach script run.now.transcript)
         → Ran workers script run.now.transcript run.now.stopped
-        → AfterScript workers script tables (O.gone output.old) (O.gone output.new)
-        (O.failures output.old) (O.failures output.new) result }
+        → AfterScript workers script tables (output_of (O.gone output.old) (O.failures output.old))
+        (output_of (O.gone output.new) (O.failures output.new)) result }
 {
     write(alloc, output, &run.transcript)?;
     if run.stopped {
-        return Err(Unfinished::Stopped);
+        return Err(RunFault::Stopped);
     }
     Ok(())
 }
 
-/// Has so many workers run the script with this store, whose closures answer as the script tells, and writes the
-/// transcript.
-fn with_store<O: Out, T: Threads + Wait + Sync>(
-    rt: &T,
-    alloc: Global,
-    output: &mut O,
-    script: &ScriptParts,
-    workers: Workers,
-    store: Store,
-) -> Result<(), Unfinished>
-    requires { AnswersAll store script.now }
-    ensures { AfterScript workers.number script.now store.tables
-        (O.gone output.old) (O.gone output.new)
-        (O.failures output.old) (O.failures output.new) result }
-{
-    let blank = Blank::new(u64::from(script.seats));
-    let run = session::<Store, Brand, T>(rt, alloc, blank, store, script, workers.number)?;
-    write_finished(alloc, output, &run)
-}
-
-/// Adds the script's drivers to a store that has all closures of the script, which answer as it tells, and goes on.
+/// Adds the script's drivers to a store that has all closures of the script, which answer as it tells, has so many
+/// workers run the script with this store, and writes the transcript.
 fn with_dispatches<O: Out, T: Threads + Wait + Sync>(
     rt: &T,
     alloc: Global,
@@ -368,22 +331,24 @@ fn with_dispatches<O: Out, T: Threads + Wait + Sync>(
     script: &ScriptParts,
     workers: Workers,
     mut store: Store,
-) -> Result<(), Unfinished>
+) -> Result<(), RunFault>
     requires { AnswersAll store script.now }
     ensures { AfterScript workers.number script.now (and_drivers script.now.drivers store.tables)
-        (O.gone output.old) (O.gone output.new)
-        (O.failures output.old) (O.failures output.new) result }
+        (output_of (O.gone output.old) (O.failures output.old))
+        (output_of (O.gone output.new) (O.failures output.new)) result }
 {
     let drivers = script.drivers.as_slice();
     for driver in drivers {
         let Ok(handlers) = driver.as_slice().to_vec(alloc) else {
-            return Err(Unfinished::NoTranscript(Unrun::NoMemory));
+            return Err(RunFault::NoTranscript(Unrun::NoMemory));
         };
         let Ok(_driver) = store.add_driver(handlers) else {
-            return Err(Unfinished::NoTranscript(Unrun::NoMemory));
+            return Err(RunFault::NoTranscript(Unrun::NoMemory));
         };
     }
-    with_store(rt, alloc, output, script, workers, store)
+    let blank = Blank::new(u64::from(script.seats));
+    let run = session::<Store, Brand, T>(rt, alloc, blank, store, script, workers.number)?;
+    write_finished(alloc, output, &run)
 }
 
 /// Has so many workers run the script with a store that behaves as it says, and writes the transcript. All closures are
@@ -394,10 +359,10 @@ fn run_script<O: Out, T: Threads + Wait + Sync>(
     output: &mut O,
     script: &Script,
     workers: Workers,
-) -> Result<(), Unfinished>
+) -> Result<(), RunFault>
     ensures { AfterScript workers.number script.now (tables_of script.now)
-        (O.gone output.old) (O.gone output.new)
-        (O.failures output.old) (O.failures output.new) result }
+        (output_of (O.gone output.old) (O.failures output.old))
+        (output_of (O.gone output.new) (O.failures output.new)) result }
 {
     let parts = script.parts();
     let mut store = Store::new(alloc);
@@ -406,7 +371,7 @@ fn run_script<O: Out, T: Threads + Wait + Sync>(
         let routine = *routine;
         let answer = Box::new(alloc, move |shown: Shown| table_answer(routine, shown))?;
         let Ok(_routine) = store.add(routine_told(routine, answer)) else {
-            return Err(Unfinished::NoTranscript(Unrun::NoMemory));
+            return Err(RunFault::NoTranscript(Unrun::NoMemory));
         };
     }
     let answers = parts.cancels.as_slice();
@@ -414,7 +379,7 @@ fn run_script<O: Out, T: Threads + Wait + Sync>(
         let answer = *answer;
         let answered = Box::new(alloc, move |shown: Shown| table_cancel(answer, shown))?;
         let Ok(_cancel) = store.add_cancel(cancel_told(answer, answered)) else {
-            return Err(Unfinished::NoTranscript(Unrun::NoMemory));
+            return Err(RunFault::NoTranscript(Unrun::NoMemory));
         };
     }
     let known = store.tables().counts();
@@ -424,7 +389,7 @@ fn run_script<O: Out, T: Threads + Wait + Sync>(
         let planned = Planned { known, plan };
         let answer = Box::new(alloc, move |shown: Shown| planned.answer(shown))?;
         let Ok(_dispatch) = store.add_dispatch(dispatch_told(known, plan, answer)) else {
-            return Err(Unfinished::NoTranscript(Unrun::NoMemory));
+            return Err(RunFault::NoTranscript(Unrun::NoMemory));
         };
     }
     with_dispatches(rt, alloc, output, parts, workers, store)
@@ -449,14 +414,14 @@ fn run_read<O: Out, T: Threads + Wait + Sync>(
     requires { 0 < workers }
     // What is said of the script is so of every input that holds it.
     ensures { (input left : Bytes) → HoldsScript input left script.now
-        → AfterRun workers input left (O.gone output.old) (O.gone output.new)
-        (O.failures output.old) (O.failures output.new) result }
+        → AfterRun workers
+        (streams_of input (O.gone output.old) (O.failures output.old))
+        (streams_of left (O.gone output.new) (O.failures output.new)) result }
 {
     if let Some(step) = first_hand(script, workers) {
         return Err(RunFault::HandsBetween { step });
     }
-    run_script(rt, alloc, output, script, Workers { number: workers })?;
-    Ok(())
+    run_script(rt, alloc, output, script, Workers { number: workers })
 }
 
 /// Reads a script from the input, up to its end or to one byte more than a script may have, has so many workers run its
@@ -470,8 +435,8 @@ fn run_read<O: Out, T: Threads + Wait + Sync>(
 ///
 /// `Unread` where there is no script, and then nothing goes out: `Input` where the input failed or memory ran out for
 /// it, `Refused` where its text is no script, `NoMemory` where memory ran out later. `HandsBetween` where there is one
-/// that hands a reference between seats of different workers: the first such step, and nothing goes out. Else
-/// `Unfinished`: `NoTranscript` where memory ran out, or the seats kept other entries than the history has, and then
+/// that hands a reference between seats of different workers: the first such step, and nothing goes out.
+/// `NoTranscript` where memory ran out, or the seats kept other entries than the history has, and then
 /// nothing goes out; `Stopped` where a step found no memory or wasn't recorded, and then what was recorded is written;
 /// `Unwritten` where the output failed, which its count of failures tells, or memory ran out, after a beginning of the
 /// transcript.
@@ -483,9 +448,8 @@ pub fn run<R: Read, O: Out, T: Threads + Wait + Sync>(
     workers: u32,
 ) -> Result<(), RunFault>
     requires { 0 < workers }
-    ensures after { AfterRun workers (R.remaining input.old) (R.remaining input.new)
-        (O.gone output.old) (O.gone output.new)
-        (O.failures output.old) (O.failures output.new) result }
+    ensures after { AfterRun workers (streams_of (R.remaining input.old) (O.gone output.old) (O.failures output.old))
+        (streams_of (R.remaining input.new) (O.gone output.new) (O.failures output.new)) result }
     ensures took { TakesAtMost most_taken (R.remaining input.old) (R.remaining input.new) }
 {
     let script = script_of(alloc, input)?;

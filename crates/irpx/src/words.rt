@@ -27,6 +27,7 @@ ghost use Rattle.clap.specs.Words.{
   subcommand_rows_of,
 };
 ghost use Rattle.irpx.specs.CommandLine.{
+  Finds,
   IsOneWord,
   IsOrder,
   IsOrderOrMemory,
@@ -113,10 +114,10 @@ fn order_of(matches: &ArgMatches<'_>) -> Result<Order, Unread>
 
 /// Why clap refused the words.
 fn unread_of(error: &Error) -> Unread
-    ensures { (result ≡ Unread.Memory) ↔ (kind_of error.now ≡ ErrorKind.OutOfMemory) }
+    ensures { (result ≡ Unread.NoMemory) ↔ (kind_of error.now ≡ ErrorKind.OutOfMemory) }
 {
     if error.kind() == ErrorKind::OutOfMemory {
-        Unread::Memory
+        Unread::NoMemory
     } else {
         Unread::Usage
     }
@@ -126,7 +127,7 @@ fn unread_of(error: &Error) -> Unread
 ///
 /// # Errors
 ///
-/// `Usage` for words that the program doesn't take, and for a request for help; `Memory` where memory ran out.
+/// `Usage` for words that the program doesn't take, and for a request for help; `NoMemory` where memory ran out.
 pub fn order<'a, S: AsStr>(alloc: Global, words: &'a [S]) -> Result<Order, Unread>
     // No order comes of words in which clap finds a fault.
     ensures ok { OnOk result (fault_of command_line (map S.text words.entry.now) ≡ []) }
@@ -137,6 +138,11 @@ pub fn order<'a, S: AsStr>(alloc: Global, words: &'a [S]) -> Result<Order, Unrea
         → IsOrderOrMemory Order.Check result }
     ensures run { IsOneWord (codes "run") (map S.text words.entry.now)
         → IsOrderOrMemory (Order.Run 1) result }
+    // Each order is that of the subcommand that clap finds in the words, whatever else they have.
+    ensures finds_demo { (rows : List Row) → Finds (codes "demo") rows (map S.text words.entry.now)
+        → IsOrderOrMemory Order.Demo result }
+    ensures finds_check { (rows : List Row) → Finds (codes "check") rows (map S.text words.entry.now)
+        → IsOrderOrMemory Order.Check result }
     // An order to run has the workers that clap finds in the words, or one.
     ensures workers { (rows : List Row)
         → subcommand_of command_line (map S.text words.entry.now) ≡ Some (codes "run", rows)

@@ -1,21 +1,14 @@
-//! Writing a transcript, and why it isn't written whole.
+//! Writing a transcript.
 
 ghost use Rattle.std.specs.Prelude.{IfErr, OnOk};
 ghost use Rattle.irp_transcript_writer.specs.Lines.{lines, text_of};
+ghost use Rattle.irpx.specs.Streams.{output_of};
 ghost use Rattle.irpx.specs.Writing.{BreaksOff, Written};
 
+use crate::input::StreamFault;
 use irp_shared::Transcript;
 use irp_transcript_writer::{Cause, Out, write_transcript};
 use std::alloc::Global;
-
-/// Why a text wasn't written whole.
-#[derive(Clone, Copy)]
-pub enum Unwritten {
-    /// The output failed.
-    Failed,
-    /// Memory ran out.
-    NoMemory,
-}
 
 /// Writes a transcript (this project's own format, docs/FORMATS.md).
 ///
@@ -27,19 +20,19 @@ pub fn write<O: Out>(
     alloc: Global,
     output: &mut O,
     transcript: &Transcript,
-) -> Result<(), Unwritten>
+) -> Result<(), StreamFault>
     ensures ok { OnOk result (Written (text_of (lines transcript.now))
-        (O.gone output.old) (O.gone output.new)
-        (O.failures output.old) (O.failures output.new)) }
+        (output_of (O.gone output.old) (O.failures output.old))
+        (output_of (O.gone output.new) (O.failures output.new))) }
     ensures err { IfErr result (BreaksOff (text_of (lines transcript.now))
-        (O.gone output.old) (O.gone output.new)
-        (O.failures output.old) (O.failures output.new)) }
+        (output_of (O.gone output.old) (O.failures output.old))
+        (output_of (O.gone output.new) (O.failures output.new))) }
 {
     match write_transcript(alloc, output, transcript) {
         Ok(()) => Ok(()),
         Err(fault) => match fault.cause {
-            Cause::Io => Err(Unwritten::Failed),
-            Cause::Memory => Err(Unwritten::NoMemory),
+            Cause::Io => Err(StreamFault::Failed),
+            Cause::Memory => Err(StreamFault::NoMemory),
         },
     }
 }

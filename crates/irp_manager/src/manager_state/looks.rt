@@ -156,7 +156,7 @@ impl<K: Keep> ManagerState<K> {
             Call::CopyToNext { .. } => packets::copy_check(packet),
             Call::Skip { .. } => packets::leave_check(packet),
             Call::SetRoutine { setting, .. } => packets::routine_check(packet, counts, setting),
-            Call::MarkPending { .. } => packets::location_check(packet),
+            Call::MarkPending { .. } => packets::own_location_check(packet),
             Call::CallDriver { party, target, .. } => {
                 packets::send_check(packet, &self.stacks, party, target)
             }

@@ -2,7 +2,8 @@
 
 ghost use Rattle.std.specs.Prelude.{◌≡◌, ◌+◌, ◌<◌, ◌≤◌, Option, Some, true, [], Bool, vec_len, vec_capacity};
 ghost use Rattle.irp_types.specs.State.{Tables};
-ghost use Rattle.irp_types.specs.declared.call.Call.TheVariants.{SetNext, CopyToNext, Skip, SetRoutine, MarkPending, CallDriver, Complete, SetCancelRoutine};
+ghost use Rattle.irp_types.specs.declared.call.Call.TheVariants.{SetNext, CopyToNext, Skip, SetRoutine, MarkPending};
+ghost use Rattle.irp_types.specs.declared.call.Call.TheVariants.{CallDriver, Complete, SetCancelRoutine};
 ghost use Rattle.irp_types.specs.Standing.{StandingFacts};
 ghost use Rattle.irp_types.specs.declared.routine.Known.{Known};
 ghost use Rattle.irp_routines.specs.Answers.{AreAnswered};

@@ -2,7 +2,8 @@
 
 ghost use Rattle.std.specs.Prelude.{◌≡◌, ◌+◌, ◌<◌, ◌≤◌, false};
 ghost use Rattle.irp_types.specs.Limits.{most_locations};
-ghost use Rattle.irp_types.specs.Packet.{size_of, cleared, with_location, with_status, new_packet, after_copy, after_mark, after_enter, after_rise, after_reset};
+ghost use Rattle.irp_types.specs.Packet.{size_of, cleared, with_location, with_status, new_packet, after_copy};
+ghost use Rattle.irp_types.specs.Packet.{after_mark, after_enter, after_rise, after_reset};
 
 use super::{CLEARED, Packet, put_cleared};
 use irp_types::{CancelId, DeviceId, Location, Owner, Preparation, Setting, Status};

@@ -1,6 +1,6 @@
 use Rattle.std.proofs.Common.{◌≡◌, false, true, All, length, ap, refl, subst, ◌∙◌, rules}
 use Rattle.irp_workers.specs.Workers.{work_of}
-use Rattle.irp_workers.specs.Seats.{IsAtLocks, pair_in, seat_at_work, seats_at_work}
+use Rattle.irp_workers.specs.Seats.{IsAtLocks, pair_in, seat_at_work}
 use Rattle.irp_workers.proofs.Accounted.{accounted, numbers_of, pairs_of_items, same_pairs}
 use Rattle.irp_workers.proofs.Numbers.{if_ok_on}
 use Rattle.irp_workers.proofs.Working.{begun, if_ok_all, own_from, work_apart}
@@ -16,17 +16,13 @@ returns-clause-ran g c =
       ready = work_of c.run-ready.result;
       halted = false;
       first = own_from _ _ _ _ _ _ _ _ _ _ _ _ c.run-ready.ensures.made c.new-all.ensures.number c.new-all.ensures.workers c.as_slice.ensures before passed;
-      rest = record {
-        begun = seats_at_work c.in_ok-begun.begun.items;
-        caught = c.in_ok-begun.ensures.caught;
-        apart = work_apart seat_at_work (λ worker. worker.seats.items) (λ worker. worker.words.items) (λ worker. worker.stopped) _ c.args.workers c.args.script.now.steps c.in_ok-begun.begun.items
-            c.in_ok-groups.groups.items c.in_ok-done.done.items worked.seats.items worked.words.items worked.stopped grouped counted c.in_ok-groups.ensures.seats
-            (λ k one lt. (c.in_ok-groups.ensures.ready k one lt).4)
-            (λ k one other lt.
-            let start = c.in_ok-groups.ensures.ready k other lt in
-            own_from _ _ _ _ _ _ _ _ _ _ _ _ (c.in_ok-done.ensures.made k one other (search rules)) start.0 start.1 c.as_slice-steps.ensures (begun seat_at_work _ _ _ refl start.2) refl)
-            gathered lines stopped;
-      };
+      rest = work_apart seat_at_work (λ worker. worker.seats.items) (λ worker. worker.words.items) (λ worker. worker.stopped) _ c.args.workers c.args.script.now.steps c.run-ready.result.seats.items
+          c.in_ok-groups.groups.items c.in_ok-done.done.items worked.seats.items worked.words.items worked.stopped grouped counted c.in_ok-groups.ensures.seats
+          (λ k one lt. (c.in_ok-groups.ensures.ready k one lt).4)
+          (λ k one other lt.
+          let start = c.in_ok-groups.ensures.ready k other lt in
+          own_from _ _ _ _ _ _ _ _ _ _ _ _ (c.in_ok-done.ensures.made k one other (search rules)) start.0 start.1 c.as_slice-steps.ensures (begun seat_at_work _ _ _ refl start.2) refl)
+          gathered lines stopped;
     }) c.gather.ensures.seats c.gather.ensures.lines c.gather.ensures.stopped
 
 pub returns-then-ready-clause-ran : goal.returns-then-ready-clause-ran
@@ -58,5 +54,5 @@ returns-clause-seats g c = if_ok_on c.gather.result (λ worked same. numbers_of 
 pub returns-then-ready-clause-seats : goal.returns-then-ready-clause-seats
 returns-then-ready-clause-seats g c = numbers_of c.args.seats.items c.run-ready.result.seats.items pair_in (returns-then-ready-clause-pairs g c)
 
-pub catch_up-requires : goal.catch_up-requires
-catch_up-requires g c = subst (λ locks. All (IsAtLocks locks) c.run-ready.result.seats.items) (c.run-ready.ensures.locks ∙ c.new-all.ensures.locks) c.run-ready.result.fits
+pub deal-requires-clause-fits : goal.deal-requires-clause-fits
+deal-requires-clause-fits g c = subst (λ locks. All (IsAtLocks locks) c.run-ready.result.seats.items) (c.run-ready.ensures.locks ∙ c.new-all.ensures.locks) c.run-ready.result.fits

@@ -1,52 +1,25 @@
-use Rattle.std.proofs.Common.{◌≡◌, ℕ, List, [], Option, Some, subst, sym, ap₂, ◌∙◌, refl, inl, inr}
-use Rattle.std.proofs.lemmas.Result.{IfErr-weaker, on_ok_weaker}
-use Rattle.std.specs.Io.KnownBytes.{Appends}
-use Rattle.irp_transcript.specs.declared.header.Header.{Header}
+-- What went out is the text of the transcript that was made, or a beginning of it.
+use Rattle.std.proofs.Common.{Ok, Err, OnOk, Result, inl, inr, refl}
+use Rattle.std.specs.Prelude.{IfErr}
 use Rattle.irp_transcript.specs.Transcripts.{TranscriptValue}
-use Rattle.irp_transcript.specs.declared.word_line.WordLine.{WordLine}
 use Rattle.irp_transcript_writer.specs.Lines.{lines, text_of}
-use Rattle.irpx.specs.Demo.{text_with, BeginsLegal, IsDemoTranscript, WritesLegal}
-use Rattle.irpx.specs.Writing.{Begins}
+use Rattle.irpx.specs.Demo.{AfterDemo, IsDemoTranscript}
+use Rattle.irpx.specs.Streams.{Output}
+use Rattle.irpx.specs.Writing.{BreaksOff, Written}
+use Rattle.irpx.specs.declared.input.StreamFault.{StreamFault}
 use Rattle.irpx.proofs.demo.demo.Goals as goal
 
-pub returns-in_default-clause-begins : goal.returns-in_default-clause-begins
-returns-in_default-clause-begins g c = inl refl
+written_demo : {T : Type 0} (result : Result T StreamFault) (transcript : TranscriptValue) (before after : Output) → IsDemoTranscript transcript
+    → OnOk result (Written (text_of (lines transcript)) before after) → IfErr result (BreaksOff (text_of (lines transcript)) before after)
+    → AfterDemo before after result
+written_demo (Ok done) transcript before after is written broke = (transcript, is, written)
+written_demo (Err fault) transcript before after is written broke = (inr (transcript, is, broke.0), broke.1)
 
-pub returns-in_default-transcript-clause-begins : goal.returns-in_default-transcript-clause-begins
-returns-in_default-transcript-clause-begins g c = inl refl
+pub returns-in_default : goal.returns-in_default
+returns-in_default g c = (inl refl, refl)
 
--- the text of a transcript of the demonstration is that of its header and its history
-same_text : (transcript : TranscriptValue) (header : Header) → transcript.header ≡ Some header → transcript.words ≡ [] → text_of (lines transcript) ≡ text_with header transcript.entries
-same_text transcript header told bare =
-    ap₂ (λ (head : Option Header) (words : List WordLine). text_of (lines (record { header = head; entries = transcript.entries; words = words }))) told bare
+pub returns-in_default-transcript : goal.returns-in_default-transcript
+returns-in_default-transcript g c = (inl refl, refl)
 
-writes_legal : (transcript : TranscriptValue) → IsDemoTranscript transcript → (old new : Option (List ℕ)) → Appends old new (text_of (lines transcript)) → WritesLegal old new
-writes_legal transcript is old new written = record {
-  header = is.header;
-  history = transcript.entries;
-  fits = is.fits;
-  legal = is.legal;
-  calls = is.calls;
-  written = subst (λ (text : List ℕ). Appends old new text) (same_text transcript is.header is.told is.no_words) written;
-}
-
-begins_legal : (transcript : TranscriptValue) → IsDemoTranscript transcript → (old new : Option (List ℕ)) → Begins (text_of (lines transcript)) old new → BeginsLegal old new
-begins_legal transcript is old new begins = inr (record {
-  header = is.header;
-  history = transcript.entries;
-  fits = is.fits;
-  legal = is.legal;
-  calls = is.calls;
-  front = begins.front;
-  rest = begins.rest;
-  whole = sym (same_text transcript is.header is.told is.no_words) ∙ begins.whole;
-  short = begins.short;
-  gone = begins.gone;
-})
-
-pub returns-clause-done : goal.returns-clause-done
-returns-clause-done g c = on_ok_weaker c.write.result (λ written. writes_legal c.in-Some.transcript c.in-Some.ensures _ _ written.0) c.write.ensures.ok
-
-pub returns-clause-begins : goal.returns-clause-begins
-returns-clause-begins g c =
-    IfErr-weaker c.write.result _ _ (λ fault broke. begins_legal c.in-Some.transcript c.in-Some.ensures _ _ broke.0) c.write.ensures.err
+pub returns : goal.returns
+returns g c = written_demo c.write.result c.in-Some.transcript _ _ c.in-Some.ensures c.write.ensures.ok c.write.ensures.err

@@ -16,6 +16,7 @@ use Rattle.irp_workers.specs.Behaviours.{cancel_rule_of}
 use Rattle.irp_workers.specs.Told.{CancelsAnswer, CancelsAs, DispatchesPlan, PlansAs, RoutinesAnswer}
 use Rattle.irp_workers.proofs.Told.{cancels_more, dispatches_more, nothing_told, routines_kept, routines_more}
 use Rattle.irpx.specs.Running.{AfterScript, and_cancels, and_dispatches, and_drivers, and_routines}
+use Rattle.irpx.specs.Streams.{output_of}
 use Rattle.irpx.proofs.Adding.{added, all_of, cancels_grow, counts_known, dispatches_grow, holds_at, routines_grow, whole}
 use Rattle.irpx.proofs.running.run_script.Goals as goal
 
@@ -108,6 +109,6 @@ returns g c =
     let dispatches : c.loop-plan.store.tables ≡ and_dispatches script.dispatches c.loop-answer.store.tables =
     all_of (λ (plans : List Plan). and_dispatches plans c.loop-answer.store.tables) _ _ (c.as_slice-plans.ensures ∙ ap (λ (parts : ScriptParts). parts.dispatches) c.parts-parts.ensures.parts) c.loop-plan.plan-index c.loop-plan-test.false c.loop-plan.store.tables c.loop-plan.invariant.0 in
     let after : (parts : ScriptParts) → Tables → Type 0 = λ parts tables.
-    AfterScript c.args.workers.number parts (and_drivers parts.drivers tables) (g.O.Out.gone c.args.output.now) (g.O.Out.gone c.with_dispatches.new.output) (g.O.Out.failures c.args.output.now) (g.O.Out.failures c.with_dispatches.new.output) c.with_dispatches.result in
+    AfterScript c.args.workers.number parts (and_drivers parts.drivers tables) (output_of (g.O.Out.gone c.args.output.now) (g.O.Out.failures c.args.output.now)) (output_of (g.O.Out.gone c.with_dispatches.new.output) (g.O.Out.failures c.with_dispatches.new.output)) c.with_dispatches.result in
     subst (after script) (dispatches ∙ ap (and_dispatches script.dispatches) (cancels ∙ ap (and_cancels script.cancels) routines))
     (subst (λ (parts : ScriptParts). after parts c.loop-plan.store.tables) c.parts-parts.ensures.parts c.with_dispatches.ensures)

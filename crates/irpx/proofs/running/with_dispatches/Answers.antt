@@ -3,8 +3,9 @@ use Rattle.std.proofs.Common.{ℕ, List, ap, ap₂, subst, ◌∙◌}
 use Rattle.irp_types.specs.declared.names.DispatchId.{DispatchId}
 use Rattle.irp_types.specs.State.{Entrance, Tables}
 use Rattle.irp_routines.specs.Tables.{by_major, with_driver}
-use Rattle.irp_workers.proofs.Told.{answers_kept}
+use Rattle.irp_workers.proofs.Told.{answers_kept, store_answers_so}
 use Rattle.irpx.specs.Running.{AfterScript, and_drivers}
+use Rattle.irpx.specs.Streams.{output_of}
 use Rattle.irpx.proofs.Adding.{added, all_added, drivers_grow}
 use Rattle.irpx.proofs.running.with_dispatches.Goals as goal
 
@@ -17,12 +18,12 @@ loop-driver-preserved g c = (
   (λ script before. answers_kept c.loop-driver.store c.add_driver.new.self script c.add_driver.ensures.others (c.loop-driver.invariant.1 script before)),
 )
 
-pub with_store-requires-after_bounds : goal.with_store-requires-after_bounds
-with_store-requires-after_bounds g c = λ _ _. c.loop-driver.invariant.1 c.args.script.now c.requires
+pub session-requires-clause-may : goal.session-requires-clause-may
+session-requires-clause-may g c = λ _ _. store_answers_so c.loop-driver.store c.args.script.now (c.loop-driver.invariant.1 c.args.script.now c.requires)
 
 pub returns : goal.returns
 returns g c =
-    subst (λ (tables : Tables). AfterScript c.args.workers.number c.args.script.now tables (g.O.Out.gone c.args.output.now) (g.O.Out.gone c.with_store.new.output) (g.O.Out.failures c.args.output.now) (g.O.Out.failures c.with_store.new.output) c.with_store.result)
+    subst (λ (tables : Tables). AfterScript c.args.workers.number c.args.script.now tables (output_of (g.O.Out.gone c.args.output.now) (g.O.Out.failures c.args.output.now)) (output_of (g.O.Out.gone c.write_finished.new.output) (g.O.Out.failures c.write_finished.new.output)) c.write_finished.result)
     (all_added (λ (drivers : List (List Entrance)). and_drivers drivers c.args.store.tables) c.as_slice-drivers.result.now c.loop-driver.driver-index c.loop-driver-test.false c.loop-driver.store.tables c.loop-driver.invariant.0
     ∙ ap (λ (drivers : List (List Entrance)). and_drivers drivers c.args.store.tables) c.as_slice-drivers.ensures)
-    c.with_store.ensures
+    (c.write_finished.ensures c.args.workers.number c.args.script.now c.loop-driver.store.tables c.in_ok-run.ensures.run c.in_ok-run.ensures.shows c.in_ok-run.ensures.ran)

@@ -1,7 +1,7 @@
 -- An order comes of words in which clap finds no fault; of `NAME demo`, `NAME check` and `NAME run` one does, unless memory
 -- runs out.
 use Rattle.std.proofs.Common.{[]}
-use Rattle.irpx.proofs.CommandLine.{check_is_named, demo_is_named, just, no_fault, on_ok, run_alone, run_has_rows, run_is_named, takes_check, takes_demo, takes_run}
+use Rattle.irpx.proofs.CommandLine.{check_is_named, demo_is_named, is_named, just, memory_alone, no_fault, on_ok, run_alone, run_has_rows, takes_check, takes_demo, takes_run}
 use Rattle.irpx.proofs.words.order.Goals as goal
 
 pub returns-in-Ok-clause-ok : goal.returns-in-Ok-clause-ok
@@ -29,8 +29,26 @@ pub returns-in-Ok-clause-run : goal.returns-in-Ok-clause-run
 returns-in-Ok-clause-run g c called =
     let met = run_alone called.0 _ called.1 in
     just _ c.order_of.result _
-    (c.order_of.ensures.run [] (run_is_named _ c.in-Ok.matches _ [] c.in_ok-command.ensures met c.in-Ok.ensures.matches) (run_has_rows _ c.in-Ok.matches _ [] c.in_ok-command.ensures met c.in-Ok.ensures.matches))
+    (c.order_of.ensures.run [] (is_named _ c.in-Ok.matches _ _ [] c.in_ok-command.ensures met c.in-Ok.ensures.matches) (run_has_rows _ c.in-Ok.matches _ [] c.in_ok-command.ensures met c.in-Ok.ensures.matches))
 
 pub returns-in-Err-clause-run : goal.returns-in-Err-clause-run
 returns-in-Err-clause-run g c called =
     c.unread_of.ensures.1 (c.in-Err.ensures.passes (takes_run _ called.0 _ c.in_ok-command.ensures called.1))
+
+pub returns-in-Ok-clause-finds_demo : goal.returns-in-Ok-clause-finds_demo
+returns-in-Ok-clause-finds_demo g c rows found =
+    just _ c.order_of.result _
+    (c.order_of.ensures.demo.1 (is_named _ c.in-Ok.matches _ _ rows c.in_ok-command.ensures found.1 c.in-Ok.ensures.matches))
+
+pub returns-in-Ok-clause-finds_check : goal.returns-in-Ok-clause-finds_check
+returns-in-Ok-clause-finds_check g c rows found =
+    just _ c.order_of.result _
+    (c.order_of.ensures.check.1 (is_named _ c.in-Ok.matches _ _ rows c.in_ok-command.ensures found.1 c.in-Ok.ensures.matches))
+
+pub returns-in-Err-clause-finds_demo : goal.returns-in-Err-clause-finds_demo
+returns-in-Err-clause-finds_demo g c rows found =
+    c.unread_of.ensures.1 (memory_alone _ _ c.in-Err.error c.in_ok-command.ensures found.0 c.in-Err.ensures.kinds)
+
+pub returns-in-Err-clause-finds_check : goal.returns-in-Err-clause-finds_check
+returns-in-Err-clause-finds_check g c rows found =
+    c.unread_of.ensures.1 (memory_alone _ _ c.in-Err.error c.in_ok-command.ensures found.0 c.in-Err.ensures.kinds)

@@ -1,4 +1,4 @@
-use Rattle.std.proofs.Common.{rules, ◌≡◌, ◌+◌, ◌++◌, ◌∷◌, [], length, sym, ap, ◌∙◌, subst, arith, length-append}
+use Rattle.std.proofs.Common.{rules, ◌≡◌, ◌++◌, ◌∷◌, [], length, sym, ap, ◌∙◌, subst, arith, length-append}
 use Rattle.irp_types.specs.State.{Fixed}
 use Rattle.irp_manager.specs.Booked.{Receipted}
 use Rattle.irp_shared.specs.Answered.{AnswersSo}

@@ -1,0 +1,6 @@
+pub mod Blocks
+pub mod Bytes
+pub mod Choosing
+pub mod Lines
+pub mod Listing
+pub mod Writing

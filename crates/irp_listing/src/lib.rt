@@ -1,0 +1,19 @@
+//! The text of a history: a block of lines for each entry, in the words of a driver writer.
+#![tactic(auto)]
+
+mod blocks;
+mod choosing;
+mod lines;
+mod listing;
+mod outcome;
+mod questions;
+mod stacks;
+mod word_lines;
+mod writing;
+
+pub use blocks::{CallerWords, put_block};
+pub use choosing::{Choice, is_chosen};
+pub use lines::{put_line, put_row};
+pub use listing::{list, stacks_after, words_text};
+pub use stacks::Stacks;
+pub use writing::{Unwritten, send};

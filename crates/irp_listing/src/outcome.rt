@@ -1,0 +1,120 @@
+//! Where a packet is after a call that moved it.
+
+use irp_names::{DeviceWords, ReplyWords, ResultWords};
+use irp_types::{Asked, Call, CancelAnswer, DeviceId, Entry, Plan, Reply, Status};
+use std::fmt;
+
+/// Where a packet is after a call that moved it, as its entry tells.
+#[derive(Clone, Copy)]
+pub enum Outcome {
+    /// A device holds it.
+    Held(Option<DeviceId>),
+    /// A completion routine kept it for a device, or for the originator.
+    Kept(Option<DeviceId>, Status, u64),
+    /// It stays with the device that had it.
+    Stays,
+    /// It has completed.
+    Completed(Status, u64),
+}
+
+/// Whether the call of an entry moved its packet.
+pub fn moves(entry: &Entry) -> bool {
+    if matches!(entry.reply, Reply::Refused(_)) {
+        return false;
+    }
+    match entry.call {
+        Call::CallDriver { .. } | Call::Complete { .. } | Call::FinishTaken { .. } => true,
+        Call::Cancel { .. } => !entry.asked.as_slice().is_empty(),
+        _ => false,
+    }
+}
+
+/// What a packet is completed with before any routine is asked: what the call says, else what a driver without a
+/// dispatch for the major gives.
+fn first_result(call: Call) -> (Status, u64) {
+    match call {
+        Call::Complete {
+            status,
+            information,
+            ..
+        } => (status, information),
+        Call::FinishTaken {
+            status,
+            information,
+            ..
+        } => (status, information),
+        _ => (Status::INVALID_DEVICE_REQUEST, 0),
+    }
+}
+
+/// What a question leads to, where the packet had this status and information before.
+fn after(question: Asked, before: (Status, u64)) -> Outcome {
+    match question {
+        Asked::Dispatch { shown, plan, .. } => match plan {
+            Plan::Hold { .. } | Plan::HoldSlot => Outcome::Held(shown.device),
+            Plan::Finish {
+                status,
+                information,
+            } => Outcome::Completed(status, information),
+            _ => Outcome::Completed(before.0, before.1),
+        },
+        Asked::Completion { shown, answer, .. } => {
+            let (status, information) = match answer.replacement {
+                Some(put) => (put.status, put.information),
+                None => (shown.status, shown.information),
+            };
+            if answer.keep {
+                Outcome::Kept(shown.device, status, information)
+            } else {
+                Outcome::Completed(status, information)
+            }
+        }
+        Asked::Cancel { answer, .. } => match answer {
+            CancelAnswer::Finish { information } => {
+                Outcome::Completed(Status::CANCELLED, information)
+            }
+            CancelAnswer::Leave => Outcome::Stays,
+        },
+    }
+}
+
+/// Where the packet is after the call of this entry, on condition that the call moved it.
+pub fn outcome_of(entry: &Entry) -> Outcome {
+    let mut ended = first_result(entry.call);
+    for question in entry.asked.as_slice() {
+        match after(*question, ended) {
+            Outcome::Completed(status, information) => ended = (status, information),
+            settled => return settled,
+        }
+    }
+    Outcome::Completed(ended.0, ended.1)
+}
+
+/// Where the packet is, and what the caller gets.
+#[derive(Clone, Copy)]
+pub struct OutcomeWords {
+    pub outcome: Outcome,
+    pub call: Call,
+    pub reply: Reply,
+}
+
+impl fmt::Display for OutcomeWords {
+    fn fmt<W: fmt::Write>(&self, f: &mut fmt::Formatter<W>) -> fmt::Result {
+        match self.outcome {
+            Outcome::Held(device) => write!(f, "= {} holds the packet", DeviceWords(device))?,
+            Outcome::Kept(device, status, information) => {
+                write!(f, "= {} has the packet again", DeviceWords(device))?;
+                write!(f, ": {}", ResultWords(status, information))?
+            }
+            Outcome::Stays => f.write_str("= the packet stays with its device")?,
+            Outcome::Completed(status, information) => {
+                write!(f, "= completed: {}", ResultWords(status, information))?
+            }
+        }
+        let OutcomeWords { call, reply, .. } = *self;
+        match reply {
+            Reply::Done => Ok(()),
+            _ => write!(f, "; the caller gets {}", ReplyWords { call, reply }),
+        }
+    }
+}

@@ -1,0 +1,168 @@
+//! Closures, what they answer and what is set for them.
+
+use crate::small::RoutineWords;
+use crate::statuses::ResultWords;
+use irp_types::{Answer, Asked, CancelAnswer, Plan, Setting, Shown};
+use std::fmt;
+
+/// A closure by its name, as `dispatch 2`, `keeper 0` or `cancel routine 1`.
+#[derive(Clone, Copy)]
+pub struct ClosureWords(pub Asked);
+
+impl fmt::Display for ClosureWords {
+    fn fmt<W: fmt::Write>(&self, f: &mut fmt::Formatter<W>) -> fmt::Result {
+        match self.0 {
+            Asked::Dispatch { id, .. } => write!(f, "dispatch {}", id.0),
+            Asked::Completion { id, .. } => write!(f, "{}", RoutineWords(id)),
+            Asked::Cancel { id, .. } => write!(f, "cancel routine {}", id.0),
+        }
+    }
+}
+
+/// On what a completion routine is asked, from its flags.
+fn flags_words(setting: Setting) -> &'static str {
+    match (setting.on_success, setting.on_error, setting.on_cancel) {
+        (true, true, true) => "on success, on error, on cancel",
+        (true, true, false) => "on success, on error",
+        (true, false, true) => "on success, on cancel",
+        (true, false, false) => "on success",
+        (false, true, true) => "on error, on cancel",
+        (false, true, false) => "on error",
+        (false, false, true) => "on cancel",
+        (false, false, false) => "never",
+    }
+}
+
+/// A completion routine that is set, with its context and its flags.
+#[derive(Clone, Copy)]
+pub struct SettingWords(pub Setting);
+
+impl fmt::Display for SettingWords {
+    fn fmt<W: fmt::Write>(&self, f: &mut fmt::Formatter<W>) -> fmt::Result {
+        write!(
+            f,
+            "{}, context {:#x}",
+            RoutineWords(self.0.routine),
+            self.0.context
+        )?;
+        write!(f, ", {}", flags_words(self.0))
+    }
+}
+
+/// What a dispatch did, as a driver writes it.
+#[derive(Clone, Copy)]
+pub struct PlanWords(pub Plan);
+
+impl fmt::Display for PlanWords {
+    fn fmt<W: fmt::Write>(&self, f: &mut fmt::Formatter<W>) -> fmt::Result {
+        match self.0 {
+            Plan::Finish {
+                status,
+                information,
+            } => write!(
+                f,
+                "IoCompleteRequest with {}",
+                ResultWords(status, information)
+            ),
+            Plan::Hold { cancel: None } => {
+                f.write_str("IoMarkIrpPending, keeps the packet, returns STATUS_PENDING")
+            }
+            Plan::Hold { cancel: Some(id) } => {
+                write!(
+                    f,
+                    "IoMarkIrpPending, IoSetCancelRoutine(cancel routine {})",
+                    id.0
+                )?;
+                f.write_str(", keeps the packet, returns STATUS_PENDING")
+            }
+            Plan::HoldSlot => f.write_str(
+                "IoMarkIrpPending, keeps the packet for a cancel slot, returns STATUS_PENDING",
+            ),
+            Plan::Skip => f.write_str("IoSkipCurrentIrpStackLocation, IoCallDriver"),
+            Plan::Forward { set } => write!(f, "{}", Forwarding(set)),
+            Plan::ForwardPend { set } => {
+                write!(
+                    f,
+                    "IoMarkIrpPending, {}, returns STATUS_PENDING",
+                    Forwarding(set)
+                )
+            }
+        }
+    }
+}
+
+/// A copy to the next lower location, with what is set there, and the call of the driver below.
+#[derive(Clone, Copy)]
+struct Forwarding(Option<Setting>);
+
+impl fmt::Display for Forwarding {
+    fn fmt<W: fmt::Write>(&self, f: &mut fmt::Formatter<W>) -> fmt::Result {
+        f.write_str("IoCopyCurrentIrpStackLocationToNext, ")?;
+        if let Some(set) = self.0 {
+            write!(f, "IoSetCompletionRoutine({}), ", SettingWords(set))?;
+        }
+        f.write_str("IoCallDriver")
+    }
+}
+
+/// What a completion routine did, as a driver writes it.
+#[derive(Clone, Copy)]
+pub struct AnswerWords(pub Answer);
+
+impl fmt::Display for AnswerWords {
+    fn fmt<W: fmt::Write>(&self, f: &mut fmt::Formatter<W>) -> fmt::Result {
+        if self.0.mark {
+            f.write_str("IoMarkIrpPending, ")?;
+        }
+        if let Some(put) = self.0.replacement {
+            write!(f, "sets {}, ", ResultWords(put.status, put.information))?;
+        }
+        f.write_str(if self.0.keep {
+            "returns STATUS_MORE_PROCESSING_REQUIRED: keeps the packet"
+        } else {
+            "returns STATUS_CONTINUE_COMPLETION"
+        })
+    }
+}
+
+/// What a cancel routine did.
+#[derive(Clone, Copy)]
+pub struct CancelAnswerWords(pub CancelAnswer);
+
+impl fmt::Display for CancelAnswerWords {
+    fn fmt<W: fmt::Write>(&self, f: &mut fmt::Formatter<W>) -> fmt::Result {
+        match self.0 {
+            CancelAnswer::Finish { information } => {
+                write!(
+                    f,
+                    "IoCompleteRequest with STATUS_CANCELLED, information {:#x}",
+                    information
+                )
+            }
+            CancelAnswer::Leave => f.write_str("leaves the packet with its device"),
+        }
+    }
+}
+
+/// What a question showed.
+pub fn shown_of(question: Asked) -> Shown {
+    match question {
+        Asked::Dispatch { shown, .. } => shown,
+        Asked::Completion { shown, .. } => shown,
+        Asked::Cancel { shown, .. } => shown,
+    }
+}
+
+/// What a closure answered.
+#[derive(Clone, Copy)]
+pub struct AnsweredWords(pub Asked);
+
+impl fmt::Display for AnsweredWords {
+    fn fmt<W: fmt::Write>(&self, f: &mut fmt::Formatter<W>) -> fmt::Result {
+        match self.0 {
+            Asked::Dispatch { plan, .. } => write!(f, "{}", PlanWords(plan)),
+            Asked::Completion { answer, .. } => write!(f, "{}", AnswerWords(answer)),
+            Asked::Cancel { answer, .. } => write!(f, "{}", CancelAnswerWords(answer)),
+        }
+    }
+}

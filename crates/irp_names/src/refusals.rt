@@ -1,0 +1,121 @@
+//! Refusals.
+
+use irp_types::{Call, Refusal};
+use std::fmt;
+
+/// The name of a refusal, as transcripts and docs/RULES.md have it (this project's own).
+pub fn refusal_name(refusal: Refusal) -> &'static str {
+    match refusal {
+        Refusal::NoIrp => "NoIrp",
+        Refusal::Stale => "Stale",
+        Refusal::NoDevice => "NoDevice",
+        Refusal::DeviceGone => "DeviceGone",
+        Refusal::NotOwner => "NotOwner",
+        Refusal::NoLocation => "NoLocation",
+        Refusal::NotPrepared => "NotPrepared",
+        Refusal::AfterSkip => "AfterSkip",
+        Refusal::TooShort => "TooShort",
+        Refusal::WrongTarget => "WrongTarget",
+        Refusal::NoRoutine => "NoRoutine",
+        Refusal::BadStatus => "BadStatus",
+        Refusal::CancelRoutineSet => "CancelRoutineSet",
+        Refusal::AlreadyCancelled => "AlreadyCancelled",
+        Refusal::InFlight => "InFlight",
+        Refusal::StillAttached => "StillAttached",
+        Refusal::SameStack => "SameStack",
+        Refusal::TooDeep => "TooDeep",
+        Refusal::Full => "Full",
+        Refusal::NothingAttached => "NothingAttached",
+        Refusal::NotDrained => "NotDrained",
+        Refusal::BadSize => "BadSize",
+        Refusal::BadMajor => "BadMajor",
+        Refusal::NoDriver => "NoDriver",
+        Refusal::Ended => "Ended",
+        Refusal::HistoryFull => "HistoryFull",
+        Refusal::NoLock => "NoLock",
+        Refusal::SlotHeld => "SlotHeld",
+        Refusal::NotSlotHeld => "NotSlotHeld",
+    }
+}
+
+/// When a refusal comes, in a few words (docs/RULES.md, Refusals).
+pub fn refusal_meaning(refusal: Refusal) -> &'static str {
+    match refusal {
+        Refusal::NoIrp => "no live packet is under this slot",
+        Refusal::Stale => "the packet is in another use by now",
+        Refusal::NoDevice => "no such device was created",
+        Refusal::DeviceGone => "the device was deleted",
+        Refusal::NotOwner => "the caller doesn't own the packet",
+        Refusal::NoLocation => "the originator has no location of its own",
+        Refusal::NotPrepared => "the next location wasn't filled, and the own one wasn't skipped",
+        Refusal::AfterSkip => "after a skip the owner may only send",
+        Refusal::TooShort => "too few locations are left",
+        Refusal::WrongTarget => "a device sends to the device just below it alone",
+        Refusal::NoRoutine => "there is no such routine",
+        Refusal::BadStatus => "no packet is completed with this status",
+        Refusal::CancelRoutineSet => "the packet still has a cancel routine",
+        Refusal::AlreadyCancelled => "the packet was cancelled before",
+        Refusal::InFlight => "a device still has the packet",
+        Refusal::StillAttached => "the device has a neighbour in its stack",
+        Refusal::SameStack => "both devices are in one stack",
+        Refusal::TooDeep => "the stack would be too deep",
+        Refusal::Full => "a limit is reached",
+        Refusal::NothingAttached => "nothing stands above this device",
+        Refusal::NotDrained => "the caller doesn't know the remove lock drained",
+        Refusal::BadSize => "no packet has so many locations",
+        Refusal::BadMajor => "there is no such major function code",
+        Refusal::NoDriver => "there is no such driver",
+        Refusal::Ended => "this use has completed",
+        Refusal::HistoryFull => "the history is full",
+        Refusal::NoLock => "there is no such remove lock",
+        Refusal::SlotHeld => "the packet is kept for a cancel slot",
+        Refusal::NotSlotHeld => "the packet is kept for no cancel slot",
+    }
+}
+
+/// The name in Windows of the mistake for which this call is refused so: a bug check, a code of Driver Verifier or a
+/// rule of Static Driver Verifier. None where there is none (docs/RULES.md, Refusals).
+pub fn windows_name(call: Call, refusal: Refusal) -> Option<&'static str> {
+    match (call, refusal) {
+        (Call::CallDriver { .. }, Refusal::TooShort) => {
+            Some("bug check 0x35, NO_MORE_IRP_STACK_LOCATIONS")
+        }
+        (Call::Complete { .. } | Call::FinishTaken { .. }, _) => completion_name(refusal),
+        (Call::Reuse { .. }, Refusal::InFlight) => Some("rule IoReuseIrp"),
+        (Call::Delete { .. }, Refusal::NotDrained) => Some("the RemoveLock rules"),
+        _ => None,
+    }
+}
+
+/// The same for a completion.
+fn completion_name(refusal: Refusal) -> Option<&'static str> {
+    match refusal {
+        Refusal::Ended => {
+            Some("bug check 0x44, MULTIPLE_IRP_COMPLETE_REQUESTS; rule DoubleCompletion")
+        }
+        Refusal::BadStatus => Some("Driver Verifier 0xC9, code 6; rule CompleteRequestStatusCheck"),
+        Refusal::CancelRoutineSet => {
+            Some("bug check 0x48, CANCEL_STATE_IN_COMPLETED_IRP; Driver Verifier 0xC9, code 7")
+        }
+        _ => None,
+    }
+}
+
+/// A refusal, with when it comes, and with its name in Windows where it has one.
+#[derive(Clone, Copy)]
+pub struct RefusalWords {
+    pub call: Call,
+    pub refusal: Refusal,
+}
+
+impl fmt::Display for RefusalWords {
+    fn fmt<W: fmt::Write>(&self, f: &mut fmt::Formatter<W>) -> fmt::Result {
+        f.write_str(refusal_name(self.refusal))?;
+        f.write_str(", ")?;
+        f.write_str(refusal_meaning(self.refusal))?;
+        if let Some(name) = windows_name(self.call, self.refusal) {
+            write!(f, " (in Windows: {})", name)?;
+        }
+        Ok(())
+    }
+}

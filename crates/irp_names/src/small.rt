@@ -1,0 +1,82 @@
+//! Devices, packets, parties and routines.
+
+use irp_types::{DeviceId, IrpRef, Owner, Party, RoutineId, Rule};
+use std::fmt;
+
+/// The slot that a label stands for where it isn't bound (this project's own format, docs/FORMATS.md).
+const UNBOUND: usize = 4_294_967_295;
+
+/// A device, as `D1`; the originator where there is none.
+#[derive(Clone, Copy)]
+pub struct DeviceWords(pub Option<DeviceId>);
+
+impl fmt::Display for DeviceWords {
+    fn fmt<W: fmt::Write>(&self, f: &mut fmt::Formatter<W>) -> fmt::Result {
+        match self.0 {
+            Some(device) => write!(f, "D{}", device.0),
+            None => f.write_str("the originator"),
+        }
+    }
+}
+
+/// A use of a packet, as `IRP 0.1`: its slot and its use number.
+#[derive(Clone, Copy)]
+pub struct PacketWords(pub IrpRef);
+
+impl fmt::Display for PacketWords {
+    fn fmt<W: fmt::Write>(&self, f: &mut fmt::Formatter<W>) -> fmt::Result {
+        if self.0.slot == UNBOUND {
+            f.write_str("IRP of a label that isn't bound")
+        } else {
+            write!(f, "IRP {}.{}", self.0.slot, self.0.use_no)
+        }
+    }
+}
+
+/// Who makes a call: `originator` or a device, as `D1`.
+#[derive(Clone, Copy)]
+pub struct PartyWords(pub Party);
+
+impl fmt::Display for PartyWords {
+    fn fmt<W: fmt::Write>(&self, f: &mut fmt::Formatter<W>) -> fmt::Result {
+        match self.0 {
+            Party::Originator => f.write_str("originator"),
+            Party::Device(device) => write!(f, "D{}", device.0),
+        }
+    }
+}
+
+/// Who owns a packet.
+#[derive(Clone, Copy)]
+pub struct OwnerWords(pub Owner);
+
+impl fmt::Display for OwnerWords {
+    fn fmt<W: fmt::Write>(&self, f: &mut fmt::Formatter<W>) -> fmt::Result {
+        match self.0 {
+            Owner::Originator => f.write_str("the originator owns it"),
+            Owner::Device(device) => write!(f, "D{} owns it", device.0),
+            Owner::Ended => f.write_str("completed"),
+        }
+    }
+}
+
+/// The word of a rule, as scripts and transcripts have it.
+fn rule_word(rule: Rule) -> &'static str {
+    match rule {
+        Rule::Watch => "watch",
+        Rule::Change => "change",
+        Rule::Keeper => "keeper",
+        Rule::KeepOnError => "keep_on_error",
+        Rule::Free => "free",
+    }
+}
+
+/// A completion routine, as `keeper 0`: its rule and its number within it.
+#[derive(Clone, Copy)]
+pub struct RoutineWords(pub RoutineId);
+
+impl fmt::Display for RoutineWords {
+    fn fmt<W: fmt::Write>(&self, f: &mut fmt::Formatter<W>) -> fmt::Result {
+        write!(f, "{} {}", rule_word(self.0.rule), self.0.no)
+    }
+}

@@ -1,0 +1,94 @@
+//! Statuses.
+
+use irp_types::Status;
+use std::fmt;
+
+/// The name of a status, where it is one of those that drivers give often. None for any other: Windows has thousands
+/// (WDK: "NTSTATUS Values").
+pub fn status_name(status: Status) -> Option<&'static str> {
+    match status.0 >> 30 {
+        0 => success_name(status.0),
+        2 => warning_name(status.0),
+        3 => error_name(status.0),
+        _ => None,
+    }
+}
+
+/// The name of a success.
+fn success_name(number: u32) -> Option<&'static str> {
+    Some(match number {
+        0x0000_0000 => "STATUS_SUCCESS",
+        0x0000_0102 => "STATUS_TIMEOUT",
+        0x0000_0103 => "STATUS_PENDING",
+        0x0000_0104 => "STATUS_REPARSE",
+        _ => return None,
+    })
+}
+
+/// The name of a warning.
+fn warning_name(number: u32) -> Option<&'static str> {
+    Some(match number {
+        0x8000_0005 => "STATUS_BUFFER_OVERFLOW",
+        0x8000_0006 => "STATUS_NO_MORE_FILES",
+        0x8000_0011 => "STATUS_DEVICE_BUSY",
+        0x8000_001A => "STATUS_NO_MORE_ENTRIES",
+        _ => return None,
+    })
+}
+
+/// The name of an error.
+fn error_name(number: u32) -> Option<&'static str> {
+    Some(match number {
+        0xC000_0001 => "STATUS_UNSUCCESSFUL",
+        0xC000_0002 => "STATUS_NOT_IMPLEMENTED",
+        0xC000_0004 => "STATUS_INFO_LENGTH_MISMATCH",
+        0xC000_0005 => "STATUS_ACCESS_VIOLATION",
+        0xC000_0008 => "STATUS_INVALID_HANDLE",
+        0xC000_000D => "STATUS_INVALID_PARAMETER",
+        0xC000_000E => "STATUS_NO_SUCH_DEVICE",
+        0xC000_000F => "STATUS_NO_SUCH_FILE",
+        0xC000_0010 => "STATUS_INVALID_DEVICE_REQUEST",
+        0xC000_0011 => "STATUS_END_OF_FILE",
+        0xC000_0016 => "STATUS_MORE_PROCESSING_REQUIRED",
+        0xC000_0017 => "STATUS_NO_MEMORY",
+        0xC000_0022 => "STATUS_ACCESS_DENIED",
+        0xC000_0023 => "STATUS_BUFFER_TOO_SMALL",
+        0xC000_0034 => "STATUS_OBJECT_NAME_NOT_FOUND",
+        0xC000_0035 => "STATUS_OBJECT_NAME_COLLISION",
+        0xC000_0043 => "STATUS_SHARING_VIOLATION",
+        0xC000_0056 => "STATUS_DELETE_PENDING",
+        0xC000_007F => "STATUS_DISK_FULL",
+        0xC000_009A => "STATUS_INSUFFICIENT_RESOURCES",
+        0xC000_009D => "STATUS_DEVICE_NOT_CONNECTED",
+        0xC000_00A3 => "STATUS_DEVICE_NOT_READY",
+        0xC000_00B5 => "STATUS_IO_TIMEOUT",
+        0xC000_00BB => "STATUS_NOT_SUPPORTED",
+        0xC000_0120 => "STATUS_CANCELLED",
+        0xC000_0184 => "STATUS_INVALID_DEVICE_STATE",
+        0xC000_0185 => "STATUS_IO_DEVICE_ERROR",
+        _ => return None,
+    })
+}
+
+/// A status by its name, such as STATUS_PENDING, or `status 0xC0000999` where it has none here.
+#[derive(Clone, Copy)]
+pub struct StatusWords(pub Status);
+
+impl fmt::Display for StatusWords {
+    fn fmt<W: fmt::Write>(&self, f: &mut fmt::Formatter<W>) -> fmt::Result {
+        match status_name(self.0) {
+            Some(name) => f.write_str(name),
+            None => write!(f, "status {:#010X}", self.0.0),
+        }
+    }
+}
+
+/// A status and information: what a packet has in its IoStatus.
+#[derive(Clone, Copy)]
+pub struct ResultWords(pub Status, pub u64);
+
+impl fmt::Display for ResultWords {
+    fn fmt<W: fmt::Write>(&self, f: &mut fmt::Formatter<W>) -> fmt::Result {
+        write!(f, "{}, information {:#x}", StatusWords(self.0), self.1)
+    }
+}

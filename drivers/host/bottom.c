@@ -1,0 +1,127 @@
+/* bottom.c: a bottom device of the host's own, as WdmCreateBottom says. It is written as a driver. */
+#include <wdm.h>
+#include "wdm_test.h"
+
+typedef struct {
+    PDEVICE_OBJECT Self;
+    BOOLEAN Late;
+    IO_CSQ Queue;
+    LIST_ENTRY Waiting;
+    KSPIN_LOCK Lock;
+} BOTTOM, *PBOTTOM;
+
+static VOID Insert(PIO_CSQ Csq, PIRP Irp)
+{
+    InsertTailList(&CONTAINING_RECORD(Csq, BOTTOM, Queue)->Waiting, &Irp->Tail.Overlay.ListEntry);
+}
+
+static VOID Remove(PIO_CSQ Csq, PIRP Irp)
+{
+    UNREFERENCED_PARAMETER(Csq);
+    RemoveEntryList(&Irp->Tail.Overlay.ListEntry);
+}
+
+static PIRP PeekNext(PIO_CSQ Csq, PIRP Irp, PVOID Context)
+{
+    PLIST_ENTRY head = &CONTAINING_RECORD(Csq, BOTTOM, Queue)->Waiting;
+    PLIST_ENTRY next = Irp ? Irp->Tail.Overlay.ListEntry.Flink : head->Flink;
+    UNREFERENCED_PARAMETER(Context);
+    return next == head ? NULL : CONTAINING_RECORD(next, IRP, Tail.Overlay.ListEntry);
+}
+
+static VOID Acquire(PIO_CSQ Csq, PKIRQL Irql) { KeAcquireSpinLock(&CONTAINING_RECORD(Csq, BOTTOM, Queue)->Lock, Irql); }
+static VOID Release(PIO_CSQ Csq, KIRQL Irql) { KeReleaseSpinLock(&CONTAINING_RECORD(Csq, BOTTOM, Queue)->Lock, Irql); }
+
+static NTSTATUS Complete(PIRP Irp, NTSTATUS Status, ULONG_PTR Information)
+{
+    Irp->IoStatus.Status = Status;
+    Irp->IoStatus.Information = Information;
+    IoCompleteRequest(Irp, IO_NO_INCREMENT);
+    return Status;
+}
+
+static VOID CompleteCanceled(PIO_CSQ Csq, PIRP Irp)
+{
+    UNREFERENCED_PARAMETER(Csq);
+    Complete(Irp, STATUS_CANCELLED, 0);
+}
+
+static ULONG LengthOf(PIRP Irp)
+{
+    PIO_STACK_LOCATION stack = IoGetCurrentIrpStackLocation(Irp);
+    switch (stack->MajorFunction) {
+    case IRP_MJ_READ:
+    case IRP_MJ_WRITE: return stack->Parameters.Read.Length;
+    case IRP_MJ_DEVICE_CONTROL:
+    case IRP_MJ_INTERNAL_DEVICE_CONTROL: return stack->Parameters.DeviceIoControl.OutputBufferLength;
+    default: return 0;
+    }
+}
+
+static VOID CompleteLater(PDEVICE_OBJECT DeviceObject, PVOID Context)
+{
+    PBOTTOM ext = DeviceObject->DeviceExtension;
+    LARGE_INTEGER moment = { .QuadPart = -10000 };
+    KeDelayExecutionThread(KernelMode, FALSE, &moment);
+    PIRP irp = IoCsqRemoveNextIrp(&ext->Queue, NULL);
+    if (irp)
+        Complete(irp, STATUS_SUCCESS, LengthOf(irp));
+    IoFreeWorkItem(Context);
+}
+
+static NTSTATUS Any(PDEVICE_OBJECT DeviceObject, PIRP Irp)
+{
+    PBOTTOM ext = DeviceObject->DeviceExtension;
+    const UCHAR major = IoGetCurrentIrpStackLocation(Irp)->MajorFunction;
+    if (!ext->Late || (major != IRP_MJ_READ && major != IRP_MJ_WRITE && major != IRP_MJ_DEVICE_CONTROL))
+        return Complete(Irp, STATUS_SUCCESS, LengthOf(Irp));
+    PIO_WORKITEM item = IoAllocateWorkItem(DeviceObject);
+    if (!item)
+        return Complete(Irp, STATUS_INSUFFICIENT_RESOURCES, 0);
+    IoCsqInsertIrp(&ext->Queue, Irp, NULL);
+    IoQueueWorkItem(item, CompleteLater, DelayedWorkQueue, item);
+    return STATUS_PENDING;
+}
+
+static NTSTATUS Pnp(PDEVICE_OBJECT DeviceObject, PIRP Irp)
+{
+    UNREFERENCED_PARAMETER(DeviceObject);
+    const UCHAR minor = IoGetCurrentIrpStackLocation(Irp)->MinorFunction;
+    const BOOLEAN done = minor <= IRP_MN_CANCEL_STOP_DEVICE || minor == IRP_MN_QUERY_CAPABILITIES ||
+        minor == IRP_MN_SURPRISE_REMOVAL;
+    return Complete(Irp, done ? STATUS_SUCCESS : Irp->IoStatus.Status, Irp->IoStatus.Information);
+}
+
+static NTSTATUS SystemControl(PDEVICE_OBJECT DeviceObject, PIRP Irp)
+{
+    UNREFERENCED_PARAMETER(DeviceObject);
+    return Complete(Irp, Irp->IoStatus.Status, Irp->IoStatus.Information);
+}
+
+static NTSTATUS Entry(PDRIVER_OBJECT DriverObject, PUNICODE_STRING RegistryPath)
+{
+    UNREFERENCED_PARAMETER(RegistryPath);
+    for (int i = 0; i <= IRP_MJ_MAXIMUM_FUNCTION; i++)
+        DriverObject->MajorFunction[i] = Any;
+    DriverObject->MajorFunction[IRP_MJ_PNP] = Pnp;
+    DriverObject->MajorFunction[IRP_MJ_SYSTEM_CONTROL] = SystemControl;
+    return STATUS_SUCCESS;
+}
+
+PDEVICE_OBJECT WdmCreateBottom(BOOLEAN Late)
+{
+    static PDRIVER_OBJECT driver;
+    PDEVICE_OBJECT device = NULL;
+    if (!driver)
+        driver = WdmLoadDriver("bottom", Entry);
+    if (!NT_SUCCESS(IoCreateDevice(driver, sizeof(BOTTOM), NULL, FILE_DEVICE_BUS_EXTENDER, 0, FALSE, &device)))
+        return NULL;
+    PBOTTOM ext = device->DeviceExtension;
+    ext->Self = device;
+    ext->Late = Late;
+    KeInitializeSpinLock(&ext->Lock);
+    InitializeListHead(&ext->Waiting);
+    IoCsqInitialize(&ext->Queue, Insert, Remove, PeekNext, Acquire, Release, CompleteCanceled);
+    device->Flags &= ~(ULONG)DO_DEVICE_INITIALIZING;
+    return device;
+}

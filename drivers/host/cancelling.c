@@ -1,0 +1,175 @@
+/* cancelling.c: cancel routines, IoCancelIrp, the cancel spin lock. */
+#include "host.h"
+
+static pthread_mutex_t cancel_lock = PTHREAD_MUTEX_INITIALIZER;
+
+/* A cancel routine that came after the cancel, and that wasn't taken back: now it becomes an entry. */
+void tell_ghost(Packet *p)
+{
+    PDRIVER_CANCEL routine = p->ghost;
+    p->ghost = NULL;
+    if (!lives(p))
+        return;
+    Entry *e = begin(SET_CANCEL, p, p->owner);
+    e->routine = routine;
+    const char *no = rules_refusal(e);
+    if (no)
+        refuse(e, no);
+    else
+        free(e);
+}
+
+PDRIVER_CANCEL WdmIoSetCancelRoutine(PIRP Irp, PDRIVER_CANCEL Routine, WDM_SITE at)
+{
+    Call c;
+    enter_host(&c, "IoSetCancelRoutine", at);
+    Packet *p = find(Irp);
+    await(p);
+    Frame *f = dispatching(p), *own = on_top(p);
+    PDRIVER_CANCEL old = NULL;
+    if (Routine && lives(p))
+        p->sites.cancel = at;
+    if (f && !p->skipped) {
+        old = f->cancel;
+        f->cancel = Irp->CancelRoutine = Routine;
+    } else if (p->ghost || (own && own == p->asking && !Routine && !p->routine)) {
+        old = p->ghost; /* taken back, or none to take: nothing that the rules know of */
+        p->ghost = Irp->CancelRoutine = Routine;
+    } else {
+        if (lives(p))
+            settle(p, false);
+        Entry *e = begin(SET_CANCEL, p, party(p));
+        e->routine = Routine;
+        const char *no = rules_refusal(e);
+        if (no && !strcmp(no, "AlreadyCancelled")) { /* the driver looks at Irp->Cancel next, and takes it back */
+            p->ghost = Irp->CancelRoutine = Routine;
+            free(e);
+        } else if (no)
+            refuse(e, no);
+        else {
+            old = p->routine;
+            e->reply = PREVIOUS;
+            e->seen.routine = old;
+            seal(e, false);
+            p->routine = Irp->CancelRoutine = Routine;
+        }
+    }
+    leave_host();
+    return old;
+}
+
+VOID WdmIoAcquireCancelSpinLock(PKIRQL Irql, WDM_SITE at)
+{
+    Call c;
+    enter_host(&c, "IoAcquireCancelSpinLock", at);
+    if (self.has_cancel_lock)
+        give_up("the cancel spin lock is acquired by a thread that holds it");
+    leave_host();
+    pthread_mutex_lock(&cancel_lock);
+    self.has_cancel_lock = true;
+    *Irql = self.irql;
+    self.irql = DISPATCH_LEVEL;
+}
+
+static void release_cancel_lock(KIRQL irql)
+{
+    self.has_cancel_lock = false;
+    self.irql = irql;
+    pthread_mutex_unlock(&cancel_lock);
+}
+
+VOID WdmIoReleaseCancelSpinLock(KIRQL Irql, WDM_SITE at)
+{
+    Call c;
+    enter_host(&c, "IoReleaseCancelSpinLock", at);
+    if (!self.has_cancel_lock)
+        fault("CancelSpinLock", NULL, "released by a thread that doesn't hold it");
+    else
+        release_cancel_lock(Irql);
+    leave_host();
+}
+
+/* Enters the host for a cancel, with the cancel spin lock: a packet on its way up is cancelled once it is up. */
+static KIRQL begin_cancel(Call *c, Packet **p, PIRP irp, WDM_SITE at)
+{
+    KIRQL irql;
+    for (;;) {
+        WdmIoAcquireCancelSpinLock(&irql, at);
+        enter_host(c, "IoCancelIrp", at);
+        *p = find(irp);
+        if (!(*p)->unwinding || ((*p)->asking && pthread_equal((*p)->asking->thread, pthread_self())))
+            return irql;
+        release_cancel_lock(irql);
+        pthread_cond_wait(&host_settled, &host_lock);
+        leave_host();
+    }
+}
+
+/* The packets that this one stands in for are cancelled first. */
+static void cancel_ridden(Packet *p)
+{
+    if (!p)
+        return;
+    cancel_ridden(p->rides);
+    if (lives(p)) {
+        p->cancel = true;
+        answered(begin(CANCEL, p, ORIGINATOR), CANCELLED, 0);
+    }
+}
+
+static void run_cancel_routine(Packet *p, Entry *e, KIRQL irql)
+{
+    PDRIVER_CANCEL routine = p->routine;
+    const int d = p->owner;
+    p->routine = p->irp->CancelRoutine = NULL;
+    p->irp->CancelIrql = irql;
+    Frame f = { .kind = CANCELLING, .p = p, .use = p->use, .fn = (void *)routine, .device = d, .location = p->current,
+                .e = e, .i = ask(e, p, CANCELLING, (void *)routine, d, p->current) };
+    e->reply = CANCELLED;
+    e->answer = 1;
+    e->asked[0].cancel = routine;
+    enter_frame(&f);
+    p->asking = &f;
+    let_driver_run();
+    shake();
+    routine(devices[d].raw, p->irp);
+    driver_came_back();
+    leave_frame();
+    if (self.has_cancel_lock) {
+        fault_of("CancelSpinLock", p, &f, "keeps the cancel spin lock");
+        release_cancel_lock(irql);
+    }
+    if (p->asking == &f)
+        settle(p, true);
+}
+
+BOOLEAN WdmIoCancelIrp(PIRP Irp, WDM_SITE at)
+{
+    Call c;
+    Packet *p;
+    const KIRQL irql = begin_cancel(&c, &p, Irp, at);
+    Entry *e = begin(CANCEL, p, ORIGINATOR);
+    const char *no = rules_refusal(e);
+    if (no) {
+        release_cancel_lock(irql);
+        refuse(e, no);
+        leave_host();
+        return FALSE;
+    }
+    cancel_ridden(p->rides);
+    /* A routine that a dispatch has set by now: the hold comes before the cancel. One that came after an earlier cancel
+       is for its driver to take back, as if this cancel came a moment later. */
+    if (!p->cancel && p->asking && p->asking->kind == DISPATCH && p->asking->cancel)
+        settle(p, false);
+    p->cancel = true;
+    Irp->Cancel = TRUE;
+    const bool routine = p->routine != NULL;
+    if (routine)
+        run_cancel_routine(p, e, irql);
+    else {
+        release_cancel_lock(irql);
+        answered(e, CANCELLED, 0);
+    }
+    leave_host();
+    return routine;
+}

@@ -1,0 +1,195 @@
+/* devices.c: device objects and their stacks. */
+#include "host.h"
+
+Device devices[MAX_DEVICES];
+int n_devices;
+
+NTSTATUS WdmIoCreateDevice(PDRIVER_OBJECT Driver, ULONG Extension, DEVICE_TYPE Type, ULONG Characteristics,
+                           PDEVICE_OBJECT *Out, WDM_SITE at)
+{
+    Call c;
+    enter_host(&c, "IoCreateDevice", at);
+    PDEVICE_OBJECT o = n_devices < MAX_DEVICES ? calloc(1, sizeof *o) : NULL;
+    PVOID extension = o ? calloc(1, Extension ? Extension : 1) : NULL;
+    if (!extension) {
+        free(o);
+        leave_host();
+        return STATUS_INSUFFICIENT_RESOURCES;
+    }
+    learn_file(at.file, Driver->HostNumber);
+    *o = (DEVICE_OBJECT){ .DriverObject = Driver, .NextDevice = Driver->DeviceObject, .DeviceExtension = extension,
+                          .DeviceType = Type, .Characteristics = Characteristics, .StackSize = 1,
+                          .HostNumber = n_devices, .HostExtensionSize = Extension, .Flags = DO_DEVICE_INITIALIZING };
+    Driver->DeviceObject = o;
+    devices[n_devices] = (Device){ .raw = o, .lower = NOBODY, .upper = NOBODY, .live = true };
+    Entry *e = begin(CREATE, NULL, ORIGINATOR);
+    e->device = Driver->HostNumber;
+    answered(e, DEVICE, (uint64_t)n_devices++);
+    *Out = o;
+    leave_host();
+    return STATUS_SUCCESS;
+}
+
+PDEVICE_OBJECT WdmIoAttachDevice(PDEVICE_OBJECT Device, PDEVICE_OBJECT Target, WDM_SITE at)
+{
+    Call c;
+    enter_host(&c, "IoAttachDeviceToDeviceStack", at);
+    const int d = Device->HostNumber;
+    int top = Target->HostNumber;
+    Entry *e = begin(ATTACH, NULL, d);
+    e->device = d;
+    e->other = top;
+    while (devices[top].upper >= 0)
+        top = devices[top].upper;
+    const char *no = rules_refusal(e);
+    if (no)
+        refuse(e, no);
+    else {
+        devices[d].lower = top;
+        devices[top].upper = d;
+        devices[top].raw->AttachedDevice = Device;
+        Device->StackSize = (CCHAR)(devices[top].raw->StackSize + 1);
+        answered(e, DEVICE, (uint64_t)top);
+    }
+    leave_host();
+    return no ? NULL : devices[top].raw;
+}
+
+NTSTATUS WdmIoAttachDeviceSafe(PDEVICE_OBJECT Device, PDEVICE_OBJECT Target, PDEVICE_OBJECT *Lower, WDM_SITE at)
+{
+    *Lower = WdmIoAttachDevice(Device, Target, at);
+    return *Lower ? STATUS_SUCCESS : STATUS_NO_SUCH_DEVICE;
+}
+
+PDEVICE_OBJECT IoGetAttachedDevice(PDEVICE_OBJECT Device)
+{
+    pthread_mutex_lock(&host_lock);
+    while (Device->AttachedDevice)
+        Device = Device->AttachedDevice;
+    pthread_mutex_unlock(&host_lock);
+    return Device;
+}
+
+PDEVICE_OBJECT IoGetAttachedDeviceReference(PDEVICE_OBJECT Device) { return IoGetAttachedDevice(Device); }
+
+/* What of the device's is on its way: a packet that another thread has in an entry which isn't settled. */
+static bool is_in_open_entry(int d)
+{
+    for (int i = 0; i < n_packets; i++) {
+        const Packet *p = packets[i];
+        if (!lives(p) || !p->open || p->open->sealed)
+            continue;
+        for (int j = p->current; j <= p->size; j++)
+            if (p->at[j].device == d)
+                return true;
+    }
+    return false;
+}
+
+/* Code of the device that runs on other threads has nothing in flight any more: it only returns. */
+static void tell_running(int d, const Frame *mine)
+{
+    int own = 0;
+    for (const Frame *f = mine; f; f = f->up)
+        own += f->device == d;
+    if (devices[d].running > own)
+        note("still returning", "%s is deleted while a routine of it is returning on another thread", who(d));
+}
+
+static void delete_now(int d, const Frame *mine)
+{
+    Entry *e = begin(REMOVE, NULL, d);
+    e->device = d;
+    e->drained = !devices[d].bound || lock_knows_drained(d);
+    const char *no = rules_refusal(e);
+    if (no && !strcmp(no, "InFlight") && is_in_open_entry(d)) {
+        /* the history doesn't have that packet's descent yet, so this call isn't recorded */
+        fault("InFlight", NULL, "%s is deleted while its code runs for a packet; not recorded", who(d));
+        free(e);
+        return;
+    }
+    if (no)
+        refuse(e, no);
+    else {
+        tell_running(d, mine);
+        devices[d].live = false;
+        answered(e, DONE, 0);
+    }
+}
+
+/* The delete that was put off: what is told of it names the call that wanted it. */
+static void delete_late(int d)
+{
+    Call c = { .up = self.calls, .name = "IoDeleteDevice", .at = devices[d].deleted };
+    Frame *const mine = self.frames;
+    self.calls = &c;
+    self.frames = NULL;
+    delete_now(d, mine);
+    self.calls = c.up;
+    self.frames = mine;
+}
+
+VOID WdmIoDetachDevice(PDEVICE_OBJECT Lower, WDM_SITE at)
+{
+    Call c;
+    enter_host(&c, "IoDetachDevice", at);
+    const int d = Lower->HostNumber, up = devices[d].upper;
+    Entry *e = begin(DETACH, NULL, d);
+    e->device = d;
+    const char *no = rules_refusal(e);
+    if (no)
+        refuse(e, no);
+    else {
+        devices[d].upper = devices[up].lower = NOBODY;
+        Lower->AttachedDevice = NULL;
+        answered(e, DEVICE, (uint64_t)up);
+        if (devices[d].leaving)
+            delete_late(d);
+    }
+    leave_host();
+}
+
+/* As in Windows, a device with another one above it goes once that one is gone. */
+VOID WdmIoDeleteDevice(PDEVICE_OBJECT Device, WDM_SITE at)
+{
+    Call c;
+    enter_host(&c, "IoDeleteDevice", at);
+    const int d = Device->HostNumber;
+    if (devices[d].live && devices[d].upper >= 0 && devices[d].lower < 0) {
+        devices[d].leaving = true;
+        devices[d].deleted = at;
+    } else
+        delete_now(d, self.frames);
+    leave_host();
+}
+
+/* Names and interfaces: taken, and without effect. */
+NTSTATUS IoCreateSymbolicLink(PUNICODE_STRING Link, PUNICODE_STRING Device)
+{
+    return Link && Device ? STATUS_SUCCESS : STATUS_INVALID_PARAMETER;
+}
+
+NTSTATUS IoDeleteSymbolicLink(PUNICODE_STRING Link) { return Link ? STATUS_SUCCESS : STATUS_INVALID_PARAMETER; }
+
+NTSTATUS IoRegisterDeviceInterface(PDEVICE_OBJECT Device, const GUID *Class, PUNICODE_STRING Reference,
+                                   PUNICODE_STRING Link)
+{
+    (void)Device, (void)Class, (void)Reference;
+    *Link = (UNICODE_STRING){ 0 };
+    return STATUS_SUCCESS;
+}
+
+NTSTATUS IoSetDeviceInterfaceState(PUNICODE_STRING Link, BOOLEAN Enable)
+{
+    (void)Link, (void)Enable;
+    return STATUS_SUCCESS;
+}
+
+VOID IoInvalidateDeviceRelations(PDEVICE_OBJECT Device, DEVICE_RELATION_TYPE Type) { (void)Device, (void)Type; }
+VOID IoInvalidateDeviceState(PDEVICE_OBJECT Device) { (void)Device; }
+
+POWER_STATE PoSetPowerState(PDEVICE_OBJECT Device, POWER_STATE_TYPE Type, POWER_STATE State)
+{
+    (void)Device, (void)Type;
+    return State;
+}

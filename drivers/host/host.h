@@ -1,0 +1,299 @@
+/*
+ * host.h: what the files of the host share.
+ *
+ * The host runs drivers, keeps a shadow of what docs/RULES.md knows of their packets and devices, and records entries.
+ * It isn't trusted: `irpx check` judges what it recorded.
+ *
+ * LOCKING ORDER. From the outside in; nothing takes a lock that stands above one that it holds.
+ *   1. the cancel spin lock (cancelling.c), which a driver may hold across calls of the host;
+ *   2. G, the host's lock: enter_host takes it, leave_host gives it back. All of the shadow and the history is under
+ *      it. It is never held while a driver's code runs: let_driver_run gives it back, driver_came_back takes it again;
+ *   3. W (waits.c), under which events, timers, semaphores and mutexes change. Nothing is called under W.
+ * A driver's own spin locks are taken outside G. `self` is the thread's own and has no lock.
+ *
+ * WHEN AN ENTRY IS SETTLED. An entry gets its number when it is settled, always inside the real call:
+ *   - a call without questions: in the call, under one hold of G;
+ *   - a descent: when the last dispatch asked has finished the packet (then at the end of its unwinding), or has kept
+ *     it. That it keeps it is known at its return, or earlier: at the first call on the packet that only its new owner
+ *     may make, by whatever thread (settle);
+ *   - a running completion routine: as one that keeps, by such a call; else where it returns, with its unwinding;
+ *   - a running cancel routine: as one that leaves, by such a call, or at its return; as one that finishes, where it
+ *     completes the packet itself.
+ * The reply of a send is filled in when the send returns. `await` lets a call by somebody who isn't asked wait, for at
+ * most a second, while another thread has the packet on its way.
+ */
+#ifndef DRIVERS_HOST_H
+#define DRIVERS_HOST_H
+
+#include "wdm_io.h"
+#include "wdm_test.h"
+#include <pthread.h>
+#include <stdio.h>
+#include <time.h>
+
+enum { ORIGINATOR = -1, ENDED = -2, NOBODY = -3 }; /* parties beside device numbers */
+enum { MAX_DEVICES = 64, MAX_DRIVERS = 64, MAX_SEATS = 64, MAX_SIZE = 32, MAX_LIVE = 4096, MAX_PACKETS = 1 << 16 };
+enum { MAX_IDS = 256, MAX_HISTORY = 1000000, PAGE = 4096, ENDED_KEPT = 64, MAX_HELD = 1024 };
+typedef enum { CREATE, ATTACH, DETACH, REMOVE, ALLOCATE, FREE, REUSE, SET_NEXT, COPY, SKIP, SET_ROUTINE, MARK, CALL,
+               COMPLETE, SET_CANCEL, CANCEL, LOOK } Op;
+typedef enum { DISPATCH, ROUTINE, CANCELLING, WORK } Kind;
+typedef enum { UNKNOWN, FINISH, HOLD, SKIPS, FORWARD, FORWARD_PEND, CONTINUE, KEEP, LEAVE } Plan;
+typedef enum { NOTHING, FILLED, SKIPPED } Preparation;
+typedef enum { NONE_YET, DONE, DEVICE, IRP_REF, STATUS, PREVIOUS, CANCELLED, SEEN, REFUSED } Reply;
+
+typedef struct Packet Packet;
+typedef struct Entry Entry;
+
+/* One setting of a completion routine. Its rule is learned from what this one did, unless the test declares one. */
+typedef struct {
+    PIO_COMPLETION_ROUTINE fn;
+    PVOID raw;
+    uint64_t context;
+    UCHAR flags;
+    bool kept, replaced;
+} Setting;
+
+/* One question of an entry: whom it was put to, what was shown, what was answered. */
+typedef struct {
+    Kind kind;
+    Plan plan;
+    void *fn;
+    int device, location;
+    UCHAR major;
+    uint64_t word, information, context, new_information;
+    ULONG status, new_status;
+    bool returned, has_lower, mark, replaced;
+    Setting *set;
+    PDRIVER_CANCEL cancel;
+} Asked;
+
+struct Entry {
+    Op op;
+    int seat, by, device, other;
+    Packet *p;
+    unsigned slot;
+    uint64_t use, word, information;
+    ULONG status;
+    UCHAR major;
+    bool drained, cancel, sealed;
+    Setting *set;
+    PDRIVER_CANCEL routine;
+    Asked *asked;
+    int n;
+    size_t number;
+    Reply reply;
+    uint64_t answer;
+    const char *refused;
+    struct {
+        int owner, current;
+        ULONG status;
+        uint64_t information;
+        bool cancel, returned, marked;
+        PDRIVER_CANCEL routine;
+    } seen;
+};
+
+/* A driver's code that runs now. Each thread has a chain of them. */
+typedef struct Frame {
+    struct Frame *up;
+    Kind kind;
+    Packet *p;
+    uint64_t use;
+    void *fn;
+    int device, location;
+    UCHAR major;
+    Entry *e;
+    int i;
+    pthread_t thread;
+    bool settled;            /* what it was asked is decided */
+    bool marked;             /* it called IoMarkIrpPending for its packet */
+    bool marked_by_routine;  /* a routine of its device did, for its location */
+    bool forced;             /* its location is marked by the host: it counts as one that pended */
+    bool passed, finished;   /* it passed the packet down by a plan; it completed the packet */
+    bool completed_unmarked; /* its packet was completed while only the host had marked it */
+    bool signalled;          /* it set an event: whoever waits may write to the packet from now on */
+    bool waiting;            /* its thread waits */
+    PDRIVER_CANCEL cancel;
+    Entry *below; /* in_place.c: the rider's send, which returns when the dispatch's own does */
+    ULONG lower, done, status;
+    uint64_t information;
+    const char *forced_why;
+    WDM_SITE last;
+    const char *last_call;
+} Frame;
+
+typedef struct {
+    int device;
+    UCHAR major;
+    uint64_t word;
+    Setting *set;
+    bool pending, real;     /* the pending bit; whether the driver's own code has set it */
+    bool came_back, told;   /* its dispatch has returned; a fault of its answer was told */
+    NTSTATUS answer;        /* what it returned */
+    Entry *by;              /* the entry whose plan set the routine, and the plan's place in it */
+    int by_i;
+    Frame *frame;           /* the dispatch that runs in this location */
+} Location;
+
+struct Packet {
+    PIRP irp;
+    int size, current, owner, last, allocator; /* allocator: a driver, or NOBODY */
+    unsigned slot;
+    uint64_t use, information;
+    ULONG status;
+    bool live, returned, cancel, touched, copied, skipped, unwinding, lost;
+    Preparation prep;
+    PDRIVER_CANCEL routine, ghost; /* ghost: a routine that came after the cancel, and hasn't been taken back */
+    Setting *want;
+    Frame *asking; /* who is asked about it and hasn't decided */
+    Entry *open;
+    Packet *rides, *rider; /* in_place.c: it stands in for another one; another one stands in for it */
+    Setting *mine; /* of a rider: the device's own routine, which runs when it is up */
+    PKEVENT up; /* set when a rider is up, where its dispatch waits for that */
+    void *kept_by;     /* the routine that kept it last */
+    PVOID buffer;      /* given by WdmBuild, freed with the packet */
+    ULONG room;        /* what was built has room for so many bytes there, to be copied to UserBuffer */
+    bool writes_back;
+    bool trapped, touch_untold;
+    void *touched_at;
+    int toucher;
+    struct { WDM_SITE allocated, sent, completed, freed, cancel; } sites;
+    Location at[MAX_SIZE + 2];
+};
+
+typedef struct {
+    PDEVICE_OBJECT raw;
+    int lower, upper;
+    int running; /* how many of its dispatches, routines and work items run, on all threads */
+    bool live, leaving, bound;
+    WDM_SITE deleted; /* where its delete was called that waits for the device above */
+} Device;
+
+/* A call of the host that runs on this thread. */
+typedef struct Call {
+    struct Call *up;
+    const char *name;
+    WDM_SITE at;
+} Call;
+
+typedef struct {
+    int seat;         /* -1 until its first call */
+    int driver;       /* whose thread it is: who made it, or queued its work; NOBODY where that isn't known */
+    int device;       /* whose work item it runs, or NOBODY */
+    bool is_driver;   /* a thread of a driver, or of the host for drivers: its waits outside of packets are no hang */
+    bool has_cancel_lock;
+    KIRQL irql;
+    unsigned chance;
+    Frame *frames;
+    Call *calls;
+    Packet *touched;
+    struct _KTHREAD *thread;
+} Self;
+
+extern _Thread_local Self self;
+extern pthread_mutex_t host_lock;
+extern pthread_cond_t host_settled;
+extern Device devices[MAX_DEVICES];
+extern PDRIVER_OBJECT drivers[MAX_DRIVERS];
+extern Packet *packets[MAX_PACKETS];
+extern Entry **history;
+extern size_t n_history;
+extern int n_devices, n_drivers, n_packets, n_live, n_seats, n_faults, n_notes, n_early, n_sends;
+extern uint64_t next_use;
+extern unsigned long host_activity; /* grows with each call, so that a wait sees whether anything goes on */
+
+/* telling.c, names.c */
+const char *who(int device);
+const char *what_runs(const Frame *f);
+const char *place(WDM_SITE at);
+__attribute__((format(printf, 3, 4))) void fault(const char *rule, const Packet *p, const char *how, ...);
+__attribute__((format(printf, 4, 5))) void fault_of(const char *rule, const Packet *p, const Frame *f, const char *how,
+                                                    ...);
+__attribute__((format(printf, 2, 3))) void note(const char *key, const char *how, ...);
+__attribute__((noreturn)) void give_up(const char *why);
+void tell_repeats(void);
+bool is_expected_refusal(const char *name);
+size_t expected_entries(void);
+void tell_expected(FILE *out);
+const char *function_name(const void *address);
+const char *major_name(int major);
+
+/* recording.c, writing.c */
+Entry *begin(Op op, Packet *p, int by);
+void seal(Entry *e, bool cancel);
+Entry *answered(Entry *e, Reply reply, uint64_t answer);
+void refuse(Entry *e, const char *name);
+int ask(Entry *e, Packet *p, Kind kind, void *fn, int device, int location);
+uint64_t number_of(const void *raw);
+uint64_t word_of(const IO_STACK_LOCATION *l);
+void look(Packet *p);
+void record_word(const char *act, int lock, PVOID tag, const char *reply, int by, int to);
+size_t write_transcript(FILE *out);
+extern const char *const op_names[];
+
+/* rules.c: the one place that knows which call is refused. A question there is one that irp_live could be asked. */
+const char *rules_refusal(const Entry *call);
+bool rules_completable(ULONG status);
+int rules_stack_size(int device);
+
+/* threads.c, waits.c, work.c */
+void enter_host(Call *c, const char *name, WDM_SITE at);
+void leave_host(void);
+void let_driver_run(void);
+void driver_came_back(void);
+void shake(void);
+void enter_frame(Frame *f);
+void leave_frame(void);
+void learn_file(const char *file, int driver);
+int calling_driver(void);
+int start_thread(void *(*run)(void *), void *context);
+void set_event(PKEVENT event);
+bool is_event(const void *object);
+bool wait_for_host(bool (*done)(void), int seconds);
+void finish_work(void);
+bool timers_armed(void);
+LONGLONG now_in_100ns(void);
+
+/* packets.c, preparing.c */
+PIO_STACK_LOCATION raw_at(Packet *p, int j);
+Packet *find(PIRP irp);
+Packet *new_packet(int size, PIRP irp);
+bool lives(const Packet *p);
+Frame *on_top(const Packet *p);
+int party(const Packet *p);
+Frame *dispatching(const Packet *p);
+void await(Packet *p);
+void prepare_nothing(Packet *p);
+void clear_location(Packet *p, int j);
+void put_back(Packet *p);
+void set_pending_bit(Packet *p, int j, bool real);
+void free_ended(Packet *p);
+void flush_next(Packet *p, int by);
+void tell_ghost(Packet *p);
+
+/* settling.c, sending.c, completion.c, in_place.c */
+void settle(Packet *p, bool returned);
+void take_kept_answer(Packet *p, Frame *f);
+void routine_kept(Packet *p, Frame *f);
+void pend_setter(Packet *p, int j, Location below, const char *why);
+NTSTATUS enter_device(Packet *p, int device, Entry *e);
+void finish(Packet *p, Entry *e, ULONG status, uint64_t information);
+void finish_asked(Packet *p, Frame *f, ULONG status, uint64_t information);
+void complete(Packet *p, int by, ULONG status, uint64_t information);
+NTSTATUS send_in_place(Packet *p, int by, int device);
+void returned_from(Entry *e, NTSTATUS answer);
+void rider_came_up(Packet *rider, Entry *e);
+bool dispatch_has_it_back(Packet *p, Frame *routine);
+bool will_wait(const Packet *p, const Frame *dispatch);
+NTSTATUS forward_in_place(Packet *p, int device);
+
+/* traps.c, remove_locks.c */
+void open_traps(void);
+void protect(Packet *p);
+void unprotect(Packet *p);
+void tell_touch(const char *call, PIRP irp);
+void tell_all_touches(void);
+bool lock_knows_drained(int device);
+const char *held_tags(int device);
+
+#endif

@@ -1,0 +1,64 @@
+/* names.c: names for addresses of functions, out of the program's own symbol table, and for major codes. */
+#include "host.h"
+#include <elf.h>
+#include <link.h>
+#include <sys/mman.h>
+#include <sys/stat.h>
+#include <fcntl.h>
+#include <unistd.h>
+
+static const Elf64_Sym *symbols;
+static size_t n_symbols;
+static const char *strings;
+static uintptr_t base;
+
+static int take_base(struct dl_phdr_info *info, size_t size, void *context)
+{
+    (void)size, (void)context;
+    base = info->dlpi_addr; /* the first one is the program */
+    return 1;
+}
+
+static void read_symbols(void)
+{
+    struct stat s;
+    int file = open("/proc/self/exe", O_RDONLY);
+    if (file < 0 || fstat(file, &s) < 0)
+        return;
+    const char *all = mmap(NULL, (size_t)s.st_size, PROT_READ, MAP_PRIVATE, file, 0);
+    close(file);
+    if (all == MAP_FAILED || memcmp(all, ELFMAG, SELFMAG) || all[EI_CLASS] != ELFCLASS64)
+        return;
+    const Elf64_Ehdr *head = (const void *)all;
+    const Elf64_Shdr *sections = (const void *)(all + head->e_shoff);
+    for (int i = 0; i < head->e_shnum; i++)
+        if (sections[i].sh_type == SHT_SYMTAB) {
+            symbols = (const void *)(all + sections[i].sh_offset);
+            n_symbols = sections[i].sh_size / sizeof *symbols;
+            strings = all + sections[sections[i].sh_link].sh_offset;
+        }
+    dl_iterate_phdr(take_base, NULL);
+}
+
+/* The function that this address is in, or "?" where that can't be told. */
+const char *function_name(const void *address)
+{
+    static pthread_once_t once = PTHREAD_ONCE_INIT;
+    pthread_once(&once, read_symbols);
+    uintptr_t at = (uintptr_t)address - base;
+    for (size_t i = 0; i < n_symbols; i++)
+        if (ELF64_ST_TYPE(symbols[i].st_info) == STT_FUNC && at >= symbols[i].st_value &&
+            at < symbols[i].st_value + (symbols[i].st_size ? symbols[i].st_size : 1))
+            return strings + symbols[i].st_name;
+    return "?";
+}
+
+const char *major_name(int major)
+{
+    static const char *const names[] = { "CREATE", "CREATE_NAMED_PIPE", "CLOSE", "READ", "WRITE", "QUERY_INFORMATION",
+        "SET_INFORMATION", "QUERY_EA", "SET_EA", "FLUSH_BUFFERS", "QUERY_VOLUME_INFORMATION", "SET_VOLUME_INFORMATION",
+        "DIRECTORY_CONTROL", "FILE_SYSTEM_CONTROL", "DEVICE_CONTROL", "INTERNAL_DEVICE_CONTROL", "SHUTDOWN",
+        "LOCK_CONTROL", "CLEANUP", "CREATE_MAILSLOT", "QUERY_SECURITY", "SET_SECURITY", "POWER", "SYSTEM_CONTROL",
+        "DEVICE_CHANGE", "QUERY_QUOTA", "SET_QUOTA", "PNP" };
+    return major >= 0 && major <= IRP_MJ_MAXIMUM_FUNCTION ? names[major] : "?";
+}

@@ -1,0 +1,256 @@
+/* packets.c: the shadow of a packet, whose call it is, and what allocates, frees and reuses one. */
+#include "host.h"
+
+Packet *packets[MAX_PACKETS];
+int n_packets, n_live, n_early;
+uint64_t next_use = 1;
+static Packet *ended[ENDED_KEPT];
+static int n_ended;
+
+PIO_STACK_LOCATION raw_at(Packet *p, int j) { return (PIO_STACK_LOCATION)(p->irp + 1) + (j - 1); }
+bool lives(const Packet *p) { return p->live && p->owner != ENDED; }
+
+/* The packet whose code of this thread runs innermost, if that is this one. */
+Frame *on_top(const Packet *p)
+{
+    Frame *f = self.frames;
+    return f && f->p == p && f->use == p->use ? f : NULL;
+}
+
+static int driver_of(int device) { return device < 0 ? NOBODY : devices[device].raw->DriverObject->HostNumber; }
+
+/* A device of the driver that calls, to be named where it calls on a packet that isn't its own. */
+static int calling_device(int driver)
+{
+    for (const Frame *f = self.frames; f; f = f->up)
+        if (f->device >= 0 && driver_of(f->device) == driver)
+            return f->device;
+    if (self.device >= 0 && driver_of(self.device) == driver)
+        return self.device;
+    for (int d = 0; d < n_devices; d++)
+        if (driver_of(d) == driver)
+            return d;
+    return ORIGINATOR;
+}
+
+/* In whose name this thread's call on the packet is: that of the routine of this packet that runs; else of whoever is
+   asked about it or has it, where the calling code may be theirs; else of the caller's own device. */
+int party(const Packet *p)
+{
+    if (on_top(p))
+        return self.frames->device;
+    const int holder = p->asking ? p->asking->device : p->owner == ENDED ? p->last : p->owner;
+    const int caller = calling_driver();
+    if (caller == NOBODY || driver_of(holder) == caller)
+        return holder;
+    const bool is_test = !self.frames && !self.is_driver; /* a driver's file may have its test in it */
+    if (holder == ORIGINATOR && (p->allocator == caller || (p->allocator == NOBODY && is_test)))
+        return holder;
+    return calling_device(caller);
+}
+
+/* The dispatch that this thread is in, if it is still asked about the packet. */
+Frame *dispatching(const Packet *p)
+{
+    Frame *f = p->asking;
+    return f && f->kind == DISPATCH && pthread_equal(f->thread, pthread_self()) && party(p) == f->device ? f : NULL;
+}
+
+/* A call by one who isn't asked takes its place behind what another thread has on its way. */
+void await(Packet *p)
+{
+    struct timespec until;
+    clock_gettime(CLOCK_REALTIME, &until);
+    until.tv_sec++;
+    while (p->asking && !pthread_equal(p->asking->thread, pthread_self()) && party(p) != p->asking->device)
+        if (pthread_cond_timedwait(&host_settled, &host_lock, &until))
+            return;
+}
+
+void prepare_nothing(Packet *p)
+{
+    p->prep = NOTHING;
+    p->touched = p->copied = p->skipped = false;
+    p->want = NULL;
+}
+
+void clear_location(Packet *p, int j)
+{
+    p->at[j] = (Location){ .device = NOBODY };
+    memset(raw_at(p, j), 0, sizeof(IO_STACK_LOCATION));
+}
+
+/* The packet's own memory is pointed at the location that the shadow has. */
+void put_back(Packet *p)
+{
+    p->irp->CurrentLocation = (CHAR)p->current;
+    p->irp->Tail.Overlay.CurrentStackLocation = raw_at(p, p->current);
+}
+
+void set_pending_bit(Packet *p, int j, bool real)
+{
+    p->at[j].pending = true;
+    p->at[j].real |= real;
+    raw_at(p, j)->Control |= SL_PENDING_RETURNED;
+}
+
+static void begin_use(Packet *p, NTSTATUS status)
+{
+    for (int j = 1; j <= p->size; j++)
+        clear_location(p, j);
+    memset(p->irp, 0, sizeof *p->irp);
+    p->irp->Type = 6;
+    p->irp->Size = IoSizeOfIrp(p->size);
+    p->irp->StackCount = (CHAR)p->size;
+    p->irp->IoStatus.Status = status;
+    p->current = p->size + 1;
+    put_back(p);
+    p->owner = p->last = ORIGINATOR;
+    p->status = (ULONG)status;
+    p->information = 0;
+    p->cancel = p->returned = p->lost = p->writes_back = false;
+    prepare_nothing(p);
+    p->kept_by = NULL;
+    p->sites.sent = p->sites.completed = p->sites.cancel = (WDM_SITE){ 0 };
+    p->use = next_use++;
+}
+
+/* A packet of the shadow, in a slot of its own. It has memory of its own, or stands in that of another one. */
+Packet *new_packet(int size, PIRP irp)
+{
+    if (n_packets == MAX_PACKETS || n_live == MAX_LIVE)
+        give_up("65,536 packets in one run, or 4,096 at once");
+    Packet *p = calloc(1, sizeof *p);
+    if (!p)
+        give_up("out of memory");
+    p->size = size;
+    p->slot = (unsigned)n_packets;
+    p->live = true;
+    p->irp = irp;
+    p->allocator = calling_driver();
+    packets[n_packets++] = p;
+    n_live++;
+    return p;
+}
+
+PIRP WdmIoAllocateIrp(CCHAR Size, WDM_SITE at)
+{
+    Call c;
+    enter_host(&c, "IoAllocateIrp", at);
+    Entry *e = begin(ALLOCATE, NULL, ORIGINATOR);
+    e->status = (UCHAR)Size;
+    const char *no = rules_refusal(e);
+    Packet *p = NULL;
+    if (no)
+        refuse(e, no);
+    else {
+        p = new_packet(Size, NULL);
+        unprotect(p);
+        begin_use(p, STATUS_SUCCESS);
+        p->sites.allocated = at;
+        e->p = p;
+        e->slot = p->slot;
+        e->use = p->use;
+        answered(e, IRP_REF, 0);
+    }
+    leave_host();
+    return p ? p->irp : NULL;
+}
+
+static void free_now(Packet *p)
+{
+    p->live = false;
+    n_live--;
+    free(p->buffer);
+    p->buffer = NULL;
+}
+
+/* The I/O manager's free of a packet that ended. It is put off, so that a late call finds it ended. */
+void free_ended(Packet *p)
+{
+    Packet **kept = &ended[n_ended++ % ENDED_KEPT];
+    if (*kept && (*kept)->owner == ENDED && (*kept)->live) {
+        answered(begin(FREE, *kept, ORIGINATOR), DONE, 0);
+        free_now(*kept);
+    }
+    *kept = p;
+}
+
+VOID WdmIoFreeIrp(PIRP Irp, WDM_SITE at)
+{
+    Call c;
+    enter_host(&c, "IoFreeIrp", at);
+    Packet *p = find(Irp);
+    if (lives(p) && p->asking)
+        settle(p, false);
+    Entry *e = begin(FREE, p, ORIGINATOR);
+    const char *no = rules_refusal(e);
+    if (no)
+        refuse(e, no);
+    else {
+        if (p->owner == ENDED)
+            fault("NotKept", p, "is freed after it has ended at %s: no routine kept it for whoever allocated it",
+                  place(p->sites.completed));
+        answered(e, DONE, 0);
+        free_now(p);
+        p->sites.freed = at;
+        protect(p);
+    }
+    leave_host();
+}
+
+VOID WdmIoReuseIrp(PIRP Irp, NTSTATUS Status, WDM_SITE at)
+{
+    Call c;
+    enter_host(&c, "IoReuseIrp", at);
+    Packet *p = find(Irp);
+    if (lives(p) && p->asking)
+        settle(p, false);
+    Entry *e = begin(REUSE, p, ORIGINATOR);
+    e->status = (ULONG)Status;
+    const char *no = rules_refusal(e);
+    if (no)
+        refuse(e, no);
+    else {
+        unprotect(p);
+        begin_use(p, Status);
+        e->word = p->use;
+        answered(e, IRP_REF, 0);
+    }
+    leave_host();
+}
+
+VOID WdmIoMarkIrpPending(PIRP Irp, WDM_SITE at)
+{
+    Call c;
+    enter_host(&c, "IoMarkIrpPending", at);
+    Packet *p = find(Irp);
+    await(p);
+    Frame *f = p->asking;
+    const int by = party(p);
+    if (f && on_top(p) == f && f->kind != CANCELLING && !(f->kind == DISPATCH && p->skipped)) {
+        const int j = f->kind == ROUTINE ? f->location + 1 : f->location;
+        f->marked = true;
+        if (j <= p->size) {
+            set_pending_bit(p, j, true);
+            if (f->kind == ROUTINE && p->at[j].frame)
+                p->at[j].frame->marked_by_routine = true;
+        }
+    } else {
+        if (lives(p))
+            settle(p, false);
+        Entry *e = begin(MARK, p, by);
+        const char *no = rules_refusal(e);
+        if (no)
+            refuse(e, no);
+        else {
+            answered(e, DONE, 0);
+            set_pending_bit(p, p->current, true);
+        }
+        if (on_top(p))
+            self.frames->marked = true;
+        if (on_top(p) && self.frames->kind == ROUTINE && p->at[p->current].frame)
+            p->at[p->current].frame->marked_by_routine = true;
+    }
+    leave_host();
+}

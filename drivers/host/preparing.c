@@ -1,0 +1,176 @@
+/* preparing.c: the next lower location is filled: by hand, by a copy, by a skip; and its routine is set. */
+#include "host.h"
+
+/* In a dispatch that is asked, preparing is told with its plan; else it is an entry of the owner's. */
+static Frame *preparing(Packet *p)
+{
+    await(p);
+    Frame *f = dispatching(p);
+    if (!f && lives(p))
+        settle(p, false);
+    return f;
+}
+
+static void copy_shadow(Packet *p)
+{
+    p->at[p->current - 1] = (Location){ .device = NOBODY, .major = p->at[p->current].major,
+                                        .word = p->at[p->current].word };
+    p->prep = FILLED;
+}
+
+/* What the owner wrote by hand into the next location becomes a SetNext, and what it set a SetRoutine. */
+void flush_next(Packet *p, int by)
+{
+    if (p->prep != SKIPPED && p->current > 1 && (p->touched || p->prep == FILLED)) {
+        PIO_STACK_LOCATION raw = raw_at(p, p->current - 1);
+        Location *l = &p->at[p->current - 1];
+        const uint64_t word = word_of(raw);
+        if (p->prep == NOTHING || raw->MajorFunction != l->major || word != l->word) {
+            Entry *e = begin(SET_NEXT, p, by);
+            e->major = raw->MajorFunction;
+            e->word = word;
+            const char *no = rules_refusal(e);
+            if (no)
+                refuse(e, no);
+            else {
+                answered(e, DONE, 0);
+                *l = (Location){ .device = NOBODY, .major = raw->MajorFunction, .word = word };
+                p->prep = FILLED;
+            }
+        }
+    }
+    if (p->want) {
+        Entry *e = begin(SET_ROUTINE, p, by);
+        e->set = p->want;
+        const char *no = rules_refusal(e);
+        if (no)
+            refuse(e, no);
+        else {
+            answered(e, DONE, 0);
+            p->at[p->current - 1].set = p->want;
+        }
+        p->want = NULL;
+    }
+}
+
+PIO_STACK_LOCATION WdmIoGetNextIrpStackLocation(PIRP Irp, WDM_SITE at)
+{
+    static IO_STACK_LOCATION nowhere;
+    Call c;
+    enter_host(&c, "IoGetNextIrpStackLocation", at);
+    Packet *p = find(Irp);
+    const int here = p->current + (p->skipped && p->asking ? 1 : 0);
+    p->touched = true;
+    if (lives(p) && here == 1) {
+        settle(p, false);
+        refuse(begin(SET_NEXT, p, party(p)), "TooShort");
+    }
+    leave_host();
+    return here > 1 ? raw_at(p, here - 1) : &nowhere;
+}
+
+VOID WdmIoCopyToNext(PIRP Irp, WDM_SITE at)
+{
+    Call c;
+    enter_host(&c, "IoCopyCurrentIrpStackLocationToNext", at);
+    Packet *p = find(Irp);
+    Frame *f = preparing(p);
+    if (f && (p->skipped || p->current == 1)) {
+        settle(p, false);
+        f = NULL;
+    }
+    Entry *e = f ? NULL : begin(COPY, p, party(p));
+    const char *no = e ? rules_refusal(e) : NULL;
+    if (no)
+        refuse(e, no);
+    else {
+        if (p->want)
+            fault("RoutineLost", p, "the completion routine that was set is copied over");
+        PIO_STACK_LOCATION next = raw_at(p, p->current - 1);
+        *next = *raw_at(p, p->current);
+        next->Control = 0;
+        next->CompletionRoutine = NULL;
+        next->Context = NULL;
+        p->want = NULL;
+        p->copied = true;
+        if (e) {
+            answered(e, DONE, 0);
+            copy_shadow(p);
+        }
+    }
+    leave_host();
+}
+
+VOID WdmIoSkip(PIRP Irp, WDM_SITE at)
+{
+    Call c;
+    enter_host(&c, "IoSkipCurrentIrpStackLocation", at);
+    Packet *p = find(Irp);
+    Frame *f = preparing(p);
+    if (f && (p->skipped || f->cancel)) {
+        settle(p, false);
+        f = NULL;
+    }
+    Entry *e = f ? NULL : begin(SKIP, p, party(p));
+    const char *no = e ? rules_refusal(e) : NULL;
+    if (no)
+        refuse(e, no);
+    else {
+        if (p->want)
+            fault("RoutineLost", p, "a completion routine is set, and then the location is skipped");
+        if (p->current > 1)
+            clear_location(p, p->current - 1);
+        prepare_nothing(p);
+        Irp->CurrentLocation++;
+        Irp->Tail.Overlay.CurrentStackLocation++;
+        if (f)
+            p->skipped = true;
+        else {
+            answered(e, DONE, 0);
+            p->current++;
+            p->prep = SKIPPED;
+        }
+    }
+    leave_host();
+}
+
+static Setting *new_setting(PIO_COMPLETION_ROUTINE routine, PVOID context, UCHAR flags)
+{
+    Setting *set = calloc(1, sizeof *set);
+    if (!set)
+        give_up("out of memory");
+    *set = (Setting){ .fn = routine, .raw = context, .context = number_of(context), .flags = flags };
+    return set;
+}
+
+VOID WdmIoSetCompletionRoutine(PIRP Irp, PIO_COMPLETION_ROUTINE Routine, PVOID Context, UCHAR Flags, WDM_SITE at)
+{
+    Call c;
+    enter_host(&c, "IoSetCompletionRoutine", at);
+    Packet *p = find(Irp);
+    Frame *f = preparing(p);
+    Entry *e = begin(SET_ROUTINE, p, party(p));
+    e->set = new_setting(Routine, Context, Flags);
+    if (f && p->skipped) {
+        settle(p, false);
+        f = NULL;
+    }
+    const char *no = f ? NULL : rules_refusal(e);
+    if (no && !strcmp(no, "NotPrepared") && p->current > 1)
+        no = NULL; /* the location may be filled later: flush_next decides */
+    if (!no && p->current == 1) {
+        settle(p, false);
+        no = rules_refusal(e);
+    }
+    if (no)
+        refuse(e, no);
+    else {
+        p->want = Routine ? e->set : NULL;
+        PIO_STACK_LOCATION next = raw_at(p, p->current - 1);
+        next->CompletionRoutine = Routine;
+        next->Context = Context;
+        next->Control = Flags;
+        free(e);
+    }
+    leave_host();
+}

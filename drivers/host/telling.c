@@ -1,0 +1,187 @@
+/* telling.c: faults and notes, on standard error. */
+#include "host.h"
+#include <unistd.h>
+
+int n_faults, n_notes;
+
+static const struct { const char *rule, *known; } known_as[] = {
+    { "CompletedTwice", "0x44" }, { "Ended", "0x44" }, { "TooShort", "0x35" },
+    { "BadStatus", "Driver Verifier 0xC9 / 6" },
+    { "CancelRoutineSet", "0x48" }, { "InFlight", "memory freed in use" }, { "NotDrained", "RemoveLock rules" },
+    { "NotHeld", "RemoveLock rules" }, { "AlreadyRemoving", "RemoveLock rules" },
+    { "Status", "not the packet's status" },
+    { "Returned", "rules MarkIrpPending, PendedCompletedRequest" }, { "MarkedLate", "rule PendedCompletedRequest" },
+    { "Mark", "if (Irp->PendingReturned) IoMarkIrpPending(Irp)" }, { "NoIrp", "used after IoFreeIrp" },
+    { "Touched", "used after its end" }, { "NotOwner", "somebody else has the packet" },
+    { "NotPrepared", "the next location isn't filled" }, { "AfterSkip", "the location is the driver's below" },
+    { "AlreadyCancelled", "Irp->Cancel isn't looked at" }, { "NoLocation", "whoever allocated it has no location" },
+};
+
+static const char *expected[64];
+static int n_expected;
+static size_t wanted_entries = 1;
+
+VOID WdmExpectRefusal(const char *Name)
+{
+    if (n_expected < 64)
+        expected[n_expected++] = Name;
+}
+
+VOID WdmExpectEntries(ULONG Count) { wanted_entries = Count; }
+size_t expected_entries(void) { return wanted_entries; }
+
+bool is_expected_refusal(const char *name)
+{
+    for (int i = 0; i < n_expected; i++)
+        if (!strcmp(expected[i], name))
+            return true;
+    return false;
+}
+
+/* For the summary: the refusals that the test expects. */
+void tell_expected(FILE *out)
+{
+    for (int i = 0; i < n_expected; i++)
+        fprintf(out, "expected %s\n", expected[i]);
+}
+
+/* A text that lasts for a few calls of this thread. */
+static char *passing_text(void)
+{
+    static _Thread_local char texts[8][200];
+    static _Thread_local int turn;
+    return texts[turn++ % 8];
+}
+
+const char *who(int device)
+{
+    if (device < 0)
+        return device == ORIGINATOR ? "the originator" : "nobody";
+    char *text = passing_text();
+    snprintf(text, 200, "D%d (%s)", device, devices[device].raw->DriverObject->HostName);
+    return text;
+}
+
+const char *place(WDM_SITE at)
+{
+    if (!at.file)
+        return "?";
+    const char *slash = strrchr(at.file, '/');
+    char *text = passing_text();
+    snprintf(text, 200, "%s:%d", slash ? slash + 1 : at.file, at.line);
+    return text;
+}
+
+/* The dispatch or routine that runs: its function, its device, what it was asked. */
+const char *what_runs(const Frame *f)
+{
+    char *text = passing_text();
+    const char *name = function_name(f->fn);
+    if (f->kind == DISPATCH)
+        snprintf(text, 200, "%s, dispatch for %s of %s", name, major_name(f->major), who(f->device));
+    else
+        snprintf(text, 200, "%s, %s of %s", name,
+                 f->kind == ROUTINE ? "completion routine" : f->kind == WORK ? "work" : "cancel routine",
+                 who(f->device));
+    return text;
+}
+
+/* Whether this fault was told before at this place. Where it wasn't, it is remembered. */
+static struct { const char *rule, *file; const void *fn; int line, times; } told[256];
+static int n_told;
+
+static bool was_told(const char *rule, WDM_SITE at, const void *fn)
+{
+    for (int i = 0; i < n_told; i++)
+        if (!strcmp(told[i].rule, rule) && told[i].file == at.file && told[i].line == at.line && told[i].fn == fn) {
+            told[i].times++;
+            return true;
+        }
+    if (n_told < 256) {
+        told[n_told].rule = rule, told[n_told].file = at.file, told[n_told].line = at.line, told[n_told].fn = fn;
+        told[n_told++].times = 1;
+    }
+    return false;
+}
+
+void tell_repeats(void)
+{
+    for (int i = 0; i < n_told; i++)
+        if (told[i].times > 1)
+            fprintf(stderr, "host: FAULT %s at the same place %d times more (%s)\n", told[i].rule, told[i].times - 1,
+                    told[i].file ? place((WDM_SITE){ told[i].file, NULL, told[i].line }) : function_name(told[i].fn));
+}
+
+static const char *known_name(const char *rule)
+{
+    for (size_t i = 0; i < sizeof known_as / sizeof *known_as; i++)
+        if (!strcmp(known_as[i].rule, rule))
+            return known_as[i].known;
+    return NULL;
+}
+
+static void tell(const char *rule, const Packet *p, const char *where, const char *text)
+{
+    const char *known = known_name(rule);
+    char irp[64] = "";
+    if (p)
+        snprintf(irp, sizeof irp, "(IRP %u.%lu)", p->slot, (unsigned long)p->use);
+    fprintf(stderr, "host: FAULT %s%s%s%s: %s%s: %s [before entry %zu]\n", rule, known ? " (" : "", known ? known : "",
+            known ? ")" : "", where, irp, text, n_history);
+}
+
+void fault(const char *rule, const Packet *p, const char *how, ...)
+{
+    char text[500], where[400];
+    va_list list;
+    va_start(list, how);
+    vsnprintf(text, sizeof text, how, list);
+    va_end(list);
+    const Call *c = self.calls;
+    const Frame *f = self.frames;
+    n_faults++;
+    if (was_told(rule, c ? c->at : (WDM_SITE){ 0 }, f ? f->fn : NULL))
+        return;
+    if (!c || !c->at.file)
+        snprintf(where, sizeof where, "%s", f ? what_runs(f) : c ? c->name : "the host");
+    else if (f)
+        snprintf(where, sizeof where, "%s in %s (under %s): %s", place(c->at), c->at.function, what_runs(f), c->name);
+    else
+        snprintf(where, sizeof where, "%s in %s: %s", place(c->at), c->at.function, c->name);
+    tell(rule, p, where, text);
+}
+
+/* A fault of what a dispatch or a routine returned, or did in all. */
+void fault_of(const char *rule, const Packet *p, const Frame *f, const char *how, ...)
+{
+    char text[500], where[400];
+    va_list list;
+    va_start(list, how);
+    vsnprintf(text, sizeof text, how, list);
+    va_end(list);
+    n_faults++;
+    if (was_told(rule, f->last, f->fn))
+        return;
+    int n = f->last.file ? snprintf(where, sizeof where, "%s (its last call, %s) in ", place(f->last), f->last_call) : 0;
+    snprintf(where + n, sizeof where - (size_t)n, "%s, IRP %u.%lu", what_runs(f), p->slot, (unsigned long)p->use);
+    tell(rule, NULL, where, text);
+}
+
+/* Each note is told once. */
+void note(const char *key, const char *how, ...)
+{
+    static const char *told_notes[64];
+    static int n;
+    char text[400];
+    va_list list;
+    va_start(list, how);
+    vsnprintf(text, sizeof text, how, list);
+    va_end(list);
+    n_notes++;
+    for (int i = 0; i < n; i++)
+        if (!strcmp(told_notes[i], text))
+            return;
+    if (n < 64)
+        told_notes[n++] = strdup(text);
+    fprintf(stderr, "host: note, %s: %s\n", key, text);
+}

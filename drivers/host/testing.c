@@ -1,0 +1,191 @@
+/* testing.c: what wdm_test.h has: loading drivers, building and sending packets, and the end of a run. */
+#include "host.h"
+#include <unistd.h>
+
+PDRIVER_OBJECT drivers[MAX_DRIVERS];
+int n_drivers;
+static FILE_OBJECT files[MAX_DEVICES];
+
+PDRIVER_OBJECT WdmLoadDriver(const char *Name, PDRIVER_INITIALIZE Entry)
+{
+    Call c;
+    UNICODE_STRING path = { 0 };
+    enter_host(&c, "WdmLoadDriver", (WDM_SITE){ 0 });
+    open_traps();
+    PDRIVER_OBJECT d = calloc(1, sizeof *d);
+    PDRIVER_EXTENSION extension = calloc(1, sizeof *extension);
+    if (!d || !extension || n_drivers == MAX_DRIVERS)
+        give_up("more than 64 drivers");
+    extension->DriverObject = d;
+    d->DriverExtension = extension;
+    d->HostName = Name;
+    d->HostNumber = n_drivers;
+    drivers[n_drivers++] = d;
+    const int before = self.driver;
+    self.driver = d->HostNumber;
+    leave_host();
+    const NTSTATUS status = Entry(d, &path);
+    self.driver = before;
+    if (!NT_SUCCESS(status))
+        fprintf(stderr, "host: DriverEntry of %s returned %#x\n", Name, (unsigned)status);
+    return NT_SUCCESS(status) ? d : NULL;
+}
+
+VOID WdmUnloadDriver(PDRIVER_OBJECT Driver)
+{
+    if (Driver->DriverUnload)
+        Driver->DriverUnload(Driver);
+}
+
+/* Buffers as the I/O manager gives them: the packet frees them. */
+static void give_buffer(PIRP irp, PDEVICE_OBJECT top, ULONG length)
+{
+    struct { MDL mdl; char bytes[]; } *b = calloc(1, sizeof *b + length);
+    if (!b || !length) {
+        free(b);
+        return;
+    }
+    b->mdl = (MDL){ b->bytes, length };
+    irp->AssociatedIrp.SystemBuffer = irp->UserBuffer = b->bytes;
+    irp->MdlAddress = top->Flags & DO_DIRECT_IO ? &b->mdl : NULL;
+    Call c;
+    enter_host(&c, "WdmBuildIrp", (WDM_SITE){ 0 });
+    find(irp)->buffer = b;
+    leave_host();
+}
+
+/* One file is open on each device. */
+static PFILE_OBJECT file_of(PDEVICE_OBJECT top)
+{
+    PFILE_OBJECT file = &files[top->HostNumber];
+    pthread_mutex_lock(&host_lock);
+    file->DeviceObject = top;
+    pthread_mutex_unlock(&host_lock);
+    return file;
+}
+
+PIRP WdmBuild(PDEVICE_OBJECT Top, UCHAR Major, UCHAR Minor, ULONG Length, PIO_STATUS_BLOCK Iosb, PKEVENT Event,
+              WDM_SITE at)
+{
+    PIRP irp = WdmIoAllocateIrp(Top->StackSize, at);
+    if (!irp)
+        return NULL;
+    if (Major == IRP_MJ_PNP || Major == IRP_MJ_POWER || Major == IRP_MJ_SYSTEM_CONTROL)
+        WdmIoReuseIrp(irp, STATUS_NOT_SUPPORTED, at);
+    else
+        give_buffer(irp, Top, Length);
+    PIO_STACK_LOCATION next = WdmIoGetNextIrpStackLocation(irp, at);
+    next->MajorFunction = Major;
+    next->MinorFunction = Minor;
+    if (Major == IRP_MJ_DEVICE_CONTROL || Major == IRP_MJ_INTERNAL_DEVICE_CONTROL)
+        next->Parameters.DeviceIoControl.InputBufferLength =
+            next->Parameters.DeviceIoControl.OutputBufferLength = Length;
+    else
+        next->Parameters.Read.Length = Length;
+    if (Major != IRP_MJ_PNP && Major != IRP_MJ_POWER && Major != IRP_MJ_SYSTEM_CONTROL) {
+        next->FileObject = file_of(Top);
+    }
+    irp->UserIosb = Iosb;
+    irp->UserEvent = Event;
+    return irp;
+}
+
+NTSTATUS WdmSendAndWait(PDEVICE_OBJECT Top, UCHAR Major, UCHAR Minor, ULONG Length, ULONG Code, WDM_SITE at)
+{
+    IO_STATUS_BLOCK iosb = { 0 };
+    KEVENT ended;
+    WdmKeInitializeEvent(&ended, NotificationEvent, FALSE);
+    PIRP irp = WdmBuild(Top, Major, Minor, Length, &iosb, &ended, at);
+    if (!irp)
+        return STATUS_INSUFFICIENT_RESOURCES;
+    if (Major == IRP_MJ_DEVICE_CONTROL)
+        WdmIoGetNextIrpStackLocation(irp, at)->Parameters.DeviceIoControl.IoControlCode = Code;
+    WdmIoCallDriver(Top, irp, at);
+    WdmKeWaitForSingleObject(&ended, NULL, at);
+    return iosb.Status;
+}
+
+/* What `run` reads: one key and value a line. */
+static void write_summary(size_t entries)
+{
+    const char *path = getenv("WDM_SUMMARY");
+    FILE *f = path ? fopen(path, "w") : NULL;
+    if (!f)
+        return;
+    fprintf(f, "entries %zu\nwanted %zu\nfaults %d\nnotes %d\n", entries, expected_entries(), n_faults, n_notes);
+    tell_expected(f);
+    fclose(f);
+}
+
+/* The transcript goes to WDM_TRANSCRIPT, or else to standard output. Returns how many entries it has. Under G. */
+static size_t write_out(void)
+{
+    const char *path = getenv("WDM_TRANSCRIPT");
+    FILE *out = path ? fopen(path, "w") : stdout;
+    if (!out) {
+        perror(path);
+        _exit(5);
+    }
+    tell_all_touches();
+    tell_repeats();
+    const size_t n = write_transcript(out);
+    if (n < n_history)
+        fprintf(stderr, "host: the transcript ends before entry %zu, a send that hasn't returned; %zu entries more "
+                "aren't in it\n", n, n_history - n - 1);
+    if (path)
+        fclose(out);
+    else
+        fflush(out);
+    write_summary(n);
+    fprintf(stderr, "host: %zu entries, %d faults, %d notes, %d settled early by another thread\n", n, n_faults,
+            n_notes, n_early);
+    return n;
+}
+
+/* Nothing goes on: what was recorded is written, and the process ends. Under G, which is never given back. */
+void give_up(const char *why)
+{
+    static bool once;
+    if (!once) {
+        once = true;
+        fprintf(stderr, "host: STOPPED: %s%s%s\n", why, self.calls && self.calls->at.file ? ", at " : "",
+                self.calls ? self.calls->at.file ? place(self.calls->at) : "" : "");
+        n_faults++;
+        write_out();
+    }
+    fflush(NULL);
+    _exit(3);
+}
+
+static bool sends_are_back(void) { return !n_sends; }
+
+static void tell_leftovers(void)
+{
+    for (int i = 0; i < n_packets; i++) {
+        Packet *p = packets[i];
+        if (p->ghost)
+            tell_ghost(p);
+        if (lives(p) && p->owner >= 0)
+            note("at the end", "IRP %u.%lu, sent at %s, is still held by %s", p->slot, (unsigned long)p->use,
+                 place(p->sites.sent), who(p->owner));
+        else if (lives(p) && p->allocator != NOBODY && !p->asking)
+            note("at the end", "IRP %u.%lu, allocated at %s, was never freed", p->slot, (unsigned long)p->use,
+                 place(p->sites.allocated));
+    }
+}
+
+int WdmFinish(void)
+{
+    Call c;
+    enter_host(&c, "WdmFinish", (WDM_SITE){ 0 });
+    finish_work();
+    if (!wait_for_host(sends_are_back, 3))
+        fault("Hang", NULL, "%d sends haven't returned at the end", n_sends);
+    tell_leftovers();
+    const size_t n = write_out();
+    if (n < expected_entries())
+        fprintf(stderr, "host: %zu entries are fewer than the %zu that the test expects\n", n, expected_entries());
+    const int faults = n_faults;
+    leave_host();
+    return faults || n < expected_entries() ? 2 : 0;
+}

@@ -1,0 +1,220 @@
+/* threads.c: the host's lock, seats, whose code a thread runs, shaking, and threads that drivers make. */
+#include "host.h"
+#include <sched.h>
+#include <unistd.h>
+
+pthread_mutex_t host_lock = PTHREAD_MUTEX_INITIALIZER;
+pthread_cond_t host_settled = PTHREAD_COND_INITIALIZER;
+unsigned long host_activity;
+int n_seats;
+_Thread_local Self self = { .seat = -1, .driver = NOBODY, .device = NOBODY };
+
+struct _KTHREAD {
+    KEVENT ended;
+    PKSTART_ROUTINE start;
+    PVOID context;
+    int driver;
+};
+
+/* A thread has a seat from its first call until it ends; then another thread may get it. */
+static bool seat_taken[MAX_SEATS];
+static pthread_key_t seat_key;
+static pthread_once_t seat_once = PTHREAD_ONCE_INIT;
+static unsigned shake_seed;
+
+static void leave_seat(void *number)
+{
+    pthread_mutex_lock(&host_lock);
+    seat_taken[(intptr_t)number - 1] = false;
+    pthread_mutex_unlock(&host_lock);
+}
+
+static void make_seats(void)
+{
+    pthread_key_create(&seat_key, leave_seat);
+    const char *seed = getenv("WDM_SHAKE");
+    shake_seed = seed ? (unsigned)strtoul(seed, NULL, 10) : 0;
+}
+
+static void take_seat(void)
+{
+    int seat = 0;
+    pthread_once(&seat_once, make_seats);
+    while (seat < MAX_SEATS && seat_taken[seat])
+        seat++;
+    if (seat == MAX_SEATS)
+        give_up("more than 64 threads at once");
+    seat_taken[seat] = true;
+    self.seat = seat;
+    pthread_setspecific(seat_key, (void *)(intptr_t)(seat + 1));
+    if (seat >= n_seats)
+        n_seats = seat + 1;
+}
+
+/* With a seed a call yields or sleeps for a moment now and then, so that threads mix. */
+void shake(void)
+{
+    if (!shake_seed)
+        return;
+    if (!self.chance)
+        self.chance = shake_seed * 2654435761u + (unsigned)self.seat + 1;
+    const unsigned r = (unsigned)rand_r(&self.chance) % 16;
+    if (r < 4)
+        sched_yield();
+    else if (r == 15)
+        usleep((unsigned)rand_r(&self.chance) % 200);
+}
+
+/* Begins a call of the host on this thread. The call's frame of the driver remembers where it was made. */
+void enter_host(Call *c, const char *name, WDM_SITE at)
+{
+    if (self.seat >= 0)
+        shake();
+    pthread_mutex_lock(&host_lock);
+    __atomic_add_fetch(&host_activity, 1, __ATOMIC_SEQ_CST);
+    if (self.seat < 0)
+        take_seat();
+    *c = (Call){ .up = self.calls, .name = name, .at = at };
+    self.calls = c;
+    if (self.frames && at.file) {
+        self.frames->last = at;
+        self.frames->last_call = name;
+    }
+}
+
+void leave_host(void)
+{
+    self.calls = self.calls->up;
+    pthread_mutex_unlock(&host_lock);
+}
+
+void let_driver_run(void) { pthread_mutex_unlock(&host_lock); }
+
+void driver_came_back(void)
+{
+    shake();
+    pthread_mutex_lock(&host_lock);
+    __atomic_add_fetch(&host_activity, 1, __ATOMIC_SEQ_CST);
+}
+
+void enter_frame(Frame *f)
+{
+    f->up = self.frames;
+    f->thread = pthread_self();
+    self.frames = f;
+    if (f->device >= 0)
+        devices[f->device].running++;
+}
+
+void leave_frame(void)
+{
+    if (self.frames->device >= 0)
+        devices[self.frames->device].running--;
+    self.frames = self.frames->up;
+}
+
+/* Which driver a source file is of: the one whose devices it creates. One that creates several drivers' is nobody's. */
+static struct { const char *file; int driver; } files[128];
+static int n_files;
+
+void learn_file(const char *file, int driver)
+{
+    if (!file)
+        return;
+    for (int i = 0; i < n_files; i++)
+        if (!strcmp(files[i].file, file)) {
+            if (files[i].driver != driver)
+                files[i].driver = NOBODY;
+            return;
+        }
+    if (n_files < 128) {
+        files[n_files].file = file;
+        files[n_files++].driver = driver;
+    }
+}
+
+/* Whose code makes this call: by its file; else by the innermost routine that runs; else by who made the thread. */
+int calling_driver(void)
+{
+    const char *file = self.calls ? self.calls->at.file : NULL;
+    for (int i = 0; file && i < n_files; i++)
+        if (!strcmp(files[i].file, file) && files[i].driver != NOBODY)
+            return files[i].driver;
+    const Frame *f = self.frames;
+    if (f && f->device >= 0)
+        return devices[f->device].raw->DriverObject->HostNumber;
+    return f && f->kind == ROUTINE ? f->p->allocator : self.driver;
+}
+
+int start_thread(void *(*run)(void *), void *context)
+{
+    pthread_t thread;
+    pthread_attr_t attributes;
+    pthread_attr_init(&attributes);
+    pthread_attr_setdetachstate(&attributes, PTHREAD_CREATE_DETACHED);
+    const int failed = pthread_create(&thread, &attributes, run, context);
+    pthread_attr_destroy(&attributes);
+    return failed;
+}
+
+/* Threads of drivers. A handle is the thread object itself; objects stay until the end of the run. */
+static void *run_thread(void *context)
+{
+    struct _KTHREAD *t = context;
+    self.driver = t->driver;
+    self.is_driver = true;
+    self.thread = t;
+    t->start(t->context);
+    set_event(&t->ended);
+    return NULL;
+}
+
+NTSTATUS WdmPsCreateSystemThread(PHANDLE Handle, PKSTART_ROUTINE Start, PVOID Context, WDM_SITE at)
+{
+    Call c;
+    enter_host(&c, "PsCreateSystemThread", at);
+    struct _KTHREAD *t = calloc(1, sizeof *t);
+    if (!t)
+        give_up("out of memory");
+    WdmKeInitializeEvent(&t->ended, NotificationEvent, FALSE);
+    t->start = Start;
+    t->context = Context;
+    t->driver = calling_driver();
+    *Handle = t;
+    leave_host();
+    return start_thread(run_thread, t) ? STATUS_INSUFFICIENT_RESOURCES : STATUS_SUCCESS;
+}
+
+NTSTATUS PsTerminateSystemThread(NTSTATUS Status)
+{
+    if (!self.thread || !self.is_driver)
+        return STATUS_INVALID_PARAMETER;
+    set_event(&self.thread->ended);
+    pthread_exit((void *)(intptr_t)Status);
+}
+
+PKTHREAD KeGetCurrentThread(VOID)
+{
+    if (!self.thread) {
+        self.thread = calloc(1, sizeof *self.thread);
+        if (self.thread)
+            WdmKeInitializeEvent(&self.thread->ended, NotificationEvent, FALSE);
+    }
+    return self.thread;
+}
+
+KPRIORITY KeSetPriorityThread(PKTHREAD Thread, KPRIORITY Priority)
+{
+    (void)Thread, (void)Priority;
+    return 8;
+}
+
+NTSTATUS WdmObReferenceObjectByHandle(HANDLE Handle, PVOID *Object)
+{
+    *Object = Handle;
+    return Handle ? STATUS_SUCCESS : STATUS_INVALID_HANDLE;
+}
+
+VOID ObDereferenceObject(PVOID Object) { (void)Object; }
+VOID ObReferenceObject(PVOID Object) { (void)Object; }
+NTSTATUS ZwClose(HANDLE Handle) { return Handle ? STATUS_SUCCESS : STATUS_INVALID_HANDLE; }

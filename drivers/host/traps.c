@@ -1,0 +1,118 @@
+/*
+ * traps.c: each packet lies in a page of its own, which nobody may touch from the packet's end on.
+ *
+ * The first touch of an ended packet is remembered by the handler, and told at the thread's next call: a driver that
+ * completes twice writes IoStatus first, and then the completion is the cause that is told, not the touch.
+ */
+#include "host.h"
+#include <signal.h>
+#include <sys/mman.h>
+#include <sys/ucontext.h>
+#include <unistd.h>
+
+static char *arena;
+static bool is_on;
+
+static void *instruction(void *context)
+{
+    const ucontext_t *u = context;
+#if defined(__x86_64__)
+    return (void *)u->uc_mcontext.gregs[REG_RIP];
+#elif defined(__aarch64__)
+    return (void *)u->uc_mcontext.pc;
+#else
+    (void)u;
+    return NULL;
+#endif
+}
+
+static void touched(int signal_number, siginfo_t *info, void *context)
+{
+    const size_t i = (size_t)((char *)info->si_addr - arena) / PAGE;
+    if ((char *)info->si_addr < arena || i >= (size_t)n_packets || packets[i]->trapped) {
+        signal(signal_number, SIG_DFL); /* a fault of another kind */
+        return;
+    }
+    Packet *p = packets[i];
+    p->trapped = true;
+    p->touch_untold = true;
+    p->touched_at = instruction(context);
+    p->toucher = self.frames ? self.frames->device : NOBODY;
+    self.touched = p;
+    mprotect(arena + i * PAGE, PAGE, PROT_READ | PROT_WRITE);
+}
+
+/* Once, before the first packet. */
+void open_traps(void)
+{
+    if (arena)
+        return;
+    arena = mmap(NULL, (size_t)MAX_PACKETS * PAGE, PROT_NONE, MAP_PRIVATE | MAP_ANONYMOUS | MAP_NORESERVE, -1, 0);
+    if (arena == MAP_FAILED)
+        give_up("no memory for packets");
+    is_on = !getenv("WDM_NO_TRAP");
+    struct sigaction s = { .sa_sigaction = touched, .sa_flags = SA_SIGINFO };
+    sigaction(SIGSEGV, &s, NULL);
+}
+
+/* The shadow of a packet; that of a rider, where one stands in its memory. */
+Packet *find(PIRP irp)
+{
+    const size_t i = (size_t)((char *)irp - arena) / PAGE;
+    if (!arena || (char *)irp < arena || i >= (size_t)n_packets || ((char *)irp - arena) % PAGE)
+        give_up("a pointer that is no packet of IoAllocateIrp is handed to a call");
+    if (self.touched)
+        tell_touch(self.calls->name, irp);
+    Packet *p = packets[i];
+    while (p->rider)
+        p = p->rider;
+    return p;
+}
+
+void unprotect(Packet *p)
+{
+    if (!p->irp)
+        p->irp = (PIRP)(arena + (size_t)p->slot * PAGE);
+    p->trapped = false;
+    mprotect(p->irp, PAGE, PROT_READ | PROT_WRITE);
+}
+
+void protect(Packet *p)
+{
+    if (is_on && !p->rides)
+        mprotect(p->irp, PAGE, PROT_NONE);
+}
+
+static void tell(Packet *p)
+{
+    Call *const calls = self.calls, here = { .name = function_name(p->touched_at) };
+    Frame *const frames = self.frames;
+    p->touch_untold = false;
+    self.calls = (Call *)&here; /* not the call that runs, and perhaps not the routine either */
+    self.frames = NULL;
+    fault("Touched", p, "read or written after its end by %s; it was completed at %s", who(p->toucher),
+          place(p->sites.completed));
+    self.calls = calls;
+    self.frames = frames;
+}
+
+/* At the thread's next call with a packet. A second completion or free of the same packet is told instead. */
+void tell_touch(const char *call, PIRP irp)
+{
+    Packet *p = self.touched;
+    self.touched = NULL;
+    if (!p || !p->touch_untold)
+        return;
+    if (irp == p->irp && (!strcmp(call, "IoCompleteRequest") || !strcmp(call, "IoFreeIrp")))
+        p->touch_untold = false;
+    else
+        tell(p);
+}
+
+/* At the end of the run. */
+void tell_all_touches(void)
+{
+    for (int i = 0; i < n_packets; i++)
+        if (packets[i]->touch_untold)
+            tell(packets[i]);
+}

@@ -1,0 +1,301 @@
+/*
+ * waits.c: events, semaphores, mutexes, timers as things to wait for; and waits that never end.
+ *
+ * All of them change under W, and whoever waits does so on one condition of W, so an object may be gone as soon as its
+ * waiter knows. A wait without a limit is a hang where nothing at all went on in the host for some seconds
+ * (WDM_PATIENCE, 3) and nobody sleeps for a time. A driver's own thread may wait for ever outside of packets.
+ */
+#include "host.h"
+#include <errno.h>
+
+enum { EVENT = 1, SEMAPHORE, MUTEX };
+static pthread_mutex_t wait_lock = PTHREAD_MUTEX_INITIALIZER; /* W */
+static pthread_cond_t changed = PTHREAD_COND_INITIALIZER;
+static _Atomic int sleepers; /* waits and delays with a limit that go on */
+
+LONGLONG now_in_100ns(void)
+{
+    struct timespec t;
+    clock_gettime(CLOCK_REALTIME, &t);
+    return (LONGLONG)t.tv_sec * 10000000 + t.tv_nsec / 100 + 116444736000000000;
+}
+
+static void make(DISPATCHER_HEADER *h, UCHAR type, bool synchronizes, LONG state)
+{
+    pthread_mutex_lock(&wait_lock);
+    *h = (DISPATCHER_HEADER){ .Type = type, .Synchronizes = synchronizes, .SignalState = state };
+    pthread_mutex_unlock(&wait_lock);
+}
+
+static LONG change(DISPATCHER_HEADER *h, LONG state, bool add)
+{
+    pthread_mutex_lock(&wait_lock);
+    const LONG was = h->SignalState;
+    h->SignalState = add ? was + state : state;
+    __atomic_add_fetch(&host_activity, 1, __ATOMIC_SEQ_CST);
+    pthread_cond_broadcast(&changed);
+    pthread_mutex_unlock(&wait_lock);
+    return was;
+}
+
+VOID WdmKeInitializeEvent(PKEVENT e, EVENT_TYPE type, BOOLEAN state)
+{
+    make(&e->Header, EVENT, type == SynchronizationEvent, state != 0);
+}
+
+bool is_event(const void *object) { return ((const DISPATCHER_HEADER *)object)->Type == EVENT; }
+void set_event(PKEVENT e) { change(&e->Header, 1, false); }
+VOID KeClearEvent(PKEVENT e) { change(&e->Header, 0, false); }
+LONG KeResetEvent(PKEVENT e) { return change(&e->Header, 0, false); }
+
+VOID KeInitializeSemaphore(PKSEMAPHORE s, LONG count, LONG limit)
+{
+    make(&s->Header, SEMAPHORE, true, count);
+    s->Limit = limit;
+}
+
+LONG WdmKeReleaseSemaphore(PKSEMAPHORE s, LONG n) { return change(&s->Header, n, true); }
+VOID KeInitializeMutex(PKMUTEX m, ULONG level) { (void)level, make(&m->Header, MUTEX, true, 1), m->Owner = NULL; }
+
+LONG KeReadStateEvent(PKEVENT e)
+{
+    pthread_mutex_lock(&wait_lock);
+    const LONG state = e->Header.SignalState;
+    pthread_mutex_unlock(&wait_lock);
+    return state;
+}
+
+LONG KeReleaseMutex(PKMUTEX m, BOOLEAN wait)
+{
+    (void)wait;
+    return change(&m->Header, 1, true);
+}
+
+LONG WdmKeSetEvent(PKEVENT e, WDM_SITE at)
+{
+    Call c;
+    enter_host(&c, "KeSetEvent", at);
+    Frame *f = self.frames;
+    if (f && f->kind == ROUTINE && !f->settled && !f->signalled) {
+        f->signalled = true;
+        f->status = (ULONG)f->p->irp->IoStatus.Status;
+        f->information = f->p->irp->IoStatus.Information;
+    }
+    leave_host();
+    return change(&e->Header, 1, false);
+}
+
+/* Names what is in flight, for a wait that never ends: under G. */
+static void tell_in_flight(char *text, size_t size)
+{
+    size_t n = 0;
+    for (int i = 0; i < n_packets && n + 1 < size; i++) {
+        const Packet *p = packets[i];
+        if (!lives(p) || (p->owner == ORIGINATOR && !p->asking))
+            continue;
+        const Location *l = &p->at[p->current <= p->size ? p->current : p->size];
+        n += (size_t)snprintf(text + n, size - n, "%sIRP %u.%lu (%s), which %s %s%s%s%s, sent at %s", n ? "; " : "",
+                              p->slot, (unsigned long)p->use, major_name(l->major),
+                              p->asking ? "is in" : who(p->owner), p->asking ? what_runs(p->asking) : "holds",
+                              p->routine ? " with a cancel routine" : "", p->kept_by ? ", kept by " : "",
+                              p->kept_by ? function_name(p->kept_by) : "", place(p->sites.sent));
+    }
+    if (!n)
+        snprintf(text, size, "no packet is in flight");
+}
+
+/* Packets whose dispatch returned without a word for them, completed in its place. Returns whether there was one. */
+static bool complete_lost(void)
+{
+    for (int i = 0; i < n_packets; i++) {
+        Packet *p = packets[i];
+        if (lives(p) && p->lost && p->owner >= 0 && !p->asking) {
+            p->lost = false;
+            fprintf(stderr, "host: IRP %u.%lu is completed in place of %s, so that the run goes on\n", p->slot,
+                    (unsigned long)p->use, who(p->owner));
+            if (p->routine) {
+                Entry *e = begin(SET_CANCEL, p, p->owner);
+                e->reply = PREVIOUS;
+                e->seen.routine = p->routine;
+                seal(e, false);
+                p->routine = p->irp->CancelRoutine = NULL;
+            }
+            p->irp->IoStatus.Status = STATUS_UNSUCCESSFUL;
+            complete(p, p->owner, (ULONG)STATUS_UNSUCCESSFUL, 0);
+            return true;
+        }
+    }
+    return false;
+}
+
+/* A wait hangs: told, once. The run goes on where a lost packet can be completed; else it ends. */
+static void hang(WDM_SITE at)
+{
+    static bool told;
+    char text[400];
+    Call c;
+    enter_host(&c, "KeWaitForSingleObject", at);
+    if (!told) {
+        told = true;
+        tell_in_flight(text, sizeof text);
+        fault("Hang", NULL, "waits for what nobody does; %s", text);
+    }
+    const bool goes_on = complete_lost();
+    if (!goes_on)
+        give_up("nothing goes on any more");
+    leave_host();
+}
+
+static int patience(void)
+{
+    const char *seconds = getenv("WDM_PATIENCE");
+    const int n = seconds ? atoi(seconds) : 0;
+    return n > 0 ? n : 3;
+}
+
+/* Under W: whether the object can be taken; it is, where that changes it. */
+static bool is_ready(DISPATCHER_HEADER *h, bool take)
+{
+    KMUTANT *m = h->Type == MUTEX ? (KMUTANT *)h : NULL;
+    const bool again = m && m->Header.SignalState <= 0 && m->Owner == (PVOID)&self;
+    if (h->SignalState <= 0 && !again)
+        return false;
+    if (take && h->Type == EVENT && h->Synchronizes)
+        h->SignalState = 0;
+    else if (take && h->Type != EVENT)
+        h->SignalState--;
+    if (take && m)
+        m->Owner = (PVOID)&self;
+    return true;
+}
+
+/* Under W: which object of them lets the wait end, or -1. */
+static int ready_of(ULONG n, PVOID *objects, WAIT_TYPE type)
+{
+    if (type == WaitAll) {
+        for (ULONG i = 0; i < n; i++)
+            if (!is_ready(objects[i], false))
+                return -1;
+        for (ULONG i = 0; i < n; i++)
+            is_ready(objects[i], true);
+        return 0;
+    }
+    for (ULONG i = 0; i < n; i++)
+        if (is_ready(objects[i], true))
+            return (int)i;
+    return -1;
+}
+
+static bool pause_for(long milliseconds)
+{
+    struct timespec t;
+    clock_gettime(CLOCK_REALTIME, &t);
+    t.tv_nsec += milliseconds % 1000 * 1000000;
+    t.tv_sec += milliseconds / 1000 + t.tv_nsec / 1000000000;
+    t.tv_nsec %= 1000000000;
+    return pthread_cond_timedwait(&changed, &wait_lock, &t) == ETIMEDOUT;
+}
+
+/* Waits with a limit; `until` in 100 ns. */
+static int wait_until(ULONG n, PVOID *objects, WAIT_TYPE type, LONGLONG until)
+{
+    int ready;
+    sleepers++;
+    while ((ready = ready_of(n, objects, type)) < 0) {
+        const LONGLONG left = until - now_in_100ns();
+        if (left <= 0)
+            break;
+        pause_for((long)(left / 10000 > 100 ? 100 : left / 10000 + 1));
+    }
+    sleepers--;
+    return ready;
+}
+
+/* Whether a dispatch or a routine of a packet runs on this thread. */
+static bool has_packet(void)
+{
+    for (const Frame *f = self.frames; f; f = f->up)
+        if (f->p)
+            return true;
+    return false;
+}
+
+static int wait_for_ever(ULONG n, PVOID *objects, WAIT_TYPE type, WDM_SITE at)
+{
+    unsigned long seen = 0;
+    int ready, quiet = 0;
+    const bool may_idle = self.is_driver && !has_packet();
+    while ((ready = ready_of(n, objects, type)) < 0) {
+        const unsigned long now = __atomic_load_n(&host_activity, __ATOMIC_SEQ_CST);
+        quiet = now != seen || sleepers || timers_armed() || may_idle ? 0 : quiet;
+        seen = now;
+        quiet += pause_for(100);
+        if (quiet > 10 * patience()) {
+            pthread_mutex_unlock(&wait_lock);
+            hang(at);
+            pthread_mutex_lock(&wait_lock);
+            quiet = 0;
+        }
+    }
+    return ready;
+}
+
+static void mark_waiting(bool waiting, WDM_SITE at)
+{
+    Call c;
+    enter_host(&c, "KeWaitForSingleObject", at);
+    for (Frame *f = self.frames; f; f = f->up)
+        f->waiting = waiting;
+    leave_host();
+}
+
+NTSTATUS WdmKeWaitForMultipleObjects(ULONG n, PVOID objects[], WAIT_TYPE type, PLARGE_INTEGER timeout, WDM_SITE at)
+{
+    int ready;
+    if (self.frames)
+        mark_waiting(true, at);
+    pthread_mutex_lock(&wait_lock);
+    if (timeout)
+        ready = wait_until(n, objects, type,
+                           timeout->QuadPart < 0 ? now_in_100ns() - timeout->QuadPart : timeout->QuadPart);
+    else
+        ready = wait_for_ever(n, objects, type, at);
+    pthread_mutex_unlock(&wait_lock);
+    if (self.frames)
+        mark_waiting(false, at);
+    return ready < 0 ? STATUS_TIMEOUT : (NTSTATUS)ready;
+}
+
+NTSTATUS WdmKeWaitForSingleObject(PVOID object, PLARGE_INTEGER timeout, WDM_SITE at)
+{
+    return WdmKeWaitForMultipleObjects(1, &object, WaitAny, timeout, at);
+}
+
+NTSTATUS WdmKeDelayExecutionThread(PLARGE_INTEGER interval)
+{
+    const LONGLONG until = interval->QuadPart < 0 ? now_in_100ns() - interval->QuadPart : interval->QuadPart;
+    KEVENT never;
+    PVOID object = &never;
+    WdmKeInitializeEvent(&never, NotificationEvent, FALSE);
+    pthread_mutex_lock(&wait_lock);
+    wait_until(1, &object, WaitAny, until);
+    pthread_mutex_unlock(&wait_lock);
+    return STATUS_SUCCESS;
+}
+
+/* At the end of a run, under G: waits until `done`, as long as something goes on. Returns whether it is. */
+bool wait_for_host(bool (*done)(void), int seconds)
+{
+    unsigned long seen = 0;
+    int quiet = 0;
+    while (!done() && quiet < 20 * seconds) {
+        const unsigned long now = __atomic_load_n(&host_activity, __ATOMIC_SEQ_CST);
+        struct timespec pause = { 0, 50000000 };
+        quiet = now == seen && !sleepers && !timers_armed() ? quiet + 1 : 0;
+        seen = now;
+        pthread_mutex_unlock(&host_lock);
+        nanosleep(&pause, NULL);
+        pthread_mutex_lock(&host_lock);
+    }
+    return done();
+}

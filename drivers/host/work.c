@@ -1,0 +1,323 @@
+/*
+ * work.c: work items on up to eight threads of the host; timers and deferred calls on one. All of it is under G.
+ */
+#include "host.h"
+
+struct _IO_WORKITEM {
+    PDEVICE_OBJECT device;
+    PIO_WORKITEM_ROUTINE routine;
+    PVOID context;
+    bool queued;
+    struct _IO_WORKITEM *next;
+};
+typedef struct DeviceTimer {
+    KTIMER timer;
+    KDPC dpc;
+    PDEVICE_OBJECT device;
+    PIO_TIMER_ROUTINE routine;
+    PVOID context;
+    struct DeviceTimer *next;
+} DeviceTimer;
+
+enum { MAX_WORKERS = 8, MAX_DPCS = 256 };
+static pthread_cond_t work_came = PTHREAD_COND_INITIALIZER, clock_changed = PTHREAD_COND_INITIALIZER;
+static PIO_WORKITEM first_item, last_item;
+static int n_workers, n_idle;
+static PKTIMER timers;
+static PKDPC dpcs[MAX_DPCS];
+static int n_dpcs;
+static bool clock_runs, dpc_runs;
+static _Atomic int n_armed; /* timers that will go off once */
+static DeviceTimer *device_timers;
+
+bool timers_armed(void) { return n_armed > 0; }
+
+/* Runs a driver's routine that no packet asked for, in its own frame. Under G before and after. */
+static void run_work(Frame *f, int driver)
+{
+    self.driver = driver;
+    self.is_driver = true;
+    self.device = f->device;
+    enter_frame(f);
+    let_driver_run();
+    shake();
+}
+
+static void work_done(void)
+{
+    driver_came_back();
+    leave_frame();
+    pthread_cond_broadcast(&host_settled);
+}
+
+static void *work(void *context)
+{
+    Call c;
+    (void)context;
+    enter_host(&c, "a work item", (WDM_SITE){ 0 });
+    for (;;) {
+        n_idle++;
+        while (!first_item)
+            pthread_cond_wait(&work_came, &host_lock);
+        n_idle--;
+        struct _IO_WORKITEM *item = first_item;
+        PIO_WORKITEM_ROUTINE routine = item->routine;
+        PDEVICE_OBJECT device = item->device;
+        PVOID its = item->context;
+        first_item = item->next;
+        if (!first_item)
+            last_item = NULL;
+        item->queued = false;
+        Frame f = { .kind = WORK, .fn = (void *)routine, .device = device->HostNumber, .settled = true };
+        run_work(&f, device->DriverObject->HostNumber);
+        routine(device, its);
+        work_done();
+    }
+    return NULL;
+}
+
+PIO_WORKITEM IoAllocateWorkItem(PDEVICE_OBJECT Device)
+{
+    struct _IO_WORKITEM *item = calloc(1, sizeof *item);
+    if (item)
+        item->device = Device;
+    return item;
+}
+
+VOID WdmIoQueueWorkItem(PIO_WORKITEM Item, PIO_WORKITEM_ROUTINE Routine, PVOID Context, WDM_SITE at)
+{
+    Call c;
+    enter_host(&c, "IoQueueWorkItem", at);
+    if (Item->queued)
+        fault("QueuedTwice", NULL, "the work item is in the queue already");
+    else {
+        Item->routine = Routine;
+        Item->context = Context;
+        Item->queued = true;
+        Item->next = NULL;
+        if (last_item)
+            last_item->next = Item;
+        else
+            first_item = Item;
+        last_item = Item;
+        if (!n_idle && n_workers < MAX_WORKERS && !start_thread(work, NULL))
+            n_workers++;
+        pthread_cond_signal(&work_came);
+    }
+    leave_host();
+}
+
+VOID IoFreeWorkItem(PIO_WORKITEM Item)
+{
+    pthread_mutex_lock(&host_lock);
+    if (Item->queued)
+        fault("QueuedTwice", NULL, "a work item is freed while it is in the queue");
+    else
+        free(Item);
+    pthread_mutex_unlock(&host_lock);
+}
+
+/* The clock's thread. A timer that is due is signalled, and its deferred call queued. */
+static void queue_dpc(PKDPC dpc)
+{
+    if (!dpc->Queued && n_dpcs < MAX_DPCS) {
+        dpc->Queued = TRUE;
+        dpcs[n_dpcs++] = dpc;
+    }
+}
+
+static void take_out(PKTIMER timer)
+{
+    for (PKTIMER *t = &timers; *t; t = &(*t)->HostNext)
+        if (*t == timer) {
+            *t = timer->HostNext;
+            break;
+        }
+    timer->Armed = FALSE;
+    n_armed -= timer->Period == 0;
+}
+
+/* Lets the timers that are due go off. Returns when the next one is, or 0. */
+static LONGLONG ring(void)
+{
+    const LONGLONG now = now_in_100ns();
+    LONGLONG next = 0;
+    for (PKTIMER t = timers, after; t; t = after) {
+        after = t->HostNext;
+        if (t->Due <= now) {
+            if (t->Period)
+                t->Due = now + (LONGLONG)t->Period * 10000;
+            else
+                take_out(t);
+            set_event((PKEVENT)t);
+            if (t->Dpc)
+                queue_dpc(t->Dpc);
+        }
+        if (t->Armed && (!next || t->Due < next))
+            next = t->Due;
+    }
+    return next;
+}
+
+static void *run_clock(void *context)
+{
+    Call c;
+    (void)context;
+    enter_host(&c, "the clock", (WDM_SITE){ 0 });
+    for (;;) {
+        const LONGLONG next = ring();
+        if (n_dpcs) {
+            PKDPC d = dpcs[0];
+            PKDEFERRED_ROUTINE routine = d->Routine;
+            PVOID its = d->Context, one = d->Argument1, two = d->Argument2;
+            memmove(dpcs, dpcs + 1, (size_t)--n_dpcs * sizeof *dpcs);
+            d->Queued = FALSE;
+            dpc_runs = true;
+            Frame f = { .kind = WORK, .fn = (void *)routine, .device = NOBODY, .settled = true };
+            run_work(&f, d->HostDriver);
+            routine(d, its, one, two);
+            work_done();
+            dpc_runs = false;
+            pthread_cond_broadcast(&host_settled);
+        } else if (next) {
+            const LONGLONG unix_time = next - 116444736000000000;
+            struct timespec until = { unix_time / 10000000, unix_time % 10000000 * 100 };
+            pthread_cond_timedwait(&clock_changed, &host_lock, &until);
+        } else
+            pthread_cond_wait(&clock_changed, &host_lock);
+    }
+    return NULL;
+}
+
+static void start_clock(void)
+{
+    if (!clock_runs)
+        clock_runs = !start_thread(run_clock, NULL);
+    pthread_cond_signal(&clock_changed);
+}
+
+VOID KeInitializeTimerEx(PKTIMER Timer, TIMER_TYPE Type)
+{
+    KEVENT *e = (KEVENT *)Timer;
+    memset(Timer, 0, sizeof *Timer);
+    WdmKeInitializeEvent(e, Type == SynchronizationTimer ? SynchronizationEvent : NotificationEvent, FALSE);
+}
+
+BOOLEAN KeSetTimerEx(PKTIMER Timer, LARGE_INTEGER DueTime, LONG Period, PKDPC Dpc)
+{
+    Call c;
+    enter_host(&c, "KeSetTimer", (WDM_SITE){ 0 });
+    const BOOLEAN was = Timer->Armed;
+    if (was)
+        take_out(Timer);
+    KeClearEvent((PKEVENT)Timer);
+    Timer->Due = DueTime.QuadPart <= 0 ? now_in_100ns() - DueTime.QuadPart : DueTime.QuadPart;
+    Timer->Period = Period;
+    Timer->Dpc = Dpc;
+    Timer->Armed = TRUE;
+    Timer->HostNext = timers;
+    timers = Timer;
+    n_armed += Period == 0;
+    start_clock();
+    leave_host();
+    return was;
+}
+
+BOOLEAN KeCancelTimer(PKTIMER Timer)
+{
+    Call c;
+    enter_host(&c, "KeCancelTimer", (WDM_SITE){ 0 });
+    const BOOLEAN was = Timer->Armed;
+    if (was)
+        take_out(Timer);
+    leave_host();
+    return was;
+}
+
+BOOLEAN KeReadStateTimer(PKTIMER Timer) { return KeReadStateEvent((PKEVENT)Timer) != 0; }
+
+VOID WdmKeInitializeDpc(PKDPC Dpc, PKDEFERRED_ROUTINE Routine, PVOID Context, WDM_SITE at)
+{
+    Call c;
+    enter_host(&c, "KeInitializeDpc", at);
+    *Dpc = (KDPC){ .Routine = Routine, .Context = Context, .HostDriver = calling_driver() };
+    leave_host();
+}
+
+BOOLEAN KeInsertQueueDpc(PKDPC Dpc, PVOID Argument1, PVOID Argument2)
+{
+    Call c;
+    enter_host(&c, "KeInsertQueueDpc", (WDM_SITE){ 0 });
+    const BOOLEAN queued = !Dpc->Queued;
+    if (queued) {
+        Dpc->Argument1 = Argument1;
+        Dpc->Argument2 = Argument2;
+        queue_dpc(Dpc);
+        start_clock();
+    }
+    leave_host();
+    return queued;
+}
+
+static bool work_is_done(void) { return !first_item && n_idle == n_workers && !n_dpcs && !dpc_runs; }
+static bool dpcs_are_done(void) { return !n_dpcs && !dpc_runs; }
+
+/* Under G: work items and deferred calls that are queued are waited for, as long as something goes on. */
+void finish_work(void) { wait_for_host(work_is_done, 1); }
+
+VOID KeFlushQueuedDpcs(VOID)
+{
+    Call c;
+    enter_host(&c, "KeFlushQueuedDpcs", (WDM_SITE){ 0 });
+    wait_for_host(dpcs_are_done, 3);
+    leave_host();
+}
+
+/* A device's own timer goes off each second. */
+static VOID device_timer(PKDPC Dpc, PVOID Context, PVOID A, PVOID B)
+{
+    DeviceTimer *t = Context;
+    (void)Dpc, (void)A, (void)B;
+    t->routine(t->device, t->context);
+}
+
+NTSTATUS IoInitializeTimer(PDEVICE_OBJECT Device, PIO_TIMER_ROUTINE Routine, PVOID Context)
+{
+    DeviceTimer *t = calloc(1, sizeof *t);
+    if (!t)
+        return STATUS_INSUFFICIENT_RESOURCES;
+    t->device = Device;
+    t->routine = Routine;
+    t->context = Context;
+    KeInitializeTimerEx(&t->timer, NotificationTimer);
+    t->dpc = (KDPC){ .Routine = device_timer, .Context = t, .HostDriver = Device->DriverObject->HostNumber };
+    pthread_mutex_lock(&host_lock);
+    t->next = device_timers;
+    device_timers = t;
+    pthread_mutex_unlock(&host_lock);
+    return STATUS_SUCCESS;
+}
+
+static DeviceTimer *timer_of(PDEVICE_OBJECT device)
+{
+    pthread_mutex_lock(&host_lock);
+    DeviceTimer *t = device_timers;
+    while (t && t->device != device)
+        t = t->next;
+    pthread_mutex_unlock(&host_lock);
+    return t;
+}
+
+VOID IoStartTimer(PDEVICE_OBJECT Device)
+{
+    DeviceTimer *t = timer_of(Device);
+    if (t)
+        KeSetTimerEx(&t->timer, (LARGE_INTEGER){ .QuadPart = -10000000 }, 1000, &t->dpc);
+}
+
+VOID IoStopTimer(PDEVICE_OBJECT Device)
+{
+    DeviceTimer *t = timer_of(Device);
+    if (t)
+        KeCancelTimer(&t->timer);
+}

@@ -1,0 +1,7 @@
+/* wdm.h: so that `#include <wdm.h>` of a driver finds the part of the driver interface that the host has. */
+#ifndef WDM_H
+#define WDM_H
+
+#include "wdm_io.h"
+
+#endif

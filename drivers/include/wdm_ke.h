@@ -1,0 +1,142 @@
+/* wdm_ke.h: events, timers, semaphores, mutexes, spin locks, threads, work, memory. */
+#ifndef WDM_KE_H
+#define WDM_KE_H
+
+#include "wdm_base.h"
+
+enum { PASSIVE_LEVEL = 0, APC_LEVEL = 1, DISPATCH_LEVEL = 2 };
+enum { EVENT_INCREMENT = 1, IO_NO_INCREMENT = 0, IO_KEYBOARD_INCREMENT = 6, IO_SERIAL_INCREMENT = 2,
+       LOW_REALTIME_PRIORITY = 16 };
+typedef enum { NotificationEvent, SynchronizationEvent } EVENT_TYPE;
+typedef enum { NotificationTimer, SynchronizationTimer } TIMER_TYPE;
+typedef enum { Executive, FreePage, PageIn, PoolAllocation, DelayExecution, Suspended, UserRequest } KWAIT_REASON;
+typedef enum { KernelMode, UserMode } MODE;
+typedef CCHAR KPROCESSOR_MODE;
+typedef enum { WaitAll, WaitAny } WAIT_TYPE;
+
+/* What can be waited for. Their contents are the host's. */
+typedef struct _DISPATCHER_HEADER { UCHAR Type; UCHAR Synchronizes; LONG SignalState; } DISPATCHER_HEADER;
+typedef struct _KEVENT { DISPATCHER_HEADER Header; } KEVENT, *PKEVENT, *PRKEVENT;
+typedef struct _KSEMAPHORE { DISPATCHER_HEADER Header; LONG Limit; } KSEMAPHORE, *PKSEMAPHORE;
+typedef struct _KMUTANT { DISPATCHER_HEADER Header; PVOID Owner; } KMUTANT, KMUTEX, *PKMUTEX;
+typedef struct _KDPC *PKDPC;
+typedef VOID KDEFERRED_ROUTINE(PKDPC Dpc, PVOID Context, PVOID Argument1, PVOID Argument2);
+typedef KDEFERRED_ROUTINE *PKDEFERRED_ROUTINE;
+typedef struct _KDPC {
+    PKDEFERRED_ROUTINE Routine;
+    PVOID Context, Argument1, Argument2;
+    BOOLEAN Queued;
+    int HostDriver;
+} KDPC;
+typedef struct _KTIMER {
+    DISPATCHER_HEADER Header;
+    BOOLEAN Armed;
+    LONGLONG Due;
+    LONG Period;
+    PKDPC Dpc;
+    struct _KTIMER *HostNext;
+} KTIMER, *PKTIMER;
+typedef struct _KTHREAD *PKTHREAD, *PETHREAD;
+
+VOID WdmKeInitializeEvent(PKEVENT Event, EVENT_TYPE Type, BOOLEAN State);
+LONG WdmKeSetEvent(PKEVENT Event, WDM_SITE at);
+VOID KeClearEvent(PKEVENT Event);
+LONG KeResetEvent(PKEVENT Event);
+LONG KeReadStateEvent(PKEVENT Event);
+#define KeInitializeEvent(event, type, state) WdmKeInitializeEvent((event), (type), (state))
+#define KeSetEvent(event, increment, wait) ((void)(increment), (void)(wait), WdmKeSetEvent((event), WDM_HERE))
+VOID KeInitializeSemaphore(PKSEMAPHORE Semaphore, LONG Count, LONG Limit);
+LONG WdmKeReleaseSemaphore(PKSEMAPHORE Semaphore, LONG Adjustment);
+#define KeReleaseSemaphore(s, increment, n, wait) ((void)(increment), (void)(wait), WdmKeReleaseSemaphore((s), (n)))
+VOID KeInitializeMutex(PKMUTEX Mutex, ULONG Level);
+LONG KeReleaseMutex(PKMUTEX Mutex, BOOLEAN Wait);
+NTSTATUS WdmKeWaitForSingleObject(PVOID Object, PLARGE_INTEGER Timeout, WDM_SITE at);
+#define KeWaitForSingleObject(object, reason, mode, alertable, timeout) \
+    ((void)(reason), (void)(mode), (void)(alertable), WdmKeWaitForSingleObject((object), (timeout), WDM_HERE))
+NTSTATUS WdmKeWaitForMultipleObjects(ULONG Count, PVOID Objects[], WAIT_TYPE Type, PLARGE_INTEGER Timeout, WDM_SITE at);
+#define KeWaitForMultipleObjects(count, objects, type, reason, mode, alertable, timeout, blocks) \
+    ((void)(reason), (void)(mode), (void)(alertable), (void)(blocks), \
+     WdmKeWaitForMultipleObjects((count), (objects), (type), (timeout), WDM_HERE))
+NTSTATUS WdmKeDelayExecutionThread(PLARGE_INTEGER Interval);
+#define KeDelayExecutionThread(mode, alertable, interval) \
+    ((void)(mode), (void)(alertable), WdmKeDelayExecutionThread(interval))
+VOID KeStallExecutionProcessor(ULONG Microseconds);
+VOID KeQuerySystemTime(PLARGE_INTEGER Now);
+VOID KeQueryTickCount(PLARGE_INTEGER Ticks);
+ULONG KeQueryTimeIncrement(VOID);
+LARGE_INTEGER KeQueryPerformanceCounter(PLARGE_INTEGER Frequency);
+
+/* Timers and deferred calls, run by a thread of the host. Due times are in 100 ns, relative where negative. */
+VOID KeInitializeTimerEx(PKTIMER Timer, TIMER_TYPE Type);
+#define KeInitializeTimer(timer) KeInitializeTimerEx((timer), NotificationTimer)
+BOOLEAN KeSetTimerEx(PKTIMER Timer, LARGE_INTEGER DueTime, LONG Period, PKDPC Dpc);
+#define KeSetTimer(timer, due, dpc) KeSetTimerEx((timer), (due), 0, (dpc))
+BOOLEAN KeCancelTimer(PKTIMER Timer);
+BOOLEAN KeReadStateTimer(PKTIMER Timer);
+VOID WdmKeInitializeDpc(PKDPC Dpc, PKDEFERRED_ROUTINE Routine, PVOID Context, WDM_SITE at);
+#define KeInitializeDpc(dpc, routine, context) WdmKeInitializeDpc((dpc), (routine), (context), WDM_HERE)
+BOOLEAN KeInsertQueueDpc(PKDPC Dpc, PVOID Argument1, PVOID Argument2);
+VOID KeFlushQueuedDpcs(VOID);
+
+/* Spin locks. IRQL is kept, and isn't checked. */
+typedef ULONG_PTR KSPIN_LOCK, *PKSPIN_LOCK;
+typedef struct _KLOCK_QUEUE_HANDLE { PKSPIN_LOCK Lock; KIRQL OldIrql; } KLOCK_QUEUE_HANDLE, *PKLOCK_QUEUE_HANDLE;
+VOID KeInitializeSpinLock(PKSPIN_LOCK Lock);
+KIRQL WdmKeAcquireSpinLock(PKSPIN_LOCK Lock, WDM_SITE at);
+VOID WdmKeReleaseSpinLock(PKSPIN_LOCK Lock, KIRQL Irql, WDM_SITE at);
+#define KeAcquireSpinLock(lock, irql) ((void)(*(irql) = WdmKeAcquireSpinLock((lock), WDM_HERE)))
+#define KeReleaseSpinLock(lock, irql) WdmKeReleaseSpinLock((lock), (irql), WDM_HERE)
+#define KeAcquireSpinLockRaiseToDpc(lock) WdmKeAcquireSpinLock((lock), WDM_HERE)
+#define KeAcquireSpinLockAtDpcLevel(lock) ((void)WdmKeAcquireSpinLock((lock), WDM_HERE))
+#define KeReleaseSpinLockFromDpcLevel(lock) WdmKeReleaseSpinLock((lock), DISPATCH_LEVEL, WDM_HERE)
+#define KeAcquireInStackQueuedSpinLock(lock, handle) \
+    ((handle)->Lock = (lock), (void)((handle)->OldIrql = WdmKeAcquireSpinLock((lock), WDM_HERE)))
+#define KeReleaseInStackQueuedSpinLock(handle) WdmKeReleaseSpinLock((handle)->Lock, (handle)->OldIrql, WDM_HERE)
+KIRQL KeGetCurrentIrql(VOID);
+VOID WdmKeRaiseIrql(KIRQL New, PKIRQL Old);
+VOID KeLowerIrql(KIRQL Irql);
+#define KeRaiseIrql(new, old) WdmKeRaiseIrql((new), (old))
+PLIST_ENTRY ExInterlockedInsertTailList(PLIST_ENTRY Head, PLIST_ENTRY Entry, PKSPIN_LOCK Lock);
+PLIST_ENTRY ExInterlockedInsertHeadList(PLIST_ENTRY Head, PLIST_ENTRY Entry, PKSPIN_LOCK Lock);
+PLIST_ENTRY ExInterlockedRemoveHeadList(PLIST_ENTRY Head, PKSPIN_LOCK Lock);
+typedef struct _FAST_MUTEX { KMUTEX Mutex; } FAST_MUTEX, *PFAST_MUTEX;
+#define ExInitializeFastMutex(m) KeInitializeMutex(&(m)->Mutex, 0)
+#define ExAcquireFastMutex(m) ((void)WdmKeWaitForSingleObject(&(m)->Mutex, NULL, WDM_HERE))
+#define ExReleaseFastMutex(m) ((void)KeReleaseMutex(&(m)->Mutex, FALSE))
+
+/* Threads. */
+typedef VOID KSTART_ROUTINE(PVOID Context);
+typedef KSTART_ROUTINE *PKSTART_ROUTINE;
+typedef struct _OBJECT_ATTRIBUTES { ULONG Attributes; } OBJECT_ATTRIBUTES, *POBJECT_ATTRIBUTES;
+#define OBJ_KERNEL_HANDLE 0x200
+#define THREAD_ALL_ACCESS 0x1fffff
+#define InitializeObjectAttributes(o, name, attributes, root, security) \
+    ((void)(name), (void)(root), (void)(security), (void)((o)->Attributes = (attributes)))
+NTSTATUS WdmPsCreateSystemThread(PHANDLE Handle, PKSTART_ROUTINE Start, PVOID Context, WDM_SITE at);
+#define PsCreateSystemThread(handle, access, attributes, process, client, start, context) \
+    ((void)(access), (void)(attributes), (void)(process), (void)(client), \
+     WdmPsCreateSystemThread((handle), (start), (context), WDM_HERE))
+NTSTATUS PsTerminateSystemThread(NTSTATUS Status);
+PKTHREAD KeGetCurrentThread(VOID);
+#define PsGetCurrentThread() KeGetCurrentThread()
+KPRIORITY KeSetPriorityThread(PKTHREAD Thread, KPRIORITY Priority);
+NTSTATUS WdmObReferenceObjectByHandle(HANDLE Handle, PVOID *Object);
+#define ObReferenceObjectByHandle(handle, access, type, mode, object, information) \
+    ((void)(access), (void)(mode), (void)(information), WdmObReferenceObjectByHandle((handle), (PVOID *)(object)))
+VOID ObDereferenceObject(PVOID Object);
+VOID ObReferenceObject(PVOID Object);
+NTSTATUS ZwClose(HANDLE Handle);
+
+/* Pool. */
+enum { NonPagedPool = 0, PagedPool = 1, NonPagedPoolNx = 512 };
+#define POOL_FLAG_NON_PAGED 0x40ull
+#define POOL_FLAG_PAGED 0x100ull
+#define POOL_FLAG_UNINITIALIZED 0x2ull
+#define ExAllocatePoolWithTag(type, n, tag) ((void)(type), (void)(tag), malloc(n))
+#define ExAllocatePool(type, n) ((void)(type), malloc(n))
+#define ExAllocatePool2(flags, n, tag) ((void)(flags), (void)(tag), calloc(1, (n)))
+#define ExAllocatePoolZero(type, n, tag) ((void)(type), (void)(tag), calloc(1, (n)))
+#define ExFreePoolWithTag(p, tag) ((void)(tag), free(p))
+#define ExFreePool(p) free(p)
+
+#endif

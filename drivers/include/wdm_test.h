@@ -1,0 +1,52 @@
+/*
+ * wdm_test.h: what stands in for the loader, the Plug and Play manager and the I/O manager's own callers, for tests.
+ *
+ * A test loads drivers, builds a stack, sends packets, and ends with `return WdmFinish()`.
+ */
+#ifndef WDM_TEST_H
+#define WDM_TEST_H
+
+#include "wdm_io.h"
+
+/* Calls DriverEntry of a driver. Returns its object, or NULL where DriverEntry fails. The name is for messages. */
+PDRIVER_OBJECT WdmLoadDriver(const char *Name, PDRIVER_INITIALIZE Entry);
+
+/* Calls DriverUnload, where the driver has one. */
+VOID WdmUnloadDriver(PDRIVER_OBJECT Driver);
+
+/*
+ * A bottom device of the host's own, with nothing below it. It completes what it gets: READ, WRITE and the device
+ * controls with success and their length, PNP and POWER as a bus does, all else with success. Where Late is TRUE it
+ * marks READ and WRITE pending and completes them from a thread of the host, unless they are cancelled before.
+ */
+PDEVICE_OBJECT WdmCreateBottom(BOOLEAN Late);
+
+/*
+ * A packet as the I/O manager makes it for a caller: its status goes to Iosb, Event is set at its end, then the host
+ * frees it. Buffers of Length bytes are there by each method. PNP, POWER and SYSTEM_CONTROL start with
+ * STATUS_NOT_SUPPORTED. Fill further parameters in by IoGetNextIrpStackLocation, and send it by IoCallDriver.
+ */
+PIRP WdmBuild(PDEVICE_OBJECT Top, UCHAR Major, UCHAR Minor, ULONG Length, PIO_STATUS_BLOCK Iosb, PKEVENT Event,
+              WDM_SITE at);
+#define WdmBuildIrp(top, major, minor, length, iosb, event) \
+    WdmBuild((top), (major), (minor), (length), (iosb), (event), WDM_HERE)
+
+/* Builds, sends and waits. Returns the packet's final status. Code is the control code of DEVICE_CONTROL. */
+NTSTATUS WdmSendAndWait(PDEVICE_OBJECT Top, UCHAR Major, UCHAR Minor, ULONG Length, ULONG Code, WDM_SITE at);
+#define WdmSend(top, major, minor, length) WdmSendAndWait((top), (major), (minor), (length), 0, WDM_HERE)
+#define WdmControl(top, code, length) WdmSendAndWait((top), IRP_MJ_DEVICE_CONTROL, 0, (length), (code), WDM_HERE)
+
+/* What the test says beforehand. A refusal that it expects, by its name in docs/RULES.md, is a note and no fault. */
+VOID WdmExpectRefusal(const char *Name);
+/* The run has at least so many entries (1 where nothing is said). */
+VOID WdmExpectEntries(ULONG Count);
+/* A completion routine keeps this rule: "watch", "change", "keeper", "keep_on_error", "free". Else it is learned. */
+VOID WdmDeclareRule(PIO_COMPLETION_ROUTINE Routine, const char *Rule);
+
+/*
+ * Waits for the sends and the work items that aren't done, writes the transcript, and tells a summary. Returns 0 where
+ * the host saw no fault and the run has the entries that were expected, else 2: the exit status for `main`.
+ */
+int WdmFinish(void);
+
+#endif

@@ -1,0 +1,231 @@
+"""The faults that `test` plants, one at a time: an edit of a sample or of a stack, or a wrong shape, and what is told.
+
+`tells` is looked for in the first line that says FAULT: the rule, the function or the place, and the driver or device
+that is named. `verdict` is the word of `irpx check`; `refused` a refusal that the transcript has."""
+
+SAMPLES, STACKS, SHAPES = "samples", "stacks", "shapes"
+
+
+class Fault:
+    def __init__(self, name, where, file, edits, tells, verdict="legal", refused=None, args="", seeds=None):
+        self.name, self.where, self.file, self.edits, self.tells = name, where, file, edits, tells
+        self.verdict, self.refused, self.args, self.seeds = verdict, refused, args, seeds
+
+
+def sample(name, file, edits, tells, **more):
+    return Fault(name, SAMPLES, file, edits, tells, **more)
+
+
+def stack(name, file, edits, tells, **more):
+    return Fault(name, STACKS, file, edits, tells, **more)
+
+
+def shape(name, tells, **more):
+    return Fault("shape " + name, SHAPES, None, [], tells, args=f"{name} {more.pop('ending', 0)}", **more)
+
+
+WRITE_DONE = "    return BusComplete(Irp, STATUS_SUCCESS, length);\n"
+TAKE_OUT = ("        if (IoSetCancelRoutine(next, NULL) != NULL) { "
+            "/* else its cancel routine runs, and waits for the lock */\n")
+LOOK_AT_CANCEL = """    if (Irp->Cancel && IoSetCancelRoutine(Irp, NULL) != NULL) {
+        KeReleaseSpinLock(&ext->Lock, irql);
+        return BusComplete(Irp, STATUS_CANCELLED, 0);
+    }
+"""
+MARK = "    IoMarkIrpPending(Irp);\n"
+MARK_AND_QUEUE = """    IoMarkIrpPending(Irp);
+    InsertTailList(&ext->Reads, &Irp->Tail.Overlay.ListEntry);
+    KeReleaseSpinLock(&ext->Lock, irql);
+"""
+FILTER_FORWARD = """    IoCopyCurrentIrpStackLocationToNext(Irp);
+    IoSetCompletionRoutine(Irp, FilterReadDone, ext, TRUE, TRUE, TRUE);
+"""
+FILTER_SEND = FILTER_FORWARD + "    return IoCallDriver(ext->Lower, Irp);\n"
+ROUTINE_MARKS = "    if (Irp->PendingReturned)\n        IoMarkIrpPending(Irp);\n"
+OWN = "    PIRP read = IoAllocateIrp(ext->Lower->StackSize, FALSE);\n"
+OWN_WRITE = """    PIRP own = IoAllocateIrp(ext->Lower->StackSize, FALSE);
+    IoGetNextIrpStackLocation(own)->MajorFunction = IRP_MJ_WRITE;
+    IoGetNextIrpStackLocation(own)->Parameters.Write.Length = 6;
+    IoCallDriver(ext->Lower, own);
+"""
+TOO_SHORT = """    PIRP own = IoAllocateIrp(1, FALSE);
+    IoGetNextIrpStackLocation(own)->MajorFunction = IRP_MJ_POWER;
+    IoSetCompletionRoutine(own, ToasterControlDone, Irp, TRUE, TRUE, TRUE);
+    IoCallDriver(DeviceObject, own);
+    IoFreeIrp(own);
+"""
+
+FAULTS = [
+    sample("completed twice", "bus.c", [(WRITE_DONE, "    BusComplete(Irp, STATUS_SUCCESS, length);\n" + WRITE_DONE)],
+           ["CompletedTwice (0x44)", "bus.c:", "BusComplete", "BusWrite, dispatch for WRITE", "by D0 (bus)",
+            "completed before at bus.c:"], refused="Ended"),
+    sample("completed with the cancel routine set", "bus.c", [(TAKE_OUT, "        if (next) {\n")],
+           ["CancelRoutineSet (0x48)", "bus.c:", "by D0 (bus)", "set before at bus.c:"], refused="CancelRoutineSet"),
+    sample("touched after its end", "bus.c", [(WRITE_DONE, "    BusComplete(Irp, STATUS_SUCCESS, length);\n"
+                                               "    return Irp->IoStatus.Status;\n")],
+           ["Touched", "BusWrite", "D0 (bus)", "completed at bus.c:"]),
+    sample("routine forgets the mark", "filter.c", [(ROUTINE_MARKS, "")],
+           ["Mark ", "FilterReadDone, completion routine of D2 (filter)", "doesn't mark"], verdict="illegal"),
+    sample("STATUS_PENDING unmarked", "bus.c", [("    IoMarkIrpPending(Irp);\n    InsertTail", "    InsertTail")],
+           ["Returned ", "BusRead, dispatch for READ of D0 (bus)", "marked nothing"], verdict="illegal"),
+    sample("marked, and another status returned", "toaster.c",
+           [("    status = IoCallDriver(ext->Lower, Irp);\n    return STATUS_PENDING;",
+             "    status = IoCallDriver(ext->Lower, Irp);\n    return status;")],
+           ["Returned ", "ToasterReadWrite, dispatch for WRITE of D1 (toaster)", "returned 0"], verdict="illegal"),
+    sample("skipped, then a routine set", "filter.c",
+           [(FILTER_SEND, "    IoSkipCurrentIrpStackLocation(Irp);\n"
+             "    IoSetCompletionRoutine(Irp, FilterReadDone, ext, TRUE, FALSE, FALSE);\n"
+             "    return IoCallDriver(ext->Lower, Irp);\n")],
+           ["AfterSkip ", "filter.c:", "FilterRead", "IoSetCompletionRoutine", "by D2 (filter)"], refused="AfterSkip"),
+    sample("remove lock released twice", "toaster.c",
+           [("    IoReleaseRemoveLock(&ext->RemoveLock, Irp);\n    return STATUS_CONTINUE",
+             "    IoReleaseRemoveLock(&ext->RemoveLock, Irp);\n    IoReleaseRemoveLock(&ext->RemoveLock, Irp);\n"
+             "    return STATUS_CONTINUE")],
+           ["NotHeld ", "toaster.c:", "ToasterDone", "D1 (toaster)"]),
+    sample("deleted without waiting", "toaster.c", [("IoReleaseRemoveLockAndWait", "IoReleaseRemoveLock")],
+           ["NotDrained ", "toaster.c:", "in ToasterPnp: IoDeleteDevice", "D1 (toaster)"],
+           refused="NotDrained"),
+    sample("marked after it was queued", "bus.c",
+           [(MARK_AND_QUEUE, MARK_AND_QUEUE.replace(MARK, "") + MARK)],
+           ["D0 (bus)"], verdict=None, args="60", seeds="1..8"),
+    sample("completed with an error, success returned", "bus.c",
+           [(WRITE_DONE, "    BusComplete(Irp, STATUS_UNSUCCESSFUL, 0);\n    return STATUS_SUCCESS;\n")],
+           ["Status ", "BusWrite, dispatch for WRITE of D0 (bus)", "0xc0000001", "returned 0"], verdict="illegal"),
+    sample("Irp->Cancel isn't looked at", "bus.c", [(LOOK_AT_CANCEL, "")],
+           ["AlreadyCancelled ", "BusRead, dispatch for READ of D0 (bus)", "set at bus.c:"], verdict="illegal"),
+    sample("completed with STATUS_PENDING", "bus.c",
+           [(WRITE_DONE, "    IoMarkIrpPending(Irp);\n    return BusComplete(Irp, STATUS_PENDING, 0);\n")],
+           ["BadStatus ", "bus.c:", "BusWrite, dispatch for WRITE", "by D0 (bus)"], refused="BadStatus"),
+    sample("freed after its routine freed it", "toaster.c",
+           [("    IoCallDriver(ext->Lower, read);\n", "    IoCallDriver(ext->Lower, read);\n    IoFreeIrp(read);\n")],
+           ["NoIrp ", "toaster.c:", "ToasterControl", "IoFreeIrp", "freed before at toaster.c:"], refused="NoIrp"),
+    sample("location copied by hand, with its routine", "filter.c",
+           [(FILTER_FORWARD, "    *IoGetNextIrpStackLocation(Irp) = *IoGetCurrentIrpStackLocation(Irp);\n")],
+           ["CopiedByHand", "filter.c:", "FilterRead", "keep_for_me"], verdict=None),
+    sample("touched after it was sent down", "toaster.c",
+           [("    status = IoCallDriver(ext->Lower, Irp);\n    return STATUS_PENDING;",
+             "    status = IoCallDriver(ext->Lower, Irp);\n    ext->Started = Irp->IoStatus.Status == 0;\n"
+             "    return STATUS_PENDING;")],
+           ["Touched", "ToasterReadWrite", "D1 (toaster)"]),
+    sample("own packet that no routine keeps", "toaster.c", [(OWN, OWN_WRITE + OWN)],
+           ["NotKept", "bus.c:", "allocated it at toaster.c:"]),
+    sample("own packet with too few locations", "toaster.c", [(OWN, TOO_SHORT + OWN)],
+           ["TooShort (0x35)", "toaster.c:", "ToasterControl", "IoCallDriver"], refused="TooShort"),
+    sample("filter completes what it has sent", "filter.c",
+           [(FILTER_SEND, FILTER_FORWARD + "    NTSTATUS status = IoCallDriver(ext->Lower, Irp);\n"
+             "    IoCompleteRequest(Irp, IO_NO_INCREMENT);\n    return status;\n")],
+           ["NotOwner ", "filter.c:", "FilterRead, dispatch for READ of D2 (filter)",
+            "by D2 (filter), which D0 (bus) has"],
+           refused="NotOwner"),
+    stack("a thread completes twice", "removal.c",
+          [("            IoReleaseRemoveLock(&ext->RemoveLock, irp);\n        }\n    }",
+            "            IoCompleteRequest(irp, IO_NO_INCREMENT);\n"
+            "            IoReleaseRemoveLock(&ext->RemoveLock, irp);\n        }\n    }")],
+          ["CompletedTwice (0x44)", "removal.c:", "in Reader: IoCompleteRequest", "by D1 (removal)",
+           "completed before at common.h:"], refused="NotOwner"),
+    stack("a deferred call completes with the cancel routine set", "serial.c",
+          [("        if (IoSetCancelRoutine(irp, NULL) != NULL) {", "        if (irp) {")],
+          ["CancelRoutineSet (0x48)", "Sent, work of", "by D0 (serial)", "set before at serial.c:"],
+          refused="CancelRoutineSet"),
+    stack("a work item completes twice", "power.c",
+          [("    IoCompleteRequest(irp, IO_NO_INCREMENT);\n", "    IoCompleteRequest(irp, IO_NO_INCREMENT);\n" * 2)],
+          ["CompletedTwice (0x44)", "power.c:", "Ready, work of D1 (power)", "by D1 (power)",
+           "completed before at power.c:"],
+          refused="Ended"),
+    stack("a thread sends what isn't prepared", "retry.c",
+          [("            SendDown(ext, CONTAINING_RECORD(e, IRP, Tail.Overlay.ListEntry));",
+            "            IoCallDriver(ext->Lower, CONTAINING_RECORD(e, IRP, Tail.Overlay.ListEntry));")],
+          ["NotPrepared ", "retry.c:", "in Retry", "by D1 (retry)"], refused="NotPrepared"),
+    stack("a deferred call frees what is in flight", "watchdog.c",
+          [("    IoCancelIrp(w->Own);\n", "    IoFreeIrp(w->Own);\n")],
+          ["InFlight ", "watchdog.c:", "TooLong", "IoFreeIrp", "sent before at watchdog.c:"], refused="InFlight"),
+    stack("a routine frees its caller's packet", "keyboard.c",
+          [("    return Irp->IoStatus.Status;\n}", "    IoFreeIrp(Irp);\n    return STATUS_SUCCESS;\n}")],
+          ["InFlight ", "keyboard.c:", "ReadDone, completion routine of D1 (keyboard)", "IoFreeIrp"], verdict=None,
+          refused="InFlight"),
+    stack("a child without room for its parent's stack", "children.c",
+          [("    child->StackSize = (CCHAR)(Parent->StackSize + 1);\n", "")],
+          ["TooShort (0x35)", "children.c:", "ChildRead"], refused="TooShort"),
+    stack("a remove lock isn't given back", "removal.c",
+          [("    Complete(Irp, STATUS_CANCELLED, 0);\n    IoReleaseRemoveLock(&ext->RemoveLock, Irp);\n}",
+            "    Complete(Irp, STATUS_CANCELLED, 0);\n}")],
+          ["NotDrained ", "removal.c:", "Pnp, dispatch for PNP of D1 (removal)", "tag ", "in Read (dispatch for READ)"],
+          refused="NotDrained"),
+    stack("deleted with reads in flight", "removal.c",
+          [("        StopReader(ext);\n        IoReleaseRemoveLockAndWait(&ext->RemoveLock, Irp);\n"
+            "        KeWaitForSingleObject(ext->Thread, Executive, KernelMode, FALSE, NULL);\n",
+            "        IoReleaseRemoveLock(&ext->RemoveLock, Irp);\n"),
+           ("        KeSetEvent(&ext->Work, IO_NO_INCREMENT, FALSE);\n    Irp->", "        Pause(1);\n    Irp->")],
+          ["InFlight ", "removal.c:", "Pnp, dispatch for PNP of D1 (removal)", "IoDeleteDevice", "D1 (removal)"],
+          verdict=None, refused="InFlight"),
+    stack("a cancel routine doesn't complete", "serial.c",
+          [("    Complete(Irp, STATUS_CANCELLED, 0);\n}", "    (void)Irp;\n}")],
+          ["Hang", "WRITE", "D0 (serial) holds", "sent at common.h:"], verdict=None),
+    stack("a cancel routine keeps the cancel spin lock", "serial.c",
+          [("    IoReleaseCancelSpinLock(Irp->CancelIrql);\n", "")],
+          ["CancelSpinLock", "CancelQueued, cancel routine of D0 (serial)", "keeps"]),
+    stack("a spin lock is released by nobody", "serial.c",
+          [("    KeAcquireSpinLockAtDpcLevel(&ext->Lock);\n", "")],
+          ["SpinLock", "serial.c:", "Sent, work of", "KeReleaseSpinLock"]),
+    stack("a routine gives its packet away and continues", "retry.c",
+          [("1, FALSE);\n    return STATUS_MORE_PROCESSING_REQUIRED;", "1, FALSE);\n    IoCompleteRequest(Irp, 0);\n"
+            "    return STATUS_SUCCESS;")],
+          ["GivenAway", "ReadDone, completion routine of D1 (retry)"], verdict=None),
+    shape("CompletesWhatItSent", ["CompletedTwice (0x44)", "wrong.c:", "by D2 (middle)",
+                                  "completed before at lower.c:"],
+          refused="Ended"),
+    shape("NothingPrepared", ["NotPrepared ", "wrong.c:", "NothingPrepared", "by D2 (middle)"], refused="NotPrepared"),
+    shape("Lost", ["Lost", "dispatch for DEVICE_CONTROL of D2 (middle)"], verdict="illegal"),
+    shape("RoutineThenCopy", ["RoutineLost", "wrong.c:", "IoCopyCurrentIrpStackLocationToNext"]),
+    shape("OtherStatus", ["Status ", "D2 (middle)", "returned 0x102, the driver below 0"], verdict="illegal"),
+    shape("SkipThenComplete", ["AfterSkip ", "D2 (middle)", "IoCompleteRequest"]),
+    shape("MarksInRoutine", ["Mark ", "MarksUnmarked, completion routine of D2 (middle)", "marks, and"],
+          verdict="illegal"),
+    shape("MarksAndWaits", ["Returned ", "MiddleControl, dispatch for DEVICE_CONTROL of D2 (middle)",
+                            "marked the packet pending in its routine"], verdict="illegal", ending=1),
+    shape("WaitsForEver", ["Hang", "wrong.c:", "WaitsForEver",
+                           "is in MiddleControl, dispatch for DEVICE_CONTROL of D2 (middle)",
+                           "kept by NeverSignals"], verdict=None),
+]
+
+# Hosts made wrong: edits of the host's files. Each is judged illegal on one of the runs, but for the last.
+ORDER = [("host.h", "    size_t number;\n", "    size_t number, first, last;\n"),
+         ("recording.c", "    return e;\n}\n\n/* The entry is settled", "    e->first = stamp++;\n    return e;\n}\n\n"
+          "/* The entry is settled"),
+         ("recording.c", "/* A new entry,", "size_t stamp;\n\n/* A new entry,"),
+         ("recording.c", "    e->number = n_history;\n", "    e->number = n_history;\n    e->last = stamp++;\n"),
+         ("sending.c", "    e->reply = STATUS;\n",
+          "    extern size_t stamp;\n    e->last = stamp++;\n    e->reply = STATUS;\n"),
+         ("writing.c", "    char *text = NULL;\n    size_t length = 0, n = 0;\n",
+          "    char *text = NULL;\n    size_t length = 0, n = 0;\n"
+          "    qsort(history, n_history, sizeof *history, by_order);\n"
+          "    for (size_t i = 0; i < n_history; i++)\n        history[i]->number = i;\n"),
+         ("writing.c", "/* Writes the history up to", "static int by_order(const void *a, const void *b)\n{\n"
+          "    const Entry *x = *(Entry *const *)a, *y = *(Entry *const *)b;\n"
+          "    return x->KEY < y->KEY ? -1 : x->KEY > y->KEY;\n}\n\n/* Writes the history up to")]
+
+
+def by(key):
+    return [(file, old, new.replace("KEY", key)) for file, old, new in ORDER]
+
+
+WRONG_HOSTS = [
+    ("numbers given at the start of a call", by("first")),
+    ("numbers given at the return of a call", by("last")),
+    ("a cancel recorded a moment late",
+     [("cancelling.c", "        release_cancel_lock(irql);\n        answered(e, CANCELLED, 0);\n",
+       "        release_cancel_lock(irql);\n        let_driver_run();\n        KeStallExecutionProcessor(300);\n"
+       "        driver_came_back();\n        answered(e, CANCELLED, 0);\n")]),
+    ("PendingReturned is never set",
+     [("completion.c", "p->irp->PendingReturned = p->returned = l.pending;",
+       "p->irp->PendingReturned = p->returned = false;")]),
+    ("a kept packet is the originator's", [("settling.c", "    p->owner = f->device;\n    p->asking",
+                                            "    p->owner = ORIGINATOR;\n    p->asking")]),
+    ("a skip is written as a forward", [("writing.c", '"[\\"skip\\"]"', '"[\\"forward\\",null]"')]),
+    ("the pending bit isn't passed up",
+     [("completion.c", "else if (l.pending && j < p->size)", "else if (0 && j < p->size)")]),
+    ("routines on error are always asked",
+     [("completion.c", "(!NT_SUCCESS(p->status) && (set->flags", "((set->flags")]),
+    ("a kept packet's status is written down wrong, in all places",
+     [("settling.c", "a->new_status = p->status = status;", "a->new_status = p->status = 1;")]),
+]
