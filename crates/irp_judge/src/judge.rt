@@ -129,7 +129,7 @@ impl<'a> Judge<'a> {
 
     /// Gives what is wrong with what it was fed; none where that is a legal history.
     pub fn into_wrong(self) -> Option<Wrong>
-        ensures { result ≡ self.wrong }
+        ensures { result ≡ self.entry.wrong }
     {
         self.wrong
     }
