@@ -211,7 +211,8 @@ impl<K: Keep> ManagerState<K> {
     }
 
     fn delete(&mut self, device: DeviceId, drained: bool) -> Reply
-        ensures stepped { (tables : Tables) → StandingFacts tables.counts (state_of K.live self.old)
+        ensures stepped { (tables : Tables)
+            → StandingFacts tables.counts (state_of K.live self.old)
             → Stepped K.live tables drained self.old (Delete device) [] result self.new }
         ensures next { K.next self.new.keep ≡ K.next self.old.keep }
     {
@@ -245,7 +246,8 @@ impl<K: Keep> ManagerState<K> {
             (λ reply. SteppedAny K.live self.old (Allocate size) [] reply self.new) }
         ensures granted { IfOk result (λ reply. (irp : IrpRef) → reply ≡ Irp irp
             → K.grants self.old.keep wish irp.slot) }
-        ensures next { IfOk result (λ reply. LeavesNext K.next self.old (Allocate size) reply self.new) }
+        ensures next { IfOk result
+            (λ reply. LeavesNext K.next self.old (Allocate size) reply self.new) }
         ensures err { OnErr result (state_of K.live self.new ≡ state_of K.live self.old) }
         ensures err_next { OnErr result (K.next self.new.keep ≡ K.next self.old.keep) }
         ensures fixed { KeepsFixed self.old self.new }

@@ -22,7 +22,8 @@ use irp_types::{
 impl<K: Keep> ManagerState<K> {
     #[inline]
     pub(super) fn set_next(&mut self, party: Party, irp: IrpRef, major: u8, word: u64) -> Reply
-        ensures stepped { SteppedAny K.live self.old (SetNext party irp major word) [] result self.new }
+        ensures stepped { SteppedAny K.live self.old (SetNext party irp major word) [] result
+            self.new }
         ensures next { K.next self.new.keep ≡ K.next self.old.keep }
     {
         let Some(live) = self.keep.get_mut(irp.slot) else {
