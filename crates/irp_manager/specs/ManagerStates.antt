@@ -83,8 +83,9 @@ SlotGivenBack live gave_back old call reply new =
 
 -- whether a call takes no slot and gives none back: it was refused, or it neither allocates nor frees a packet
 abbrev pub leaves_slots : Call → Reply → Bool
-leaves_slots call (Refused refusal) = true
+leaves_slots (Allocate size) (Refused refusal) = true
 leaves_slots (Allocate size) reply = false
+leaves_slots (Free irp) (Refused refusal) = true
 leaves_slots (Free irp) reply = false
 leaves_slots call reply = true
 
