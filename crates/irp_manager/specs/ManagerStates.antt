@@ -1,5 +1,5 @@
 -- The state that a manager is in, and what a call makes of it.
-use Rattle.std.specs.Prelude.{ℕ, ◌≡◌, ◌*◌, Bool, true, List, Option, is_some}
+use Rattle.std.specs.Prelude.{ℕ, ◌≡◌, ◌*◌, Bool, true, false, List, Option, is_some}
 use Rattle.std.specs.FinMap as fin
 use Rattle.irp_types.specs.Limits.{most_locations}
 use Rattle.irp_types.specs.State.{StateValue, Fixed, Tables, packet_of}
@@ -14,7 +14,7 @@ use Rattle.irp_types.specs.declared.names.IrpRef.{IrpRef}
 use Rattle.irp_types.specs.declared.names.DeviceId.{DeviceId}
 use Rattle.irp_types.specs.declared.status.Status.{Status}
 use Rattle.irp_types.specs.declared.reply.Reply.{Reply}
-use Rattle.irp_types.specs.declared.reply.Reply.TheVariants.{Done, Irp, Status as StatusIs}
+use Rattle.irp_types.specs.declared.reply.Reply.TheVariants.{Done, Irp, Refused, Status as StatusIs}
 use Rattle.irp_manager.specs.Slots.{Slots}
 use Rattle.irp_manager.specs.declared.manager_state.ManagerState.{ManagerState}
 
@@ -80,6 +80,18 @@ abbrev pub SlotGivenBack :
     {K : Type 0} → (K → Slots) → (K → ℕ → K → Type 0) → ManagerState K → Call → Reply → ManagerState K → Type 0
 SlotGivenBack live gave_back old call reply new =
     (irp : IrpRef) → call ≡ Free irp → reply ≡ Done → WasGivenBack live gave_back old irp.slot new
+
+-- whether a call takes no slot and gives none back: it was refused, or it neither allocates nor frees a packet
+abbrev pub leaves_slots : Call → Reply → Bool
+leaves_slots (Allocate size) (Refused refusal) = true
+leaves_slots (Allocate size) reply = false
+leaves_slots (Free irp) (Refused refusal) = true
+leaves_slots (Free irp) reply = false
+leaves_slots call reply = true
+
+-- a call that takes no slot and gives none back leaves the slot that comes next
+abbrev pub LeavesNext : {K : Type 0} → (K → Option ℕ) → ManagerState K → Call → Reply → ManagerState K → Type 0
+LeavesNext next old call reply new = leaves_slots call reply ≡ true → next new.keep ≡ next old.keep
 
 -- how many questions a call may ask: one to each device and one to each location where it sends, completes or cancels
 abbrev pub most_asked : Call → ℕ

@@ -1,5 +1,5 @@
 -- Why the owner's call on a packet is refused.
-use Rattle.std.specs.Prelude.{ℕ, Option, None}
+use Rattle.std.specs.Prelude.{Option, None}
 use Rattle.irp_types.specs.Calls.{Call}
 use Rattle.irp_types.specs.Packet.{PacketValue, set_next_refusal, copy_to_next_refusal, mark_pending_refusal}
 use Rattle.irp_types.specs.Refusals.{leave_refusal, routine_refusal, cancel_refusal, send_refusal, complete_refusal}

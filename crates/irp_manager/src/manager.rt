@@ -7,9 +7,9 @@ ghost use Rattle.irp_types.specs.State.{opening_state};
 ghost use Rattle.irp_types.specs.Standing.{StandingFacts};
 ghost use Rattle.irp_routines.specs.Answers.{AreAnswered};
 ghost use Rattle.irp_manager.specs.Notes.{known_by};
-ghost use Rattle.irp_manager.specs.Keeps.{slabbed, IsNext};
+ghost use Rattle.irp_manager.specs.Keeps.{slabbed, IsNext, next_of};
 ghost use Rattle.irp_manager.specs.ManagerStates.{state_of, most_asked, KeepsFixed, Stepped, SenderStays, SlotGranted};
-ghost use Rattle.irp_manager.specs.ManagerStates.{SlotGivenBack};
+ghost use Rattle.irp_manager.specs.ManagerStates.{SlotGivenBack, LeavesNext};
 
 use crate::manager_state::{Applied, ManagerState};
 use crate::note::DrainNote;
@@ -71,11 +71,12 @@ impl<A: Ask> Manager<A> {
 
     /// Makes one call, in one step of the sequential manager, on condition that the standing facts hold; they hold
     /// after it too. A new packet gets the slot that the keep has as given back last, where its packet lies there
-    /// still, or else the slab's own next one. Right after a packet was given back, a new one gets its slot.
+    /// still, or else the slab's own next one. Right after a packet was given back, a new one gets its slot, and so it
+    /// does after further calls where none of them allocates or frees a packet.
     ///
     /// # Errors
     ///
-    /// `AllocError` where a growth was refused. The state stays as it was.
+    /// `AllocError` where a growth was refused. The state stays as it was, and the same slot comes next.
     pub fn apply<N: DrainNote>(&mut self, call: Call, note: &N) -> Result<Applied, AllocError>
         requires stands { StandingFacts (A.tables self.old.ask).counts
             (state_of slabbed self.old.state) }
@@ -97,12 +98,16 @@ impl<A: Ask> Manager<A> {
         ensures gave { IfOk result
             (λ applied. SlotGivenBack slabbed (λ keep slot left. IsNext left slot) self.old.state
             call applied.reply self.new.state) }
+        ensures left { IfOk result
+            (λ applied. LeavesNext next_of self.old.state call applied.reply self.new.state) }
         ensures lock { IfOk result
             (λ applied. applied.lock ≡ lock_of (state_of slabbed self.old.state) call) }
         ensures drained { IfOk result
             (λ applied. applied.drained ≡ known_by (N.knows_drained note.now) applied.lock) }
         ensures err { OnErr result
             (state_of slabbed self.new.state ≡ state_of slabbed self.old.state) }
+        ensures err_left { OnErr result
+            (next_of self.new.state.keep ≡ next_of self.old.state.keep) }
         ensures fixed { KeepsFixed self.old.state self.new.state }
     {
         self.state.apply(&self.ask, call, note, None)

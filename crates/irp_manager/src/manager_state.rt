@@ -25,7 +25,7 @@ ghost use Rattle.irp_routines.specs.Answers.{AreAnswered};
 ghost use Rattle.irp_manager.specs.Notes.{known_by};
 ghost use Rattle.irp_manager.specs.Rooms.{can_ask};
 ghost use Rattle.irp_manager.specs.ManagerStates.{state_of, most_asked, Stepped, SteppedAny, SenderStays, SlotGranted};
-ghost use Rattle.irp_manager.specs.ManagerStates.{SlotGivenBack, WasGivenBack, Agrees, KeepsFixed};
+ghost use Rattle.irp_manager.specs.ManagerStates.{SlotGivenBack, WasGivenBack, LeavesNext, Agrees, KeepsFixed};
 
 use crate::keep::Keep;
 use crate::note::DrainNote;
@@ -153,6 +153,7 @@ impl<K: Keep> ManagerState<K> {
             → Stepped K.live tables drained self.old (CreateDevice driver lock) [] reply self.new) }
         ensures err { OnErr result (state_of K.live self.new ≡ state_of K.live self.old) }
         ensures fixed { KeepsFixed self.old self.new }
+        ensures next { K.next self.new.keep ≡ K.next self.old.keep }
     {
         if let Some(refusal) = self.create_refusal(drivers, driver, lock) {
             return Ok(Reply::Refused(refusal));
@@ -170,7 +171,8 @@ impl<K: Keep> ManagerState<K> {
     }
 
     fn attach(&mut self, device: DeviceId, to: DeviceId) -> Reply
-        ensures { SteppedAny K.live self.old (Attach device to) [] result self.new }
+        ensures stepped { SteppedAny K.live self.old (Attach device to) [] result self.new }
+        ensures next { K.next self.new.keep ≡ K.next self.old.keep }
     {
         let reply = match self.stacks.attach(device, to) {
             Ok(top) => Reply::Device(top),
@@ -181,7 +183,8 @@ impl<K: Keep> ManagerState<K> {
     }
 
     fn detach(&mut self, lower: DeviceId) -> Reply
-        ensures { SteppedAny K.live self.old (Detach lower) [] result self.new }
+        ensures stepped { SteppedAny K.live self.old (Detach lower) [] result self.new }
+        ensures next { K.next self.new.keep ≡ K.next self.old.keep }
     {
         let reply = match self.stacks.detach(lower) {
             Ok(upper) => Reply::Device(upper),
@@ -208,8 +211,10 @@ impl<K: Keep> ManagerState<K> {
     }
 
     fn delete(&mut self, device: DeviceId, drained: bool) -> Reply
-        ensures { (tables : Tables) → StandingFacts tables.counts (state_of K.live self.old)
+        ensures stepped { (tables : Tables)
+            → StandingFacts tables.counts (state_of K.live self.old)
             → Stepped K.live tables drained self.old (Delete device) [] result self.new }
+        ensures next { K.next self.new.keep ≡ K.next self.old.keep }
     {
         if let Some(refusal) = self.delete_refusal(device, drained) {
             return Reply::Refused(refusal);
@@ -241,7 +246,10 @@ impl<K: Keep> ManagerState<K> {
             (λ reply. SteppedAny K.live self.old (Allocate size) [] reply self.new) }
         ensures granted { IfOk result (λ reply. (irp : IrpRef) → reply ≡ Irp irp
             → K.grants self.old.keep wish irp.slot) }
+        ensures next { IfOk result
+            (λ reply. LeavesNext K.next self.old (Allocate size) reply self.new) }
         ensures err { OnErr result (state_of K.live self.new ≡ state_of K.live self.old) }
+        ensures err_next { OnErr result (K.next self.new.keep ≡ K.next self.old.keep) }
         ensures fixed { KeepsFixed self.old self.new }
     {
         if let Some(refusal) = self.allocate_refusal(size) {
@@ -270,6 +278,7 @@ impl<K: Keep> ManagerState<K> {
     fn free(&mut self, irp: IrpRef) -> Reply
         ensures stepped { SteppedAny K.live self.old (Free irp) [] result self.new }
         ensures gave { result ≡ Done → WasGivenBack K.live K.gave_back self.old irp.slot self.new }
+        ensures next { LeavesNext K.next self.old (Free irp) result self.new }
     {
         if let Some(refusal) = self.flight_refusal(irp) {
             return Reply::Refused(refusal);
@@ -280,7 +289,8 @@ impl<K: Keep> ManagerState<K> {
 
     #[inline]
     fn reuse(&mut self, irp: IrpRef, status: Status) -> Reply
-        ensures { SteppedAny K.live self.old (Reuse irp status) [] result self.new }
+        ensures stepped { SteppedAny K.live self.old (Reuse irp status) [] result self.new }
+        ensures next { K.next self.new.keep ≡ K.next self.old.keep }
     {
         let use_no = self.next_use;
         let Some(live) = self.keep.get_mut(irp.slot) else {
@@ -308,6 +318,7 @@ impl<K: Keep> ManagerState<K> {
             result self.new }
         ensures may { AreAnswered (A.may_plan ask.now) (A.may_answer ask.now)
             (A.may_cancel ask.now) asked.new.items }
+        ensures next { K.next self.new.keep ≡ K.next self.old.keep }
     {
         let Some(live) = self.keep.get_mut(irp.slot) else {
             return Reply::Refused(Refusal::NoIrp);
@@ -336,6 +347,7 @@ impl<K: Keep> ManagerState<K> {
             (FinishTaken irp token status information) asked.new.items result self.new }
         ensures may { AreAnswered (A.may_plan ask.now) (A.may_answer ask.now)
             (A.may_cancel ask.now) asked.new.items }
+        ensures next { K.next self.new.keep ≡ K.next self.old.keep }
     {
         let Some(live) = self.keep.get_mut(irp.slot) else {
             return Reply::Refused(Refusal::NoIrp);
@@ -381,7 +393,9 @@ impl<K: Keep> ManagerState<K> {
         ensures granted { IfOk result (λ reply. SlotGranted K.grants self.old wish call reply) }
         ensures gave { IfOk result
             (λ reply. SlotGivenBack K.live K.gave_back self.old call reply self.new) }
+        ensures next { IfOk result (λ reply. LeavesNext K.next self.old call reply self.new) }
         ensures err { OnErr result (state_of K.live self.new ≡ state_of K.live self.old) }
+        ensures err_next { OnErr result (K.next self.new.keep ≡ K.next self.old.keep) }
         ensures fixed { OnErr result (KeepsFixed self.old self.new) }
     {
         match call {
@@ -409,11 +423,11 @@ impl<K: Keep> ManagerState<K> {
     /// Makes one call, in one step of the sequential manager, on condition that the standing facts hold with the
     /// routines of the asker; they hold after it too. Room for what it can ask is made before anything changes, and the
     /// call asks into that; where more than half stays unused, the rest is given back. A new packet gets a slot as the
-    /// keep promises for the wish.
+    /// keep promises for the wish. A call that allocates no packet and frees none leaves the slot that comes next.
     ///
     /// # Errors
     ///
-    /// `AllocError` where a growth was refused. The state stays as it was.
+    /// `AllocError` where a growth was refused. The state stays as it was, and the same slot comes next.
     #[inline(always)]
     pub fn apply<A: Ask, N: DrainNote>(
         &mut self,
@@ -436,11 +450,14 @@ impl<K: Keep> ManagerState<K> {
             (λ applied. SlotGranted K.grants self.old wish call applied.reply) }
         ensures gave { IfOk result
             (λ applied. SlotGivenBack K.live K.gave_back self.old call applied.reply self.new) }
+        ensures next { IfOk result
+            (λ applied. LeavesNext K.next self.old call applied.reply self.new) }
         ensures lock { IfOk result
             (λ applied. applied.lock ≡ lock_of (state_of K.live self.old) call) }
         ensures drained { IfOk result
             (λ applied. applied.drained ≡ known_by (N.knows_drained note.now) applied.lock) }
         ensures err { OnErr result (state_of K.live self.new ≡ state_of K.live self.old) }
+        ensures err_next { OnErr result (K.next self.new.keep ≡ K.next self.old.keep) }
         ensures fixed { OnErr result (KeepsFixed self.old self.new) }
     {
         let mut asked = self.room_for(call)?;

@@ -67,6 +67,8 @@ impl Keep for MapKeep {
 
     ghost gave_back = { λ old slot new. mapped new ≡ fin.remove (mapped old) slot };
 
+    ghost next = { λ keep. None };
+
     fn len(&self) -> usize {
         self.places.len()
     }

@@ -22,7 +22,9 @@ use irp_types::{
 impl<K: Keep> ManagerState<K> {
     #[inline]
     pub(super) fn set_next(&mut self, party: Party, irp: IrpRef, major: u8, word: u64) -> Reply
-        ensures { SteppedAny K.live self.old (SetNext party irp major word) [] result self.new }
+        ensures stepped { SteppedAny K.live self.old (SetNext party irp major word) [] result
+            self.new }
+        ensures next { K.next self.new.keep ≡ K.next self.old.keep }
     {
         let Some(live) = self.keep.get_mut(irp.slot) else {
             return Reply::Refused(Refusal::NoIrp);
@@ -32,7 +34,8 @@ impl<K: Keep> ManagerState<K> {
 
     #[inline]
     pub(super) fn copy_to_next(&mut self, party: Party, irp: IrpRef) -> Reply
-        ensures { SteppedAny K.live self.old (CopyToNext party irp) [] result self.new }
+        ensures stepped { SteppedAny K.live self.old (CopyToNext party irp) [] result self.new }
+        ensures next { K.next self.new.keep ≡ K.next self.old.keep }
     {
         let Some(live) = self.keep.get_mut(irp.slot) else {
             return Reply::Refused(Refusal::NoIrp);
@@ -42,7 +45,8 @@ impl<K: Keep> ManagerState<K> {
 
     #[inline]
     pub(super) fn skip(&mut self, party: Party, irp: IrpRef) -> Reply
-        ensures { SteppedAny K.live self.old (Skip party irp) [] result self.new }
+        ensures stepped { SteppedAny K.live self.old (Skip party irp) [] result self.new }
+        ensures next { K.next self.new.keep ≡ K.next self.old.keep }
     {
         let Some(live) = self.keep.get_mut(irp.slot) else {
             return Reply::Refused(Refusal::NoIrp);
@@ -58,10 +62,11 @@ impl<K: Keep> ManagerState<K> {
         irp: IrpRef,
         setting: Setting,
     ) -> Reply
-        ensures { (tables : Tables) (drained : Bool) → tables.counts ≡ counts
+        ensures stepped { (tables : Tables) (drained : Bool) → tables.counts ≡ counts
             → StandingFacts tables.counts (state_of K.live self.old)
             → Stepped K.live tables drained self.old (SetRoutine party irp setting) [] result
             self.new }
+        ensures next { K.next self.new.keep ≡ K.next self.old.keep }
     {
         let Some(live) = self.keep.get_mut(irp.slot) else {
             return Reply::Refused(Refusal::NoIrp);
@@ -71,7 +76,8 @@ impl<K: Keep> ManagerState<K> {
 
     #[inline]
     pub(super) fn mark_pending(&mut self, party: Party, irp: IrpRef) -> Reply
-        ensures { SteppedAny K.live self.old (MarkPending party irp) [] result self.new }
+        ensures stepped { SteppedAny K.live self.old (MarkPending party irp) [] result self.new }
+        ensures next { K.next self.new.keep ≡ K.next self.old.keep }
     {
         let Some(live) = self.keep.get_mut(irp.slot) else {
             return Reply::Refused(Refusal::NoIrp);
@@ -99,6 +105,7 @@ impl<K: Keep> ManagerState<K> {
             asked.new.items result self.new }
         ensures may { AreAnswered (A.may_plan ask.now) (A.may_answer ask.now)
             (A.may_cancel ask.now) asked.new.items }
+        ensures next { K.next self.new.keep ≡ K.next self.old.keep }
         ensures stays { SentStays K.live self.old irp result self.new }
     {
         let Some(live) = self.keep.get_mut(irp.slot) else {
@@ -128,6 +135,7 @@ impl<K: Keep> ManagerState<K> {
             (Complete party irp status information) asked.new.items result self.new }
         ensures may { AreAnswered (A.may_plan ask.now) (A.may_answer ask.now)
             (A.may_cancel ask.now) asked.new.items }
+        ensures next { K.next self.new.keep ≡ K.next self.old.keep }
     {
         let Some(live) = self.keep.get_mut(irp.slot) else {
             return Reply::Refused(Refusal::NoIrp);
@@ -143,10 +151,11 @@ impl<K: Keep> ManagerState<K> {
         irp: IrpRef,
         cancel: Option<CancelId>,
     ) -> Reply
-        ensures { (tables : Tables) (drained : Bool) → tables.counts ≡ counts
+        ensures stepped { (tables : Tables) (drained : Bool) → tables.counts ≡ counts
             → StandingFacts tables.counts (state_of K.live self.old)
             → Stepped K.live tables drained self.old (SetCancelRoutine party irp cancel) [] result
             self.new }
+        ensures next { K.next self.new.keep ≡ K.next self.old.keep }
     {
         let Some(live) = self.keep.get_mut(irp.slot) else {
             return Reply::Refused(Refusal::NoIrp);
@@ -173,6 +182,7 @@ impl<K: Keep> ManagerState<K> {
             self.new }
         ensures may { AreAnswered (A.may_plan ask.now) (A.may_answer ask.now)
             (A.may_cancel ask.now) asked.new.items }
+        ensures next { K.next self.new.keep ≡ K.next self.old.keep }
         ensures stays { SenderStays K.live self.old call result self.new }
     {
         let counts = ask.counts();

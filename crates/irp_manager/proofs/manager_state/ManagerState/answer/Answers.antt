@@ -25,14 +25,14 @@ returns-in-Attach-clause-stepped g c =
     let drained = c.args.drained in
     let tables = g.A.Ask.tables c.args.ask.now in
     let call : Call = Attach c.in-Attach.device c.in-Attach.to in
-    handed g.K.Keep.live tables drained c.args.self.now c.args.call call c.args.asked.now.items c.attach.result c.attach.new.self c.in-Attach.is c.requires.empty (c.attach.ensures tables drained c.requires.stands)
+    handed g.K.Keep.live tables drained c.args.self.now c.args.call call c.args.asked.now.items c.attach.result c.attach.new.self c.in-Attach.is c.requires.empty (c.attach.ensures.stepped tables drained c.requires.stands)
 
 pub returns-in-Detach-clause-stepped : goal.returns-in-Detach-clause-stepped
 returns-in-Detach-clause-stepped g c =
     let drained = c.args.drained in
     let tables = g.A.Ask.tables c.args.ask.now in
     let call : Call = Detach c.in-Detach.lower in
-    handed g.K.Keep.live tables drained c.args.self.now c.args.call call c.args.asked.now.items c.detach.result c.detach.new.self c.in-Detach.is c.requires.empty (c.detach.ensures tables drained c.requires.stands)
+    handed g.K.Keep.live tables drained c.args.self.now c.args.call call c.args.asked.now.items c.detach.result c.detach.new.self c.in-Detach.is c.requires.empty (c.detach.ensures.stepped tables drained c.requires.stands)
 
 pub returns-in-Allocate-clause-stepped : goal.returns-in-Allocate-clause-stepped
 returns-in-Allocate-clause-stepped g c =
@@ -57,7 +57,7 @@ returns-in-Reuse-clause-stepped g c =
     let drained = c.args.drained in
     let tables = g.A.Ask.tables c.args.ask.now in
     let call : Call = Reuse c.in-Reuse.irp c.in-Reuse.status in
-    handed g.K.Keep.live tables drained c.args.self.now c.args.call call c.args.asked.now.items c.reuse.result c.reuse.new.self c.in-Reuse.is c.requires.empty (c.reuse.ensures tables drained c.requires.stands)
+    handed g.K.Keep.live tables drained c.args.self.now c.args.call call c.args.asked.now.items c.reuse.result c.reuse.new.self c.in-Reuse.is c.requires.empty (c.reuse.ensures.stepped tables drained c.requires.stands)
 
 pub returns-in-Look-clause-stepped : goal.returns-in-Look-clause-stepped
 returns-in-Look-clause-stepped g c =
@@ -71,7 +71,7 @@ returns-in-Delete-clause-stepped g c =
     let drained = c.args.drained in
     let tables = g.A.Ask.tables c.args.ask.now in
     let call : Call = Delete c.in-Delete.device in
-    handed g.K.Keep.live tables drained c.args.self.now c.args.call call c.args.asked.now.items c.delete.result c.delete.new.self c.in-Delete.is c.requires.empty (c.delete.ensures tables c.requires.stands)
+    handed g.K.Keep.live tables drained c.args.self.now c.args.call call c.args.asked.now.items c.delete.result c.delete.new.self c.in-Delete.is c.requires.empty (c.delete.ensures.stepped tables c.requires.stands)
 
 pub returns-in-Cancel-clause-stepped : goal.returns-in-Cancel-clause-stepped
 returns-in-Cancel-clause-stepped g c =

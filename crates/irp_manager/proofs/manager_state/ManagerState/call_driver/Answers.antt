@@ -24,7 +24,7 @@ returns-clause-stepped g c drained =
     let reply = c.send.result in
     let at = lent_at _ c.get_mut.result c.in-Some.live c.get_mut.ensures.value c.in-Some.is in
     let slots = g.K.Keep.live (c.get_mut.follows.lender c.send.new.live) in
-    let put = on_some _ c.get_mut.result c.in-Some.live c.in-Some.is (c.get_mut.follows.holds c.send.new.live) in
+    let put = on_some _ c.get_mut.result c.in-Some.live c.in-Some.is (c.get_mut.follows.holds c.send.new.live).0 in
     let goes = c.send.ensures.goes in
     let refusal = or_else (party_refusal_in (Some live) c.args.party irp) (send_refusal state.devices c.args.party live.packet target.0) in
     record {
@@ -41,7 +41,7 @@ returns-clause-stays g c status is =
     let state : StateValue = state_of g.K.Keep.live c.args.self.now in
     let irp = c.args.irp in
     let at = lent_at _ c.get_mut.result c.in-Some.live c.get_mut.ensures.value c.in-Some.is in
-    let put = on_some _ c.get_mut.result c.in-Some.live c.in-Some.is (c.get_mut.follows.holds c.send.new.live) in
+    let put = on_some _ c.get_mut.result c.in-Some.live c.in-Some.is (c.get_mut.follows.holds c.send.new.live).0 in
     stays_on state irp c.in-Some.live.now c.send.new.live (g.K.Keep.live (c.get_mut.follows.lender c.send.new.live)) status at put (c.send.ensures.stays status is)
 
 pub send-requires-clause-sound : goal.send-requires-clause-sound
@@ -52,3 +52,6 @@ send-requires-clause-room g c =
     let state : StateValue = state_of g.K.Keep.live c.args.self.now in
     let at = lent_at _ c.get_mut.result c.in-Some.live c.get_mut.ensures.value c.in-Some.is in
     subst (λ (given : LivePacket). vec_len c.args.asked.now + can_ask_down state.devices given.packet c.args.target.0 ≤ vec_capacity c.args.asked.now) (found state c.args.irp.slot c.in-Some.live.now at) c.requires.room
+
+pub returns-clause-next : goal.returns-clause-next
+returns-clause-next g c = (c.get_mut.follows.holds c.send.new.live).1

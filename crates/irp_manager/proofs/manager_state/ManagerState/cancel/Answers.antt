@@ -21,7 +21,7 @@ returns-clause-stepped g c drained =
     let reply = c.cancel.result in
     let at = lent_at _ c.get_mut.result c.in-Some.live c.get_mut.ensures.value c.in-Some.is in
     let slots = g.K.Keep.live (c.get_mut.follows.lender new) in
-    let put = on_some _ c.get_mut.result c.in-Some.live c.in-Some.is (c.get_mut.follows.holds new) in
+    let put = on_some _ c.get_mut.result c.in-Some.live c.in-Some.is (c.get_mut.follows.holds new).0 in
     let goes = c.cancel.ensures.goes in
     let here = packet_refusal_in (Some live) irp in
     let refusal = or_else here (first_failing (ended_check live.packet ∷ [])) in
@@ -41,3 +41,6 @@ cancel-requires-clause-room g c =
     let state : StateValue = state_of g.K.Keep.live c.args.self.now in
     let at = lent_at _ c.get_mut.result c.in-Some.live c.get_mut.ensures.value c.in-Some.is in
     subst (λ (given : LivePacket). vec_len c.args.asked.now + (1 + can_ask_up given.packet) ≤ vec_capacity c.args.asked.now) (found state c.args.irp.slot c.in-Some.live.now at) c.requires.room
+
+pub returns-clause-next : goal.returns-clause-next
+returns-clause-next g c = (c.get_mut.follows.holds c.cancel.new.live).1

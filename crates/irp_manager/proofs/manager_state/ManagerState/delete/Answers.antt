@@ -12,8 +12,8 @@ use Rattle.irp_manager.proofs.Fresh.{stands_devices}
 use Rattle.irp_manager.proofs.Turns.{deletable}
 use Rattle.irp_manager.proofs.manager_state.ManagerState.delete.Goals as goal
 
-pub returns-in-Some : goal.returns-in-Some
-returns-in-Some g c tables stands =
+pub returns-in-Some-clause-stepped : goal.returns-in-Some-clause-stepped
+returns-in-Some-clause-stepped g c tables stands =
     let state : StateValue = state_of g.K.Keep.live c.args.self.now in
     let reply : Reply = Refused c.in-Some.refusal in
     record {
@@ -24,8 +24,8 @@ returns-in-Some g c tables stands =
       fixed = (refl, refl);
     }
 
-pub returns : goal.returns
-returns g c tables stands =
+pub returns-clause-stepped : goal.returns-clause-stepped
+returns-clause-stepped g c tables stands =
     let state : StateValue = state_of g.K.Keep.live c.args.self.now in
     let device = c.args.device.0 in
     let new : StateValue = record state { devices = c.delete-deleted.new.self.devices } in

@@ -22,7 +22,7 @@ returns-clause-stepped g c drained =
     let reply = c.finish_taken.result in
     let at = lent_at _ c.get_mut.result c.in-Some.live c.get_mut.ensures.value c.in-Some.is in
     let slots = g.K.Keep.live (c.get_mut.follows.lender new) in
-    let put = on_some _ c.get_mut.result c.in-Some.live c.in-Some.is (c.get_mut.follows.holds new) in
+    let put = on_some _ c.get_mut.result c.in-Some.live c.in-Some.is (c.get_mut.follows.holds new).0 in
     let goes = c.finish_taken.ensures.goes in
     let here = packet_refusal_in (Some live) irp in
     record {
@@ -42,3 +42,6 @@ finish_taken-requires-clause-room g c =
     let state : StateValue = state_of g.K.Keep.live c.args.self.now in
     let at = lent_at _ c.get_mut.result c.in-Some.live c.get_mut.ensures.value c.in-Some.is in
     subst (λ (given : LivePacket). vec_len c.args.asked.now + can_ask_up given.packet ≤ vec_capacity c.args.asked.now) (found state c.args.irp.slot c.in-Some.live.now at) c.requires.room
+
+pub returns-clause-next : goal.returns-clause-next
+returns-clause-next g c = (c.get_mut.follows.holds c.finish_taken.new.live).1

@@ -10,8 +10,8 @@ use Rattle.irp_manager.proofs.OnePacket.{GoesOn, party_goes_on, stands_on, not_e
 use Rattle.irp_manager.proofs.Turns.{set_step, set_sound}
 use Rattle.irp_manager.proofs.manager_state.ManagerState.set_routine.Goals as goal
 
-pub returns : goal.returns
-returns g c tables drained counted stands =
+pub returns-clause-stepped : goal.returns-clause-stepped
+returns-clause-stepped g c tables drained counted stands =
     let state : StateValue = state_of g.K.Keep.live c.args.self.now in
     let party = c.args.party in
     let irp = c.args.irp in
@@ -21,7 +21,7 @@ returns g c tables drained counted stands =
     let reply = c.set_routine.result in
     let at = lent_at _ c.get_mut.result c.in-Some.live c.get_mut.ensures.value c.in-Some.is in
     let slots = g.K.Keep.live (c.get_mut.follows.lender new) in
-    let put = on_some _ c.get_mut.result c.in-Some.live c.in-Some.is (c.get_mut.follows.holds new) in
+    let put = on_some _ c.get_mut.result c.in-Some.live c.in-Some.is (c.get_mut.follows.holds new).0 in
     let here = party_refusal_in (Some live) party irp in
     let goes : Goes (or_else here (routine_refusal tables.counts live.packet setting)) (Sets setting [] reply live.packet) live new [] reply =
     subst (λ (counts : Known). Goes (or_else here (routine_refusal counts live.packet setting)) (Sets setting [] reply live.packet) live new [] reply) (sym counted) c.set_routine.ensures.goes in
@@ -35,3 +35,6 @@ returns g c tables drained counted stands =
       stands = stands_on tables.counts state irp.slot (or_else here (routine_refusal tables.counts live.packet setting)) (Sets setting [] reply live.packet) live new [] reply slots at put goes sound stands;
       fixed = (refl, refl);
     }
+
+pub returns-clause-next : goal.returns-clause-next
+returns-clause-next g c = (c.get_mut.follows.holds c.set_routine.new.live).1

@@ -9,8 +9,8 @@ use Rattle.irp_manager.proofs.OnePacket.{party_goes_on, stands_on, not_ended, no
 use Rattle.irp_manager.proofs.Turns.{left_step, left_sound}
 use Rattle.irp_manager.proofs.manager_state.ManagerState.skip.Goals as goal
 
-pub returns : goal.returns
-returns g c tables drained stands =
+pub returns-clause-stepped : goal.returns-clause-stepped
+returns-clause-stepped g c tables drained stands =
     let state : StateValue = state_of g.K.Keep.live c.args.self.now in
     let party = c.args.party in
     let irp = c.args.irp in
@@ -19,7 +19,7 @@ returns g c tables drained stands =
     let reply = c.skip.result in
     let at = lent_at _ c.get_mut.result c.in-Some.live c.get_mut.ensures.value c.in-Some.is in
     let slots = g.K.Keep.live (c.get_mut.follows.lender new) in
-    let put = on_some _ c.get_mut.result c.in-Some.live c.in-Some.is (c.get_mut.follows.holds new) in
+    let put = on_some _ c.get_mut.result c.in-Some.live c.in-Some.is (c.get_mut.follows.holds new).0 in
     let goes = c.skip.ensures.goes in
     let here = party_refusal_in (Some live) party irp in
     record {
@@ -29,3 +29,6 @@ returns g c tables drained stands =
           (left_sound tables.counts here reply live new goes (not_ended party irp live) (not_in_slot party irp live) (stands.packets irp.slot live at)) stands;
       fixed = (refl, refl);
     }
+
+pub returns-clause-next : goal.returns-clause-next
+returns-clause-next g c = (c.get_mut.follows.holds c.skip.new.live).1
