@@ -89,6 +89,8 @@ impl Keep for PlainKeep {
 
     ghost gave_back = { λ old slot new. live_of new ≡ fin.remove (live_of old) slot };
 
+    ghost next = { λ keep. None };
+
     fn len(&self) -> usize {
         let mut count = 0;
         for place in &self.places {
