@@ -16,8 +16,8 @@ returns-in-Some c =
     let read = c.in-Some.ensures.value in (
       (
         refl,
-        (λ w. on_some c.as_mut.result _ (live-put items slot w below ∙ ap (λ (places : List (Option LivePacket)). fin.insert (live_of places) slot w) c.self.view_is)),
-        ap (λ (place : Option LivePacket). live_of (set items slot place)) read ∙ ap live_of (set-get_or items slot c.in-Some.place.now) ∙ ap live_of c.self.view_is,
+        (λ w. (on_some c.as_mut.result _ (live-put items slot w below ∙ ap (λ (places : List (Option LivePacket)). fin.insert (live_of places) slot w) c.self.view_is), refl)),
+        (ap (λ (place : Option LivePacket). live_of (set items slot place)) read ∙ ap live_of (set-get_or items slot c.in-Some.place.now) ∙ ap live_of c.self.view_is, refl),
       ),
       record {
         writes_back = tt;
@@ -33,6 +33,6 @@ returns-in-None c =
       | inl low ↦ (let no : false ≡ true = c.in-None.ensures.variant.1 (omega (arith, low)) in absurd (let never : ⊥ = cc in never))
       | inr high ↦ high
     ] in (
-      (refl, (λ w. tt), ap live_of c.self.view_is),
+      (refl, (λ w. (tt, refl)), (ap live_of c.self.view_is, refl)),
       record { writes_back = tt; value = none_at items c.args.self.now c.self.view_is slot past },
     )
