@@ -14,7 +14,7 @@ returns-clause-weight g c = λ number.
     let read = c.index_mut-other.ensures.value in
     let one : other.state ≡ c.args.node.state =
     ap (λ node. node.state) read ∙ ap (λ nodes. (get_or nodes c.in-Some.place other).state) (sym c.deref.ensures.value) ∙ c.in-Some.ensures.same other in
-    joined_weight number c.args.joined.now.items c.in-Some.place other c.args.node _ there read one refl c.in-Some-checked_add.ensures.1
+    joined_weight number c.args.joined.now.items c.in-Some.place other c.args.node _ there read one refl (omega (arith, c.in-Some-checked_add.ensures.1))
 
 pub returns-clause-reached : goal.returns-clause-reached
 returns-clause-reached g c = λ start steps all one.

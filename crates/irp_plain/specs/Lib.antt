@@ -1,0 +1,3 @@
+pub mod Keeps
+pub mod Locks
+pub mod Slots

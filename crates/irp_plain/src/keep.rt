@@ -1,0 +1,148 @@
+//! A keep of live packets that can be copied and compared.
+
+ghost use Rattle.std.specs.Prelude.{◌≡◌, ◌<◌, ◌≤◌, ℕ, true, None, is_some, IfOk, [], length};
+ghost use mathlib.Core.Logic.{◌↔◌};
+ghost use Rattle.std.specs.FinMap as fin;
+ghost use Rattle.irp_types.specs.State.{LivePacket};
+ghost use Rattle.irp_manager.specs.Slots.{place_at, live_of};
+ghost use Rattle.irp_plain.specs.Keeps.{IsLowestVacant};
+
+use irp_manager::{Keep, Live, has_packet};
+use irp_packet::Packet;
+use irp_types::DeviceId;
+use std::alloc::{AllocError, Global};
+use std::marker::Model;
+
+/// Live packets in a list of places, a slot being a place. A new packet gets the lowest slot that isn't live, whatever
+/// was wished for (this project's own rule).
+///
+/// Contracts see it as the list of its places.
+#[derive(Drop)]
+pub struct PlainKeep {
+    places: Vec<Option<Live>>,
+}
+
+impl Model for PlainKeep {
+    ghost use Rattle.std.specs.Prelude.{List, Option};
+    ghost use Rattle.irp_types.specs.State.{LivePacket};
+
+    ghost Value = { List (Option LivePacket) };
+
+    ghost view = { λ keep. keep.places.items };
+}
+
+impl PlainKeep {
+    /// No packets. It takes no memory until one is inserted.
+    pub fn new(alloc: Global) -> PlainKeep
+        ensures { result ≡ [] }
+    {
+        PlainKeep {
+            places: Vec::new(alloc),
+        }
+    }
+
+    /// A copy.
+    ///
+    /// # Errors
+    ///
+    /// `AllocError` where memory runs out.
+    pub fn copy(&self, alloc: Global) -> Result<PlainKeep, AllocError>
+        ensures { IfOk result (λ copy. copy ≡ self.now) }
+    {
+        let mut places = Vec::new(alloc);
+        for place in &self.places {
+            places.push(copy_of(place)?)?;
+        }
+        Ok(PlainKeep { places })
+    }
+
+    /// The lowest slot that isn't live.
+    fn vacant(&self) -> usize
+        ensures { IsLowestVacant self.now result }
+    {
+        for slot in 0..self.places.len() {
+            if self.places[slot].is_none() {
+                return slot;
+            }
+        }
+        self.places.len()
+    }
+}
+
+/// A copy of what stands at a place.
+fn copy_of(place: &Option<Live>) -> Result<Option<Live>, AllocError>
+    ensures { IfOk result (λ copy. copy ≡ place.now) }
+{
+    match place {
+        None => Ok(None),
+        Some(live) => Ok(Some(Live {
+            packet: live.packet.clone()?,
+            use_no: live.use_no,
+        })),
+    }
+}
+
+impl Keep for PlainKeep {
+    ghost live = { live_of };
+
+    ghost grants = { λ keep wish slot. IsLowestVacant keep slot };
+
+    ghost gave_back = { λ old slot new. live_of new ≡ fin.remove (live_of old) slot };
+
+    fn len(&self) -> usize {
+        let mut count = 0;
+        for place in &self.places {
+            if place.is_some() {
+                count += 1;
+            }
+        }
+        count
+    }
+
+    fn is_in_flight(&self, device: DeviceId) -> bool {
+        for place in &self.places {
+            if let Some(live) = place {
+                if has_packet(live, device) {
+                    return true;
+                }
+            }
+        }
+        false
+    }
+
+    fn get(&self, slot: usize) -> Option<&Live> {
+        if slot >= self.places.len() {
+            return None;
+        }
+        let place = &self.places[slot];
+        place.as_ref()
+    }
+
+    fn get_mut(&mut self, slot: usize) -> Option<&mut Live> {
+        match self.places.get_mut(slot) {
+            Some(place) => place.as_mut(),
+            None => None,
+        }
+    }
+
+    fn give_back(&mut self, slot: usize) {
+        if slot < self.places.len() {
+            self.places[slot] = None;
+        }
+    }
+
+    fn insert(&mut self, wish: Option<usize>, size: u8, use_no: u64) -> Result<usize, AllocError> {
+        let _ = wish;
+        let slot = self.vacant();
+        let live = Live {
+            packet: Packet::of_size(size),
+            use_no,
+        };
+        if slot < self.places.len() {
+            self.places[slot] = Some(live);
+        } else {
+            self.places.push(Some(live))?;
+        }
+        Ok(slot)
+    }
+}
