@@ -15,11 +15,12 @@ leads_more moves seats start (first ∷ path) middle last seat leads below steps
     (leads.0, leads.1, leads.2, leads_more moves seats leads.0 path middle last seat leads.3 below steps)
 
 -- a node that comes one step after another
-pub reached_more : {S : Type 0} (moves : Moves S) (seats : ℕ) (start : S) (node after : Node S) (seat steps : ℕ) → IsReached moves seats start (Some steps) node → seat < seats → moves node.state seat (Some after.state) → after.path.items ≡ node.path.items ++ seat ∷ [] → IsReached moves seats start (Some (steps + 1)) after
-reached_more moves seats start node after seat steps reached below moved path = record {
+pub reached_more : {S : Type 0} (moves : Moves S) (seats : ℕ) (mark : S → ℕ) (start : S) (node after : Node S) (seat steps : ℕ) → IsReached moves seats mark start (Some steps) node → seat < seats → moves node.state seat (Some after.state) → after.path.items ≡ node.path.items ++ seat ∷ [] → after.mark ≡ mark after.state → IsReached moves seats mark start (Some (steps + 1)) after
+reached_more moves seats mark start node after seat steps reached below moved path marked = record {
   path = rw path (leads_more moves seats start node.path.items node.state after.state seat reached.path below moved);
   long = omega (arith, ap length path, length_push node.path.items seat, reached.long);
   ended = tt;
+  marked = marked;
 }
 
 -- what follows holds each state that a seat leads to
@@ -61,19 +62,19 @@ none_from_ended moves settled (suc seats) state states follow ended =
     follow.4 ∙ ap (λ front. front ++ option_to_list follow.0) front ∙ ap (λ found. option_to_list found) back
 
 -- a node that has no successor has ended
-pub reached_done : {S : Type 0} (moves : Moves S) (seats : ℕ) (start : S) (steps : ℕ) (node : Node S) → HasEnded moves seats node.state → IsReached moves seats start (Some steps) node → IsReached moves seats start None node
-reached_done moves seats start steps node ended reached = record { path = reached.path; long = tt; ended = ended }
+pub reached_done : {S : Type 0} (moves : Moves S) (seats : ℕ) (mark : S → ℕ) (start : S) (steps : ℕ) (node : Node S) → HasEnded moves seats node.state → IsReached moves seats mark start (Some steps) node → IsReached moves seats mark start None node
+reached_done moves seats mark start steps node ended reached = record { path = reached.path; long = tt; ended = ended; marked = reached.marked }
 
 -- what is reached and has ended is found
-pub found_from_reached : {S : Type 0} (moves : Moves S) (seats : ℕ) (start : S) (nodes : List (Node S)) → All (IsReached moves seats start None) nodes → All (IsFound moves seats start) nodes
-found_from_reached moves seats start nodes all =
-    All-weaker (IsReached moves seats start None) (IsFound moves seats start) (λ node reached. record { path = reached.path; ended = reached.ended }) nodes all
+pub found_from_reached : {S : Type 0} (moves : Moves S) (seats : ℕ) (mark : S → ℕ) (start : S) (nodes : List (Node S)) → All (IsReached moves seats mark start None) nodes → All (IsFound moves seats start) nodes
+found_from_reached moves seats mark start nodes all =
+    All-weaker (IsReached moves seats mark start None) (IsFound moves seats start) (λ node reached. record { path = reached.path; ended = reached.ended }) nodes all
 
 -- a layer that has a node tells of an order
-pub order_from_layer : {S : Type 0} (moves : Moves S) (seats : ℕ) (start : S) (steps : ℕ) (nodes : List (Node S)) → 0 < length nodes → All (IsReached moves seats start (Some steps)) nodes → HasOrderOf moves seats start steps
-order_from_layer moves seats start steps [] some all = absurd (omega (arith, some))
-order_from_layer moves seats start steps (node ∷ nodes) some all =
-    let reached = All-head (IsReached moves seats start (Some steps)) node nodes all in
+pub order_from_layer : {S : Type 0} (moves : Moves S) (seats : ℕ) (mark : S → ℕ) (start : S) (steps : ℕ) (nodes : List (Node S)) → 0 < length nodes → All (IsReached moves seats mark start (Some steps)) nodes → HasOrderOf moves seats start steps
+order_from_layer moves seats mark start steps [] some all = absurd (omega (arith, some))
+order_from_layer moves seats mark start steps (node ∷ nodes) some all =
+    let reached = All-head (IsReached moves seats mark start (Some steps)) node nodes all in
     (node.path.items, node.state, reached.path, reached.long)
 
 -- a state has ended, or something follows

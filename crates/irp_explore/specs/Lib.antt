@@ -1,2 +1,3 @@
 pub mod Orders
 pub mod Nodes
+pub mod Refusals

@@ -1,5 +1,5 @@
 -- Nodes: how orders lead to them, what they weigh, and what lies ahead of them.
-use Rattle.std.specs.Prelude.{ℕ, ◌≡◌, ◌≢◌, ◌<◌, Some, ◌+◌, ◌*◌, Option, IfSome, IfNone, List, ◌++◌, map, length, sum_by, AllPairs, Contains}
+use Rattle.std.specs.Prelude.{ℕ, ◌≡◌, ◌≢◌, ◌<◌, ◌≤◌, Some, ◌+◌, ◌*◌, Option, IfSome, IfNone, List, ◌++◌, map, length, sum_by, All, AllPairs, Contains}
 use Rattle.irp_explore.specs.Orders.{Moves, Leads, HasEnded, AreSuccessors}
 use Rattle.irp_explore.specs.declared.node.Node.{Node}
 
@@ -25,12 +25,27 @@ abbrev pub HasOrderOf : {S : Type 0} → Moves S → ℕ → S → ℕ → Type 
 HasOrderOf {S} moves seats start steps =
     (path : List ℕ) × (last : S) × Leads moves seats start path last × (length path ≡ steps)
 
--- a node's path leads to its state. In a layer each path has the same number of steps; where no number is given, the
--- state has ended
-pub record IsReached {S : Type 0} (moves : Moves S) (seats : ℕ) (start : S) (steps : Option ℕ) (node : Node S) : Type 0 where
+-- a node's path leads to its state, and its mark is the state's. In a layer each path has the same number of steps;
+-- where no number is given, the state has ended
+pub record IsReached {S : Type 0} (moves : Moves S) (seats : ℕ) (mark : S → ℕ) (start : S) (steps : Option ℕ) (node : Node S) : Type 0 where
   pub path : Leads moves seats start node.path.items node.state
   pub long : IfSome steps (λ steps. length node.path.items ≡ steps)
   pub ended : IfNone steps (HasEnded moves seats node.state)
+  pub marked : node.mark ≡ mark node.state
+
+-- the nodes come in the order of falling marks
+abbrev pub AreFalling : {S : Type 0} → List (Node S) → Type 0
+AreFalling nodes = AllPairs (λ one other. other.mark ≤ one.mark) nodes
+
+-- no node's mark is below this one
+abbrev pub IsFloor : {S : Type 0} → ℕ → List (Node S) → Type 0
+IsFloor mark nodes = All (λ node. mark ≤ node.mark) nodes
+
+-- orders of equally many steps, or orders that have ended, lead to more different states than so many
+abbrev pub HasMoreStates : {S : Type 0} → Moves S → ℕ → (S → ℕ) → S → ℕ → Type 0
+HasMoreStates {S} moves seats mark start most =
+    (steps : Option ℕ) × (nodes : List (Node S)) × (most < length nodes) × All (IsReached moves seats mark start steps) nodes
+    × AreApart nodes
 
 -- so many steps lead from one of the nodes to a state
 abbrev pub IsAhead : {S : Type 0} → Moves S → ℕ → List (Node S) → ℕ → S → Type 0

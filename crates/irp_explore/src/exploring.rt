@@ -2,18 +2,19 @@
 
 ghost use Rattle.std.specs.Prelude.{◌≡◌, ℕ, ◌+◌, ◌*◌, ◌<◌, ◌≤◌, ◌++◌, ◌∷◌, [], Option, Some, None, List, All, Contains, length, IfOk, IfErr, OnOk};
 ghost use Rattle.irp_explore.specs.declared.node.Node.{Node};
-ghost use Rattle.irp_explore.specs.declared.refusal.NotExplored.TheVariants.{Steps};
+ghost use Rattle.irp_explore.specs.declared.refusal.NotExplored.TheVariants.{States, Steps};
+ghost use Rattle.irp_explore.specs.declared.refusal.LayerRefusal.TheVariants.{States as LayerStates};
 ghost use Rattle.irp_explore.specs.Orders.{Leads, HasEnded, IsSharedOut};
-ghost use Rattle.irp_explore.specs.Nodes.{AreApart, IsAhead, IsExpanded, IsFound, HasOrderOf, IsReached, AddsSuccessors, states_of, weigh};
+ghost use Rattle.irp_explore.specs.Nodes.{AreApart, IsAhead, IsExpanded, IsFound, HasMoreStates, HasOrderOf, IsReached, AddsSuccessors, states_of, weigh};
 
 use crate::joining::join_equal;
 use crate::machine::Machine;
 use crate::node::Node;
 use crate::refusal::{LayerRefusal, NotExplored};
-use std::alloc::Global;
+use std::alloc::{AllocError, Global};
 
 /// A path and one more seat.
-fn longer(alloc: Global, path: &[u32], seat: u32) -> Result<Vec<u32>, LayerRefusal>
+fn longer(alloc: Global, path: &[u32], seat: u32) -> Result<Vec<u32>, AllocError>
     ensures { IfOk result (λ longer. longer.items ≡ path.now ++ seat ∷ []) }
 {
     let mut longer = Vec::new(alloc);
@@ -28,11 +29,12 @@ fn add_successors<M: Machine>(
     machine: &M,
     node: &Node<M::State>,
     nodes: &mut Vec<Node<M::State>>,
-) -> Result<(), LayerRefusal>
+) -> Result<(), AllocError>
     ensures successors { OnOk result (AddsSuccessors (M.moves machine.now) (M.seats machine.now)
         node.now nodes.old.items nodes.new.items) }
     ensures reached { OnOk result ((start : M.State) (steps : ℕ)
-        → let reached = IsReached (M.moves machine.now) (M.seats machine.now) start in
+        → let reached = IsReached (M.moves machine.now) (M.seats machine.now)
+        (M.mark machine.now) start in
         reached (Some steps) node.now → All (reached (Some (steps + 1))) nodes.old.items
         → All (reached (Some (steps + 1))) nodes.new.items) }
 {
@@ -57,7 +59,7 @@ fn expand<M: Machine>(
     node: Node<M::State>,
     next: &mut Vec<Node<M::State>>,
     found: &mut Vec<Node<M::State>>,
-) -> Result<(), LayerRefusal>
+) -> Result<(), AllocError>
     ensures weight { OnOk result ((number : M.State → ℕ)
         → IsSharedOut (M.moves machine.now) (M.seats machine.now) number
         → weigh number found.new.items + weigh number next.new.items
@@ -71,11 +73,13 @@ fn expand<M: Machine>(
         → Contains (states_of found.old.items) state
         → Contains (states_of found.new.items) state) }
     ensures reached { OnOk result ((start : M.State) (steps : ℕ)
-        → let reached = IsReached (M.moves machine.now) (M.seats machine.now) start in
+        → let reached = IsReached (M.moves machine.now) (M.seats machine.now)
+        (M.mark machine.now) start in
         reached (Some steps) node → All (reached (Some (steps + 1))) next.old.items
         → All (reached (Some (steps + 1))) next.new.items) }
     ensures found { OnOk result ((start : M.State) (steps : ℕ)
-        → let reached = IsReached (M.moves machine.now) (M.seats machine.now) start in
+        → let reached = IsReached (M.moves machine.now) (M.seats machine.now)
+        (M.mark machine.now) start in
         reached (Some steps) node → All (reached None) found.old.items
         → All (reached None) found.new.items) }
 {
@@ -98,15 +102,23 @@ fn join_where_many<M: Machine>(
     ensures weight { IfOk result (λ joined. (number : M.State → ℕ)
         → weigh number joined.items ≡ weigh number nodes.items) }
     ensures reached { IfOk result (λ joined. (start : M.State) (steps : Option ℕ)
-        → let reached = IsReached (M.moves machine.now) (M.seats machine.now) start steps in
+        → let reached = IsReached (M.moves machine.now) (M.seats machine.now)
+        (M.mark machine.now) start steps in
         All reached nodes.items → All reached joined.items) }
     ensures kept { IfOk result (λ joined. (state : M.State)
         → Contains (states_of nodes.items) state → Contains (states_of joined.items) state) }
+    ensures too_many { IfErr result (λ refusal. refusal ≡ LayerStates
+        → (start : M.State) (steps : Option ℕ)
+        → let reached = IsReached (M.moves machine.now) (M.seats machine.now)
+        (M.mark machine.now) start steps in
+        All reached nodes.items
+        → HasMoreStates (M.moves machine.now) (M.seats machine.now)
+        (M.mark machine.now) start most_states) }
 {
     if nodes.len() / 2 <= most_states {
         return Ok(nodes);
     }
-    join_equal(alloc, machine, nodes, most_states, false)
+    join_equal(alloc, machine, nodes, most_states)
 }
 
 /// Makes one more step in each order that leads to a layer: the next layer, and behind what was found the nodes that
@@ -131,19 +143,28 @@ fn next_layer<M: Machine>(
     ensures kept { OnOk result ((state : M.State) → Contains (states_of found.old.items) state
         → Contains (states_of found.new.items) state) }
     ensures reached { IfOk result (λ next. (start : M.State) (steps : ℕ)
-        → let reached = IsReached (M.moves machine.now) (M.seats machine.now) start in
+        → let reached = IsReached (M.moves machine.now) (M.seats machine.now)
+        (M.mark machine.now) start in
         All (reached (Some steps)) layer.items → All (reached (Some (steps + 1))) next.items) }
     ensures found { OnOk result ((start : M.State) (steps : ℕ)
-        → let reached = IsReached (M.moves machine.now) (M.seats machine.now) start in
+        → let reached = IsReached (M.moves machine.now) (M.seats machine.now)
+        (M.mark machine.now) start in
         All (reached (Some steps)) layer.items → All (reached None) found.old.items
         → All (reached None) found.new.items) }
+    ensures too_many { IfErr result (λ refusal. refusal ≡ LayerStates
+        → (start : M.State) (steps : ℕ)
+        → let reached = IsReached (M.moves machine.now) (M.seats machine.now)
+        (M.mark machine.now) start in
+        All (reached (Some steps)) layer.items
+        → HasMoreStates (M.moves machine.now) (M.seats machine.now)
+        (M.mark machine.now) start most_states) }
 {
     let mut next = Vec::new(alloc);
     while let Some(node) = layer.pop() {
         expand(alloc, machine, node, &mut next, found)?;
         next = join_where_many(alloc, machine, next, most_states)?;
     }
-    let joined = join_equal(alloc, machine, next, most_states, false)?;
+    let joined = join_equal(alloc, machine, next, most_states)?;
     Ok(joined)
 }
 
@@ -152,9 +173,9 @@ fn next_layer<M: Machine>(
 ///
 /// # Errors
 ///
-/// `Steps` only where some order has `most_steps` steps or more; `States` where orders of equally many steps lead to
-/// more than `most_states` states, or where orders end in more; `Orders` where 2^128 orders or more lead to one state;
-/// `Memory` where memory runs out.
+/// `Steps` only where some order has `most_steps` steps or more; `States` only where orders of equally many steps lead
+/// to more than `most_states` states, or where orders end in more; `Orders` where 2^128 orders or more lead to one
+/// state; `Memory` where memory runs out.
 pub fn explore<M: Machine>(
     alloc: Global,
     machine: &M,
@@ -182,9 +203,12 @@ pub fn explore<M: Machine>(
         → Leads (M.moves machine.now) (M.seats machine.now) start path last
         → length path < most_steps) }
     ensures few { IfOk result (λ found. length found.items ≤ most_states) }
-    // Some order has as many steps as were allowed where the answer says so.
+    // Some order has as many steps as were allowed, or there are more states, where the answer says so.
     ensures too_long { IfErr result (λ refusal. refusal ≡ Steps
         → HasOrderOf (M.moves machine.now) (M.seats machine.now) start most_steps) }
+    ensures too_many { IfErr result (λ refusal. refusal ≡ States
+        → HasMoreStates (M.moves machine.now) (M.seats machine.now)
+        (M.mark machine.now) start most_states) }
 {
     let mut found = Vec::new(alloc);
     let mut layer = Vec::new(alloc);
@@ -204,6 +228,6 @@ pub fn explore<M: Machine>(
     if !layer.is_empty() {
         return Err(NotExplored::Steps);
     }
-    let joined = join_equal(alloc, machine, found, most_states, true)?;
+    let joined = join_equal(alloc, machine, found, most_states)?;
     Ok(joined)
 }

@@ -1,32 +1,37 @@
 //! Joining nodes of one state.
 
-ghost use Rattle.std.specs.Prelude.{◌≡◌, ℕ, ◌+◌, ◌*◌, ◌<◌, ◌≤◌, true, Option, All, Contains, length, IfOk, IfSome, IfNone, OnOk, ◌≢◌, slice_index_or};
+ghost use Rattle.std.specs.Prelude.{◌≡◌, ℕ, ◌+◌, ◌*◌, ◌<◌, ◌≤◌, Option, All, Contains, length, IfErr, IfOk, IfSome, IfNone, OnOk, ◌≢◌, slice_index_or};
 ghost use Rattle.irp_explore.specs.declared.node.Node.{Node};
-ghost use Rattle.irp_explore.specs.Nodes.{AreApart, IsReached, states_of, weigh};
+ghost use Rattle.irp_explore.specs.declared.refusal.LayerRefusal.TheVariants.{States};
+ghost use Rattle.irp_explore.specs.Nodes.{AreApart, AreFalling, HasMoreStates, IsFloor, IsReached, states_of, weigh};
 
 use crate::machine::Machine;
 use crate::node::Node;
 use crate::refusal::LayerRefusal;
 use std::alloc::Global;
 
-/// The place of a node with the same state: among all nodes, or else among those at the end with the same mark.
+/// The place of a node with the same state, among those at the end with the same mark. Where the nodes fall by their
+/// marks down to that one, no other has the state.
 fn place_of<M: Machine>(
     machine: &M,
     joined: &[Node<M::State>],
     node: &Node<M::State>,
-    compares_all: bool,
 ) -> Option<usize>
     ensures there { IfSome result (λ place. place < length joined.now) }
     ensures same { IfSome result (λ place. (other : Node M.State)
         → (slice_index_or joined.now place other).state ≡ node.now.state) }
-    ensures none { IfNone result (compares_all ≡ true
+    ensures none { IfNone result ((start : M.State) (steps : Option ℕ)
+        → let reached = IsReached (M.moves machine.now) (M.seats machine.now)
+        (M.mark machine.now) start steps in
+        All reached joined.now → reached node.now → AreFalling joined.now
+        → IsFloor node.now.mark joined.now
         → All (λ other. other.state ≢ node.now.state) joined.now) }
 {
     let mut end = joined.len();
     while end > 0 {
         end -= 1;
         let other = &joined[end];
-        if !compares_all && other.mark != node.mark {
+        if other.mark != node.mark {
             return None;
         }
         if machine.is_same(&other.state, &node.state) {
@@ -41,20 +46,29 @@ fn join_one<M: Machine>(
     machine: &M,
     joined: &mut Vec<Node<M::State>>,
     node: Node<M::State>,
-    compares_all: bool,
 ) -> Result<(), LayerRefusal>
+    ensures refusal { IfErr result (λ refusal. refusal ≢ States) }
     ensures weight { OnOk result ((number : M.State → ℕ) → weigh number joined.new.items
         ≡ weigh number joined.old.items + node.orders * number node.state) }
     ensures reached { OnOk result ((start : M.State) (steps : Option ℕ)
-        → let reached = IsReached (M.moves machine.now) (M.seats machine.now) start steps in
+        → let reached = IsReached (M.moves machine.now) (M.seats machine.now)
+        (M.mark machine.now) start steps in
         All reached joined.old.items → reached node → All reached joined.new.items) }
     ensures kept { OnOk result ((state : M.State) → Contains (states_of joined.old.items) state
         → Contains (states_of joined.new.items) state) }
     ensures held { OnOk result (Contains (states_of joined.new.items) node.state) }
-    ensures apart { OnOk result (compares_all ≡ true → AreApart joined.old.items
+    ensures apart { OnOk result ((start : M.State) (steps : Option ℕ)
+        → let reached = IsReached (M.moves machine.now) (M.seats machine.now)
+        (M.mark machine.now) start steps in
+        All reached joined.old.items → reached node → AreFalling joined.old.items
+        → IsFloor node.mark joined.old.items → AreApart joined.old.items
         → AreApart joined.new.items) }
+    ensures falling { OnOk result (AreFalling joined.old.items
+        → IsFloor node.mark joined.old.items → AreFalling joined.new.items) }
+    ensures floor { OnOk result ((mark : ℕ) → mark ≤ node.mark → IsFloor mark joined.old.items
+        → IsFloor mark joined.new.items) }
 {
-    let Some(place) = place_of(machine, joined, &node, compares_all) else {
+    let Some(place) = place_of(machine, joined, &node) else {
         joined.push(node)?;
         return Ok(());
     };
@@ -66,33 +80,43 @@ fn join_one<M: Machine>(
     Ok(())
 }
 
-/// Sorts nodes by their marks, and joins each to one of the same state: among all, or else among those with the same
-/// mark that come before it.
+/// Joins nodes of one state, in the order of falling marks.
 ///
 /// # Errors
 ///
-/// `States` where more nodes than `most_states` are left, `Orders` where 2^128 orders or more lead to a state, `Memory`.
+/// `States` where more nodes than `most_states` are left; `Orders` where 2^128 orders or more lead to a state; `Memory`
+/// where memory runs out.
 pub(crate) fn join_equal<M: Machine>(
     alloc: Global,
     machine: &M,
     mut nodes: Vec<Node<M::State>>,
     most_states: usize,
-    compares_all: bool,
 ) -> Result<Vec<Node<M::State>>, LayerRefusal>
     ensures weight { IfOk result (λ joined. (number : M.State → ℕ)
         → weigh number joined.items ≡ weigh number nodes.items) }
     ensures reached { IfOk result (λ joined. (start : M.State) (steps : Option ℕ)
-        → let reached = IsReached (M.moves machine.now) (M.seats machine.now) start steps in
+        → let reached = IsReached (M.moves machine.now) (M.seats machine.now)
+        (M.mark machine.now) start steps in
         All reached nodes.items → All reached joined.items) }
     ensures kept { IfOk result (λ joined. (state : M.State)
         → Contains (states_of nodes.items) state → Contains (states_of joined.items) state) }
-    ensures apart { IfOk result (λ joined. compares_all ≡ true → AreApart joined.items) }
+    ensures apart { IfOk result (λ joined. (start : M.State) (steps : Option ℕ)
+        → let reached = IsReached (M.moves machine.now) (M.seats machine.now)
+        (M.mark machine.now) start steps in
+        All reached nodes.items → AreApart joined.items) }
     ensures few { IfOk result (λ joined. length joined.items ≤ most_states) }
+    ensures too_many { IfErr result (λ refusal. refusal ≡ States
+        → (start : M.State) (steps : Option ℕ)
+        → let reached = IsReached (M.moves machine.now) (M.seats machine.now)
+        (M.mark machine.now) start steps in
+        All reached nodes.items
+        → HasMoreStates (M.moves machine.now) (M.seats machine.now)
+        (M.mark machine.now) start most_states) }
 {
     nodes.sort_by_key(|node: &Node<M::State>| node.mark)?;
     let mut joined = Vec::new(alloc);
     while let Some(node) = nodes.pop() {
-        join_one(machine, &mut joined, node, compares_all)?;
+        join_one(machine, &mut joined, node)?;
     }
     if joined.len() > most_states {
         return Err(LayerRefusal::States);

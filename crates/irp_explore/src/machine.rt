@@ -18,6 +18,9 @@ pub trait Machine {
     // What a seat's next step makes of a state: another state, or none where the seat has no step left.
     ghost moves: { Self → Self.State → ℕ → Option Self.State → Type 0 };
 
+    // The mark of a state.
+    ghost mark: { Self → Self.State → ℕ };
+
     /// How many seats there are.
     fn seats(&self) -> u32
         ensures { result ≡ seats self.now };
@@ -36,9 +39,10 @@ pub trait Machine {
     ) -> Result<Option<Self::State>, AllocError>
         ensures { IfOk result (λ after. moves self.now state.now seat after) };
 
-    /// A number by which states are sorted: one number for equal states, and for others rarely the same. What is found
-    /// doesn't depend on it, but how long it takes does.
-    fn mark(&self, state: &Self::State) -> u64;
+    /// The mark of a state, a number by which states are sorted. Few states should share one: what is found doesn't
+    /// depend on it, but how long it takes does.
+    fn mark(&self, state: &Self::State) -> u64
+        ensures { result ≡ mark self.now state.now };
 
     /// Whether two states are equal.
     fn is_same(&self, one: &Self::State, other: &Self::State) -> bool

@@ -1,6 +1,6 @@
 //! Why an exploration was given up.
 
-ghost use Rattle.std.specs.Prelude.{◌≡◌, ◌≢◌};
+ghost use Rattle.std.specs.Prelude.{◌≡◌};
 
 use std::alloc::{AllocError, AllocFailed};
 
@@ -26,12 +26,20 @@ pub(crate) enum LayerRefusal {
 }
 
 impl From<AllocError> for LayerRefusal {
+    ghost use Rattle.irp_explore.specs.declared.refusal.LayerRefusal.TheVariants.{Memory};
+
+    ghost from_gives = { λ _ refusal. refusal ≡ Memory };
+
     fn from(_error: AllocError) -> LayerRefusal {
         LayerRefusal::Memory
     }
 }
 
 impl<T: Drop> From<AllocFailed<T>> for LayerRefusal {
+    ghost use Rattle.irp_explore.specs.declared.refusal.LayerRefusal.TheVariants.{Memory};
+
+    ghost from_gives = { λ _ refusal. refusal ≡ Memory };
+
     fn from(_error: AllocFailed<T>) -> LayerRefusal {
         LayerRefusal::Memory
     }
@@ -48,9 +56,9 @@ impl<T: Drop> From<AllocFailed<T>> for NotExplored {
 }
 
 impl From<LayerRefusal> for NotExplored {
-    ghost use Rattle.irp_explore.specs.declared.refusal.NotExplored.TheVariants.{Steps};
+    ghost use Rattle.irp_explore.specs.Refusals.{IsPassedOn};
 
-    ghost from_gives = { λ _ refusal. refusal ≢ Steps };
+    ghost from_gives = { IsPassedOn };
 
     fn from(refusal: LayerRefusal) -> NotExplored {
         match refusal {

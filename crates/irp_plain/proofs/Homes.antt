@@ -1,5 +1,5 @@
 -- Tables without homes.
-use Rattle.std.proofs.Common.{ℕ, ◌≡◌, ◌<◌, length, arith, List, [], ◌∷◌, map, refl, ap, ◌∙◌, zero, suc, Option, Some, None, slice_get}
+use Rattle.std.proofs.Common.{ℕ, ◌≡◌, ◌<◌, length, arith, List, [], ◌∷◌, map, refl, ap, ◌∙◌, zero, suc, Some, slice_get}
 use mathlib.Core.Option.{some}
 use lib.ListN.{get_elem?}
 use Rattle.atomic_table.specs.Table.{Act, keeps, takes, gives, chain, homes_after, carried_after}

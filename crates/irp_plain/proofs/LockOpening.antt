@@ -1,10 +1,9 @@
 -- Locks that nobody has touched keep the rule.
-use Rattle.std.proofs.Common.{ℕ, zero, suc, ◌≡◌, ◌+◌, ◌*◌, ◌<◌, ◌≤◌, List, ◌++◌, map, length, get_or, replicate, refl, arith}
+use Rattle.std.proofs.Common.{ℕ, zero, suc, ◌≡◌, ◌+◌, ◌*◌, ◌≤◌, ◌++◌, map, replicate, refl, arith}
 use Rattle.irp_remove.specs.declared.views.View.{View}
-use Rattle.irp_remove.specs.Core.{Kept, total, began, staked, held, saw, knows_drained, observers, stakes, new_observer, new_stake}
+use Rattle.irp_remove.specs.Core.{total, began, staked, saw, knows_drained, observers, stakes, new_observer, new_stake}
 use Rattle.irp_remove.proofs.Observing.{blank_observer, blank_stake}
 use Rattle.irp_slots.proofs.Making.{zero_words}
-use Rattle.irp_plain.specs.declared.locks.LockParty.{LockParty}
 use Rattle.irp_plain.specs.declared.locks.LockParty.TheVariants.{Observer, Stake}
 use Rattle.irp_plain.specs.Locks.{view_of, opened, AreLocks}
 

@@ -4,12 +4,11 @@ use Rattle.std.proofs.lemmas.List.{map-set, length-set}
 use Rattle.std.proofs.lemmas.Grind.{get_or_default_zero}
 use mathlib.Core.Option.{Option, some}
 use lib.ListN.{get_elem?}
-use Rattle.atomic_table.specs.Table.{State, Act, stepped}
+use Rattle.atomic_table.specs.Table.{Act, stepped}
 use Rattle.irp_remove.specs.declared.views.View.{View}
 use Rattle.irp_remove.specs.declared.views.View.TheVariants.{Observer as ObserverView, Stake as StakeView}
 use Rattle.irp_remove.specs.declared.views.Stage.{Stage}
-use Rattle.irp_remove.specs.declared.views.Stage.TheVariants.{Idle, Trying as TryingStage, Held}
-use Rattle.irp_remove.specs.declared.views.Parties.{Parties}
+use Rattle.irp_remove.specs.declared.views.Stage.TheVariants.{Trying as TryingStage, Held}
 use Rattle.irp_remove.specs.Core.{Kept, IsEvent, at_stage, staked, acquired, given_back, begun, looked, new_watch, new_observer, new_stake}
 use Rattle.irp_remove.proofs.Steps.{same_lock, other_lock, word_facts, acquire_allowed, give_back_allowed}
 use Rattle.irp_remove.proofs.Observing.{begin_allowed, look_allowed}

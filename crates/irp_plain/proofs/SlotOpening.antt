@@ -1,10 +1,10 @@
 -- Slots that nobody has touched keep the rule: the first party makes all others, one after another.
-use Rattle.std.proofs.Common.{ℕ, zero, suc, ◌≡◌, ◌+◌, ◌*◌, ◌-◌, ◌<◌, ◌≤◌, List, [], ◌∷◌, ◌++◌, map, length, get_or, replicate, refl, ap, sym, subst, ◌∙◌, arith}
+use Rattle.std.proofs.Common.{ℕ, zero, suc, ◌≡◌, ◌+◌, ◌*◌, ◌-◌, ◌≤◌, List, [], ◌∷◌, map, replicate, refl, sym, subst, arith}
 use Rattle.std.proofs.lemmas.List.{map_push, length-replicate}
 use Rattle.irp_slots.specs.declared.views.View.{View}
 use Rattle.irp_slots.specs.declared.views.View.TheVariants.{First}
 use Rattle.irp_slots.specs.declared.views.Parties.{Parties}
-use Rattle.irp_slots.specs.Core.{Kept, span, new_canceller}
+use Rattle.irp_slots.specs.Core.{Kept, span}
 use Rattle.irp_slots.proofs.Making.{at_opening, owner_made, canceller_made, span_step, zero_words}
 use Rattle.irp_plain.specs.declared.slots.SlotParty.{SlotParty}
 use Rattle.irp_plain.specs.declared.slots.SlotParty.TheVariants.{Idle, Asking}

@@ -1,13 +1,12 @@
 -- Each step of a party at the slots keeps the rule, and is one that it allows.
-use Rattle.std.proofs.Common.{ℕ, zero, suc, ◌≡◌, ◌+◌, ◌*◌, ◌/◌, ◌%◌, ◌^◌, ◌<◌, ◌≤◌, ◌⊎◌, bit_or, List, [], ◌∷◌, ◌++◌, map, length, set, get_or, Bool, true, false, if◌then◌else◌, Some, slice_get, replicate, eqb, refl, ap, sym, subst, ◌∙◌, arith}
+use Rattle.std.proofs.Common.{ℕ, suc, ◌≡◌, ◌+◌, ◌*◌, ◌/◌, ◌%◌, ◌^◌, ◌<◌, ◌⊎◌, bit_or, List, [], ◌++◌, length, set, get_or, Bool, true, false, if◌then◌else◌, Some, slice_get, replicate, eqb, refl, ap, sym, subst, ◌∙◌, arith}
 use Rattle.std.proofs.lemmas.List.{map-set, get_or-set_same, length-replicate}
 use Rattle.std.proofs.lemmas.Grind.{get_or_default_zero}
 use mathlib.Core.Option.{Option, some}
 use lib.ListN.{get_elem?}
-use Rattle.atomic_table.specs.Table.{State, Act, stepped}
+use Rattle.atomic_table.specs.Table.{Act, stepped}
 use Rattle.irp_slots.specs.declared.views.View.{View}
 use Rattle.irp_slots.specs.declared.views.View.TheVariants.{Owner}
-use Rattle.irp_slots.specs.declared.views.Parties.{Parties}
 use Rattle.irp_slots.specs.Core.{Kept, IsEvent, flag, owner_published, owner_checked, owner_done, slot_flagged, slot_ended, owning_of, asking_of, new_owning, new_asking, new_canceller, owning_checked, owning_published}
 use Rattle.irp_slots.proofs.Steps.{publish_allowed, check_allowed, take_back_allowed, flag_allowed, take_out_allowed}
 use Rattle.irp_plain.specs.declared.slots.SlotParty.{SlotParty}

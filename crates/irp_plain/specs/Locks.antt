@@ -1,5 +1,5 @@
 -- Remove locks as plain words and parties: which view of the rule each party has, and what a step makes of them.
-use Rattle.std.specs.Prelude.{ℕ, ◌≡◌, ◌+◌, ◌%◌, List, [], ◌∷◌, ◌++◌, map, length, replicate, slice_set, if◌then◌else◌, nat_eq}
+use Rattle.std.specs.Prelude.{ℕ, ◌%◌, List, [], ◌++◌, map, length, replicate, slice_set, if◌then◌else◌, nat_eq}
 use Rattle.atomic_table.specs.Table.{State}
 use Rattle.irp_remove.specs.declared.views.View.{View}
 use Rattle.irp_remove.specs.declared.views.Parties.{Parties}

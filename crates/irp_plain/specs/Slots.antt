@@ -1,5 +1,5 @@
 -- Cancel slots as plain words and parties: which view of the rule each party has, and what a step makes of them.
-use Rattle.std.specs.Prelude.{ℕ, zero, suc, ◌≡◌, ◌+◌, ◌*◌, ◌%◌, List, [], ◌∷◌, ◌++◌, map, length, replicate, slice_set, if◌then◌else◌, nat_eq}
+use Rattle.std.specs.Prelude.{ℕ, zero, suc, ◌+◌, ◌*◌, ◌%◌, List, [], ◌∷◌, ◌++◌, map, replicate, slice_set, if◌then◌else◌, nat_eq}
 use Rattle.atomic_table.specs.Table.{State}
 use Rattle.irp_slots.specs.declared.views.View.{View}
 use Rattle.irp_slots.specs.declared.views.View.TheVariants.{First, Owner}

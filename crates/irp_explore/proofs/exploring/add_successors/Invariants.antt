@@ -5,7 +5,7 @@ use Rattle.irp_explore.proofs.exploring.add_successors.Given as goal
 abbrev pub invariant-loop-seat : goal.invariant-loop-seat
 invariant-loop-seat g l =
     let moves = g.M.Machine.moves l.machine in
-    let at = λ (start : g.row.M-State.Denot). IsReached moves (g.M.Machine.seats l.machine) start in
+    let at = λ (start : g.row.M-State.Denot). IsReached moves (g.M.Machine.seats l.machine) (g.M.Machine.mark l.machine) start in
     record {
       successors : AddsSuccessors moves l.seat l.node l.fn.nodes.items l.nodes.items;
       reached : (start : g.row.M-State.Denot) (steps : ℕ) → at start (Some steps) l.node

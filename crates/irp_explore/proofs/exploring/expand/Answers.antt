@@ -11,6 +11,7 @@ pub returns-then-len-before-clause-weight : goal.returns-then-len-before-clause-
 returns-then-len-before-clause-weight g c = λ number shared.
     let moves = g.M.Machine.moves c.args.machine.now in
     let seats = g.M.Machine.seats c.args.machine.now in
+    let mark = g.M.Machine.mark c.args.machine.now in
     let added = c.in_ok-add_successors.ensures.successors in
     let some : 0 < length added.states = omega (arith, added_count moves seats c.args.node c.args.next.now.items c.add_successors.new.nodes.items added, c.if-len-before.true, c.len.ensures, c.len-before.ensures) in
     expand_weight_on moves seats number c.args.found.now.items c.args.next.now.items c.add_successors.new.nodes.items c.args.node added some shared
@@ -19,6 +20,7 @@ pub returns-then-len-before-clause-expanded : goal.returns-then-len-before-claus
 returns-then-len-before-clause-expanded g c =
     let moves = g.M.Machine.moves c.args.machine.now in
     let seats = g.M.Machine.seats c.args.machine.now in
+    let mark = g.M.Machine.mark c.args.machine.now in
     let settled = g.met.M.Machine.settled c.args.machine.now in
     let added = c.in_ok-add_successors.ensures.successors in
     let some : 0 < length added.states = omega (arith, added_count moves seats c.args.node c.args.next.now.items c.add_successors.new.nodes.items added, c.if-len-before.true, c.len.ensures, c.len-before.ensures) in
@@ -34,6 +36,7 @@ pub returns-clause-weight : goal.returns-clause-weight
 returns-clause-weight g c = λ number shared.
     let moves = g.M.Machine.moves c.args.machine.now in
     let seats = g.M.Machine.seats c.args.machine.now in
+    let mark = g.M.Machine.mark c.args.machine.now in
     let added = c.in_ok-add_successors.ensures.successors in
     let none : length added.states ≡ 0 = omega (arith, added_count moves seats c.args.node c.args.next.now.items c.add_successors.new.nodes.items added, c.if-len-before.false, c.len.ensures, c.len-before.ensures) in
     expand_weight_done moves seats number c.args.found.now.items c.push.new.self.items c.args.next.now.items c.add_successors.new.nodes.items c.args.node c.in_ok-push.ensures.items added none
@@ -42,6 +45,7 @@ pub returns-clause-expanded : goal.returns-clause-expanded
 returns-clause-expanded g c =
     let moves = g.M.Machine.moves c.args.machine.now in
     let seats = g.M.Machine.seats c.args.machine.now in
+    let mark = g.M.Machine.mark c.args.machine.now in
     let settled = g.met.M.Machine.settled c.args.machine.now in
     let pushed = pushed_states c.args.found.now.items c.push.new.self.items c.args.node c.in_ok-push.ensures.items in
     expanded_by moves settled seats c.push.new.self.items c.args.next.now.items c.add_successors.new.nodes.items c.args.node c.in_ok-add_successors.ensures.successors
@@ -61,8 +65,9 @@ pub returns-clause-found : goal.returns-clause-found
 returns-clause-found g c = λ start steps reached all.
     let moves = g.M.Machine.moves c.args.machine.now in
     let seats = g.M.Machine.seats c.args.machine.now in
+    let mark = g.M.Machine.mark c.args.machine.now in
     let added = c.in_ok-add_successors.ensures.successors in
     let none : length added.states ≡ 0 = omega (arith, added_count moves seats c.args.node c.args.next.now.items c.add_successors.new.nodes.items added, c.if-len-before.false, c.len.ensures, c.len-before.ensures) in
     let ended : HasEnded moves seats c.args.node.state = ended_from_none moves seats c.args.node.state added.states added.follow none in
-    All-same (IsReached moves seats start None) c.push.new.self.items (c.args.found.now.items ++ c.args.node ∷ []) c.in_ok-push.ensures.items
-    (All-push (IsReached moves seats start None) c.args.found.now.items c.args.node all (reached_done moves seats start steps c.args.node ended reached))
+    All-same (IsReached moves seats mark start None) c.push.new.self.items (c.args.found.now.items ++ c.args.node ∷ []) c.in_ok-push.ensures.items
+    (All-push (IsReached moves seats mark start None) c.args.found.now.items c.args.node all (reached_done moves seats mark start steps c.args.node ended reached))

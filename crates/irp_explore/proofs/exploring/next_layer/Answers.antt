@@ -1,5 +1,6 @@
-use Rattle.std.proofs.Common.{arith, ◌+◌, inl, inr, Some, Contains}
+use Rattle.std.proofs.Common.{arith, sym, ◌∙◌, ◌+◌, inl, inr, Some, Contains}
 use Rattle.std.proofs.lemmas.List.Elements.{All-pop}
+use Rattle.std.proofs.lemmas.Result.{err_from_is_err_and}
 use Rattle.irp_explore.specs.Nodes.{states_of, IsReached, IsExpanded}
 use Rattle.irp_explore.proofs.Weighing.{weigh_push}
 use Rattle.irp_explore.proofs.Ahead.{ahead_step, done_more, layer_expanded, nothing_contained}
@@ -9,9 +10,10 @@ pub loop-node-preserved : goal.loop-node-preserved
 loop-node-preserved g c =
     let moves = g.M.Machine.moves c.args.machine.now in
     let seats = g.M.Machine.seats c.args.machine.now in
+    let mark = g.M.Machine.mark c.args.machine.now in
     let node = c.in-Some.node in
     let parts = λ (start : g.row.M-State.Denot) (steps : _) (all : _).
-    All-pop (IsReached moves seats start (Some steps)) _ _ (Some node) c.in-Some.ensures.items (c.loop-node.invariant.left start steps all) in
+    All-pop (IsReached moves seats mark start (Some steps)) _ _ (Some node) c.in-Some.ensures.items (c.loop-node.invariant.left start steps all) in
     let expanded = done_more moves seats c.expand.new.found.items c.expand.new.found.items c.expand.new.next.items c.in_ok-next.next.items node.state
     (λ state held. held) c.in_ok-next.ensures.kept c.in_ok-expand.ensures.expanded in
     record {
@@ -33,6 +35,7 @@ pub returns-clause-ahead : goal.returns-clause-ahead
 returns-clause-ahead g c = λ steps last ahead.
     let moves = g.M.Machine.moves c.args.machine.now in
     let seats = g.M.Machine.seats c.args.machine.now in
+    let mark = g.M.Machine.mark c.args.machine.now in
     let next = ahead_step moves seats c.args.layer.items c.loop-node.next.items c.loop-node.found.items
     (λ state held. elim (c.loop-node.invariant.done state held) as (λ _. IsExpanded moves seats c.loop-node.found.items c.loop-node.next.items state) [
       | inl left ↦ absurd (nothing_contained c.loop-node.layer.items state (omega (arith, c.in_default.ensures.cases.0)) left)
@@ -49,3 +52,19 @@ returns-clause-ended g c = λ state held ended.
 
 pub returns-clause-reached : goal.returns-clause-reached
 returns-clause-reached g c = λ start steps all. c.in_ok-joined.ensures.reached start (Some (steps + 1)) (c.loop-node.invariant.reached start steps all)
+
+pub returns-in_err-next-clause-too_many : goal.returns-in_err-next-clause-too_many
+returns-in_err-next-clause-too_many g c =
+    let moves = g.M.Machine.moves c.args.machine.now in
+    let seats = g.M.Machine.seats c.args.machine.now in
+    let mark = g.M.Machine.mark c.args.machine.now in
+    let p = err_from_is_err_and c.from_residual-in_err-next.result c.from_residual-in_err-next.ensures.1 in
+    rw p.1 (λ same start steps all.
+    let parts = All-pop (IsReached moves seats mark start (Some steps)) _ _ (Some c.in-Some.node) c.in-Some.ensures.items (c.loop-node.invariant.left start steps all) in
+    c.in_err-next.ensures.too_many (sym p.2 ∙ same) start (Some (steps + 1))
+    (c.in_ok-expand.ensures.reached start steps parts.1 (c.loop-node.invariant.reached start steps all)))
+
+pub returns-in_err-joined-clause-too_many : goal.returns-in_err-joined-clause-too_many
+returns-in_err-joined-clause-too_many g c =
+    let p = err_from_is_err_and c.from_residual-in_err-joined.result c.from_residual-in_err-joined.ensures.1 in
+    rw p.1 (λ same start steps all. c.in_err-joined.ensures.too_many (sym p.2 ∙ same) start (Some (steps + 1)) (c.loop-node.invariant.reached start steps all))

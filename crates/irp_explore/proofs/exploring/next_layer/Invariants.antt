@@ -7,7 +7,8 @@ abbrev pub invariant-loop-node : goal.invariant-loop-node
 invariant-loop-node g l =
     let moves = g.M.Machine.moves l.machine in
     let seats = g.M.Machine.seats l.machine in
-    let at = λ (start : g.row.M-State.Denot). IsReached moves seats start in
+    let mark = g.M.Machine.mark l.machine in
+    let at = λ (start : g.row.M-State.Denot). IsReached moves seats mark start in
     record {
       weight : (number : g.row.M-State.Denot → ℕ) → IsSharedOut moves seats number
           → weigh number l.found.items + weigh number l.next.items + weigh number l.layer.items

@@ -1,11 +1,11 @@
-use Rattle.std.proofs.Common.{arith, ◌+◌, ◌*◌, ◌⊎◌, inl, inr, [], Some, Contains, ap, subst, ◌∙◌}
+use Rattle.std.proofs.Common.{arith, rules, ◌+◌, ◌*◌, ◌⊎◌, inl, inr, [], Some, Contains, ap, subst, ◌∙◌}
 use Rattle.std.proofs.lemmas.List.Elements.{All-nil, All-pop, All-same, Contains-push_cases}
 use Rattle.std.proofs.lemmas.List.Sums.{sum_by_push}
-use Rattle.std.proofs.lemmas.List.Sorted.{All-permutation, Contains-permutation, IsPermutation-map, sum_by-IsPermutation}
+use Rattle.std.proofs.lemmas.List.Sorted.{All-permutation, Contains-permutation, IsPermutation-map, sum_by-IsPermutation, IsNonDecreasingBy-from_sort_by_key}
 use Rattle.irp_explore.specs.declared.node.Node.{Node}
-use Rattle.irp_explore.specs.Nodes.{weigh, states_of, IsReached}
+use Rattle.irp_explore.specs.Nodes.{weigh, states_of, IsReached, IsFloor}
 use Rattle.irp_explore.proofs.Weighing.{pushed_states}
-use Rattle.irp_explore.proofs.Apart.{apart_none}
+use Rattle.irp_explore.proofs.Apart.{apart_none, falling_none, rising_rest, rest_below}
 use Rattle.irp_explore.proofs.Ahead.{nothing_contained}
 use Rattle.irp_explore.proofs.joining.join_equal.Goals as goal
 
@@ -13,23 +13,29 @@ pub loop-node-init : goal.loop-node-init
 loop-node-init g c =
     let moves = g.M.Machine.moves c.args.machine.now in
     let seats = g.M.Machine.seats c.args.machine.now in
+    let mark = g.M.Machine.mark c.args.machine.now in
     record {
       weight = λ number.
           ap (λ items. weigh number items + weigh number c.sort_by_key.new.self.items) c.new-joined.ensures.items
           ∙ omega (arith, sum_by-IsPermutation (λ (node : Node _). node.orders * number node.state) c.args.nodes.items c.sort_by_key.new.self.items c.in_ok-sort_by_key.ensures.permutation);
       reached = λ start steps all. (
-        All-permutation (IsReached moves seats start steps) c.args.nodes.items c.sort_by_key.new.self.items c.in_ok-sort_by_key.ensures.permutation all,
-        All-same (IsReached moves seats start steps) c.new-joined.result.items [] c.new-joined.ensures.items (All-nil (IsReached moves seats start steps)),
+        All-permutation (IsReached moves seats mark start steps) c.args.nodes.items c.sort_by_key.new.self.items c.in_ok-sort_by_key.ensures.permutation all,
+        All-same (IsReached moves seats mark start steps) c.new-joined.result.items [] c.new-joined.ensures.items (All-nil (IsReached moves seats mark start steps)),
       );
       kept = λ state held. inl (Contains-permutation (states_of c.args.nodes.items) (states_of c.sort_by_key.new.self.items) state
           (IsPermutation-map (λ (node : Node g.row.M-State.Denot). node.state) c.args.nodes.items c.sort_by_key.new.self.items c.in_ok-sort_by_key.ensures.permutation) held);
-      apart = λ all. rw c.new-joined.ensures.items apart_none;
+      rising = IsNonDecreasingBy-from_sort_by_key (λ (node : Node g.row.M-State.Denot). node.mark) _ c.in_ok-sort_by_key.ensures.sorted (λ a r q k. search rules);
+      floor = λ i d below. rw c.new-joined.ensures.items (All-nil (λ (node : Node g.row.M-State.Denot). _));
+      falling = rw c.new-joined.ensures.items falling_none;
+      apart = λ start steps all. rw c.new-joined.ensures.items apart_none;
     }
 
 pub loop-node-preserved : goal.loop-node-preserved
 loop-node-preserved g c =
     let moves = g.M.Machine.moves c.args.machine.now in
     let seats = g.M.Machine.seats c.args.machine.now in
+    let mark = g.M.Machine.mark c.args.machine.now in
+    let floors = All-pop (λ (node : Node g.row.M-State.Denot). IsFloor node.mark c.loop-node.joined.items) c.loop-node.nodes.items c.pop.new.self.items (Some c.in-Some.node) c.in-Some.ensures.items c.loop-node.invariant.floor in
     record {
       weight = λ number.
           let popped = ap (weigh number) c.in-Some.ensures.items in
@@ -37,7 +43,7 @@ loop-node-preserved g c =
           omega (arith, popped, split, c.in_ok-join_one.ensures.weight number, c.loop-node.invariant.weight number);
       reached = λ start steps all.
           let before = c.loop-node.invariant.reached start steps all in
-          let parts = All-pop (IsReached moves seats start steps) c.loop-node.nodes.items c.pop.new.self.items (Some c.in-Some.node) c.in-Some.ensures.items before.0 in
+          let parts = All-pop (IsReached moves seats mark start steps) c.loop-node.nodes.items c.pop.new.self.items (Some c.in-Some.node) c.in-Some.ensures.items before.0 in
           (parts.0, c.in_ok-join_one.ensures.reached start steps before.1 parts.1);
       kept = λ state held.
           elim (c.loop-node.invariant.kept state held) as (λ _. Contains (states_of c.pop.new.self.items) state ⊎ Contains (states_of c.join_one.new.joined.items) state) [
@@ -50,7 +56,15 @@ loop-node-preserved g c =
                 ])
             | inr there ↦ inr (c.in_ok-join_one.ensures.kept state there)
           ];
-      apart = λ all. c.in_ok-join_one.ensures.apart all (c.loop-node.invariant.apart all);
+      rising = rising_rest c.loop-node.nodes.items c.pop.new.self.items c.in-Some.node c.in-Some.ensures.items c.loop-node.invariant.rising;
+      floor = λ i d below.
+          c.in_ok-join_one.ensures.floor _ (rest_below c.loop-node.nodes.items c.pop.new.self.items c.in-Some.node c.in-Some.ensures.items c.loop-node.invariant.rising i d below)
+          (floors.0 i d below);
+      falling = c.in_ok-join_one.ensures.falling c.loop-node.invariant.falling floors.1;
+      apart = λ start steps all.
+          let before = c.loop-node.invariant.reached start steps all in
+          let parts = All-pop (IsReached moves seats mark start steps) c.loop-node.nodes.items c.pop.new.self.items (Some c.in-Some.node) c.in-Some.ensures.items before.0 in
+          c.in_ok-join_one.ensures.apart start steps before.1 parts.1 c.loop-node.invariant.falling floors.1 (c.loop-node.invariant.apart start steps all);
     }
 
 pub returns-clause-kept : goal.returns-clause-kept
@@ -59,3 +73,15 @@ returns-clause-kept g c = λ state held.
       | inl left ↦ absurd (nothing_contained c.loop-node.nodes.items state (omega (arith, c.in_default.ensures.cases.0)) left)
       | inr there ↦ there
     ]
+
+pub returns-then-len-most_states-clause-too_many : goal.returns-then-len-most_states-clause-too_many
+returns-then-len-most_states-clause-too_many g c = λ same start steps all. (
+  steps,
+  c.loop-node.joined.items,
+  omega (arith, c.if-len-most_states.true, c.len.ensures),
+  (c.loop-node.invariant.reached start steps all).1,
+  c.loop-node.invariant.apart start steps all,
+)
+
+pub returns-clause-apart : goal.returns-clause-apart
+returns-clause-apart g c = λ start steps all. c.loop-node.invariant.apart start steps all

@@ -1,10 +1,10 @@
-use Rattle.std.proofs.Common.{arith, ◌≡◌, ◌≢◌, ◌<◌, ◌∷◌, [], All, length, get_or, Contains, sym, ap, subst, ◌∙◌, refl}
-use Rattle.std.proofs.lemmas.List.Elements.{All-set, All-get_or, Contains-get_or, Contains-append_left}
+use Rattle.std.proofs.Common.{arith, ◌≡◌, ◌≢◌, ◌<◌, ◌≤◌, ◌∷◌, [], All, length, get_or, Contains, sym, ap, subst, ◌∙◌, refl}
+use Rattle.std.proofs.lemmas.List.Elements.{All-push, All-set, All-get_or, Contains-get_or, Contains-append_left}
 use Rattle.std.proofs.lemmas.List.{get_or-map, length-map}
 use Rattle.irp_explore.specs.declared.node.Node.{Node}
 use Rattle.irp_explore.specs.Nodes.{states_of, IsReached}
 use Rattle.irp_explore.proofs.Weighing.{joined_weight, joined_states, pushed_states}
-use Rattle.irp_explore.proofs.Apart.{apart_set, apart_push}
+use Rattle.irp_explore.proofs.Apart.{apart_set, apart_push, falling_set, falling_push, floor_set}
 use Rattle.irp_explore.proofs.joining.join_one.Goals as goal
 
 pub returns-clause-weight : goal.returns-clause-weight
@@ -18,12 +18,12 @@ returns-clause-weight g c = λ number.
 
 pub returns-clause-reached : goal.returns-clause-reached
 returns-clause-reached g c = λ start steps all one.
-    let reached = IsReached (g.M.Machine.moves c.args.machine.now) (g.M.Machine.seats c.args.machine.now) start steps in
+    let reached = IsReached (g.M.Machine.moves c.args.machine.now) (g.M.Machine.seats c.args.machine.now) (g.M.Machine.mark c.args.machine.now) start steps in
     let other = c.index_mut-other.result.now in
     let there : c.in-Some.place < length c.args.joined.now.items = omega (arith, c.in-Some.ensures.there, ap length c.deref.ensures.value) in
     let at : reached (get_or c.args.joined.now.items c.in-Some.place other) = All-get_or reached c.args.joined.now.items c.in-Some.place other there all in
     let before : reached other = rw c.index_mut-other.ensures.value at in
-    All-set reached c.args.joined.now.items c.in-Some.place _ (record { path = before.path; long = before.long; ended = before.ended }) all
+    All-set reached c.args.joined.now.items c.in-Some.place _ (record { path = before.path; long = before.long; ended = before.ended; marked = before.marked }) all
 
 pub returns-clause-kept : goal.returns-clause-kept
 returns-clause-kept g c = λ state held.
@@ -42,9 +42,19 @@ returns-clause-held g c =
     (subst (λ state. Contains (states_of items) state) (get_or-map (λ node. node.state) items c.in-Some.place other other.state there ∙ one) at)
 
 pub returns-clause-apart : goal.returns-clause-apart
-returns-clause-apart g c = λ all apart.
+returns-clause-apart g c = λ start steps all reached falling floor apart.
     let there : c.in-Some.place < length c.args.joined.now.items = omega (arith, c.in-Some.ensures.there, ap length c.deref.ensures.value) in
     apart_set c.args.joined.now.items c.in-Some.place c.index_mut-other.result.now _ there c.index_mut-other.ensures.value refl apart
+
+pub returns-clause-falling : goal.returns-clause-falling
+returns-clause-falling g c = λ falling floor.
+    let there : c.in-Some.place < length c.args.joined.now.items = omega (arith, c.in-Some.ensures.there, ap length c.deref.ensures.value) in
+    falling_set c.args.joined.now.items c.in-Some.place c.index_mut-other.result.now _ there c.index_mut-other.ensures.value refl falling
+
+pub returns-clause-floor : goal.returns-clause-floor
+returns-clause-floor g c = λ mark low floor.
+    let there : c.in-Some.place < length c.args.joined.now.items = omega (arith, c.in-Some.ensures.there, ap length c.deref.ensures.value) in
+    floor_set mark c.args.joined.now.items c.in-Some.place c.index_mut-other.result.now _ there c.index_mut-other.ensures.value refl floor
 
 pub returns-in_default-clause-kept : goal.returns-in_default-clause-kept
 returns-in_default-clause-kept g c = λ state held.
@@ -52,7 +62,18 @@ returns-in_default-clause-kept g c = λ state held.
     (Contains-append_left (states_of c.args.joined.now.items) (c.args.node.state ∷ []) state held)
 
 pub returns-in_default-clause-apart : goal.returns-in_default-clause-apart
-returns-in_default-clause-apart g c = λ all apart.
-    let none : All (λ (other : Node _). other.state ≢ c.args.node.state) c.args.joined.now.items =
-    subst (λ nodes. All (λ (other : Node _). other.state ≢ c.args.node.state) nodes) c.deref.ensures.value (c.in_default.ensures.none all) in
-    rw c.in_ok-push.ensures.items (apart_push c.args.joined.now.items c.args.node apart none)
+returns-in_default-clause-apart g c = λ start steps all reached falling floor apart.
+    let nodes = c.args.joined.now.items in
+    let whole = c.deref.ensures.value in
+    let none : All (λ (other : Node _). other.state ≢ c.args.node.state) nodes =
+    subst (λ nodes. All (λ (other : Node _). other.state ≢ c.args.node.state) nodes) whole
+    (c.in_default.ensures.none start steps (rw whole all) reached (rw whole falling) (rw whole floor)) in
+    rw c.in_ok-push.ensures.items (apart_push nodes c.args.node apart none)
+
+pub returns-in_default-clause-falling : goal.returns-in_default-clause-falling
+returns-in_default-clause-falling g c = λ falling floor.
+    rw c.in_ok-push.ensures.items (falling_push c.args.joined.now.items c.args.node falling floor)
+
+pub returns-in_default-clause-floor : goal.returns-in_default-clause-floor
+returns-in_default-clause-floor g c = λ mark low floor.
+    rw c.in_ok-push.ensures.items (All-push (λ (node : Node _). mark ≤ node.mark) c.args.joined.now.items c.args.node floor low)

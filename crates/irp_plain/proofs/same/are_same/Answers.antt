@@ -1,4 +1,4 @@
-use Rattle.std.proofs.Common.{arith, ◌≡◌, refl, length}
+use Rattle.std.proofs.Common.{arith, refl}
 use Rattle.std.proofs.lemmas.List.{same_lists}
 use Rattle.irp_plain.proofs.same.are_same.Goals as goal
 

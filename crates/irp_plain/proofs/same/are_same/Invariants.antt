@@ -1,4 +1,4 @@
-use Rattle.std.proofs.Common.{◌≡◌, ℕ, ◌<◌, get_or, length}
+use Rattle.std.proofs.Common.{◌≡◌, ℕ, ◌<◌, get_or}
 use Rattle.irp_plain.proofs.same.are_same.Given as goal
 
 abbrev pub invariant-loop-place : goal.invariant-loop-place

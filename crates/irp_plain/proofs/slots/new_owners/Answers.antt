@@ -1,7 +1,5 @@
-use Rattle.std.proofs.Common.{add-one, ◌≡◌, ◌++◌, ◌∷◌, [], ap, sym, ◌∙◌}
-use Rattle.irp_plain.specs.declared.slots.SlotParty.{SlotParty}
+use Rattle.std.proofs.Common.{add-one, ◌++◌, ◌∷◌, [], ap, ◌∙◌}
 use Rattle.irp_plain.specs.declared.slots.SlotParty.TheVariants.{Idle}
-use Rattle.irp_plain.specs.Slots.{idle_owners}
 use Rattle.irp_plain.proofs.slots.new_owners.Goals as goal
 
 pub loop-slot-preserved : goal.loop-slot-preserved

@@ -1,7 +1,5 @@
-use Rattle.std.proofs.Common.{add-one, ◌≡◌, ◌++◌, ◌∷◌, [], ap, sym, ◌∙◌}
-use Rattle.irp_plain.specs.declared.slots.SlotParty.{SlotParty}
+use Rattle.std.proofs.Common.{add-one, ◌++◌, ◌∷◌, [], ap, ◌∙◌}
 use Rattle.irp_plain.specs.declared.slots.SlotParty.TheVariants.{Asking}
-use Rattle.irp_plain.specs.Slots.{idle_owners, with_askers}
 use Rattle.irp_plain.proofs.slots.new_parties.Goals as goal
 
 pub loop-asker-preserved : goal.loop-asker-preserved

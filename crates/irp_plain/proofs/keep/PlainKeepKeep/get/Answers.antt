@@ -1,4 +1,4 @@
-use Rattle.std.proofs.Common.{arith, ◌∙◌, ap, length}
+use Rattle.std.proofs.Common.{arith, ◌∙◌}
 use Rattle.irp_plain.proofs.KeepMaps.{found_at, none_at}
 use Rattle.irp_plain.proofs.keep.PlainKeepKeep.get.Goals as goal
 

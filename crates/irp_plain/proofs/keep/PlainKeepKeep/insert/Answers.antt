@@ -1,8 +1,8 @@
-use Rattle.std.proofs.Common.{arith, ◌≡◌, ap, sym, subst, ◌∙◌, length, List, Option, ℕ}
+use Rattle.std.proofs.Common.{arith, ◌≡◌, ap, ◌∙◌, length, List, Option, ℕ}
 use Rattle.std.specs.FinMap as fin
 use Rattle.irp_types.specs.Packet.{PacketValue}
 use Rattle.irp_types.specs.State.{LivePacket}
-use Rattle.irp_manager.specs.Slots.{live_of, new_live}
+use Rattle.irp_manager.specs.Slots.{live_of}
 use Rattle.irp_manager.proofs.SlotMaps.{get-live, live-put}
 use Rattle.irp_plain.proofs.KeepMaps.{pushed, lowest_within}
 use Rattle.irp_plain.proofs.keep.PlainKeepKeep.insert.Goals as goal

@@ -1,4 +1,4 @@
-use Rattle.std.proofs.Common.{arith, ◌≡◌, ◌+◌, Bool, true, false, cond, is_some, ap, sym, ◌∙◌}
+use Rattle.std.proofs.Common.{arith, ◌≡◌, ◌+◌, Bool, cond, is_some, ap, sym, ◌∙◌}
 use Rattle.std.specs.FinMap as fin
 use Rattle.irp_manager.specs.Slots.{kept, place_at}
 use Rattle.irp_manager.proofs.SlotMaps.{len-kept, len-none}

@@ -1,7 +1,6 @@
-use Rattle.std.proofs.Common.{arith, ◌+◌, ◌≡◌, ◌≤◌, sym, subst, ◌∙◌, length, ◌<◌}
+use Rattle.std.proofs.Common.{arith, ◌+◌, sym, subst, ◌∙◌, length, ◌<◌}
 use Rattle.std.proofs.lemmas.Grind.{get_or_default_zero}
 use Rattle.irp_plain.specs.Locks.{LocksValue, AreLocks, moved}
-use Rattle.irp_plain.proofs.Homes.{there_below}
 use Rattle.irp_plain.specs.declared.locks.LockParty.{LockParty}
 use Rattle.irp_plain.proofs.LockSteps.{does_add, word_small}
 use Rattle.irp_plain.proofs.locks.PlainLocks.add.Goals as goal

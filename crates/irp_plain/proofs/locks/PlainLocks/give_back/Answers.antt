@@ -1,6 +1,4 @@
-use Rattle.std.proofs.Common.{arith, ◌≡◌, ◌≤◌, sym, subst, length, ◌<◌}
 use Rattle.irp_plain.specs.Locks.{LocksValue}
-use Rattle.irp_plain.proofs.Homes.{there_below}
 use Rattle.irp_plain.proofs.LockSteps.{does_give_back}
 use Rattle.irp_plain.proofs.locks.PlainLocks.give_back.Goals as goal
 

@@ -1,5 +1,4 @@
 use Rattle.std.proofs.Common.{◌≡◌, ◌++◌, replicate, rules, ap, ◌∙◌}
-use Rattle.irp_plain.specs.declared.locks.LockParty.{LockParty}
 use Rattle.irp_plain.specs.declared.locks.LockParty.TheVariants.{Observer, Stake}
 use Rattle.irp_plain.proofs.LockOpening.{opened_kept}
 use Rattle.irp_plain.proofs.locks.PlainLocks.new.Goals as goal

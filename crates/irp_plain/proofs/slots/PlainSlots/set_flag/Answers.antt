@@ -1,4 +1,4 @@
-use Rattle.std.proofs.Common.{arith, ◌≡◌, ◌<◌, ◌^◌}
+use Rattle.std.proofs.Common.{arith, ◌<◌, ◌^◌}
 use Rattle.irp_plain.specs.Slots.{SlotsValue}
 use Rattle.irp_plain.proofs.SlotSteps.{does_flag}
 use Rattle.irp_plain.proofs.slots.PlainSlots.set_flag.Goals as goal

@@ -1,4 +1,4 @@
-use Rattle.std.proofs.Common.{arith, ◌≡◌, ◌<◌, ◌^◌}
+use Rattle.std.proofs.Common.{arith, ◌<◌, ◌^◌}
 use Rattle.irp_plain.specs.Slots.{SlotsValue}
 use Rattle.irp_plain.proofs.SlotSteps.{does_take_back}
 use Rattle.irp_plain.proofs.slots.PlainSlots.take_back.Goals as goal
