@@ -1,15 +1,16 @@
 """The faults that `test` plants, one at a time: an edit of a sample or of a stack, or a wrong shape, and what is told.
 
 `tells` is looked for in the first line that says FAULT: the rule, the function or the place, and the driver or device
-that is named. `verdict` is the word of `irpx check`; `refused` a refusal that the transcript has."""
+that is named. `verdict` is the word of `irpx check`; `refused` a refusal that the transcript has. A race is tried with
+eight seeds, until one shows it."""
 
 SAMPLES, STACKS, SHAPES = "samples", "stacks", "shapes"
 
 
 class Fault:
-    def __init__(self, name, where, file, edits, tells, verdict="legal", refused=None, args="", seeds=None):
+    def __init__(self, name, where, file, edits, tells, verdict="legal", refused=None, args="", is_race=False):
         self.name, self.where, self.file, self.edits, self.tells = name, where, file, edits, tells
-        self.verdict, self.refused, self.args, self.seeds = verdict, refused, args, seeds
+        self.verdict, self.refused, self.args, self.is_race = verdict, refused, args, is_race
 
 
 def sample(name, file, edits, tells, **more):
@@ -87,7 +88,7 @@ FAULTS = [
            refused="NotDrained"),
     sample("marked after it was queued", "bus.c",
            [(MARK_AND_QUEUE, MARK_AND_QUEUE.replace(MARK, "") + MARK)],
-           ["D0 (bus)"], verdict=None, args="60", seeds="1..8"),
+           ["D0 (bus)"], verdict=None, args="60", is_race=True),
     sample("completed with an error, success returned", "bus.c",
            [(WRITE_DONE, "    BusComplete(Irp, STATUS_UNSUCCESSFUL, 0);\n    return STATUS_SUCCESS;\n")],
            ["Status ", "BusWrite, dispatch for WRITE of D0 (bus)", "0xc0000001", "returned 0"], verdict="illegal"),
@@ -137,8 +138,10 @@ FAULTS = [
             "            IoCallDriver(ext->Lower, CONTAINING_RECORD(e, IRP, Tail.Overlay.ListEntry));")],
           ["NotPrepared ", "retry.c:", "in Retry", "by D1 (retry)"], refused="NotPrepared"),
     stack("a deferred call frees what is in flight", "watchdog.c",
-          [("    IoCancelIrp(w->Own);\n", "    IoFreeIrp(w->Own);\n")],
-          ["InFlight ", "watchdog.c:", "TooLong", "IoFreeIrp", "sent before at watchdog.c:"], refused="InFlight"),
+          [("    IoCancelIrp(w->Own);\n", "    IoFreeIrp(w->Own);\n"),
+           ("&w->Timer, Milliseconds(1)", "&w->Timer, Milliseconds(0)")],
+          ["InFlight ", "watchdog.c:", "TooLong", "IoFreeIrp", "sent before at watchdog.c:"], refused="InFlight",
+          is_race=True),
     stack("a routine frees its caller's packet", "keyboard.c",
           [("    return Irp->IoStatus.Status;\n}", "    IoFreeIrp(Irp);\n    return STATUS_SUCCESS;\n}")],
           ["InFlight ", "keyboard.c:", "ReadDone, completion routine of D1 (keyboard)", "IoFreeIrp"], verdict=None,
@@ -160,7 +163,7 @@ FAULTS = [
           verdict=None, refused="InFlight"),
     stack("a cancel routine doesn't complete", "serial.c",
           [("    Complete(Irp, STATUS_CANCELLED, 0);\n}", "    (void)Irp;\n}")],
-          ["Hang", "WRITE", "D0 (serial) holds", "sent at common.h:"], verdict=None),
+          ["Hang", "WRITE", "D0 (serial) holds", "sent at common.h:"], verdict=None, is_race=True),
     stack("a cancel routine keeps the cancel spin lock", "serial.c",
           [("    IoReleaseCancelSpinLock(Irp->CancelIrql);\n", "")],
           ["CancelSpinLock", "CancelQueued, cancel routine of D0 (serial)", "keeps"]),
@@ -170,7 +173,7 @@ FAULTS = [
     stack("a routine gives its packet away and continues", "retry.c",
           [("1, FALSE);\n    return STATUS_MORE_PROCESSING_REQUIRED;", "1, FALSE);\n    IoCompleteRequest(Irp, 0);\n"
             "    return STATUS_SUCCESS;")],
-          ["GivenAway", "ReadDone, completion routine of D1 (retry)"], verdict=None),
+          ["GivenAway", "ReadDone, completion routine of D1 (retry)"], verdict=None, is_race=True),
     shape("CompletesWhatItSent", ["CompletedTwice (0x44)", "wrong.c:", "by D2 (middle)",
                                   "completed before at lower.c:"],
           refused="Ended"),

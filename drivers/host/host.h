@@ -249,7 +249,7 @@ int calling_driver(void);
 int start_thread(void *(*run)(void *), void *context);
 void set_event(PKEVENT event);
 bool is_event(const void *object);
-bool wait_for_host(bool (*done)(void), int seconds);
+bool wait_for_host(bool (*done)(const void *), const void *context);
 void finish_work(void);
 bool timers_armed(void);
 LONGLONG now_in_100ns(void);

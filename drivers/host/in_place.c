@@ -140,8 +140,8 @@ static void let_go(Packet *r)
     pthread_cond_broadcast(&host_settled);
 }
 
-/* The device's own routine runs for a rider that is up, if there is one and its flags are met. Returns whether the packet
-   goes on; where it doesn't, its next owner may have ended it already. */
+/* The device's own routine runs for a rider that is up, if there is one and its flags are met. Returns whether the
+   packet goes on; where it doesn't, its next owner may have ended it already. */
 static bool run_own_routine(const Packet *r, int device)
 {
     Packet *p = r->rides;

@@ -5,7 +5,6 @@ typedef struct { PVOID tag; int seat, device; UCHAR major; bool in_dispatch; WDM
 typedef struct { Held held[MAX_HELD]; int n; bool removed; uint64_t knows; } Lock;
 
 static Lock locks[MAX_DEVICES];
-static pthread_cond_t drained = PTHREAD_COND_INITIALIZER;
 
 bool lock_knows_drained(int device) { return locks[device].knows >> self.seat & 1; }
 
@@ -88,7 +87,6 @@ static bool give_back(int d, PVOID tag, const char *act)
         record_word("hand", d, tag, "\"ok\"", k->held[found].seat, self.seat);
     record_word(act, d, tag, "\"ok\"", self.seat, -1);
     k->held[found] = k->held[--k->n];
-    pthread_cond_broadcast(&drained);
     return true;
 }
 
@@ -100,8 +98,7 @@ VOID WdmIoReleaseRemoveLock(PIO_REMOVE_LOCK RemoveLock, PVOID Tag, WDM_SITE at)
     leave_host();
 }
 
-static int lock_waited_for;
-static bool is_drained(void) { return !locks[lock_waited_for].n; }
+static bool is_drained(const void *lock) { return !((const Lock *)lock)->n; }
 
 VOID WdmIoReleaseRemoveLockAndWait(PIO_REMOVE_LOCK RemoveLock, PVOID Tag, WDM_SITE at)
 {
@@ -114,10 +111,8 @@ VOID WdmIoReleaseRemoveLockAndWait(PIO_REMOVE_LOCK RemoveLock, PVOID Tag, WDM_SI
         fault("AlreadyRemoving", NULL, "the remove lock of %s is drained twice", who(d));
     } else if (give_back(d, Tag, "begin_remove"))
         k->removed = true;
-    if (k->n) {
-        lock_waited_for = d;
-        wait_for_host(is_drained, 2);
-    }
+    if (k->n)
+        wait_for_host(is_drained, k);
     if (k->n)
         fault("NotDrained", NULL, "the remove lock of %s isn't drained: %d held%s", who(d), k->n, held_tags(d));
     else if (k->removed) {

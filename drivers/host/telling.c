@@ -162,7 +162,9 @@ void fault_of(const char *rule, const Packet *p, const Frame *f, const char *how
     n_faults++;
     if (was_told(rule, f->last, f->fn))
         return;
-    int n = f->last.file ? snprintf(where, sizeof where, "%s (its last call, %s) in ", place(f->last), f->last_call) : 0;
+    int n = 0;
+    if (f->last.file)
+        n = snprintf(where, sizeof where, "%s (its last call, %s) in ", place(f->last), f->last_call);
     snprintf(where + n, sizeof where - (size_t)n, "%s, IRP %u.%lu", what_runs(f), p->slot, (unsigned long)p->use);
     tell(rule, NULL, where, text);
 }

@@ -157,7 +157,11 @@ void give_up(const char *why)
     _exit(3);
 }
 
-static bool sends_are_back(void) { return !n_sends; }
+static bool sends_are_back(const void *context)
+{
+    (void)context;
+    return !n_sends;
+}
 
 static void tell_leftovers(void)
 {
@@ -179,7 +183,7 @@ int WdmFinish(void)
     Call c;
     enter_host(&c, "WdmFinish", (WDM_SITE){ 0 });
     finish_work();
-    if (!wait_for_host(sends_are_back, 3))
+    if (!wait_for_host(sends_are_back, NULL))
         fault("Hang", NULL, "%d sends haven't returned at the end", n_sends);
     tell_leftovers();
     const size_t n = write_out();

@@ -283,12 +283,12 @@ NTSTATUS WdmKeDelayExecutionThread(PLARGE_INTEGER interval)
     return STATUS_SUCCESS;
 }
 
-/* At the end of a run, under G: waits until `done`, as long as something goes on. Returns whether it is. */
-bool wait_for_host(bool (*done)(void), int seconds)
+/* Under G, which it gives back meanwhile: waits until `done`, as long as something goes on. Returns whether it is. */
+bool wait_for_host(bool (*done)(const void *), const void *context)
 {
     unsigned long seen = 0;
     int quiet = 0;
-    while (!done() && quiet < 20 * seconds) {
+    while (!done(context) && quiet < 20 * patience()) {
         const unsigned long now = __atomic_load_n(&host_activity, __ATOMIC_SEQ_CST);
         struct timespec pause = { 0, 50000000 };
         quiet = now == seen && !sleepers && !timers_armed() ? quiet + 1 : 0;
@@ -297,5 +297,5 @@ bool wait_for_host(bool (*done)(void), int seconds)
         nanosleep(&pause, NULL);
         pthread_mutex_lock(&host_lock);
     }
-    return done();
+    return done(context);
 }

@@ -259,17 +259,25 @@ BOOLEAN KeInsertQueueDpc(PKDPC Dpc, PVOID Argument1, PVOID Argument2)
     return queued;
 }
 
-static bool work_is_done(void) { return !first_item && n_idle == n_workers && !n_dpcs && !dpc_runs; }
-static bool dpcs_are_done(void) { return !n_dpcs && !dpc_runs; }
+static bool dpcs_are_done(const void *context)
+{
+    (void)context;
+    return !n_dpcs && !dpc_runs;
+}
+
+static bool work_is_done(const void *context)
+{
+    return !first_item && n_idle == n_workers && dpcs_are_done(context);
+}
 
 /* Under G: work items and deferred calls that are queued are waited for, as long as something goes on. */
-void finish_work(void) { wait_for_host(work_is_done, 1); }
+void finish_work(void) { wait_for_host(work_is_done, NULL); }
 
 VOID KeFlushQueuedDpcs(VOID)
 {
     Call c;
     enter_host(&c, "KeFlushQueuedDpcs", (WDM_SITE){ 0 });
-    wait_for_host(dpcs_are_done, 3);
+    wait_for_host(dpcs_are_done, NULL);
     leave_host();
 }
 

@@ -1,5 +1,5 @@
 -- The blocks of entries, gathered and sent piece by piece.
-use Rattle.std.proofs.Common.{◌≡◌, ◌+◌, ℕ, List, [], ◌∷◌, ◌++◌, take, length, refl, sym, ap, subst, ◌∙◌, append_assoc, append-nil, Option, Bool, true, false, IsTrue, ◌↔◌, inl, inr}
+use Rattle.std.proofs.Common.{◌≡◌, ℕ, List, [], ◌∷◌, ◌++◌, take, refl, sym, ap, subst, ◌∙◌, append_assoc, append-nil, Option, Bool, true, false, IsTrue, ◌↔◌, inl, inr}
 use mathlib.Core.Bool.{true≢false}
 use Rattle.std.specs.Io.KnownBytes.{Appends}
 use Rattle.irp_types.specs.declared.entry.Entry.{Entry}
@@ -8,7 +8,7 @@ use Rattle.irp_listing.specs.Bytes.{Bytes}
 use Rattle.irp_listing.specs.Blocks.{AddsBlock}
 use Rattle.irp_listing.specs.Choosing.{IsChosen}
 use Rattle.irp_listing.specs.Listing.{AddsChosen, IsListing, Lists, ListsPart, SendsPiece, StandsFor}
-use Rattle.irp_listing.specs.Writing.{Begins, BreaksOff, Written, count_after}
+use Rattle.irp_listing.specs.Writing.{BreaksOff, Written, count_after}
 use Rattle.irp_types.specs.declared.names.IrpRef.{IrpRef}
 use Rattle.irp_listing.specs.declared.writing.Unwritten.{Unwritten}
 use Rattle.irp_listing.specs.declared.writing.Unwritten.TheVariants.{NoMemory}

@@ -1,5 +1,5 @@
 -- Which entries are shown.
-use Rattle.std.specs.Prelude.{⊤, ◌≡◌, ◌⊎◌, Option, None, Some, ◌↔◌}
+use Rattle.std.specs.Prelude.{⊤, ◌≡◌, ◌⊎◌, Option, None, Some}
 use Rattle.irp_types.specs.Calls.{packet_named}
 use Rattle.irp_types.specs.declared.entry.Entry.{Entry}
 use Rattle.irp_types.specs.declared.names.IrpRef.{IrpRef}

@@ -4,8 +4,7 @@ use Rattle.std.proofs.lemmas.Grind.{common_steps}
 use Rattle.std.proofs.lemmas.List.{take_more}
 use Rattle.std.proofs.lemmas.Result.{IfErr-weaker, err_from_is_err_and, on_ok_weaker}
 use Rattle.irp_types.specs.declared.entry.Entry.{Entry}
-use Rattle.irp_listing.specs.Bytes.{Bytes}
-use Rattle.irp_listing.specs.Listing.{Lists, ListsPart}
+use Rattle.irp_listing.specs.Listing.{ListsPart}
 use Rattle.irp_listing.specs.Writing.{BreaksOff, Written}
 use Rattle.irp_listing.proofs.Sending.{SoFar, all_sent, at_first, broken_off, gathered, no_memory, sent_on}
 use Rattle.irp_listing.proofs.listing.list.Goals as goal
@@ -59,7 +58,7 @@ returns-clause-ok g c =
     (take_all c.loop-entry.entry-index entries c.loop-entry-test.false) c.loop-entry.invariant in
     on_ok_weaker c.send.result
     (λ written. all_sent c.args.choice.only entries _ _ _ _ _ _ c.loop-entry.pending.items whole
-        (subst (λ given. Written given (g.O.Out.gone c.loop-entry.output) (g.O.Out.gone c.send.new.output) (g.O.Out.failures c.loop-entry.output) (g.O.Out.failures c.send.new.output)) c.as_slice.ensures.value written))
+    (subst (λ given. Written given (g.O.Out.gone c.loop-entry.output) (g.O.Out.gone c.send.new.output) (g.O.Out.failures c.loop-entry.output) (g.O.Out.failures c.send.new.output)) c.as_slice.ensures.value written))
     c.send.ensures.ok
 
 pub returns-clause-err : goal.returns-clause-err
@@ -68,5 +67,5 @@ returns-clause-err g c =
     (BreaksOff c.as_slice.result.now (g.O.Out.gone c.loop-entry.output) (g.O.Out.gone c.send.new.output) (g.O.Out.failures c.loop-entry.output) (g.O.Out.failures c.send.new.output))
     (ListsPart c.args.choice.only c.args.entries.now (g.O.Out.gone c.args.output.now) (g.O.Out.gone c.send.new.output) (g.O.Out.failures c.args.output.now) (g.O.Out.failures c.send.new.output))
     (λ fault breaks. broken_off c.args.choice.only c.args.entries.now c.loop-entry.entry-index _ _ _ _ _ _ c.loop-entry.pending.items fault c.loop-entry.invariant
-        (subst (λ given. BreaksOff given (g.O.Out.gone c.loop-entry.output) (g.O.Out.gone c.send.new.output) (g.O.Out.failures c.loop-entry.output) (g.O.Out.failures c.send.new.output) fault) c.as_slice.ensures.value breaks))
+    (subst (λ given. BreaksOff given (g.O.Out.gone c.loop-entry.output) (g.O.Out.gone c.send.new.output) (g.O.Out.failures c.loop-entry.output) (g.O.Out.failures c.send.new.output) fault) c.as_slice.ensures.value breaks))
     c.send.ensures.err
