@@ -143,8 +143,7 @@ content_of words slot = slice_index words (content_word slot)
 abbrev pub new_owning : ℕ → Owning
 new_owning slot = record { slot = slot; stage = Idle; published = 0; stood = false; found_set = false; taken = [] }
 
--- What an owner knows at each stage. It has read the flag behind its publication before it takes anything out: a done
--- one stood, or found the flag set
+-- What an owner knows at each stage. An idle one knows nothing; a done one stood or found the flag set, and not both
 abbrev pub OwnerInOrder : Stage → Owning → Type 0
 OwnerInOrder Idle owning = owning ≡ new_owning owning.slot
 OwnerInOrder Published owning = (owning.stood ≡ false) × (owning.taken ≡ [])
@@ -157,7 +156,7 @@ CancellerInOrder asking =
     (slot : ℕ) → (flag asking.ended slot ≡ true → flag asking.flagged slot ≡ true)
     × ((number : ℕ) → 0 < times_of slot number asking.taken → flag asking.ended slot ≡ true)
 
--- what a party knows comes of its steps in their order
+-- What a party knows is what its steps in their order can make it know. When an owner read the flag no state tells
 abbrev pub IsInOrder : View → Type 0
 IsInOrder (First owners_left cancellers_left) = Unit {0}
 IsInOrder (Owner owning) = OwnerInOrder owning.stage owning
@@ -165,9 +164,10 @@ IsInOrder (Canceller asking) = CancellerInOrder asking
 
 -- What holds between any two steps. Each slot has one owner. `places`: a publication is the content or in one party's
 -- list, and nothing else is in either. `rests`: a slot whose owner is idle or done is empty. A flag is set exactly
--- where a canceller has set it. `in_order`: whoever has ended a request, or has taken a use out of the slot, has set
--- the flag before, and an owner has read it before. `stands`: a slot whose owner stands is empty once a request on it
--- has ended. The cancellers, made and not yet made, are as many as the key tells, so that there are no others
+-- where a canceller has set it. `in_order`: a canceller that has ended a request on the slot, or has taken a use out of
+-- it, has set the flag; an owner that has taken its use out stood or found the flag set. `stands`: a slot whose owner
+-- stands is empty once a request on it has ended. The cancellers, made and not yet made, are as many as the key tells,
+-- so that there are no others
 pub record Kept (key : Parties) (s : State (Unit {0}) View) : Type 0 where
   pub wide : length s.words ≡ 2 * key.slots + 1
   pub one_owner : (slot : ℕ) → slot < key.slots → total (owns slot) s.views ≡ 1

@@ -40,8 +40,9 @@ pub fn flag_tells_of_a_request()
     ensures { FlagLaw }
 {}
 
-/// What each party knows comes of its steps in their order. An owner that has taken its use out, or has lost it, had
-/// read the flag behind its publication; a canceller that has taken a use out had set the slot's flag before.
+/// What each party knows is what its steps in their order can make it know. An owner that has taken its use out, or has
+/// lost it, stood or found the flag set; a canceller that has taken a use out of a slot has set the slot's flag. When an
+/// owner read the flag no state tells.
 pub fn parties_keep_order()
     ensures { OrderLaw }
 {}
