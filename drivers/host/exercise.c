@@ -11,10 +11,10 @@
 extern const struct { const char *name; PDRIVER_INITIALIZE entry; } wdm_drivers[];
 extern const int wdm_n_drivers;
 
-typedef struct { KEVENT done; NTSTATUS status; } Request;
+typedef struct { PIRP irp; KEVENT done; NTSTATUS status; } Request;
 static PDEVICE_OBJECT top_of_threads;
 static ULONG controls[16];
-static int n_controls, rounds = 8;
+static int n_controls, rounds = 16;
 
 static NTSTATUS keep(PDEVICE_OBJECT device, PIRP irp, PVOID context)
 {
@@ -25,27 +25,59 @@ static NTSTATUS keep(PDEVICE_OBJECT device, PIRP irp, PVOID context)
     return STATUS_MORE_PROCESSING_REQUIRED;
 }
 
-/* Sends a request, and cancels it where it isn't done after some milliseconds; before it is sent, where these are 0. */
+/* Sends a request; one that is cancelled before, where `cancelled`. Returns FALSE where there is no memory for it. */
+static BOOLEAN start(Request *r, PDEVICE_OBJECT top, UCHAR major, ULONG length, ULONG code, BOOLEAN cancelled)
+{
+    r->status = STATUS_PENDING;
+    KeInitializeEvent(&r->done, NotificationEvent, FALSE);
+    r->irp = WdmBuildIrp(top, major, 0, length, NULL, NULL);
+    if (!r->irp)
+        return FALSE;
+    if (major == IRP_MJ_DEVICE_CONTROL)
+        IoGetNextIrpStackLocation(r->irp)->Parameters.DeviceIoControl.IoControlCode = code;
+    IoSetCompletionRoutine(r->irp, keep, r, TRUE, TRUE, TRUE);
+    if (cancelled)
+        IoCancelIrp(r->irp);
+    IoCallDriver(top, r->irp);
+    return TRUE;
+}
+
+/* Waits for a request, and cancels it where it isn't done after some milliseconds. */
+static void finish(Request *r, int milliseconds)
+{
+    LARGE_INTEGER limit = { .QuadPart = -10000LL * milliseconds };
+    if (KeWaitForSingleObject(&r->done, Executive, KernelMode, FALSE, &limit) == STATUS_TIMEOUT) {
+        IoCancelIrp(r->irp);
+        KeWaitForSingleObject(&r->done, Executive, KernelMode, FALSE, NULL);
+    }
+    IoFreeIrp(r->irp);
+}
+
 static void request(PDEVICE_OBJECT top, UCHAR major, ULONG length, ULONG code, int milliseconds)
 {
-    Request r = { .status = STATUS_PENDING };
-    LARGE_INTEGER limit = { .QuadPart = -10000LL * milliseconds };
-    KeInitializeEvent(&r.done, NotificationEvent, FALSE);
-    PIRP irp = WdmBuildIrp(top, major, 0, length, NULL, NULL);
-    if (!irp)
-        return;
-    if (major == IRP_MJ_DEVICE_CONTROL)
-        IoGetNextIrpStackLocation(irp)->Parameters.DeviceIoControl.IoControlCode = code;
-    IoSetCompletionRoutine(irp, keep, &r, TRUE, TRUE, TRUE);
-    if (!milliseconds)
-        IoCancelIrp(irp);
-    IoCallDriver(top, irp);
-    if (KeWaitForSingleObject(&r.done, Executive, KernelMode, FALSE, &limit) == STATUS_TIMEOUT) {
-        if (milliseconds)
-            IoCancelIrp(irp);
-        KeWaitForSingleObject(&r.done, Executive, KernelMode, FALSE, NULL);
+    Request r;
+    if (start(&r, top, major, length, code, FALSE))
+        finish(&r, milliseconds);
+}
+
+/* Requests that meet: a read and each control are on their way while others come. */
+static void use_overlapped(PDEVICE_OBJECT top)
+{
+    Request first;
+    if (start(&first, top, IRP_MJ_READ, 16, 0, FALSE)) {
+        request(top, IRP_MJ_WRITE, 16, 0, 50);
+        finish(&first, 50);
     }
-    IoFreeIrp(irp);
+    if (start(&first, top, IRP_MJ_READ, 32, 0, TRUE))
+        finish(&first, 50);
+    for (int i = 0; i < n_controls; i++) {
+        if (!start(&first, top, IRP_MJ_DEVICE_CONTROL, 16, controls[i], FALSE))
+            continue;
+        for (int j = 0; j < n_controls; j++)
+            if (j != i)
+                request(top, IRP_MJ_DEVICE_CONTROL, 16, controls[j], 5);
+        finish(&first, 5);
+    }
 }
 
 static void use(PDEVICE_OBJECT top)
@@ -54,9 +86,9 @@ static void use(PDEVICE_OBJECT top)
     request(top, IRP_MJ_READ, 16, 0, 50);
     request(top, IRP_MJ_WRITE, 16, 0, 50);
     request(top, IRP_MJ_READ, 0, 0, 50);
-    request(top, IRP_MJ_READ, 32, 0, 0);
     for (int i = 0; i < n_controls; i++)
         request(top, IRP_MJ_DEVICE_CONTROL, 16, controls[i], 50);
+    use_overlapped(top);
     request(top, IRP_MJ_DEVICE_CONTROL, 16, CTL_CODE(FILE_DEVICE_UNKNOWN, 0x7ff, METHOD_BUFFERED, FILE_ANY_ACCESS), 50);
     request(top, IRP_MJ_FLUSH_BUFFERS, 0, 0, 50);
 }
@@ -96,11 +128,12 @@ static NTSTATUS ask_capabilities(PDEVICE_OBJECT top)
 
 static void *use_often(void *number)
 {
-    static const UCHAR majors[] = { IRP_MJ_READ, IRP_MJ_WRITE, IRP_MJ_DEVICE_CONTROL, IRP_MJ_READ };
-    const int me = (int)(intptr_t)number;
+    static const UCHAR majors[] = { IRP_MJ_READ, IRP_MJ_WRITE, IRP_MJ_DEVICE_CONTROL, IRP_MJ_DEVICE_CONTROL };
+    unsigned chance = (unsigned)(intptr_t)number + 1;
     for (int i = 0; i < rounds; i++) {
-        const UCHAR major = majors[(i + me) % 4];
-        request(top_of_threads, major, 8 + (ULONG)i, n_controls ? controls[i % n_controls] : 0, 1 + (i * 7 + me) % 5);
+        const UCHAR major = majors[rand_r(&chance) % 4];
+        const ULONG code = n_controls ? controls[rand_r(&chance) % (unsigned)n_controls] : 0;
+        request(top_of_threads, major, 8 + (ULONG)i, code, 1 + rand_r(&chance) % 5);
     }
     return NULL;
 }
