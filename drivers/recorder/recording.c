@@ -61,6 +61,9 @@ IrpxEntry *irpx_begin(IrpxOp op, IrpxPacket *p, int by)
         irpx_lose();
         e = &nowhere;
         memset(e, 0, sizeof *e);
+    } else {
+        e->before = irpx.made;
+        irpx.made = e;
     }
     e->op = op;
     e->by = by;
@@ -224,8 +227,8 @@ VOID IrpxCount(IRPX_COUNTS *Counts) { *Counts = irpx.counts; }
 
 static void forget_entries(void)
 {
-    for (IrpxEntry *e = irpx.first, *next; e; e = next) {
-        next = e->next;
+    for (IrpxEntry *e = irpx.made, *next; e; e = next) {
+        next = e->before;
         for (IrpxAsked *a = e->first, *more; a; a = more) {
             more = a->next;
             irpx_give(a);

@@ -62,7 +62,7 @@ struct IrpxAsked {
 };
 
 typedef struct IrpxEntry {
-    struct IrpxEntry *next;
+    struct IrpxEntry *next, *before; /* in the history; of all that were made */
     IrpxOp op;
     IrpxReply reply;
     int seat, by, device, other; /* other: a target, a size, a location */
@@ -130,7 +130,7 @@ typedef struct {
     IRPX_COUNTS counts;
     uint64_t next_use;
     PDRIVER_DISPATCH unhandled;
-    IrpxEntry *first, *last;
+    IrpxEntry *first, *last, *made;
     IrpxSetting *settings;
     struct { uintptr_t thread; IrpxFrame *frames; } seats[IRPX_SEATS];
     struct { PDEVICE_OBJECT raw; int driver; BOOLEAN live; IrpxEntry *put_off; } devices[IRPX_DEVICES];

@@ -252,6 +252,18 @@ static void take_down(void)
     IoDeleteDevice(d[0]);
 }
 
+/* Gives the record back. Returns the exit status: 5 where not all memory is given back. */
+static int forget(void)
+{
+    IrpxForget();
+#ifdef COUNTED
+    extern long counted_pieces;
+    return counted_pieces ? 5 : 0;
+#else
+    return 0;
+#endif
+}
+
 int main(int argc, char **argv)
 {
     for (size_t i = 0; i < sizeof scenarios / sizeof *scenarios; i++)
@@ -263,8 +275,7 @@ int main(int argc, char **argv)
             if (scenarios[i].run != delete_in_flight)
                 take_down();
             write_transcript();
-            IrpxForget();
-            return 0;
+            return forget();
         }
     return argc < 2 ? 0 : 2;
 }
