@@ -1,10 +1,11 @@
 /*
- * recorder.h: writes down what a stack of WDM drivers and the I/O manager under it do, as a transcript for `irpx check`.
+ * recorder.h: writes down what a stack of WDM drivers and the I/O manager under it do, as a transcript for `irpx
+ * check`.
  *
  * The I/O manager is whatever the program is linked with: Wine's, a port, a test double. Compile each driver, and the
  * code that sends packets, with `-include recorder.h` (or include it in place of <wdm.h>), and link with the files of
- * recorder/, compiled with the same <wdm.h>. The calls below then go through the recorder, which makes the real call and
- * writes down what was shown and answered. It checks nothing and refuses nothing. recorder/README.md says more.
+ * recorder/, compiled with the same <wdm.h>. The calls below then go through the recorder, which makes the real call
+ * and writes down what was shown and answered. It checks nothing and refuses nothing. recorder/README.md says more.
  */
 #ifndef IRPX_RECORDER_H
 #define IRPX_RECORDER_H
@@ -15,8 +16,9 @@
 
 typedef struct {
     BOOLEAN looks; /* a Look behind each outermost call, from the packet's own memory: TRUE at first */
-    BOOLEAN pend;  /* a device that forwards unmarked, and whose routine keeps the packet or changes its status, counts as
-                      pended: its location is marked, its caller gets STATUS_PENDING. It changes the run: FALSE at first */
+    BOOLEAN pend;  /* a device that forwards unmarked, and whose routine keeps the packet or changes its status, counts
+                      as pended: its location is marked, its caller gets STATUS_PENDING. FALSE at first, as it changes
+                      the run */
 } IRPX_OPTIONS;
 extern IRPX_OPTIONS irpx_options;
 
@@ -35,7 +37,8 @@ VOID IrpxCount(IRPX_COUNTS *Counts);
    whole length in bytes. Call it once all threads are done. */
 size_t IrpxTranscript(char *Buffer, size_t Room);
 
-/* First in DriverEntry, where the manager has put a default routine of its own into each major: that isn't a dispatch. */
+/* First in DriverEntry, where the manager has put a default routine of its own into each major: that isn't a dispatch.
+   */
 VOID IrpxWrapDriver(PDRIVER_OBJECT Driver);
 
 /* After a crash or a hang: calls that haven't returned are written as if they had. */

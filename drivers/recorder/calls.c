@@ -124,7 +124,8 @@ static BOOLEAN is_plan(const IrpxPacket *p, const IrpxFrame *f, int next)
     if (p->skipped)
         return !f->marked && !p->want;
     const IrpxLocation *here = &p->at[f->asked->location];
-    return (p->copied || p->touched) && irpx_at(p->irp, next)->MajorFunction == here->major && p->sent_word == here->word;
+    return (p->copied || p->touched) && irpx_at(p->irp, next)->MajorFunction == here->major &&
+        p->sent_word == here->word;
 }
 
 static void pass_down(IrpxPacket *p, IrpxFrame *f)

@@ -21,7 +21,8 @@ static IrpxEntry *take_cancel(IrpxPacket *p)
     return e;
 }
 
-/* Where the flag is seen, and no routine is there that the cancel could take, the cancel comes before what is done now. */
+/* Where the flag is seen, and no routine is there that the cancel could take, the cancel comes before what is done
+   now. */
 void irpx_see_cancel(IrpxPacket *p)
 {
     if (p->flag || !p->irp || !p->irp->Cancel || p->routine || p->late || (!p->canceller && !p->foreign))
@@ -128,6 +129,7 @@ BOOLEAN IrpxCancelIrp(PIRP Irp)
     IrpxPacket *p = irpx_packet(Irp, NULL);
     IrpxEntry *e = irpx_begin(IRPX_CANCEL, p, IRPX_ORIGINATOR);
     const uint64_t use = p->use;
+    const BOOLEAN other = Irp->CancelRoutine && !p->routine; /* one of the kit's, as a cancel-safe queue sets: not seen */
     if (!p->canceller)
         p->canceller = e;
     p->cancels++;
@@ -140,7 +142,7 @@ BOOLEAN IrpxCancelIrp(PIRP Irp)
         if (p->canceller == e)
             p->canceller = NULL;
     }
-    irpx_answer(e, IRPX_CANCELLED, was);
+    irpx_answer(e, IRPX_CANCELLED, was && !other);
     if (p->use == use && !irpx_top())
         irpx_look(p);
     irpx_leave();

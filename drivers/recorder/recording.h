@@ -1,17 +1,17 @@
 /*
  * recording.h: what the files of the recorder share.
  *
- * THE LOCK. All of the record is under one lock: irpx_enter takes it, irpx_leave gives it back. It is never held while a
- * driver's code runs, nor in a real call that may run such code. The short real calls that prepare a packet, mark it, or
- * set its cancel routine are made under it, so that they and their entries have one order.
+ * THE LOCK. All of the record is under one lock: irpx_enter takes it, irpx_leave gives it back. It is never held
+ * while a driver's code runs, nor in a real call that may run such code. The short real calls that prepare a packet,
+ * mark it, or set its cancel routine are made under it, so that they and their entries have one order.
  *
- * WHEN AN ENTRY IS SETTLED. It gets its place in the history always inside the real call: a call that asks nobody, in the
- * call; a descent or an unwinding, where it ends, or where whoever is asked keeps the packet. That it keeps it is known
- * when it returns, or at the first call that only the new owner may make, by whatever thread (irpx_settle). The reply of
- * a send is filled in when the send returns.
+ * WHEN AN ENTRY IS SETTLED. It gets its place in the history always inside the real call: a call that asks nobody, in
+ * the call; a descent or an unwinding, where it ends, or where whoever is asked keeps the packet. That it keeps it is
+ * known when it returns, or at the first call that only the new owner may make, by whatever thread (irpx_settle). The
+ * reply of a send is filled in when the send returns.
  *
- * A CANCEL takes its place when its routine runs, when the owner finds the routine gone, when the cancel flag is first
- * seen, or when it returns: whatever comes first.
+ * A CANCEL takes its place when its routine runs, when the owner finds the routine gone, when the cancel flag is
+ * first seen, or when it returns: whatever comes first.
  */
 #ifndef IRPX_RECORDING_H
 #define IRPX_RECORDING_H
@@ -23,9 +23,9 @@
 enum { IRPX_DEVICES = 64, IRPX_DRIVERS = 64, IRPX_SEATS = 64, IRPX_LIVE = 4096, IRPX_SIZE = 32, IRPX_IDS = 256,
        IRPX_FILES = 128, IRPX_MAJORS = IRP_MJ_MAXIMUM_FUNCTION + 1 };
 enum { IRPX_ORIGINATOR = -1, IRPX_ENDED = -2, IRPX_NOBODY = -3 }; /* parties beside device numbers */
-typedef enum { IRPX_CREATE, IRPX_ATTACH, IRPX_DETACH, IRPX_DELETE, IRPX_ALLOCATE, IRPX_FREED, IRPX_REUSE, IRPX_SET_NEXT,
-               IRPX_COPY, IRPX_SKIP, IRPX_SET_ROUTINE, IRPX_MARK, IRPX_CALL, IRPX_COMPLETE, IRPX_SET_CANCEL, IRPX_CANCEL,
-               IRPX_LOOK } IrpxOp;
+typedef enum { IRPX_CREATE, IRPX_ATTACH, IRPX_DETACH, IRPX_DELETE, IRPX_ALLOCATE, IRPX_FREED, IRPX_REUSE,
+               IRPX_SET_NEXT, IRPX_COPY, IRPX_SKIP, IRPX_SET_ROUTINE, IRPX_MARK, IRPX_CALL, IRPX_COMPLETE,
+               IRPX_SET_CANCEL, IRPX_CANCEL, IRPX_LOOK } IrpxOp;
 typedef enum { IRPX_DISPATCH, IRPX_ROUTINE, IRPX_CANCELLING } IrpxKind;
 typedef enum { IRPX_UNDECIDED, IRPX_FINISH, IRPX_HOLD, IRPX_SKIPS, IRPX_FORWARD, IRPX_FORWARD_PEND, IRPX_CONTINUE,
                IRPX_KEEP, IRPX_LEAVE } IrpxPlan;

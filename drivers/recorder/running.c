@@ -31,8 +31,8 @@ static BOOLEAN stands_on_another(PDEVICE_OBJECT device)
     return FALSE;
 }
 
-/* What is shown is what stands in the packet. What a driver wrote there before it sent it isn't the manager's doing: that
-   is shown as the record has it. */
+/* What is shown is what stands in the packet. What a driver wrote there before it sent it isn't the manager's doing:
+   that is shown as the record has it. */
 static void show_dispatch(IrpxPacket *p, IrpxAsked *a, PDEVICE_OBJECT device)
 {
     const IO_STACK_LOCATION *raw = irpx_at(p->irp, a->location);

@@ -21,8 +21,8 @@ static BOOLEAN pend_location(IrpxPacket *p, int j, IrpxFrame *f)
     return TRUE;
 }
 
-/* What a completion routine did to the packet. The mark that is recorded is the one that the rules want, where the bit of
-   the location above was set before: then to mark again, or not to, changes nothing. */
+/* What a completion routine did to the packet. The mark that is recorded is the one that the rules want, where the bit
+   of the location above was set before: then to mark again, or not to, changes nothing. */
 void irpx_routine_answered(IrpxPacket *p, IrpxFrame *f, IrpxPlan answer)
 {
     IrpxAsked *a = f->asked, *by = a->set->by;
@@ -89,7 +89,8 @@ void irpx_settle(IrpxPacket *p)
     }
 }
 
-/* The dispatch that this thread is in, if it is still asked about the packet: what it prepares is told with its plan. */
+/* The dispatch that this thread is in, if it is still asked about the packet: what it prepares is told with its plan.
+   */
 IrpxFrame *irpx_planning(IrpxPacket *p)
 {
     IrpxFrame *f = p->asking;

@@ -82,6 +82,6 @@ def threads_program(folder, host, recorder):
 def wine_program(compiler, folder):
     os.makedirs(folder, exist_ok=True)
     program = folder + "/scenarios.exe"
-    call([compiler, "-std=gnu11", "-O1", "-g", "-Wall", "-Wextra", "-Werror", *INCLUDES, "-isystem", HEADERS, "-o", program,
-          *SCENARIOS, *RECORDER, "-lntoskrnl"])
+    call([compiler, "-std=gnu11", "-O1", "-g", "-Wall", "-Wextra", "-Werror", *INCLUDES, "-isystem", HEADERS,
+          "-o", program, *SCENARIOS, *RECORDER, "-lntoskrnl"])
     return program

@@ -236,8 +236,9 @@ static const struct { const char *name; void (*run)(void); } scenarios[] = {
     SCENARIO(finish), SCENARIO(finish_not_kept), SCENARIO(three), SCENARIO(three_error), SCENARIO(three_held),
     SCENARIO(mend_on_error), SCENARIO(mend_on_success), SCENARIO(informational), SCENARIO(informational_on_error),
     SCENARIO(pending_bit), SCENARIO(pending_bit_top), SCENARIO(held_below_skips), SCENARIO(cancel_finishes),
-    SCENARIO(cancel_leaves), SCENARIO(cancel_none), SCENARIO(cancel_before), SCENARIO(twice_kept), SCENARIO(twice_ended),
-    SCENARIO(twice_in_dispatch), SCENARIO(wait_for_lower), SCENARIO(wait_pended), SCENARIO(own_packet),
+    SCENARIO(cancel_leaves), SCENARIO(cancel_none), SCENARIO(cancel_before), SCENARIO(twice_kept),
+    SCENARIO(twice_ended), SCENARIO(twice_in_dispatch), SCENARIO(wait_for_lower), SCENARIO(wait_pended),
+    SCENARIO(own_packet),
     SCENARIO(no_dispatch), SCENARIO(forgets_mark), SCENARIO(unmarked), SCENARIO(skip_routine), SCENARIO(bad_status),
     SCENARIO(delete_in_flight), SCENARIO(not_prepared), SCENARIO(too_short),
 };

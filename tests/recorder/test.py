@@ -43,7 +43,8 @@ class Bench:
 
     def run(self, words, wanted=1, **more):
         """Returns the first line of the verdict, and the exit status of the program that was recorded."""
-        made = subprocess.run(words, capture_output=True, text=True, check=False, timeout=100, env={**os.environ, **more})
+        made = subprocess.run(words, capture_output=True, text=True, check=False, timeout=100,
+                              env={**os.environ, **more})
         return JUDGE.judge(self.irpx, made.stdout, wanted)[1][0], made.returncode
 
 
@@ -117,7 +118,8 @@ def try_judge(bench):
         bench.count("recorder's judge", f"cut behind line {cut}", wrong)
     status, said = JUDGE.judge(bench.irpx, text, 9)
     bench.count("recorder's judge", "whole", None if (status, said) == (JUDGE.LEGAL, ["legal 9"]) else said)
-    text = subprocess.run([bench.room + "/scenarios", "wait_for_lower"], capture_output=True, text=True, check=True).stdout
+    text = subprocess.run([bench.room + "/scenarios", "wait_for_lower"], capture_output=True, text=True,
+                          check=True).stdout
     status, said = JUDGE.judge(bench.irpx, text, 18)
     wrong = None if status == JUDGE.OUTSIDE and said[-1] == "without it: legal 10" else said
     bench.count("recorder's judge", "the rest without the packet outside the model", wrong)
@@ -126,7 +128,8 @@ def try_judge(bench):
 def try_compilers(bench):
     """Each compiler that is there takes the recorder without a warning; without a library it needs two functions."""
     windows = ["-isystem", building.HEADERS]
-    for compiler, flags in (("gcc", building.HOST_FLAGS), ("clang", building.HOST_FLAGS), ("x86_64-w64-mingw32-gcc", windows)):
+    for compiler, flags in (("gcc", building.HOST_FLAGS), ("clang", building.HOST_FLAGS),
+                            ("x86_64-w64-mingw32-gcc", windows)):
         if not shutil.which(compiler) or (flags is windows and not os.path.isdir(building.HEADERS)):
             continue
         try:
@@ -138,7 +141,8 @@ def try_compilers(bench):
         bench.count("compilers of the recorder", compiler, wrong)
     objects = building.recorder_objects(bench.room + "/bare", ["-ffreestanding", '-DIRPX_PLATFORM="bare.h"'])
     names = subprocess.run(["nm", "-u", *objects], capture_output=True, text=True, check=True).stdout.split()
-    more = {it for it in names if it != "U" and not it.endswith(":") and not it.startswith(("Wdm", "irpx", "Irpx", "_GLOBAL"))}
+    more = {it for it in names if it != "U" and not it.endswith(":") and
+            not it.startswith(("Wdm", "irpx", "Irpx", "_GLOBAL"))}
     bench.count("compilers of the recorder", "freestanding", more - NEEDED and f"needs {sorted(more - NEEDED)}")
 
 
