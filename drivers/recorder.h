@@ -55,11 +55,11 @@ VOID IrpxDeleteDevice(PDEVICE_OBJECT Device);
 PIRP IrpxAllocateIrp(CCHAR Size, BOOLEAN Quota, const char *File);
 VOID IrpxFreeIrp(PIRP Irp);
 VOID IrpxReuseIrp(PIRP Irp, NTSTATUS Status);
-PIO_STACK_LOCATION IrpxGetNextLocation(PIRP Irp);
+PIO_STACK_LOCATION IrpxGetNextLocation(PIRP Irp, const char *File);
 VOID IrpxCopyToNext(PIRP Irp, const char *File);
 VOID IrpxSkip(PIRP Irp, const char *File);
 VOID IrpxSetRoutine(PIRP Irp, PIO_COMPLETION_ROUTINE Routine, PVOID Context, BOOLEAN Success, BOOLEAN Error,
-                    BOOLEAN Cancel);
+                    BOOLEAN Cancel, const char *File);
 VOID IrpxMarkPending(PIRP Irp, const char *File);
 NTSTATUS IrpxCallDriver(PDEVICE_OBJECT Target, PIRP Irp, const char *File);
 VOID IrpxCompleteRequest(PIRP Irp, CCHAR Boost, const char *File);
@@ -94,11 +94,11 @@ BOOLEAN IrpxCancelIrp(PIRP Irp);
 #define IoAllocateIrp(size, quota) IrpxAllocateIrp((size), (quota), __FILE__)
 #define IoFreeIrp(irp) IrpxFreeIrp(irp)
 #define IoReuseIrp(irp, status) IrpxReuseIrp((irp), (status))
-#define IoGetNextIrpStackLocation(irp) IrpxGetNextLocation(irp)
+#define IoGetNextIrpStackLocation(irp) IrpxGetNextLocation((irp), __FILE__)
 #define IoCopyCurrentIrpStackLocationToNext(irp) IrpxCopyToNext((irp), __FILE__)
 #define IoSkipCurrentIrpStackLocation(irp) IrpxSkip((irp), __FILE__)
 #define IoSetCompletionRoutine(irp, routine, context, success, error, cancel) \
-    IrpxSetRoutine((irp), (routine), (context), (BOOLEAN)(success), (BOOLEAN)(error), (BOOLEAN)(cancel))
+    IrpxSetRoutine((irp), (routine), (context), (BOOLEAN)(success), (BOOLEAN)(error), (BOOLEAN)(cancel), __FILE__)
 #define IoMarkIrpPending(irp) IrpxMarkPending((irp), __FILE__)
 #define IoCallDriver(target, irp) IrpxCallDriver((target), (irp), __FILE__)
 #define IofCallDriver(target, irp) IrpxCallDriver((target), (irp), __FILE__)

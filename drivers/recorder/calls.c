@@ -1,10 +1,10 @@
 /* calls.c: preparing, marking, sending and completing a packet. */
 #include "recording.h"
 
-PIO_STACK_LOCATION IrpxGetNextLocation(PIRP Irp)
+PIO_STACK_LOCATION IrpxGetNextLocation(PIRP Irp, const char *File)
 {
     irpx_enter();
-    IrpxPacket *p = irpx_packet(Irp, NULL);
+    IrpxPacket *p = irpx_packet(Irp, File);
     irpx_planning(p);
     p->touched = TRUE;
     PIO_STACK_LOCATION next = IoGetNextIrpStackLocation(Irp);
@@ -63,12 +63,12 @@ static IrpxSetting *new_setting(PIO_COMPLETION_ROUTINE fn, PVOID raw, UCHAR flag
 }
 
 VOID IrpxSetRoutine(PIRP Irp, PIO_COMPLETION_ROUTINE Routine, PVOID Context, BOOLEAN Success, BOOLEAN Error,
-                    BOOLEAN Cancel)
+                    BOOLEAN Cancel, const char *File)
 {
     const UCHAR flags = (UCHAR)((Success ? SL_INVOKE_ON_SUCCESS : 0) | (Error ? SL_INVOKE_ON_ERROR : 0) |
                                 (Cancel ? SL_INVOKE_ON_CANCEL : 0));
     irpx_enter();
-    IrpxPacket *p = irpx_packet(Irp, NULL);
+    IrpxPacket *p = irpx_packet(Irp, File);
     irpx_planning(p);
     p->want = Routine ? new_setting(Routine, Context, flags) : NULL;
     if (p->want)
@@ -116,10 +116,11 @@ static void flush_next(IrpxPacket *p, int by, int next)
     }
 }
 
-/* Whether the dispatch passes the packet down by one plan, and has done no more to it. */
-static BOOLEAN is_plan(const IrpxPacket *p, const IrpxFrame *f, int next)
+/* Whether the dispatch passes the packet to the device below by one plan, and has done no more to it. */
+static BOOLEAN is_plan(const IrpxPacket *p, const IrpxFrame *f, PDEVICE_OBJECT target, int next)
 {
-    if (!f || f->cancel || next < 1 || next > p->size)
+    if (!f || f->cancel || next < 1 || next > p->size || f->asked->device < 0 ||
+        target->AttachedDevice != irpx.devices[f->asked->device].raw)
         return FALSE;
     if (p->skipped)
         return !f->marked && !p->want;
@@ -150,7 +151,7 @@ NTSTATUS IrpxCallDriver(PDEVICE_OBJECT Target, PIRP Irp, const char *File)
     IrpxEntry *e = NULL;
     p->sent_word = next >= 1 && next <= p->size ? irpx_word_of(irpx_at(Irp, next)) : 0;
     irpx_wrap(Target->DriverObject);
-    if (is_plan(p, f, next))
+    if (is_plan(p, f, Target, next))
         pass_down(p, f);
     else {
         irpx_settle(p);

@@ -143,8 +143,10 @@ NTSTATUS IrpxCreateDevice(PDRIVER_OBJECT Driver, ULONG Extension, PUNICODE_STRIN
         if (irpx.devices[d].raw == *Device)
             irpx.devices[d].raw = NULL;
     const int d = irpx_device(*Device);
-    if (d >= 0)
+    if (d >= 0) {
+        irpx.devices[d].seen = TRUE; /* its driver is compiled with the recorder */
         learn_file(File, irpx.devices[d].driver);
+    }
     irpx_leave();
     return status;
 }
@@ -195,12 +197,23 @@ static BOOLEAN is_one_rising(void)
     return FALSE;
 }
 
+/* What code without the recorder completes has no call that returns. */
+static void end_what_rises(void)
+{
+    for (unsigned i = 0; i < irpx.n_packets; i++) {
+        IrpxPacket *p = irpx.packets[i];
+        if (p->irp && p->open && p->rising && !p->asking)
+            irpx_ended(p, p->use, p->open);
+    }
+}
+
 /* With a device above it, a delete is put off until that one is detached, as in Windows. */
 VOID IrpxDeleteDevice(PDEVICE_OBJECT Device)
 {
     irpx_enter();
     for (int i = 0; i < 1000 && is_one_rising(); i++)
         irpx_pause();
+    end_what_rises();
     IrpxEntry *e = irpx_begin(IRPX_DELETE, NULL, IRPX_ORIGINATOR);
     e->device = irpx_device(Device);
     e->reply = IRPX_DONE;

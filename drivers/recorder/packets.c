@@ -80,11 +80,15 @@ IrpxPacket *irpx_new(PIRP irp, int size, int allocator)
     return p;
 }
 
-/* One that isn't known was made by code without the recorder. */
+/* One that isn't known was made by code without the recorder, which may have filled its top location. */
 IrpxPacket *irpx_packet(PIRP irp, const char *file)
 {
     IrpxPacket *p = irpx_find(irp);
-    return p ? p : irpx_new(irp, irp->CurrentLocation - 1, irpx_calling_driver(file));
+    if (!p) {
+        p = irpx_new(irp, irp->CurrentLocation - 1, irpx_calling_driver(file));
+        p->foreign = p->touched = TRUE;
+    }
+    return p;
 }
 
 /* One that was freed is told under its old name. */

@@ -133,7 +133,7 @@ typedef struct {
     IrpxEntry *first, *last, *made;
     IrpxSetting *settings;
     struct { uintptr_t thread; IrpxFrame *frames; } seats[IRPX_SEATS];
-    struct { PDEVICE_OBJECT raw; int driver; BOOLEAN live; IrpxEntry *put_off; } devices[IRPX_DEVICES];
+    struct { PDEVICE_OBJECT raw; int driver; BOOLEAN live, seen; IrpxEntry *put_off; } devices[IRPX_DEVICES];
     IrpxDriver drivers[IRPX_DRIVERS];
     struct { const char *file; int driver; } files[IRPX_FILES];
     void *dispatches[IRPX_IDS];

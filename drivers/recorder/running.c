@@ -47,14 +47,27 @@ static void show_dispatch(IrpxPacket *p, IrpxAsked *a, PDEVICE_OBJECT device)
     a->has_lower = stands_on_another(device);
 }
 
+/* A dispatch that is asked has completed its packet, unmarked, by code without the recorder. */
+static void finish_unseen(IrpxPacket *p, IrpxFrame *f)
+{
+    f->asked->plan = IRPX_FINISH;
+    f->settled = TRUE;
+    p->asking = NULL;
+    p->rising = TRUE;
+}
+
 static NTSTATUS dispatch_returned(IrpxPacket *p, IrpxFrame *f, NTSTATUS status)
 {
+    const int d = f->asked->device;
     irpx_pop(f);
     for (int i = 1; i <= p->size; i++)
         if (p->at[i].frame == f)
             p->at[i].frame = NULL;
     f->returning = TRUE;
-    if (p->asking == f)
+    if (p->asking == f && d >= 0 && !irpx.devices[d].seen && status != STATUS_PENDING) {
+        finish_unseen(p, f); /* nobody was asked, so it has ended: its memory may be gone */
+        f->asked->new_status = p->status = (ULONG)status;
+    } else if (p->asking == f)
         irpx_settle(p);
     return f->forced && !f->marked ? STATUS_PENDING : status;
 }
@@ -87,9 +100,27 @@ NTSTATUS NTAPI irpx_dispatch(PDEVICE_OBJECT device, PIRP irp)
     if (mine) {
         mine->reply = IRPX_STATUS;
         mine->answer = (ULONG)status;
+        if (p->open == mine && !p->asking)
+            irpx_ended(p, f.use, mine);
     }
     irpx_leave();
     return status;
+}
+
+/* Where nobody has called for it, the packet was completed by code without the recorder, or is asked once too often. */
+static void see_completion(IrpxPacket *p)
+{
+    IrpxFrame *f = p->asking;
+    if (f && f->asked->kind == IRPX_DISPATCH && f->seat == irpx.me && !f->marked && !p->irp->PendingReturned) {
+        finish_unseen(p, f);
+        irpx_read_status(p, &f->asked->new_status, &f->asked->new_information);
+    } else
+        irpx_settle(p);
+    if (p->open)
+        return;
+    p->open = irpx_begin(IRPX_COMPLETE, p, p->owner);
+    p->open->reply = IRPX_DONE;
+    irpx_read_status(p, &p->open->status, &p->open->information);
 }
 
 NTSTATUS NTAPI irpx_routine(PDEVICE_OBJECT device, PIRP irp, PVOID context)
@@ -101,12 +132,7 @@ NTSTATUS NTAPI irpx_routine(PDEVICE_OBJECT device, PIRP irp, PVOID context)
         irpx_leave();
         return s->fn(device, irp, s->raw);
     }
-    if (!p->open) { /* finished by code without the recorder, or asked once too often */
-        irpx_settle(p);
-        p->open = irpx_begin(IRPX_COMPLETE, p, p->owner);
-        p->open->reply = IRPX_DONE;
-        irpx_read_status(p, &p->open->status, &p->open->information);
-    }
+    see_completion(p);
     const int j = irp->CurrentLocation - 1;
     IrpxAsked *a = irpx_ask(p, IRPX_ROUTINE, irpx_device(device), j);
     IrpxFrame f;
@@ -126,6 +152,8 @@ NTSTATUS NTAPI irpx_routine(PDEVICE_OBJECT device, PIRP irp, PVOID context)
     else if (!f.settled) {
         p->asking = NULL;
         irpx_routine_answered(p, &f, IRPX_CONTINUE);
+        if (j == p->size)
+            irpx_ended(p, p->use, p->open);
     }
     irpx_leave();
     return answer;
