@@ -137,6 +137,7 @@ void irpx_push(IrpxFrame *f, IrpxPacket *p, IrpxAsked *a)
     f->p = p;
     f->use = p->use;
     f->asked = a;
+    f->entry = p->open;
     f->seat = irpx.me;
     irpx.seats[irpx.me].frames = f;
 }

@@ -83,6 +83,7 @@ typedef struct IrpxFrame {
     IrpxPacket *p;
     uint64_t use;
     IrpxAsked *asked;
+    IrpxEntry *entry;
     int seat;
     BOOLEAN settled, marked, returning;
     BOOLEAN forced; /* it counts as one that pended, by `pend` */

@@ -59,16 +59,19 @@ static void finish_unseen(IrpxPacket *p, IrpxFrame *f)
 static NTSTATUS dispatch_returned(IrpxPacket *p, IrpxFrame *f, NTSTATUS status)
 {
     const int d = f->asked->device;
+    const BOOLEAN unseen = d >= 0 && !irpx.devices[d].seen;
     irpx_pop(f);
     for (int i = 1; i <= p->size; i++)
         if (p->at[i].frame == f)
             p->at[i].frame = NULL;
     f->returning = TRUE;
-    if (p->asking == f && d >= 0 && !irpx.devices[d].seen && status != STATUS_PENDING) {
+    if (p->asking == f && unseen && status != STATUS_PENDING) {
         finish_unseen(p, f); /* nobody was asked, so it has ended: its memory may be gone */
         f->asked->new_status = p->status = (ULONG)status;
     } else if (p->asking == f)
         irpx_settle(p);
+    if (unseen && f->settled && p->open == f->entry && !p->asking)
+        irpx_ended(p, f->use, f->entry);
     return f->forced && !f->marked ? STATUS_PENDING : status;
 }
 
