@@ -79,6 +79,14 @@ def threads_program(folder, host, recorder):
     return link(objects + host + recorder, folder + "/threads")
 
 
+def stack_program(name, folder, shared):
+    """A stack of the host's with its own test; the device below it is compiled without the recorder."""
+    objects = compile_all([f"{DRIVERS}/stacks/{name}.c"], folder,
+                          ["cc", "-std=gnu11", "-Wno-multichar", *HOST_FLAGS, "-DWdmFinish=RecorderFinish", "-include",
+                           "recorder.h"])
+    return link(objects + shared, f"{folder}/{name}")
+
+
 def wine_program(compiler, folder):
     os.makedirs(folder, exist_ok=True)
     program = folder + "/scenarios.exe"

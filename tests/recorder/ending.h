@@ -25,7 +25,7 @@ static void write_transcript(void)
     free(text);
 }
 
-static void end_early(const char *what, int status)
+static inline void end_early(const char *what, int status)
 {
     IrpxAbandon();
     fprintf(stderr, "%s in the manager or in a driver\n", what);
@@ -33,7 +33,7 @@ static void end_early(const char *what, int status)
     _Exit(status);
 }
 
-static void crashed(int number)
+static inline void crashed(int number)
 {
     signal(number, SIG_DFL);
     end_early("a crash", CRASHED);
@@ -52,7 +52,7 @@ static unsigned long __stdcall watch(void *nothing)
 }
 #endif
 
-static void begin_to_watch(void)
+static inline void begin_to_watch(void)
 {
     signal(SIGSEGV, crashed);
     signal(SIGABRT, crashed);

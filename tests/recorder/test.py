@@ -92,6 +92,22 @@ def try_threads(bench, host, recorder):
             bench.count("recorded runs with threads", f"{threads} threads, seed {seed}", wrong)
 
 
+def try_stacks(bench, host, recorder):
+    """Right drivers over a device that is compiled without the recorder: legal, or outside the model as expected."""
+    folder = bench.room + "/stacks"
+    finishing = building.compile_all([building.HERE + "/finishing.c"], folder,
+                                     ["cc", *building.STRICT, *building.HOST_FLAGS, "-DWdmFinish=RecorderFinish"])
+
+    def one(row):
+        program = building.stack_program(row[0], folder, finishing + host + recorder)
+        return row, bench.run([program], WDM_TRANSCRIPT="/dev/null")[0]
+
+    with concurrent.futures.ThreadPoolExecutor(4) as pool:
+        for (name, wanted), verdict in pool.map(one, expected.STACKS):
+            wrong = None if verdict.startswith(wanted) else f"{verdict}, not {wanted}"
+            bench.count("recorded stacks", name, wrong)
+
+
 def try_memory(bench, probe, host):
     """All memory comes back; where some is missing, the transcript ends before that."""
     counting = building.recorder_objects(bench.room + "/counting", ['-DIRPX_PLATFORM="counting.h"'])
@@ -156,6 +172,7 @@ def main():
             try_judge(bench)
             try_planted(bench, scenarios, host, recorder)
             try_threads(bench, host, recorder)
+            try_stacks(bench, host, recorder)
             try_memory(bench, scenarios[1:], host)
             try_compilers(bench)
         except building.Failed as why:
