@@ -87,9 +87,19 @@ def stack_program(name, folder, shared):
     return link(objects + shared, f"{folder}/{name}")
 
 
-def wine_program(compiler, folder):
-    os.makedirs(folder, exist_ok=True)
-    program = folder + "/scenarios.exe"
-    call([compiler, "-std=gnu11", "-O1", "-g", "-Wall", "-Wextra", "-Werror", *INCLUDES, "-isystem", HEADERS,
-          "-o", program, *SCENARIOS, *RECORDER, "-lntoskrnl"])
+def wine_program(compiler, folder, name, sources):
+    words = [compiler, "-std=gnu11", "-O1", "-g", "-Wall", *INCLUDES, "-isystem", HEADERS]
+    program = f"{folder}/{name}.exe"
+    call([*words, "-Wextra", "-Werror", "-o", program, *sources, *RECORDER, "-lntoskrnl"])
     return program
+
+
+def wine_samples(compiler, folder):
+    """The sample drivers, as they are."""
+    words = [compiler, "-std=gnu11", "-O1", "-g", "-Wno-multichar", *INCLUDES, "-isystem", HEADERS, "-include",
+             "recorder.h"]
+    objects = []
+    for name in ("bus", "toaster", "filter"):
+        objects.append(f"{folder}/{name}.o")
+        call([*words, f"-DDriverEntry={name}_DriverEntry", "-c", f"{DRIVERS}/samples/{name}.c", "-o", objects[-1]])
+    return wine_program(compiler, folder, "samples", [os.path.dirname(HERE) + "/wine/samples.c", *objects])
