@@ -211,7 +211,7 @@ static void end_what_rises(void)
 VOID IrpxDeleteDevice(PDEVICE_OBJECT Device)
 {
     irpx_enter();
-    for (int i = 0; i < 50000 && is_one_rising(); i++)
+    for (int i = 0; i < 1000 && is_one_rising(); i++)
         irpx_pause();
     end_what_rises();
     IrpxEntry *e = irpx_begin(IRPX_DELETE, NULL, IRPX_ORIGINATOR);

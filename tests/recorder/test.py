@@ -43,8 +43,11 @@ class Bench:
 
     def run(self, words, wanted=1, **more):
         """Returns the first line of the verdict, and the exit status of the program that was recorded."""
-        made = subprocess.run(words, capture_output=True, text=True, check=False, timeout=100,
-                              env={**os.environ, **more})
+        try:
+            made = subprocess.run(words, capture_output=True, text=True, check=False, timeout=100,
+                                  env={**os.environ, **more})
+        except subprocess.TimeoutExpired:
+            return "no end after 100 seconds", None
         return JUDGE.judge(self.irpx, made.stdout, wanted)[1][0], made.returncode
 
 
