@@ -6,7 +6,7 @@ use Rattle.irp_judge.specs.declared.verdict.Wrong.{Wrong}
 use Rattle.irp_listing.specs.Lines.{row_of}
 use Rattle.irp_view.specs.Parts.{part_text, value_text}
 use Rattle.irp_view.specs.Blocks as spec
-use Rattle.irp_view.specs.Blocks.{AddsCause, AddsHead, AddsRow, AddsRows, AddsSection, AddsWhy, head_of, see_row, why_row}
+use Rattle.irp_view.specs.Blocks.{AddsCause, AddsHead, AddsRow, AddsRows, AddsSection, AddsWhy, cause_told, head_of, see_row, why_row}
 use Rattle.irp_view.specs.Sections.{section_of}
 use Rattle.irp_view.specs.declared.sections.Section.{Section}
 use Rattle.std.specs.Prelude.{IfSome}
@@ -36,9 +36,9 @@ all_rows entry wrong known x a b c d y head part given made rule = record {
       (behind a b y _ _ part.put (behind b c y _ _ given.put (behind c d y _ _ made.put rule.put)));
 }
 
-pub why_told : (entry : Entry) (wrong : Wrong) (section : Section) (x a b y : List ℕ) → AddsRows entry wrong x a → AddsCause wrong.cause a b → IfSome (section_of wrong.difference) (λ known. section ≡ known) → AddsSection section b y → AddsWhy entry wrong x y
+pub why_told : (entry : Entry) (wrong : Wrong) (section : Section) (x a b y : List ℕ) → AddsRows entry wrong x a → AddsCause (cause_told wrong.difference wrong.cause) a b → IfSome (section_of wrong.difference) (λ known. section ≡ known) → AddsSection section b y → AddsWhy entry wrong x y
 why_told entry wrong section x a b y rows cause is see = record {
-  text = rows.rows ++ (why_row wrong.cause cause.words ++ see_row section);
+  text = rows.rows ++ (why_row (cause_told wrong.difference wrong.cause) cause.words ++ see_row section);
   is = record {
     rows = rows.rows;
     are = rows.are;

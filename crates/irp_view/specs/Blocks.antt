@@ -3,6 +3,8 @@ use Rattle.std.specs.Prelude.{ℕ, ◌≡◌, ◌+◌, ◌<◌, ◌^◌, List, [
 use Rattle.std.specs.Fmt.{decimal}
 use Rattle.irp_types.specs.declared.entry.Entry.{Entry}
 use Rattle.irp_listing.specs.Lines.{line_of, row_of}
+use Rattle.irp_difference.specs.declared.difference.Difference.{Difference}
+use Rattle.irp_difference.specs.declared.difference.Difference.TheVariants as kind
 use Rattle.irp_judge.specs.declared.cause.Cause.{Cause}
 use Rattle.irp_judge.specs.declared.verdict.Wrong.{Wrong}
 use Rattle.irp_view.specs.Parts.{part_text, value_text}
@@ -43,7 +45,12 @@ AreWords known words = IfSome known (λ text. words ≡ text)
 abbrev pub see_row : Section → List ℕ
 see_row section = row_of see (codes "docs/RULES.md, " ++ title_of section)
 
--- what a refusal comes from has a row, if the manager refuses the call
+-- what a refusal comes from is told where the entry differs in it
+abbrev pub cause_told : Difference → Option Cause → Option Cause
+cause_told kind.Refusal cause = cause
+cause_told _ cause = None
+
+-- and has a row, if the manager refuses the call
 abbrev pub why_row : Option Cause → List ℕ → List ℕ
 why_row None words = []
 why_row (Some cause) words = row_of why words
@@ -94,14 +101,14 @@ pub record AddsRows (entry : Entry) (wrong : Wrong) (before after : List ℕ) : 
   pub put : after ≡ before ++ rows
 
 -- the text for what is wrong with an entry: these rows; what a refusal comes from, exactly where the manager refuses
--- the call; and the section of the rules, which the difference settles for all but who is asked, and replies
+-- the call and the entry differs in that; and the section of the rules, which the difference settles for all but who is asked, and replies
 pub record IsWhy (entry : Entry) (wrong : Wrong) (text : List ℕ) : Type 0 where
   pub rows : List ℕ
   pub are : AreRows entry wrong rows
   pub cause : List ℕ
   pub section : Section
   pub section_is : IfSome (section_of wrong.difference) (λ known. section ≡ known)
-  pub whole : text ≡ rows ++ (why_row wrong.cause cause ++ see_row section)
+  pub whole : text ≡ rows ++ (why_row (cause_told wrong.difference wrong.cause) cause ++ see_row section)
 
 -- it was put behind what stood there
 pub record AddsWhy (entry : Entry) (wrong : Wrong) (before after : List ℕ) : Type 0 where

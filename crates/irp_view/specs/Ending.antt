@@ -5,6 +5,7 @@ use Rattle.irp_judge.specs.declared.verdict.Verdict.{Verdict}
 use Rattle.irp_judge.specs.declared.verdict.Verdict.TheVariants as verdict
 use Rattle.irp_listing.specs.declared.writing.Unwritten.{Unwritten}
 use Rattle.irp_listing.specs.declared.writing.Unwritten.TheVariants as unwritten
+use Rattle.irp_view.specs.Refusals.{expected_text}
 use Rattle.irp_view.specs.declared.ending.Ending.{Ending}
 use Rattle.irp_view.specs.declared.ending.Ending.TheVariants.{
   Done,
@@ -37,7 +38,7 @@ of_stream stream.NoMemory = NoMemory
 -- no transcript
 abbrev pub of_unread : Unread → Ending
 of_unread (unread.Input fault) = of_stream fault
-of_unread (unread.Refused line) = Refused line
+of_unread (unread.Refused line expected) = Refused line expected
 of_unread unread.NoMemory = NoMemory
 
 -- a text that wasn't written whole
@@ -60,7 +61,7 @@ ending_of of_value (Err fault) = of_unwritten fault
 -- the exit status of an ending
 abbrev pub status_of : Ending → ℕ
 status_of Done = 0
-status_of (Refused line) = 1
+status_of (Refused line expected) = 1
 status_of Wrong = 2
 status_of NoMemory = 3
 status_of OtherWords = 4
@@ -76,7 +77,8 @@ has_line ending = true
 -- the line for standard error, without its newline
 abbrev pub complaint_of : Ending → Option (List ℕ)
 complaint_of Done = Some (codes "")
-complaint_of (Refused line) = Some (codes "irp_view: transcript refused: line " ++ decimal line)
+complaint_of (Refused line expected) =
+    Some (codes "irp_view: transcript refused: line " ++ (decimal line ++ expected_text expected))
 complaint_of Wrong = Some (codes "")
 complaint_of NoMemory = Some (codes "irp_view: out of memory")
 complaint_of OtherWords =

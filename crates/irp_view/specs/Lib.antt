@@ -3,6 +3,7 @@ pub mod Ending
 pub mod Parts
 pub mod Program
 pub mod Reading
+pub mod Refusals
 pub mod Sections
 pub mod Showing
 pub mod Telling

@@ -36,7 +36,7 @@ IsRefused text line = ReadsFrom no_lines 0 (Err (fault.Line line)) (cut text)
 
 -- why a text is no transcript's: its first line that is refused, or want of memory
 abbrev pub IsTextOfNone : List ℕ → Unread → Type 0
-IsTextOfNone text (Refused line) = IsRefused text line
+IsTextOfNone text (Refused line expected) = IsRefused text line
 IsTextOfNone text (Input fault) = ⊥
 IsTextOfNone text NoMemory = Unit {0}
 
@@ -47,6 +47,6 @@ Holds old new transcript = (text : List ℕ) × IsInput old new text × IsTextOf
 -- why the input holds no transcript: the first line that is refused of the text in it; or it wasn't read, or want of
 -- memory
 abbrev pub HoldsNone : Bytes → Bytes → Unread → Type 0
-HoldsNone old new (Refused line) = (text : List ℕ) × IsInput old new text × IsRefused text line
+HoldsNone old new (Refused line expected) = (text : List ℕ) × IsInput old new text × IsRefused text line
 HoldsNone old new (Input fault) = Unit {0}
 HoldsNone old new NoMemory = Unit {0}

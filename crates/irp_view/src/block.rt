@@ -1,13 +1,13 @@
 //! The block of rows that tells what is wrong with an entry.
 
 ghost use Rattle.std.specs.Prelude.{◌≡◌, ◌++◌, OnOk};
-ghost use Rattle.irp_view.specs.Blocks.{AddsCause, AddsHead, AddsRow, AddsRows, AddsSection, AddsWhy, place_of};
+ghost use Rattle.irp_view.specs.Blocks.{AddsCause, AddsHead, AddsRow, AddsRows, AddsSection, AddsWhy, cause_told, place_of};
 
 use crate::causes::CauseWords;
 use crate::parts::{PartWords, ValueWords};
 use crate::rules::{RuleWords, section_of};
 use crate::sections::Section;
-use irp_judge::Wrong;
+use irp_judge::{Cause, Difference, Wrong};
 use irp_listing::{CallerWords, put_line, put_row};
 use irp_transcript::Header;
 use irp_types::Entry;
@@ -62,12 +62,22 @@ fn put_section(out: &mut Vec<u8>, words: &mut String, section: Section) -> Resul
     put_row(out, "see         ", words.as_str())
 }
 
-/// Puts the row that tells what a refusal comes from, where the manager refuses the call. The one error is want of
-/// memory.
-fn put_cause(out: &mut Vec<u8>, words: &mut String, wrong: &Wrong) -> Result<(), AllocError>
-    ensures { OnOk result (AddsCause wrong.now.cause out.old.items out.new.items) }
+/// What a refusal comes from, where the entry differs in it.
+fn cause_told(wrong: &Wrong) -> Option<Cause>
+    ensures { result ≡ cause_told wrong.now.difference wrong.now.cause }
 {
-    let Some(cause) = wrong.cause else {
+    match wrong.difference {
+        Difference::Refusal => wrong.cause,
+        _ => None,
+    }
+}
+
+/// Puts the row that tells what a refusal comes from, where the manager refuses the call and the entry differs in that.
+/// The one error is want of memory.
+fn put_cause(out: &mut Vec<u8>, words: &mut String, wrong: &Wrong) -> Result<(), AllocError>
+    ensures { OnOk result (AddsCause (cause_told wrong.now.difference wrong.now.cause) out.old.items out.new.items) }
+{
+    let Some(cause) = cause_told(wrong) else {
         return Ok(());
     };
     let Entry { call, reply, .. } = wrong.made;

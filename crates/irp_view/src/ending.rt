@@ -7,6 +7,7 @@ ghost use Rattle.irp_view.specs.Ending.{has_line, of_stream, of_unread, of_unwri
 use crate::input::StreamFault;
 use crate::orders::Unasked;
 use crate::reading::Unread;
+use crate::refusal::Expected;
 use irp_judge::Verdict;
 use irp_listing::Unwritten;
 use std::fmt;
@@ -17,8 +18,8 @@ use std::process::ExitCode;
 pub enum Ending {
     /// All was done, and nothing is wrong where that was asked: status 0, and no line.
     Done,
-    /// The transcript is refused at this line, from 1: status 1.
-    Refused { line: u64 },
+    /// The transcript is refused at this line, from 1, where this was expected: status 1.
+    Refused { line: u64, expected: Expected },
     /// An entry is wrong, and was told: status 2, and no line.
     Wrong,
     /// Memory ran out: status 3.
@@ -70,7 +71,9 @@ impl fmt::Display for Ending {
     fn fmt<W: fmt::Write>(&self, f: &mut fmt::Formatter<W>) -> fmt::Result {
         match self {
             Ending::Done | Ending::Wrong => Ok(()),
-            Ending::Refused { line } => write!(f, "irp_view: transcript refused: line {line}"),
+            Ending::Refused { line, expected } => {
+                write!(f, "irp_view: transcript refused: line {line}{expected}")
+            }
             Ending::NoMemory => f.write_str("irp_view: out of memory"),
             Ending::OtherWords => f.write_str(
                 "irp_view: usage: irp_view why, text or packet SLOT USE, then [FILE]; see irp_view --help",
@@ -109,7 +112,7 @@ impl From<Unread> for Ending {
     fn from(given: Unread) -> Ending {
         match given {
             Unread::Input(fault) => Ending::from(fault),
-            Unread::Refused { line } => Ending::Refused { line },
+            Unread::Refused { line, expected } => Ending::Refused { line, expected },
             Unread::NoMemory => Ending::NoMemory,
         }
     }

@@ -11,6 +11,7 @@ mod input;
 mod orders;
 mod parts;
 mod reading;
+mod refusal;
 mod rules;
 mod sections;
 mod showing;

@@ -4,6 +4,7 @@ ghost use Rattle.std.specs.Prelude.{IfErr, IfOk, ◌≡◌};
 ghost use Rattle.irp_view.specs.Reading.{Holds, HoldsNone, IsInput, IsTextOf, IsTextOfNone, TakesAtMost, most_taken};
 
 use crate::input::{StreamFault, read_up_to};
+use crate::refusal::{Expected, expected_at};
 use irp_text::{ReadFault, read_transcript};
 use irp_transcript::Transcript;
 use std::alloc::Global;
@@ -17,8 +18,8 @@ const MOST_BYTES: usize = 1_073_741_824;
 pub enum Unread {
     /// The input wasn't read. One that is too long counts as failed.
     Input(StreamFault),
-    /// The text isn't a transcript's: this line, from 1, is the first that is refused.
-    Refused { line: u64 },
+    /// The text isn't a transcript's: this line, from 1, is the first that is refused, and what was expected there.
+    Refused { line: u64, expected: Expected },
     /// Memory ran out for the transcript.
     NoMemory,
 }
@@ -53,7 +54,10 @@ fn read(alloc: Global, text: &[u8]) -> Result<Transcript, Unread>
 {
     match read_transcript(alloc, text) {
         Ok(transcript) => Ok(transcript),
-        Err(ReadFault::Line(line)) => Err(Unread::Refused { line }),
+        Err(ReadFault::Line(line)) => Err(Unread::Refused {
+            line,
+            expected: expected_at(alloc, text, line),
+        }),
         Err(ReadFault::NoMemory) => Err(Unread::NoMemory),
     }
 }
