@@ -1,0 +1,57 @@
+-- Rows that were put one behind the other.
+use Rattle.std.proofs.Common.{◌≡◌, ℕ, List, [], ◌++◌, Option, None, Some, refl, sym, ap, ◌∙◌, append_assoc, append-nil}
+use Rattle.irp_types.specs.declared.entry.Entry.{Entry}
+use Rattle.irp_judge.specs.declared.cause.Cause.{Cause}
+use Rattle.irp_judge.specs.declared.verdict.Wrong.{Wrong}
+use Rattle.irp_listing.specs.Lines.{row_of}
+use Rattle.irp_view.specs.Parts.{part_text, value_text}
+use Rattle.irp_view.specs.Blocks as spec
+use Rattle.irp_view.specs.Blocks.{AddsCause, AddsHead, AddsRow, AddsRows, AddsSection, AddsWhy, cause_told, head_of, see_row, why_row}
+use Rattle.irp_view.specs.Sections.{section_of}
+use Rattle.irp_view.specs.declared.sections.Section.{Section}
+use Rattle.std.specs.Prelude.{IfSome}
+
+-- what was put behind what was put
+pub behind : (x y z one other : List ℕ) → y ≡ x ++ one → z ≡ y ++ other → z ≡ x ++ (one ++ other)
+behind x y z one other p q = q ∙ ap (λ given. given ++ other) p ∙ append_assoc x one other
+
+pub all_rows : (entry : Entry) (wrong : Wrong) (known : Option (List ℕ)) (x a b c d y : List ℕ) → AddsHead wrong.at x a → AddsRow spec.differs_in (part_text wrong.difference) a b → AddsRow spec.says (value_text wrong.difference entry) b c → AddsRow spec.manager (value_text wrong.difference wrong.made) c d → AddsRow spec.rule known d y → AddsRows entry wrong x y
+all_rows entry wrong known x a b c d y head part given made rule = record {
+  rows = head_of wrong.at head.line head.words ++ (row_of spec.differs_in part.words ++ (row_of spec.says given.words ++ (row_of spec.manager made.words ++ row_of spec.rule rule.words)));
+  are = record {
+    line = head.line;
+    line_is = head.line_is;
+    who = head.words;
+    part = part.words;
+    part_is = part.are;
+    given = given.words;
+    given_is = given.are;
+    made = made.words;
+    made_is = made.are;
+    words = rule.words;
+    whole = refl;
+  };
+  put =
+      behind x a y _ _ head.put
+      (behind a b y _ _ part.put (behind b c y _ _ given.put (behind c d y _ _ made.put rule.put)));
+}
+
+pub why_told : (entry : Entry) (wrong : Wrong) (section : Section) (x a b y : List ℕ) → AddsRows entry wrong x a → AddsCause (cause_told wrong.difference wrong.cause) a b → IfSome (section_of wrong.difference) (λ known. section ≡ known) → AddsSection section b y → AddsWhy entry wrong x y
+why_told entry wrong section x a b y rows cause is see = record {
+  text = rows.rows ++ (why_row (cause_told wrong.difference wrong.cause) cause.words ++ see_row section);
+  is = record {
+    rows = rows.rows;
+    are = rows.are;
+    cause = cause.words;
+    section = section;
+    section_is = is;
+    whole = refl;
+  };
+  put = behind x a y _ _ rows.put (behind a b y _ _ cause.put see);
+}
+
+pub no_cause : (x : List ℕ) → AddsCause None x x
+no_cause x = record { words = []; put = sym (append-nil x) }
+
+pub a_cause : (cause : Cause) (known : Option (List ℕ)) (x y : List ℕ) → AddsRow spec.why known x y → AddsCause (Some cause) x y
+a_cause cause known x y row = record { words = row.words; put = row.put }

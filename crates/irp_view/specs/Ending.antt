@@ -1,0 +1,87 @@
+-- The exit statuses, and the lines for standard error.
+use Rattle.std.specs.Prelude.{ℕ, List, ◌++◌, codes, Bool, true, false, Option, Some, Result, Ok, Err}
+use Rattle.std.specs.Fmt.{decimal}
+use Rattle.irp_judge.specs.declared.verdict.Verdict.{Verdict}
+use Rattle.irp_judge.specs.declared.verdict.Verdict.TheVariants as verdict
+use Rattle.irp_listing.specs.declared.writing.Unwritten.{Unwritten}
+use Rattle.irp_listing.specs.declared.writing.Unwritten.TheVariants as unwritten
+use Rattle.irp_view.specs.Refusals.{expected_text}
+use Rattle.irp_view.specs.declared.ending.Ending.{Ending}
+use Rattle.irp_view.specs.declared.ending.Ending.TheVariants.{
+  Done,
+  Refused,
+  Wrong,
+  NoMemory,
+  OtherWords,
+  NoFile,
+  Failed,
+}
+use Rattle.irp_view.specs.declared.input.StreamFault.{StreamFault}
+use Rattle.irp_view.specs.declared.input.StreamFault.TheVariants as stream
+use Rattle.irp_view.specs.declared.orders.Unasked.{Unasked}
+use Rattle.irp_view.specs.declared.orders.Unasked.TheVariants as unasked
+use Rattle.irp_view.specs.declared.reading.Unread.{Unread}
+use Rattle.irp_view.specs.declared.reading.Unread.TheVariants as unread
+
+-- ---- what each fault ends with
+
+-- other words, or want of memory for them
+abbrev pub of_words : Unasked → Ending
+of_words unasked.Usage = OtherWords
+of_words unasked.NoMemory = NoMemory
+
+-- an input that wasn't read
+abbrev pub of_stream : StreamFault → Ending
+of_stream stream.Failed = Failed
+of_stream stream.NoMemory = NoMemory
+
+-- no transcript
+abbrev pub of_unread : Unread → Ending
+of_unread (unread.Input fault) = of_stream fault
+of_unread (unread.Refused line expected) = Refused line expected
+of_unread unread.NoMemory = NoMemory
+
+-- a text that wasn't written whole
+abbrev pub of_unwritten : Unwritten → Ending
+of_unwritten unwritten.Failed = Failed
+of_unwritten unwritten.NoMemory = NoMemory
+
+-- a verdict that was told
+abbrev pub of_verdict : Verdict → Ending
+of_verdict (verdict.Legal entries) = Done
+of_verdict (verdict.Illegal at) = Wrong
+
+-- what a result ends with
+abbrev pub ending_of : {T : Type 0} → (T → Ending) → Result T Unwritten → Ending
+ending_of of_value (Ok value) = of_value value
+ending_of of_value (Err fault) = of_unwritten fault
+
+-- ---- what an ending is seen by
+
+-- the exit status of an ending
+abbrev pub status_of : Ending → ℕ
+status_of Done = 0
+status_of (Refused line expected) = 1
+status_of Wrong = 2
+status_of NoMemory = 3
+status_of OtherWords = 4
+status_of NoFile = 5
+status_of Failed = 5
+
+-- whether an ending has a line for standard error
+abbrev pub has_line : Ending → Bool
+has_line Done = false
+has_line Wrong = false
+has_line ending = true
+
+-- the line for standard error, without its newline
+abbrev pub complaint_of : Ending → Option (List ℕ)
+complaint_of Done = Some (codes "")
+complaint_of (Refused line expected) =
+    Some (codes "irp_view: transcript refused: line " ++ (decimal line ++ expected_text expected))
+complaint_of Wrong = Some (codes "")
+complaint_of NoMemory = Some (codes "irp_view: out of memory")
+complaint_of OtherWords =
+    Some (codes "irp_view: usage: irp_view why, text or packet SLOT USE, then [FILE]; see irp_view --help")
+complaint_of NoFile = Some (codes "irp_view: the file can't be opened")
+complaint_of Failed = Some (codes "irp_view: input or output failed")

@@ -1,0 +1,69 @@
+-- What the program does for its words.
+use Rattle.std.specs.Prelude.{ℕ, ◌≡◌, ◌⊎◌, List, MatchResult, Result}
+use Rattle.irp_transcript.specs.Transcripts.{TranscriptValue}
+use Rattle.irp_judge.specs.declared.verdict.Verdict.{Verdict}
+use Rattle.irp_listing.specs.Bytes.{Bytes}
+use Rattle.irp_listing.specs.Writing.{BreaksOff, IsQuiet, Written}
+use Rattle.irp_listing.specs.declared.writing.Unwritten.{Unwritten}
+use Rattle.irp_view.specs.Ending.{ending_of, of_unread, of_verdict}
+use Rattle.irp_view.specs.Reading.{Holds, HoldsNone}
+use Rattle.irp_view.specs.Showing.{Shows, ShowsPart}
+use Rattle.irp_view.specs.Telling.{Says, SaysNothing}
+use Rattle.irp_view.specs.declared.ending.Ending.{Ending}
+use Rattle.irp_view.specs.declared.ending.Ending.TheVariants.{Done}
+use Rattle.irp_view.specs.declared.orders.Order.{Order}
+use Rattle.irp_view.specs.declared.orders.Order.TheVariants.{Help, Read}
+use Rattle.irp_view.specs.declared.orders.Task.{Task}
+use Rattle.irp_view.specs.declared.orders.Task.TheVariants.{Why, List as Listing}
+use Rattle.irp_view.specs.declared.reading.Unread.{Unread}
+
+-- what went out, and how often the output failed
+pub record Output : Type 0 where
+  pub gone : Bytes
+  pub failures : ℕ
+
+abbrev pub output_of : Bytes → ℕ → Output
+output_of gone failures = record { gone = gone; failures = failures }
+
+-- what is left of the input, and the output
+pub record Streams : Type 0 where
+  pub left : Bytes
+  pub output : Output
+
+abbrev pub streams_of : Bytes → Output → Streams
+streams_of left output = record { left = left; output = output }
+
+-- a text went out; or a beginning of it, before a fault
+abbrev pub Helped : Output → Output → Ending → Type 0
+Helped before after ending =
+    (text : List ℕ) × (result : Result (Unit {0}) Unwritten) × (ending ≡ ending_of (λ done. Done) result)
+    × MatchResult result (λ done. Written text before.gone after.gone before.failures after.failures)
+    (BreaksOff text before.gone after.gone before.failures after.failures)
+
+-- what is told of a transcript, by what is asked
+abbrev pub Answers : Task → TranscriptValue → Output → Output → Ending → Type 0
+Answers Why transcript before after ending =
+    (result : Result Verdict Unwritten) × (ending ≡ ending_of of_verdict result)
+    × MatchResult result (Says transcript before.gone after.gone before.failures after.failures)
+    (SaysNothing transcript before.gone after.gone before.failures after.failures)
+Answers (Listing only span) transcript before after ending =
+    (result : Result (Unit {0}) Unwritten) × (ending ≡ ending_of (λ done. Done) result)
+    × MatchResult result (λ done. Shows only span transcript before.gone after.gone before.failures after.failures)
+    (ShowsPart only span transcript before.gone after.gone before.failures after.failures)
+
+-- the input holds a transcript, of which this is told
+abbrev pub AnswersRead : Task → Streams → Streams → Ending → Type 0
+AnswersRead task before after ending =
+    (transcript : TranscriptValue) × Holds before.left after.left transcript
+    × Answers task transcript before.output after.output ending
+
+-- it holds none, and nothing went out
+abbrev pub ReadsNone : Streams → Streams → Ending → Type 0
+ReadsNone before after ending =
+    (unread : Unread) × HoldsNone before.left after.left unread × (ending ≡ of_unread unread)
+    × IsQuiet before.output.gone after.output.gone before.output.failures after.output.failures
+
+-- what was done: the help; or what is asked of the transcript in the input, if there is one
+abbrev pub Obeys : Order → Streams → Streams → Ending → Type 0
+Obeys Help before after ending = (after.left ≡ before.left) × Helped before.output after.output ending
+Obeys (Read task) before after ending = AnswersRead task before after ending ⊎ ReadsNone before after ending

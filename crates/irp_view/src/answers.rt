@@ -1,0 +1,106 @@
+//! What closures answered, and which rule an answer breaks (docs/RULES.md, Rules of closures).
+
+use irp_names::{PlanWords, ResultWords};
+use irp_transcript::Header;
+use irp_types::{Answer, Asked, CancelAnswer, CancelId, CancelRule, Plan, RoutineId, Rule, Shown};
+use std::fmt;
+
+/// An answer by its parts.
+#[derive(Clone, Copy)]
+pub struct AnswerParts(pub Asked);
+
+impl fmt::Display for AnswerParts {
+    fn fmt<W: fmt::Write>(&self, f: &mut fmt::Formatter<W>) -> fmt::Result {
+        match self.0 {
+            Asked::Dispatch { plan, .. } => write!(f, "{}", PlanWords(plan)),
+            Asked::Completion { answer, .. } => write!(f, "{}", CompletionParts(answer)),
+            Asked::Cancel { answer, .. } => match answer {
+                CancelAnswer::Finish { information } => {
+                    write!(f, "finish, information {:#x}", information)
+                }
+                CancelAnswer::Leave => f.write_str("leave"),
+            },
+        }
+    }
+}
+
+/// A completion routine's answer by its parts.
+#[derive(Clone, Copy)]
+struct CompletionParts(Answer);
+
+impl fmt::Display for CompletionParts {
+    fn fmt<W: fmt::Write>(&self, f: &mut fmt::Formatter<W>) -> fmt::Result {
+        f.write_str(if self.0.keep { "keep" } else { "continue" })?;
+        f.write_str(if self.0.mark { ", mark" } else { ", no mark" })?;
+        match self.0.replacement {
+            Some(put) => write!(f, ", sets {}", ResultWords(put.status, put.information)),
+            None => Ok(()),
+        }
+    }
+}
+
+/// The rule of dispatches that a plan breaks, on condition that it breaks one.
+fn plan_rule(shown: Shown, plan: Plan) -> &'static str {
+    match plan {
+        Plan::Finish { .. } => "Dispatches: Finish has a completable status",
+        Plan::Skip | Plan::Forward { .. } | Plan::ForwardPend { .. } if !shown.has_lower => {
+            "Dispatches: Skip, Forward and ForwardPend come only where has_lower is shown"
+        }
+        Plan::Hold { .. } if shown.cancel => {
+            "Dispatches: Hold names a cancel routine only where cancel is not shown"
+        }
+        Plan::Forward { set: Some(set) } if !matches!(set.routine.rule, Rule::Watch) => {
+            "Dispatches: Forward sets only a routine of rule Watch"
+        }
+        _ => "Dispatches: each routine named is within the dispatch's counts",
+    }
+}
+
+/// What a rule allows.
+fn rule_words(rule: Rule) -> &'static str {
+    match rule {
+        Rule::Watch => "rule Watch: Continue, no replacement",
+        Rule::Change => "rule Change: Continue, with or without a replacement",
+        Rule::Keeper => "rule Keeper: Keep, no replacement",
+        Rule::KeepOnError => {
+            "rule KeepOnError: Keep exactly where the shown status is not a success, else Continue; no replacement"
+        }
+        Rule::Free => "rule Free: Continue or Keep, with or without a replacement",
+    }
+}
+
+/// The rule of completion routines that an answer breaks, on condition that it breaks one.
+fn completion_rule(id: RoutineId, shown: Shown, answer: Answer) -> &'static str {
+    if answer.mark != Rule::right_mark(shown, answer.keep) {
+        return "Completion routines: mark is true exactly where the routine continues, PendingReturned is shown and a device is shown";
+    }
+    match answer.replacement {
+        Some(put) if !put.status.is_completable() => {
+            "Completion routines: a replacement has a completable status"
+        }
+        _ => rule_words(id.rule),
+    }
+}
+
+/// The rule of a cancel routine.
+fn cancel_rule(header: Option<&Header>, id: CancelId) -> &'static str {
+    let rules = match header {
+        Some(header) => header.cancels.as_slice(),
+        None => &[],
+    };
+    match rules.get(id.0 as usize) {
+        Some(CancelRule::MustFinish) => "rule MustFinish: answers Finish",
+        Some(CancelRule::MustLeave) => "rule MustLeave: answers Leave",
+        Some(CancelRule::Either) => "rule Either: answers either",
+        None => "Cancel routines: there is no such routine",
+    }
+}
+
+/// The rule that an answer breaks, the first of docs/RULES.md, on condition that it breaks one.
+pub fn broken_rule(header: Option<&Header>, question: Asked) -> &'static str {
+    match question {
+        Asked::Dispatch { shown, plan, .. } => plan_rule(shown, plan),
+        Asked::Completion { id, shown, answer } => completion_rule(id, shown, answer),
+        Asked::Cancel { id, .. } => cancel_rule(header, id),
+    }
+}

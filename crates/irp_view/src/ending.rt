@@ -1,0 +1,141 @@
+//! How the program ends.
+
+ghost use Rattle.std.specs.Prelude.{◌≡◌};
+ghost use Rattle.std.specs.Process.{exit_status};
+ghost use Rattle.irp_view.specs.Ending.{has_line, of_stream, of_unread, of_unwritten, of_verdict, of_words, status_of};
+
+use crate::input::StreamFault;
+use crate::orders::Unasked;
+use crate::reading::Unread;
+use crate::refusal::Expected;
+use irp_judge::Verdict;
+use irp_listing::Unwritten;
+use std::fmt;
+use std::process::ExitCode;
+
+/// How the program ends: its exit status, and the line for standard error (this project's own command line).
+#[derive(Clone, Copy)]
+pub enum Ending {
+    /// All was done, and nothing is wrong where that was asked: status 0, and no line.
+    Done,
+    /// The transcript is refused at this line, from 1, where this was expected: status 1.
+    Refused { line: u64, expected: Expected },
+    /// An entry is wrong, and was told: status 2, and no line.
+    Wrong,
+    /// Memory ran out: status 3.
+    NoMemory,
+    /// The words are none that the program takes: status 4.
+    OtherWords,
+    /// The file can't be opened: status 5.
+    NoFile,
+    /// The input or the output failed: status 5.
+    Failed,
+}
+
+impl Ending {
+    /// The exit status.
+    pub fn status(self) -> u8
+        ensures { result ≡ status_of self }
+    {
+        match self {
+            Ending::Done => 0,
+            Ending::Refused { .. } => 1,
+            Ending::Wrong => 2,
+            Ending::NoMemory => 3,
+            Ending::OtherWords => 4,
+            Ending::NoFile | Ending::Failed => 5,
+        }
+    }
+
+    /// The exit status, as a process ends with it.
+    pub fn code(self) -> ExitCode
+        ensures { exit_status result ≡ status_of self }
+    {
+        ExitCode::from(self.status())
+    }
+
+    /// Whether there is a line for standard error.
+    pub fn has_line(self) -> bool
+        ensures { result ≡ has_line self }
+    {
+        !matches!(self, Ending::Done | Ending::Wrong)
+    }
+}
+
+/// The line for standard error, without its newline; no text where there is none.
+impl fmt::Display for Ending {
+    ghost use Rattle.irp_view.specs.Ending.{complaint_of};
+
+    ghost output = { λ ending. complaint_of ending };
+
+    fn fmt<W: fmt::Write>(&self, f: &mut fmt::Formatter<W>) -> fmt::Result {
+        match self {
+            Ending::Done | Ending::Wrong => Ok(()),
+            Ending::Refused { line, expected } => {
+                write!(f, "irp_view: transcript refused: line {line}{expected}")
+            }
+            Ending::NoMemory => f.write_str("irp_view: out of memory"),
+            Ending::OtherWords => f.write_str(
+                "irp_view: usage: irp_view why, text or packet SLOT USE, then [FILE]; see irp_view --help",
+            ),
+            Ending::NoFile => f.write_str("irp_view: the file can't be opened"),
+            Ending::Failed => f.write_str("irp_view: input or output failed"),
+        }
+    }
+}
+
+impl From<Unasked> for Ending {
+    ghost from_gives = { λ given ending. ending ≡ of_words given };
+
+    fn from(given: Unasked) -> Ending {
+        match given {
+            Unasked::Usage => Ending::OtherWords,
+            Unasked::NoMemory => Ending::NoMemory,
+        }
+    }
+}
+
+impl From<StreamFault> for Ending {
+    ghost from_gives = { λ given ending. ending ≡ of_stream given };
+
+    fn from(given: StreamFault) -> Ending {
+        match given {
+            StreamFault::Failed => Ending::Failed,
+            StreamFault::NoMemory => Ending::NoMemory,
+        }
+    }
+}
+
+impl From<Unread> for Ending {
+    ghost from_gives = { λ given ending. ending ≡ of_unread given };
+
+    fn from(given: Unread) -> Ending {
+        match given {
+            Unread::Input(fault) => Ending::from(fault),
+            Unread::Refused { line, expected } => Ending::Refused { line, expected },
+            Unread::NoMemory => Ending::NoMemory,
+        }
+    }
+}
+
+impl From<Unwritten> for Ending {
+    ghost from_gives = { λ given ending. ending ≡ of_unwritten given };
+
+    fn from(given: Unwritten) -> Ending {
+        match given {
+            Unwritten::Failed => Ending::Failed,
+            Unwritten::NoMemory => Ending::NoMemory,
+        }
+    }
+}
+
+impl From<Verdict> for Ending {
+    ghost from_gives = { λ given ending. ending ≡ of_verdict given };
+
+    fn from(given: Verdict) -> Ending {
+        match given {
+            Verdict::Legal { .. } => Ending::Done,
+            Verdict::Illegal { .. } => Ending::Wrong,
+        }
+    }
+}

@@ -1,0 +1,167 @@
+//! The part of an entry that differs, and what stands there.
+
+ghost use Rattle.std.specs.Prelude.{◌≡◌};
+ghost use Rattle.irp_view.specs.Parts.{part_text, shown_text, value_text, lock_text, bool_text};
+
+use crate::answers::AnswerParts;
+use crate::fields::{FieldWords, field_name, field_place};
+use irp_judge::{Difference, QuestionPart, ShownField};
+use irp_names::{ClosureWords, DeviceWords, ReplyWords, shown_of};
+use irp_types::{Asked, Entry, LockNo};
+use std::fmt;
+
+/// The part in which an entry differs.
+#[derive(Clone, Copy)]
+pub struct PartWords<'a> {
+    pub entry: &'a Entry,
+    pub difference: Difference,
+}
+
+impl fmt::Display for PartWords<'_> {
+    ghost output = { λ words. part_text words.difference };
+
+    fn fmt<W: fmt::Write>(&self, f: &mut fmt::Formatter<W>) -> fmt::Result {
+        match self.difference {
+            Difference::Number => f.write_str("n"),
+            Difference::Lock => f.write_str("lock"),
+            Difference::Drained => f.write_str("drained"),
+            Difference::Refusal | Difference::Reply => f.write_str("reply"),
+            Difference::Question { at, part } => match part {
+                QuestionPart::TooMany | QuestionPart::TooFew | QuestionPart::Closure => {
+                    write!(f, "asked {}", at)
+                }
+                QuestionPart::Shown(field) => write!(f, "{}", ShownPart(at, field)),
+                QuestionPart::Answer => write!(f, "{}", AnswerPart(self.entry, at)),
+            },
+        }
+    }
+}
+
+/// A field of what is shown with a question.
+#[derive(Clone, Copy)]
+struct ShownPart(usize, ShownField);
+
+impl fmt::Display for ShownPart {
+    ghost output = { λ part. shown_text part.0 part.1 };
+
+    fn fmt<W: fmt::Write>(&self, f: &mut fmt::Formatter<W>) -> fmt::Result {
+        let ShownPart(at, field) = *self;
+        write!(
+            f,
+            "asked {}, shown: {} (place {})",
+            at,
+            field_name(field),
+            field_place(field)
+        )
+    }
+}
+
+/// A question's answer.
+#[derive(Clone, Copy)]
+struct AnswerPart<'a>(&'a Entry, usize);
+
+impl fmt::Display for AnswerPart<'_> {
+    fn fmt<W: fmt::Write>(&self, f: &mut fmt::Formatter<W>) -> fmt::Result {
+        let AnswerPart(entry, at) = *self;
+        write!(f, "asked {}, answer", at)?;
+        match entry.asked.as_slice().get(at) {
+            Some(question) => write!(f, " of {}", WhoWords(*question)),
+            None => Ok(()),
+        }
+    }
+}
+
+/// A closure and the device that it is asked for.
+#[derive(Clone, Copy)]
+struct WhoWords(Asked);
+
+impl fmt::Display for WhoWords {
+    fn fmt<W: fmt::Write>(&self, f: &mut fmt::Formatter<W>) -> fmt::Result {
+        let device = shown_of(self.0).device;
+        write!(f, "{} for {}", ClosureWords(self.0), DeviceWords(device))
+    }
+}
+
+/// A remove lock, or none.
+#[derive(Clone, Copy)]
+struct LockWords(Option<LockNo>);
+
+impl fmt::Display for LockWords {
+    ghost output = { λ words. lock_text words.0 };
+
+    fn fmt<W: fmt::Write>(&self, f: &mut fmt::Formatter<W>) -> fmt::Result {
+        match self.0 {
+            Some(lock) => write!(f, "remove lock {}", lock.0),
+            None => f.write_str("none"),
+        }
+    }
+}
+
+/// A truth value.
+fn bool_text(value: bool) -> &'static str
+    ensures { result.now ≡ bool_text value }
+{
+    if value { "true" } else { "false" }
+}
+
+/// What stands in the part of an entry that differs. Of an answer, those of the manager are told as such: any that is
+/// allowed could stand there.
+#[derive(Clone, Copy)]
+pub struct ValueWords<'a> {
+    pub entry: &'a Entry,
+    pub difference: Difference,
+    /// Whether the manager made the entry.
+    pub is_made: bool,
+}
+
+impl fmt::Display for ValueWords<'_> {
+    ghost output = { λ words. value_text words.difference words.entry.now };
+
+    fn fmt<W: fmt::Write>(&self, f: &mut fmt::Formatter<W>) -> fmt::Result {
+        let Entry {
+            number,
+            call,
+            reply,
+            lock,
+            drained,
+            ..
+        } = *self.entry;
+        match self.difference {
+            Difference::Number => write!(f, "{}", number),
+            Difference::Lock => write!(f, "{}", LockWords(lock)),
+            Difference::Drained => f.write_str(bool_text(drained)),
+            Difference::Refusal | Difference::Reply => write!(f, "{}", ReplyWords { call, reply }),
+            Difference::Question { at, part } => { write!(f, "{}", QuestionValue(*self, at, part)) }
+        }
+    }
+}
+
+/// What stands in the part of a question that differs.
+#[derive(Clone, Copy)]
+struct QuestionValue<'a>(ValueWords<'a>, usize, QuestionPart);
+
+impl fmt::Display for QuestionValue<'_> {
+    fn fmt<W: fmt::Write>(&self, f: &mut fmt::Formatter<W>) -> fmt::Result {
+        let QuestionValue(words, at, part) = *self;
+        let Some(question) = words.entry.asked.as_slice().get(at) else {
+            return f.write_str(if at == 0 {
+                "asks nobody"
+            } else {
+                "asks nobody any more"
+            });
+        };
+        let question = *question;
+        match part {
+            QuestionPart::Shown(field) => write!(f, "{}", FieldWords { field, question }),
+            QuestionPart::Answer if words.is_made => {
+                write!(
+                    f,
+                    "an answer that is allowed, such as: {}",
+                    AnswerParts(question)
+                )
+            }
+            QuestionPart::Answer => write!(f, "{}", AnswerParts(question)),
+            _ => write!(f, "asks {}", WhoWords(question)),
+        }
+    }
+}

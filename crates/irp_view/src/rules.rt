@@ -1,0 +1,280 @@
+//! Which rule of docs/RULES.md a wrong entry breaks, and the section that it stands in.
+
+ghost use Rattle.std.specs.Prelude.{◌≡◌, IfSome};
+ghost use Rattle.irp_view.specs.Sections.{section_of, section_of_part};
+
+use crate::answers::broken_rule;
+use crate::fields::FieldRule;
+use crate::sections::Section;
+use irp_judge::{Difference, QuestionPart};
+use irp_names::{caller_of, refusal_name, rules_name};
+use irp_transcript::Header;
+use irp_types::{Asked, Call, CancelAnswer, Entry, Plan, Reply};
+use std::fmt;
+
+/// No routine on the way up is asked.
+const NO_FLAG_MET: &str = "no routine on the way up has a flag that is met";
+
+/// No dispatch is asked, and then no routine.
+const NO_DISPATCH: &str =
+    "the driver has no dispatch for the major, and no routine on the way up has a flag that is met";
+
+/// A rule that is a text, and its section.
+type Rule = (&'static str, Section);
+
+/// The checks of a call that names a party come first.
+fn party_checks(call: Call) -> &'static str {
+    match caller_of(call) {
+        Some(_) => "NoIrp, Stale, Ended, NotOwner, SlotHeld, ",
+        None => "",
+    }
+}
+
+/// The other checks of a call, in order.
+fn own_checks(call: Call) -> &'static str {
+    match call {
+        Call::CreateDevice { .. } => "NoDriver, NoLock, Full",
+        Call::Attach { .. } => {
+            "NoDevice, DeviceGone, NoDevice, DeviceGone, SameStack, StillAttached, TooDeep"
+        }
+        Call::Detach { .. } => "NoDevice, DeviceGone, NothingAttached",
+        Call::Delete { .. } => "NoDevice, DeviceGone, StillAttached, InFlight, NotDrained",
+        Call::Allocate { .. } => "BadSize, Full",
+        Call::Free { .. } => "NoIrp, Stale, InFlight",
+        Call::Reuse { .. } => "NoIrp, Stale, InFlight, Full",
+        Call::SetNext { .. } => "AfterSkip, TooShort, BadMajor",
+        Call::CopyToNext { .. } => "NoLocation, AfterSkip, TooShort",
+        Call::Skip { .. } => "NoLocation, AfterSkip, CancelRoutineSet",
+        Call::SetRoutine { .. } => "AfterSkip, NotPrepared, NoRoutine",
+        Call::MarkPending { .. } => "NoLocation, AfterSkip",
+        Call::CallDriver { .. } => {
+            "NoDevice, DeviceGone, WrongTarget, NotPrepared, TooShort, CancelRoutineSet"
+        }
+        Call::Complete { .. } => "NoLocation, AfterSkip, BadStatus, CancelRoutineSet",
+        Call::FinishTaken { .. } => "NoIrp, Stale, Ended, NotSlotHeld, BadStatus",
+        Call::SetCancelRoutine { .. } => "NoLocation, AfterSkip, NoRoutine, AlreadyCancelled",
+        Call::Cancel { .. } => "NoIrp, Stale, Ended",
+        Call::Look { .. } => "NoIrp, Stale",
+    }
+}
+
+/// The checks of a call, and which of them fails first.
+#[derive(Clone, Copy)]
+struct ChecksWords(Call, Reply);
+
+impl fmt::Display for ChecksWords {
+    fn fmt<W: fmt::Write>(&self, f: &mut fmt::Formatter<W>) -> fmt::Result {
+        let call = self.0;
+        write!(
+            f,
+            "{}'s checks are {}",
+            rules_name(call),
+            party_checks(call)
+        )?;
+        f.write_str(own_checks(call))?;
+        match self.1 {
+            Reply::Refused(refusal) => {
+                write!(f, ": the first that fails is {}", refusal_name(refusal))
+            }
+            _ => f.write_str(": none fails"),
+        }
+    }
+}
+
+/// Why nobody is asked at first.
+fn none_asked(call: Call, reply: Reply) -> Rule {
+    if matches!(reply, Reply::Refused(_)) {
+        return ("a refused call asks nobody", Section::Histories);
+    }
+    match call {
+        Call::CallDriver { .. } => (NO_DISPATCH, Section::SendingDown),
+        Call::Complete { .. } | Call::FinishTaken { .. } => (NO_FLAG_MET, Section::Unwinding),
+        Call::Cancel { .. } => (
+            "a packet without a cancel routine: nobody is asked",
+            Section::Cancelling,
+        ),
+        _ => ("this call asks nobody", Section::Calls),
+    }
+}
+
+/// Why nobody is asked behind a dispatch with this plan.
+fn none_below(plan: Plan) -> Rule {
+    match plan {
+        Plan::Finish { .. } => (NO_FLAG_MET, Section::Unwinding),
+        Plan::Hold { .. } => ("Hold ends the descent", Section::SendingDown),
+        Plan::HoldSlot => ("HoldSlot ends the descent", Section::SendingDown),
+        _ => (
+            "the driver below has no dispatch for the major, and no routine on the way up has a flag that is met",
+            Section::SendingDown,
+        ),
+    }
+}
+
+/// Why nobody is asked behind this question.
+fn none_behind(question: Asked) -> Rule {
+    match question {
+        Asked::Dispatch { plan, .. } => none_below(plan),
+        Asked::Completion { answer, .. } if answer.keep => {
+            ("Keep: unwinding stops", Section::Unwinding)
+        }
+        Asked::Completion { .. } => (
+            "no routine further up has a flag that is met",
+            Section::Unwinding,
+        ),
+        Asked::Cancel { answer, .. } => match answer {
+            CancelAnswer::Finish { .. } => (NO_FLAG_MET, Section::Unwinding),
+            CancelAnswer::Leave => ("Leave does no more", Section::Cancelling),
+        },
+    }
+}
+
+/// Why the manager asks nobody at this place.
+fn nobody_rule(made: &Entry, at: usize) -> Rule {
+    let before = if at == 0 {
+        None
+    } else {
+        made.asked.as_slice().get(at - 1)
+    };
+    match before {
+        Some(question) => none_behind(*question),
+        None => none_asked(made.call, made.reply),
+    }
+}
+
+/// Why the manager asks somebody at this place; where it asks nobody, why not.
+fn asking_rule(made: &Entry, at: usize) -> Rule {
+    match made.asked.as_slice().get(at) {
+        Some(Asked::Dispatch { .. }) => (
+            "the dispatch of the device's driver for the major is asked",
+            Section::SendingDown,
+        ),
+        Some(Asked::Completion { .. }) => (
+            "a routine with a flag that is met is asked, from the current location up",
+            Section::Unwinding,
+        ),
+        Some(Asked::Cancel { .. }) => (
+            "the cancel routine is taken out and asked",
+            Section::Cancelling,
+        ),
+        None => nobody_rule(made, at),
+    }
+}
+
+/// What a call is answered.
+fn reply_rule(call: Call) -> Rule {
+    match call {
+        Call::CreateDevice { .. } => ("CreateDevice answers the next number", Section::Calls),
+        Call::Attach { .. } => ("Attach answers the former top of the stack", Section::Calls),
+        Call::Detach { .. } => (
+            "Detach answers the device that stood just above",
+            Section::Calls,
+        ),
+        Call::Allocate { .. } => (
+            "Allocate answers a slot that is not live, and the next use number",
+            Section::Calls,
+        ),
+        Call::Reuse { .. } => (
+            "Reuse answers the same slot, and the next use number",
+            Section::Calls,
+        ),
+        Call::CallDriver { .. } => (
+            "PENDING where a dispatch held or pended, else the status of the finish that ended the descent",
+            Section::SendingDown,
+        ),
+        Call::SetCancelRoutine { .. } => (
+            "SetCancelRoutine answers the routine that was set, or none",
+            Section::Calls,
+        ),
+        Call::Cancel { .. } => (
+            "Cancel answers whether there was a cancel routine",
+            Section::Cancelling,
+        ),
+        Call::Look { .. } => ("Look answers what the packet holds", Section::Calls),
+        _ => ("the call answers done", Section::Calls),
+    }
+}
+
+/// The rule that a wrong entry breaks.
+#[derive(Clone, Copy)]
+pub struct RuleWords<'a> {
+    /// What the transcript was made with.
+    pub header: Option<&'a Header>,
+    /// The wrong entry.
+    pub entry: &'a Entry,
+    /// The first part in which it differs.
+    pub difference: Difference,
+    /// What the manager makes in its place.
+    pub made: &'a Entry,
+}
+
+impl RuleWords<'_> {
+    /// The rule of a question that differs in who is asked, or in whether somebody is.
+    fn asked_rule(&self, at: usize, part: QuestionPart) -> &'static str {
+        match part {
+            QuestionPart::TooMany => nobody_rule(self.made, at).0,
+            _ => asking_rule(self.made, at).0,
+        }
+    }
+}
+
+/// The rule of a question that differs in this part.
+#[derive(Clone, Copy)]
+struct QuestionRule<'a>(RuleWords<'a>, usize, QuestionPart);
+
+impl fmt::Display for QuestionRule<'_> {
+    fn fmt<W: fmt::Write>(&self, f: &mut fmt::Formatter<W>) -> fmt::Result {
+        let QuestionRule(words, at, part) = *self;
+        match (part, words.entry.asked.as_slice().get(at)) {
+            (QuestionPart::Shown(field), Some(question)) => {
+                let question = *question;
+                write!(f, "{}", FieldRule { field, question })
+            }
+            (QuestionPart::Answer, Some(question)) => {
+                f.write_str(broken_rule(words.header, *question))
+            }
+            _ => f.write_str(words.asked_rule(at, part)),
+        }
+    }
+}
+
+impl fmt::Display for RuleWords<'_> {
+    fn fmt<W: fmt::Write>(&self, f: &mut fmt::Formatter<W>) -> fmt::Result {
+        let made = self.made;
+        match self.difference {
+            Difference::Number => f.write_str(
+                "an entry's number is its place in the history, from 0",
+            ),
+            Difference::Lock => f.write_str(
+                "the remove lock that the device was created with, and none where there was no such device",
+            ),
+            Difference::Drained => f.write_str("without a remove lock nothing is known drained"),
+            Difference::Refusal => write!(f, "{}", ChecksWords(made.call, made.reply)),
+            Difference::Question { at, part } => write!(f, "{}", QuestionRule(*self, at, part)),
+            Difference::Reply => f.write_str(reply_rule(made.call).0),
+        }
+    }
+}
+
+/// The section of a question that differs in this part.
+fn section_of_part(part: QuestionPart, made: &Entry, at: usize) -> Section
+    ensures { IfSome (section_of_part part) (λ known. result ≡ known) }
+{
+    match part {
+        QuestionPart::TooMany => nobody_rule(made, at).1,
+        QuestionPart::TooFew | QuestionPart::Closure => asking_rule(made, at).1,
+        QuestionPart::Shown(_) => Section::Shown,
+        QuestionPart::Answer => Section::Closures,
+    }
+}
+
+/// The section of docs/RULES.md that the rule stands in, where an entry differs so from what the manager makes.
+pub fn section_of(difference: Difference, made: &Entry) -> Section
+    ensures { IfSome (section_of difference) (λ known. result ≡ known) }
+{
+    match difference {
+        Difference::Number | Difference::Lock | Difference::Drained => Section::Histories,
+        Difference::Refusal => Section::Calls,
+        Difference::Question { at, part } => section_of_part(part, made, at),
+        Difference::Reply => reply_rule(made.call).1,
+    }
+}

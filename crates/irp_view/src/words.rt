@@ -1,0 +1,143 @@
+//! What the command line asks for.
+
+use crate::orders::{Asked, Order, Span, Task, Unasked};
+use clap::error::ErrorKind;
+use clap::{Arg, ArgAction, ArgMatches, Command, Error, value_parser};
+use irp_types::IrpRef;
+use std::alloc::{AllocError, Global};
+use std::convert::AsStr;
+
+/// The name of a file, which may be left out.
+fn file<'a>(alloc: Global) -> Arg<'a> {
+    Arg::new(alloc, "file")
+}
+
+/// The span of entries.
+fn entries<'a>(alloc: Global) -> Arg<'a> {
+    Arg::new(alloc, "entries")
+        .long("entries")
+        .action(ArgAction::Set)
+}
+
+/// A number that has to be there.
+fn number<'a>(alloc: Global, name: &'a str) -> Arg<'a> {
+    Arg::new(alloc, name)
+        .required(true)
+        .value_parser(value_parser!(u64))
+}
+
+/// The subcommand `packet`.
+fn packet<'a>(alloc: Global) -> Result<Command<'a>, AllocError> {
+    Command::new(alloc, "packet")
+        .arg(number(alloc, "slot"))?
+        .arg(number(alloc, "use"))?
+        .arg(file(alloc))?
+        .arg(entries(alloc))
+}
+
+/// The command line that the program takes.
+fn command<'a>(alloc: Global) -> Result<Command<'a>, AllocError> {
+    let why = Command::new(alloc, "why").arg(file(alloc))?;
+    let text = Command::new(alloc, "text").arg(file(alloc))?;
+    let text = text.arg(entries(alloc))?;
+    let command = Command::new(alloc, "irp_view").subcommand_required(true);
+    let command = command.subcommand(why)?;
+    let command = command.subcommand(text)?;
+    command.subcommand(packet(alloc)?)
+}
+
+/// A place in the history, or this one where the text is empty.
+fn place(text: &str, missing: usize) -> Option<usize> {
+    if text.is_empty() {
+        return Some(missing);
+    }
+    match text.parse::<usize>() {
+        Ok(place) => Some(place),
+        Err(_) => None,
+    }
+}
+
+/// The span that a text names: `A..B`, `A..` or `..B`.
+fn span_in(text: &str) -> Option<Span> {
+    let (from, to) = text.split_once("..")?;
+    let from = place(from, 0)?;
+    let to = place(to, usize::MAX)?;
+    Some(Span { from, to })
+}
+
+/// The span that the matches name, if they name one.
+fn span_of(matches: &ArgMatches<'_>) -> Result<Option<Span>, Unasked> {
+    let Some(text) = matches.get_str("entries") else {
+        return Ok(None);
+    };
+    match span_in(text) {
+        Some(span) => Ok(Some(span)),
+        None => Err(Unasked::Usage),
+    }
+}
+
+/// The use of a packet that the matches name.
+fn use_of(matches: &ArgMatches<'_>) -> Result<IrpRef, Unasked> {
+    match (
+        matches.get_one::<u64>("slot"),
+        matches.get_one::<u64>("use"),
+    ) {
+        (Some(slot), Some(use_no)) => Ok(IrpRef {
+            slot: slot as usize,
+            use_no,
+        }),
+        _ => Err(Unasked::Usage),
+    }
+}
+
+/// What clap's matches of a subcommand ask for.
+fn task_of(name: &str, matches: &ArgMatches<'_>) -> Result<Task, Unasked> {
+    match name {
+        "why" => Ok(Task::Why),
+        "text" => Ok(Task::List {
+            only: None,
+            span: span_of(matches)?,
+        }),
+        "packet" => Ok(Task::List {
+            only: Some(use_of(matches)?),
+            span: span_of(matches)?,
+        }),
+        _ => Err(Unasked::Usage),
+    }
+}
+
+/// What clap's matches ask for.
+fn asked_of<'a>(matches: &ArgMatches<'a>) -> Result<Asked<'a>, Unasked> {
+    let Some((name, inner)) = matches.subcommand() else {
+        return Err(Unasked::Usage);
+    };
+    Ok(Asked {
+        order: Order::Read(task_of(name, inner)?),
+        file: inner.get_str("file"),
+    })
+}
+
+/// What words that clap doesn't match ask for.
+fn asked_by<'a>(error: &Error) -> Result<Asked<'a>, Unasked> {
+    match error.kind() {
+        ErrorKind::DisplayHelp => Ok(Asked {
+            order: Order::Help,
+            file: None,
+        }),
+        ErrorKind::OutOfMemory => Err(Unasked::NoMemory),
+        _ => Err(Unasked::Usage),
+    }
+}
+
+/// What the words ask for; the first is the program's name (this project's own command line).
+///
+/// # Errors
+///
+/// `Usage` for words that the program doesn't take; `NoMemory` where memory ran out.
+pub fn asked<'a, S: AsStr>(alloc: Global, words: &'a [S]) -> Result<Asked<'a>, Unasked> {
+    let command = command(alloc)?;
+    match command.try_get_matches_from(words) {
+        Ok(matches) => asked_of(&matches),
+        Err(error) => asked_by(&error),
+    }
+}
