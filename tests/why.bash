@@ -174,6 +174,12 @@ run --help
 meets '--help' [ "$status" -eq 0 ]
 meets '--help shows an example' grep -q 'irp_view why ' "$room/output"
 
+# What WRITING shows of `text` is what is printed.
+run text --entries 5..6 ../examples/practice/two_devices.transcript
+sed -n '/^   5  originator/,/^```/p' ../docs/WRITING.md | grep -v '^```' >"$room/shown"
+sed 's/\(context 0x9\), on success, on error, on cancel/\1, ../' "$room/output" >"$room/printed"
+meets 'a history as text in WRITING' cmp -s "$room/shown" "$room/printed"
+
 echo "tried: $tried $wrong reasons"
 if ! python3 -c 'import sys; sys.exit(sys.version_info < (3, 9))' 2>/dev/null; then
     echo 'passed over, for want of Python 3.9: reasons by the second reading'
