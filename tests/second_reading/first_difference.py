@@ -2,6 +2,7 @@
 one that the manager makes of its call."""
 
 import json
+from typing import NamedTuple
 
 from manager import Manager, Tables
 from small_forms import RULES
@@ -93,8 +94,20 @@ def first_difference(given, made):
     return None if given['reply'] == made['reply'] else 'reply'
 
 
+class Wrong(NamedTuple):
+    """The first entry that isn't legal: its place, itself, what the manager makes of its call, the part in which they
+    differ first, the manager after it, and the header."""
+
+    place: int
+    given: dict
+    made: dict
+    part: str
+    manager: Manager
+    header: dict
+
+
 def explain(text):
-    """Returns None where nothing is wrong with a transcript, else the place of the first wrong entry and the part."""
+    """Returns None where nothing is wrong with a transcript, else what is wrong."""
     header, entries = read_transcript(text)
     if header is None:
         return None
@@ -105,12 +118,12 @@ def explain(text):
     for place, entry in enumerate(entries):
         call = dict(entry['call'])
         lock, drained = (call.pop('lock'), call.pop('drained')) if call['do'] == 'delete' else (None, False)
-        given = {'n': entry['n'], 'lock': lock, 'drained': drained, 'asked': entry['asked'], 'reply': entry['reply']}
+        given = {**entry, 'lock': lock, 'drained': drained}
         wish.wish = given['reply']['irp'][0] if isinstance(given['reply'], dict) and 'irp' in given['reply'] else None
         ask.begin(entry['asked'])
         lock, drained, asked, reply = manager.apply(call, lambda _lock: given['drained'])
-        made = {'n': place, 'lock': lock, 'drained': drained, 'asked': asked, 'reply': reply}
-        found = first_difference(given, json.loads(json.dumps(made)))
+        made = json.loads(json.dumps({'n': place, 'lock': lock, 'drained': drained, 'asked': asked, 'reply': reply}))
+        found = first_difference(given, made)
         if found:
-            return place, found
+            return Wrong(place, given, made, found, manager, header)
     return None
