@@ -63,7 +63,10 @@ impl Page {
         ensures { IfOk result (λ text. (places : List ℕ)
             → Stands places self.opened.items self.text.items → IsPage places text.items) }
     {
-        let Page { mut text, mut opened } = self;
+        let Page {
+            mut text,
+            mut opened,
+        } = self;
         while let Some(tag) = opened.pop() {
             put_piece(&mut text, &Piece::Close(tag))?;
         }
