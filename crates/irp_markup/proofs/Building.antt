@@ -1,5 +1,5 @@
 -- Pieces that are put one behind the other.
-use Rattle.std.proofs.Common.{◌≡◌, ℕ, List, [], ◌∷◌, ◌++◌, refl, sym, ap, subst, ◌∙◌, append_assoc, append-nil}
+use Rattle.std.proofs.Common.{◌≡◌, ℕ, List, [], ◌∷◌, ◌++◌, refl, sym, ap, subst, ◌∙◌, append_assoc, append-nil, inr}
 use Rattle.std.specs.List.{flat_map}
 use Rattle.std.proofs.lemmas.Grind.{flat_map-append}
 use Rattle.std.proofs.lemmas.List.{reverse-append}
@@ -9,8 +9,8 @@ use Rattle.irp_markup.specs.declared.tag.Tag.{Tag}
 use Rattle.irp_markup.specs.declared.tag.Tag.TheVariants.{Li}
 use Rattle.irp_markup.specs.declared.piece.Piece.{Piece}
 use Rattle.irp_markup.specs.declared.piece.Piece.TheVariants.{Doctype, Open, Close, Whole, Fixed, Words, Entry}
-use Rattle.irp_markup.specs.Pieces.{piece_bytes, begun, entries_begun}
-use Rattle.irp_markup.specs.Nesting.{Leads, Nests, IsMarkup}
+use Rattle.irp_markup.specs.Pieces.{Puts, piece_bytes, begun, entries_begun}
+use Rattle.irp_markup.specs.Nesting.{Leads, Nests, IsMarkup, PutsEnd}
 use Rattle.irp_markup.specs.Pages.{Stands}
 
 -- pieces, and then more
@@ -111,3 +111,18 @@ stands_close places opened tag text after is went =
 pub three : (x y z w a b c : List ℕ) → y ≡ x ++ a → z ≡ y ++ b → w ≡ z ++ c → w ≡ x ++ (a ++ (b ++ c))
 three x y z w a b c first second third =
     third ∙ ap (λ given. given ++ c) (second ∙ ap (λ given. given ++ b) first ∙ append_assoc x a b) ∙ append_assoc x (a ++ b) c ∙ ap (λ given. x ++ given) (append_assoc a b c)
+
+-- what one more piece puts
+puts : (pieces : List Piece) (piece : Piece) → flat_map piece_bytes (pieces ++ piece ∷ []) ≡ flat_map piece_bytes pieces ++ piece_bytes piece
+puts pieces piece =
+    flat_map-append piece_bytes pieces (piece ∷ []) ∙ ap (λ given. flat_map piece_bytes pieces ++ given) (append-nil (piece_bytes piece))
+
+-- these bytes are that piece's
+pub puts_bytes : (before own after : List Piece) (piece : Piece) (bytes : List ℕ) → own ≡ before → after ≡ own ++ piece ∷ [] → piece_bytes piece ≡ bytes → Puts bytes before after
+puts_bytes before own after piece bytes same put are =
+    ap (λ given. flat_map piece_bytes given) (put ∙ ap (λ given. given ++ piece ∷ []) same) ∙ puts before piece
+    ∙ ap (λ given. flat_map piece_bytes before ++ given) are
+
+-- an end tag was put
+pub puts_end : (before between after : List Piece) (tag : Tag) → between ≡ before → after ≡ between ++ Close tag ∷ [] → PutsEnd before after
+puts_end before between after tag same put = inr (tag, put ∙ ap (λ given. given ++ Close tag ∷ []) same)

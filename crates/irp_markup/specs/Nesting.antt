@@ -1,5 +1,5 @@
 -- How elements nest. Open elements stand in a list, the innermost first.
-use Rattle.std.specs.Prelude.{◌≡◌, List, [], ◌∷◌, reverse}
+use Rattle.std.specs.Prelude.{◌≡◌, ◌⊎◌, List, [], ◌∷◌, ◌++◌, reverse}
 use Rattle.irp_markup.specs.Pieces.{entries_begun}
 use Rattle.irp_markup.specs.declared.tag.Tag.{Tag}
 use Rattle.irp_markup.specs.declared.tag.Tag.TheVariants.{Li}
@@ -25,3 +25,7 @@ Nests opened (piece ∷ pieces) last = (next : List Tag) × Leads opened piece n
 pub record IsMarkup (pieces : List Piece) (opened : List Tag) : Type 0 where
   pub nests : Nests [] pieces (reverse opened)
   pub none : entries_begun pieces ≡ []
+
+-- one end tag was put, or nothing
+abbrev pub PutsEnd : List Piece → List Piece → Type 0
+PutsEnd before after = (after ≡ before) ⊎ ((tag : Tag) × (after ≡ before ++ Close tag ∷ []))

@@ -1,5 +1,5 @@
 -- The pieces of a page, as bytes, and which entries they begin. Bytes are numbers: the quotation mark is 34.
-use Rattle.std.specs.Prelude.{ℕ, List, ◌++◌, codes, decimal, Option, Some, None}
+use Rattle.std.specs.Prelude.{ℕ, ◌≡◌, List, ◌++◌, codes, decimal, Option, Some, None}
 use Rattle.std.specs.List.{filter_map, flat_map}
 use Rattle.irp_markup.specs.Escaping.{escaped}
 use Rattle.irp_markup.specs.Tags.{tag_name}
@@ -34,6 +34,10 @@ piece_bytes (Whole tag attributes) = tag_bytes tag attributes.items ++ codes "/>
 piece_bytes (Fixed words) = escaped words.now
 piece_bytes (Words words) = escaped words.bytes.items
 piece_bytes (Entry place) = codes "<li id=\"e" ++ (decimal place ++ codes "\">")
+
+-- these bytes were put behind what stood there
+abbrev pub Puts : List ℕ → List Piece → List Piece → Type 0
+Puts bytes before after = flat_map piece_bytes after ≡ flat_map piece_bytes before ++ bytes
 
 -- the place of the entry that a piece begins
 abbrev pub begun : Piece → Option ℕ

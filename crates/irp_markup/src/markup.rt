@@ -1,8 +1,9 @@
 //! Markup that is built piece by piece.
 
-ghost use Rattle.std.specs.Prelude.{◌≡◌, ◌++◌, ◌∷◌, [], OnOk, IfOk, reverse};
-ghost use Rattle.irp_markup.specs.Nesting.{IsMarkup, Nests};
-ghost use Rattle.irp_markup.specs.Pieces.{entries_begun};
+ghost use Rattle.std.specs.Prelude.{◌≡◌, ◌++◌, [], OnOk, IfOk, codes};
+ghost use Rattle.irp_markup.specs.Escaping.{escaped};
+ghost use Rattle.irp_markup.specs.Nesting.{IsMarkup, PutsEnd};
+ghost use Rattle.irp_markup.specs.Pieces.{Puts, tag_bytes};
 
 use crate::attribute::Attribute;
 use crate::piece::Piece;
@@ -32,9 +33,16 @@ impl Model for Markup {
     ghost invariant = { λ markup. IsMarkup markup.pieces.items markup.opened.items };
 }
 
-impl Markup {
-    ghost use Rattle.irp_markup.specs.declared.piece.Piece.TheVariants.{Doctype, Open, Whole, Fixed};
+/// These attributes in a vector of their own. The one error is want of memory.
+fn row_of(alloc: Global, attributes: &[Attribute]) -> Result<Vec<Attribute>, AllocError>
+    ensures { IfOk result (λ row. row.items ≡ attributes.now) }
+{
+    let mut row = Vec::new(alloc);
+    row.extend_from_slice(attributes)?;
+    Ok(row)
+}
 
+impl Markup {
     /// No pieces. It takes no memory.
     pub fn new(alloc: Global) -> Markup
         ensures { result ≡ [] }
@@ -47,15 +55,17 @@ impl Markup {
 
     /// Says that what follows is HTML. The one error is want of memory.
     pub fn doctype(&mut self) -> Result<(), AllocError>
-        ensures { OnOk result (self.new ≡ self.old ++ Doctype ∷ []) }
+        ensures { OnOk result (Puts (codes "<!DOCTYPE html>\n") self.old self.new) }
     {
         self.pieces.push(Piece::Doctype)?;
         Ok(())
     }
 
     /// Opens an element with these attributes. The one error is want of memory.
-    pub fn open(&mut self, tag: Tag, attributes: &[Attribute]) -> Result<(), AllocError> {
-        let attributes = attributes.to_vec(*self.pieces.allocator())?;
+    pub fn open(&mut self, tag: Tag, attributes: &[Attribute]) -> Result<(), AllocError>
+        ensures { OnOk result (Puts (tag_bytes tag attributes.now ++ codes ">") self.old self.new) }
+    {
+        let attributes = row_of(*self.pieces.allocator(), attributes)?;
         self.opened.reserve(1)?;
         self.pieces.push(Piece::Open(tag, attributes))?;
         self.opened.push_reserved(tag);
@@ -63,7 +73,9 @@ impl Markup {
     }
 
     /// Closes the innermost open element, where one is open. The one error is want of memory.
-    pub fn close(&mut self) -> Result<(), AllocError> {
+    pub fn close(&mut self) -> Result<(), AllocError>
+        ensures { OnOk result (PutsEnd self.old self.new) }
+    {
         self.pieces.reserve(1)?;
         if let Some(tag) = self.opened.pop() {
             self.pieces.push_reserved(Piece::Close(tag));
@@ -72,20 +84,26 @@ impl Markup {
     }
 
     /// Puts an element with these attributes and no content. The one error is want of memory.
-    pub fn whole(&mut self, tag: Tag, attributes: &[Attribute]) -> Result<(), AllocError> {
-        let attributes = attributes.to_vec(*self.pieces.allocator())?;
+    pub fn whole(&mut self, tag: Tag, attributes: &[Attribute]) -> Result<(), AllocError>
+        ensures { OnOk result (Puts (tag_bytes tag attributes.now ++ codes "/>") self.old self.new) }
+    {
+        let attributes = row_of(*self.pieces.allocator(), attributes)?;
         self.pieces.push(Piece::Whole(tag, attributes))?;
         Ok(())
     }
 
     /// Puts words of this program's own. The one error is want of memory.
-    pub fn fixed(&mut self, words: &'static str) -> Result<(), AllocError> {
+    pub fn fixed(&mut self, words: &'static str) -> Result<(), AllocError>
+        ensures { OnOk result (Puts (escaped words.now) self.old self.new) }
+    {
         self.pieces.push(Piece::Fixed(words))?;
         Ok(())
     }
 
     /// Puts words. The one error is want of memory.
-    pub fn words(&mut self, words: String) -> Result<(), AllocError> {
+    pub fn words(&mut self, words: String) -> Result<(), AllocError>
+        ensures { OnOk result (Puts (escaped words.bytes.items) self.old self.new) }
+    {
         self.pieces.push(Piece::Words(words))?;
         Ok(())
     }
