@@ -7,6 +7,7 @@ mod card;
 mod chips;
 mod choosing;
 mod devices;
+mod drawing;
 mod head;
 mod lives;
 mod moves;
@@ -19,4 +20,5 @@ mod words;
 mod wrong;
 
 pub use choosing::{Choice, MOST_ENTRIES};
+pub use drawing::draw;
 pub use page::{Subject, page_of};
