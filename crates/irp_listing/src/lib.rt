@@ -15,5 +15,8 @@ pub use blocks::{CallerWords, put_block};
 pub use choosing::{Choice, is_chosen};
 pub use lines::{put_line, put_row};
 pub use listing::{list, stacks_after, words_text};
+pub use outcome::{Outcome, moves, outcome_of};
+pub use questions::AskedWords;
 pub use stacks::Stacks;
+pub use word_lines::WordLineWords;
 pub use writing::{Unwritten, send};

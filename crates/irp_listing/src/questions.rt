@@ -11,19 +11,23 @@ pub struct QuestionWords(pub Asked);
 
 impl fmt::Display for QuestionWords {
     fn fmt<W: fmt::Write>(&self, f: &mut fmt::Formatter<W>) -> fmt::Result {
+        f.write_str(match self.0 {
+            Asked::Dispatch { .. } => "v ",
+            Asked::Completion { .. } => "^ ",
+            Asked::Cancel { .. } => "! ",
+        })?;
+        write!(f, "{}", AskedWords(self.0))
+    }
+}
+
+/// A question: whose closure was asked, and what it was shown.
+#[derive(Clone, Copy)]
+pub struct AskedWords(pub Asked);
+
+impl fmt::Display for AskedWords {
+    fn fmt<W: fmt::Write>(&self, f: &mut fmt::Formatter<W>) -> fmt::Result {
         let shown = shown_of(self.0);
-        let mark = match self.0 {
-            Asked::Dispatch { .. } => "v",
-            Asked::Completion { .. } => "^",
-            Asked::Cancel { .. } => "!",
-        };
-        write!(
-            f,
-            "{} {} {}",
-            mark,
-            Asker(shown.device),
-            ClosureWords(self.0)
-        )?;
+        write!(f, "{} {}", Asker(shown.device), ClosureWords(self.0))?;
         match self.0 {
             Asked::Dispatch { .. } => write!(f, "{}", ShownToDispatch(shown)),
             Asked::Completion { .. } => write!(f, "{}", ShownToCompletion(shown)),

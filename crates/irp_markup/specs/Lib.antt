@@ -1,0 +1,5 @@
+pub mod Escaping
+pub mod Nesting
+pub mod Pages
+pub mod Pieces
+pub mod Tags

@@ -1,0 +1,208 @@
+//! The devices of a history: in which order they stand, and of which drivers they are.
+
+use crate::lives::{Life, sender_of, target_of};
+use irp_markup::{Markup, Tag, word};
+use irp_names::{MajorWords, shown_of};
+use irp_transcript::Header;
+use irp_types::{Call, DeviceId, DispatchId, DriverId, Entry, Reply};
+use std::alloc::{AllocError, Global};
+
+/// A device and its driver.
+#[derive(Clone, Copy)]
+pub struct Made {
+    pub device: DeviceId,
+    pub driver: DriverId,
+}
+
+/// As many devices as are listed.
+const MOST_DEVICES: usize = 64;
+
+/// Whether a device is among these.
+fn is_among(made: &[Made], device: DeviceId) -> bool {
+    for each in made {
+        if each.device == device {
+            return true;
+        }
+    }
+    false
+}
+
+/// These, with the device that was created in front. The one error is want of memory.
+fn with_new(alloc: Global, made: &[Made], new: Made) -> Result<Vec<Made>, AllocError> {
+    let mut next = Vec::new(alloc);
+    next.push(new)?;
+    next.extend_from_slice(made)?;
+    Ok(next)
+}
+
+/// These, with a device moved to the place just above another. The one error is want of memory.
+fn with_above(
+    alloc: Global,
+    made: &[Made],
+    device: DeviceId,
+    below: DeviceId,
+) -> Result<Vec<Made>, AllocError> {
+    let mut moved = Vec::new(alloc);
+    for each in made {
+        if each.device == device {
+            moved.push(*each)?;
+        }
+    }
+    let mut next = Vec::new(alloc);
+    for each in made {
+        if each.device == below {
+            next.extend_from_slice(moved.as_slice())?;
+        }
+        if each.device != device {
+            next.push(*each)?;
+        }
+    }
+    Ok(next)
+}
+
+/// These, as they stand behind an entry. The one error is want of memory.
+fn after(alloc: Global, made: Vec<Made>, entry: &Entry) -> Result<Vec<Made>, AllocError> {
+    match (entry.call, entry.reply) {
+        (Call::CreateDevice { driver, .. }, Reply::Device(device)) => {
+            if made.len() >= MOST_DEVICES || is_among(made.as_slice(), device) {
+                return Ok(made);
+            }
+            with_new(alloc, made.as_slice(), Made { device, driver })
+        }
+        (Call::Attach { device, .. }, Reply::Device(below)) => {
+            if device == below || !is_among(made.as_slice(), below) {
+                return Ok(made);
+            }
+            with_above(alloc, made.as_slice(), device, below)
+        }
+        _ => Ok(made),
+    }
+}
+
+/// The devices that these entries create, at most 64, top first: each attach puts a device just above what was the top of
+/// the stack then. The one error is want of memory.
+pub fn devices_of(alloc: Global, entries: &[Entry]) -> Result<Vec<Made>, AllocError> {
+    let mut made = Vec::new(alloc);
+    for entry in entries {
+        made = after(alloc, made, entry)?;
+    }
+    Ok(made)
+}
+
+/// Puts a row that isn't there yet. The one error is want of memory.
+fn put_row(rows: &mut Vec<Option<DeviceId>>, device: Option<DeviceId>) -> Result<(), AllocError> {
+    for row in rows.as_slice() {
+        if *row == device {
+            return Ok(());
+        }
+    }
+    rows.push(device)?;
+    Ok(())
+}
+
+/// The rows of an entry's picture: the originator, the devices that the packet reached before, top first, and those
+/// that it reaches now. The one error is want of memory.
+pub fn rows_of(
+    alloc: Global,
+    made: &[Made],
+    life: Life,
+    entry: &Entry,
+) -> Result<Vec<Option<DeviceId>>, AllocError> {
+    let mut rows = Vec::new(alloc);
+    rows.push(None)?;
+    for each in made {
+        if life.has_reached(each.device) || reaches(entry, each.device) {
+            rows.push(Some(each.device))?;
+        }
+    }
+    put_others(&mut rows, entry)?;
+    Ok(rows)
+}
+
+/// Whether an entry's packet reaches a device.
+fn reaches(entry: &Entry, device: DeviceId) -> bool {
+    for question in entry.asked.as_slice() {
+        if shown_of(*question).device == Some(device) {
+            return true;
+        }
+    }
+    sender_of(entry.call) == Some(device) || target_of(entry.call) == Some(device)
+}
+
+/// Puts the rows of devices that an entry names, where they aren't there yet. The one error is want of memory.
+fn put_others(rows: &mut Vec<Option<DeviceId>>, entry: &Entry) -> Result<(), AllocError> {
+    put_row(rows, sender_of(entry.call))?;
+    put_row(rows, target_of(entry.call))?;
+    for question in entry.asked.as_slice() {
+        put_row(rows, shown_of(*question).device)?;
+    }
+    Ok(())
+}
+
+/// Draws which dispatches a driver has. The one error is want of memory.
+fn driver_cell(markup: &mut Markup, header: &Header, driver: DriverId) -> Result<(), AllocError> {
+    let Some(table) = header.drivers.as_slice().get(driver.0 as usize) else {
+        return markup.fixed("no such driver");
+    };
+    if table.as_slice().is_empty() {
+        return markup.fixed("none");
+    }
+    put_table(markup, table.as_slice())
+}
+
+/// Draws dispatches by their major function codes. The one error is want of memory.
+fn put_table(markup: &mut Markup, table: &[(u8, DispatchId)]) -> Result<(), AllocError> {
+    for (place, pair) in table.iter().enumerate() {
+        if place != 0 {
+            markup.fixed(", ")?;
+        }
+        markup.show(MajorWords(pair.0))?;
+        markup.fixed(": dispatch ")?;
+        markup.show(pair.1.0)?;
+    }
+    Ok(())
+}
+
+/// Draws the row of a device. The one error is want of memory.
+fn device_row(markup: &mut Markup, header: &Header, made: Made) -> Result<(), AllocError> {
+    markup.open(Tag::Tr, &[])?;
+    markup.open(Tag::Th, &[word("scope", "row")])?;
+    markup.fixed("D")?;
+    markup.show(made.device.0)?;
+    markup.close()?;
+    markup.open(Tag::Td, &[])?;
+    markup.show(made.driver.0)?;
+    markup.close()?;
+    markup.open(Tag::Td, &[])?;
+    driver_cell(markup, header, made.driver)?;
+    markup.close()?;
+    markup.close()
+}
+
+/// Draws the head of a table's column. The one error is want of memory.
+fn column(markup: &mut Markup, words: &'static str) -> Result<(), AllocError> {
+    markup.open(Tag::Th, &[word("scope", "col")])?;
+    markup.fixed(words)?;
+    markup.close()
+}
+
+/// Draws the table of the devices; nothing where there are none. The one error is want of memory.
+pub fn put_devices(markup: &mut Markup, header: &Header, made: &[Made]) -> Result<(), AllocError> {
+    if made.is_empty() {
+        return Ok(());
+    }
+    markup.open(Tag::H2, &[])?;
+    markup.fixed("Devices, top first")?;
+    markup.close()?;
+    markup.open(Tag::Table, &[])?;
+    markup.open(Tag::Tr, &[])?;
+    column(markup, "Device")?;
+    column(markup, "Driver")?;
+    column(markup, "Dispatches")?;
+    markup.close()?;
+    for each in made {
+        device_row(markup, header, *each)?;
+    }
+    markup.close()?;
+    markup.fixed("\n")
+}

@@ -1,0 +1,306 @@
+//! The picture of a call that moved its packet: rows for the originator and the devices, top first; the way down on the
+//! left, the way up on the right.
+
+use crate::boxes::{Frame, Scope, draw_box, line};
+use crate::places::{LEFT, RIGHT, ROW, Trail, arrow_down, arrow_up, top_of};
+use crate::signs::{FirstLine, SecondLine, ShortResult, class_of, is_error};
+use crate::words::StepWords;
+use irp_listing::{Outcome, outcome_of};
+use irp_markup::{Markup, Tag, count, part, word};
+use irp_names::{CallWords, call_name, caller_of, shown_of};
+use irp_types::{Asked, Call, DeviceId, Entry, Party};
+use std::alloc::{AllocError, Global};
+
+/// What a picture is of.
+#[derive(Drop)]
+pub struct Scene<'a> {
+    pub alloc: Global,
+    pub entry: &'a Entry,
+    pub scope: Scope,
+    /// The step that is wrong, from 0.
+    pub wrong: Option<usize>,
+    /// None for the originator, and the devices, top first.
+    pub rows: &'a [Option<DeviceId>],
+    /// The device that had the packet before.
+    pub owner: Option<DeviceId>,
+}
+
+impl Scene<'_> {
+    /// Whether a row above all others is needed: for a seat that is no party, or for the end where a routine of the
+    /// originator's was asked.
+    fn has_head(&self) -> bool {
+        if caller_of(self.entry.call).is_none() {
+            return true;
+        }
+        for question in self.entry.asked.as_slice() {
+            if matches!(question, Asked::Completion { .. })
+                && shown_of(*question).device.is_none()
+            {
+                return true;
+            }
+        }
+        false
+    }
+
+    /// The row of a device, or of the originator, among all rows; the first where it has none.
+    fn row_of(&self, device: Option<DeviceId>) -> usize {
+        for (place, row) in self.rows.iter().enumerate() {
+            if *row == device {
+                return if self.has_head() {
+                    place.saturating_add(1)
+                } else {
+                    place
+                };
+            }
+        }
+        0
+    }
+
+    /// The top of the boxes of a device, or of the originator.
+    fn top(&self, device: Option<DeviceId>) -> u32 {
+        top_of(self.row_of(device))
+    }
+
+    /// How many rows it has.
+    fn count(&self) -> usize {
+        if self.has_head() {
+            self.rows.len().saturating_add(1)
+        } else {
+            self.rows.len()
+        }
+    }
+
+    /// The location that a device's dispatch had, where one was asked.
+    fn location(&self, device: Option<DeviceId>) -> Option<u32> {
+        for question in self.entry.asked.as_slice() {
+            if let Asked::Dispatch { shown, .. } = question
+                && shown.device == device
+            {
+                return Some(shown.location);
+            }
+        }
+        None
+    }
+
+    /// The words of the call.
+    fn title(&self) -> Result<String, AllocError> {
+        let Entry { call, drained, .. } = *self.entry;
+        format!(in self.alloc; "{}", CallWords { call, drained })
+    }
+}
+
+/// Draws the name of a row. The one error is want of memory.
+fn row_name(markup: &mut Markup, scene: &Scene, row: Option<DeviceId>) -> Result<(), AllocError> {
+    let top = u64::from(scene.top(row));
+    let room = (72, 12);
+    let Some(device) = row else {
+        let words = format!(in scene.alloc; "originator")?;
+        return line(markup, "small", (6, top + 24), room, words);
+    };
+    let name = format!(in scene.alloc; "D{}", device.0)?;
+    match scene.location(row) {
+        None => line(markup, "name", (6, top + 24), room, name),
+        Some(location) => {
+            line(markup, "name", (6, top + 18), room, name)?;
+            let words = format!(in scene.alloc; "location {}", location)?;
+            line(markup, "small soft", (6, top + 33), room, words)
+        }
+    }
+}
+
+/// Draws the rows, each other one shaded. The one error is want of memory.
+fn put_rows(markup: &mut Markup, scene: &Scene) -> Result<(), AllocError> {
+    for (place, row) in scene.rows.iter().enumerate() {
+        let top = u64::from(scene.top(*row));
+        if place % 2 == 0 {
+            markup.whole(
+                Tag::Rect,
+                &[
+                    word("class", "lane"),
+                    count("x", 0),
+                    count("y", top.saturating_sub(7)),
+                    count("width", 400),
+                    count("height", u64::from(ROW)),
+                ],
+            )?;
+        }
+        row_name(markup, scene, *row)?;
+    }
+    Ok(())
+}
+
+/// The frame of a box that is no step, on the way down.
+fn plain_frame(scene: &Scene, top: u32) -> Frame {
+    Frame {
+        x: LEFT,
+        y: top,
+        class: "down",
+        error: false,
+        number: 0,
+        link: scene.scope.link(),
+    }
+}
+
+/// Draws the call of a party. The one error is want of memory.
+fn start_by_party(markup: &mut Markup, scene: &Scene, party: Party) -> Result<Trail, AllocError> {
+    let device = match party {
+        Party::Originator => None,
+        Party::Device(device) => Some(device),
+    };
+    let call = scene.entry.call;
+    let mut frame = plain_frame(scene, scene.top(device));
+    let first = format!(in scene.alloc; "{}", call_name(call))?;
+    let second = match call {
+        Call::Complete {
+            status,
+            information,
+            ..
+        } => {
+            frame.error = !status.is_success();
+            format!(in scene.alloc; "{}", ShortResult(status, information))?
+        }
+        Call::CallDriver { target, .. } => format!(in scene.alloc; "to D{}", target.0)?,
+        _ => String::new(scene.alloc),
+    };
+    draw_box(markup, frame, scene.title()?, first, second)?;
+    Ok(Trail {
+        top: frame.y,
+        up: false,
+    })
+}
+
+/// Draws the call of a seat that is no party: a cancellation, or the end of a packet that was taken from its cancel
+/// slot. The one error is want of memory.
+fn start_by_seat(markup: &mut Markup, scene: &Scene) -> Result<Trail, AllocError> {
+    let seat = format!(in scene.alloc; "seat {}", scene.entry.seat)?;
+    line(markup, "small", (6, 31), (72, 12), seat)?;
+    let frame = plain_frame(scene, top_of(0));
+    let (first, second) = match scene.entry.call {
+        Call::FinishTaken { token, .. } => (
+            format!(in scene.alloc; "token {}", token)?,
+            format!(in scene.alloc; "out of its cancel slot")?,
+        ),
+        call => (
+            format!(in scene.alloc; "{}", call_name(call))?,
+            String::new(scene.alloc),
+        ),
+    };
+    draw_box(markup, frame, scene.title()?, first, second)?;
+    let trail = Trail {
+        top: frame.y,
+        up: false,
+    };
+    finish_taken(markup, scene, trail)
+}
+
+/// Draws the completion of a packet that was taken from its cancel slot, in the row of the device that held it. The one
+/// error is want of memory.
+fn finish_taken(markup: &mut Markup, scene: &Scene, trail: Trail) -> Result<Trail, AllocError> {
+    let Call::FinishTaken {
+        status,
+        information,
+        ..
+    } = scene.entry.call
+    else {
+        return Ok(trail);
+    };
+    if scene.owner.is_none() {
+        return Ok(trail);
+    }
+    let mut frame = plain_frame(scene, scene.top(scene.owner));
+    frame.error = !status.is_success();
+    arrow_down(markup, trail, frame.y)?;
+    let first = format!(in scene.alloc; "IoCompleteRequest")?;
+    let second = format!(in scene.alloc; "{}", ShortResult(status, information))?;
+    draw_box(markup, frame, scene.title()?, first, second)?;
+    Ok(Trail {
+        top: frame.y,
+        up: false,
+    })
+}
+
+/// Draws a step, from 0, and the arrow to it. The one error is want of memory.
+fn put_step(
+    markup: &mut Markup,
+    scene: &Scene,
+    trail: Trail,
+    step: usize,
+    question: Asked,
+) -> Result<Trail, AllocError> {
+    let top = scene.top(shown_of(question).device);
+    let up = matches!(question, Asked::Completion { .. });
+    if up {
+        arrow_up(markup, trail, top)?;
+    } else {
+        arrow_down(markup, trail, top)?;
+    }
+    let number = (step as u64).saturating_add(1);
+    let frame = Frame {
+        x: if up { RIGHT } else { LEFT },
+        y: top,
+        class: class_of(question, scene.wrong == Some(step)),
+        error: is_error(question),
+        number,
+        link: scene.scope.step_link(number),
+    };
+    let title = format!(in scene.alloc; "{}", StepWords(question))?;
+    let first = format!(in scene.alloc; "{}", FirstLine(question))?;
+    let second = format!(in scene.alloc; "{}", SecondLine(question))?;
+    draw_box(markup, frame, title, first, second)?;
+    Ok(Trail { top, up })
+}
+
+/// Draws all steps, behind the call. The one error is want of memory.
+fn put_steps(markup: &mut Markup, scene: &Scene, start: Trail) -> Result<Trail, AllocError> {
+    let mut trail = start;
+    for (step, question) in scene.entry.asked.as_slice().iter().enumerate() {
+        trail = put_step(markup, scene, trail, step, *question)?;
+    }
+    Ok(trail)
+}
+
+/// Draws where the packet is then. The one error is want of memory.
+fn put_end(markup: &mut Markup, scene: &Scene, trail: Trail) -> Result<(), AllocError> {
+    match outcome_of(scene.entry) {
+        Outcome::Completed(status, information) => {
+            let mut frame = plain_frame(scene, top_of(0));
+            arrow_up(markup, trail, frame.y)?;
+            frame.x = RIGHT;
+            frame.error = !status.is_success();
+            frame.class = if frame.error { "bad" } else { "good" };
+            let title = format!(in scene.alloc; "completed: {}", ShortResult(status, information))?;
+            let first = format!(in scene.alloc; "completed")?;
+            let second = format!(in scene.alloc; "{}", ShortResult(status, information))?;
+            draw_box(markup, frame, title, first, second)
+        }
+        Outcome::Held(Some(device)) => {
+            let (x, y) = (u64::from(RIGHT) + 6, u64::from(scene.top(Some(device))));
+            let words = format!(in scene.alloc; "D{} holds the packet,", device.0)?;
+            line(markup, "small", (x, y + 18), (136, 26), words)?;
+            let words = format!(in scene.alloc; "marked pending")?;
+            line(markup, "small", (x, y + 33), (136, 26), words)
+        }
+        _ => Ok(()),
+    }
+}
+
+/// Draws the picture. The one error is want of memory.
+pub fn put_picture(markup: &mut Markup, scene: &Scene) -> Result<(), AllocError> {
+    let rows = scene.count().min(99_999) as u64;
+    markup.open(
+        Tag::Svg,
+        &[
+            part("viewBox", "0 0 400 ", rows * u64::from(ROW)),
+            word("role", "group"),
+            part("aria-label", "Picture of entry ", scene.scope.place),
+        ],
+    )?;
+    put_rows(markup, scene)?;
+    let start = match caller_of(scene.entry.call) {
+        Some(party) => start_by_party(markup, scene, party)?,
+        None => start_by_seat(markup, scene)?,
+    };
+    let trail = put_steps(markup, scene, start)?;
+    put_end(markup, scene, trail)?;
+    markup.close()
+}
