@@ -1,0 +1,2 @@
+mod Grown
+mod Talks
