@@ -1,2 +1,5 @@
+mod Begun
 mod Grown
+mod Newlines
 mod Talks
+mod Turns

@@ -1,5 +1,5 @@
 -- A session: what it was told, and what each line makes of it and is answered with.
-use Rattle.std.specs.Prelude.{⊥, ℕ, ◌≡◌, List, Bool, true, false, Option, Some, None, Result, Ok, Err}
+use Rattle.std.specs.Prelude.{ℕ, ◌≡◌, List, Bool, true, false, Option, Some, None, Result, Ok, Err}
 use Rattle.std.specs.Option.{option_map}
 use Rattle.serde_json.specs.Data.{Data}
 use Rattle.irp_types.specs.Refusals.{first_refusal}

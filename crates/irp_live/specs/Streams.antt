@@ -1,7 +1,7 @@
 -- The streams of the program: its input and its output, before and after some work.
 use Rattle.std.specs.Prelude.{ℕ, ◌≡◌, ◌<◌, ◌++◌, ◌∷◌, [], List, Bool, true, false, length, IfSome, Option}
 use Rattle.std.specs.Io.{StopsAt}
-use Rattle.std.specs.Io.BufRead.{ends_with_byte, take_through}
+use Rattle.std.specs.Io.BufRead.{take_through}
 use Rattle.std.specs.Io.KnownBytes.{Appends, Consumes}
 use Rattle.irp_transcript_writer.specs.Out.{risen}
 
@@ -25,12 +25,20 @@ pub record Streams : Type 0 where
 abbrev pub streams_of : Bytes → Bytes → ℕ → Streams
 streams_of left gone failures = record { left = left; output = output_of gone failures }
 
+-- what was taken of an input is all up to its first newline, or to its end
+abbrev pub IsUpToNewline : Bytes → List ℕ → Type 0
+IsUpToNewline old taken = IfSome old (λ left. taken ≡ take_through 10 left)
+
+-- no newline ends it
+abbrev pub IsEndless : List ℕ → Type 0
+IsEndless rest = (front : List ℕ) → rest ≡ front ++ 10 ∷ [] → ⊥
+
 -- this line was taken with its newline, which is its only one; or there is no newline any more, and what was left was
 -- taken
 abbrev pub IsRead : Bytes → Bytes → List ℕ → Bool → Type 0
-IsRead old new line true = StopsAt (line ++ 10 ∷ []) 10 × Consumes old new (line ++ 10 ∷ [])
-IsRead old new rest false =
-    (ends_with_byte 10 rest ≡ false) × IfSome old (λ left. rest ≡ take_through 10 left) × Consumes old new rest
+IsRead old new line true =
+    StopsAt (line ++ 10 ∷ []) 10 × IsUpToNewline old (line ++ 10 ∷ []) × Consumes old new (line ++ 10 ∷ [])
+IsRead old new line false = (rest : List ℕ) × IsEndless rest × IsUpToNewline old rest × Consumes old new rest
 
 -- some of the input was taken
 abbrev pub TakesSome : Bytes → Bytes → Type 0

@@ -29,7 +29,7 @@ impl From<AllocError> for StreamFault {
 }
 
 /// Reads the next line in place of what the room has, without its newline. False where there is no newline any more;
-/// then the room has what was left.
+/// then all that was left is taken.
 ///
 /// # Errors
 ///
@@ -44,11 +44,10 @@ pub fn read_line<R: BufRead>(input: &mut R, line: &mut Vec<u8>) -> Result<bool, 
         Err(error) if error.kind() == ErrorKind::OutOfMemory => return Err(StreamFault::NoMemory),
         Err(_) => return Err(StreamFault::Failed),
     }
-    if line.last() != Some(&b'\n') {
-        return Ok(false);
+    match line.pop() {
+        Some(b'\n') => Ok(true),
+        _ => Ok(false),
     }
-    line.pop();
-    Ok(true)
 }
 
 /// Puts a text out. On `Failed`, the one error, a beginning of it went out.

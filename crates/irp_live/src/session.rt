@@ -1,6 +1,6 @@
 //! A session: the lines of a transcript that were taken, and their judge.
 
-ghost use Rattle.std.specs.Prelude.{◌≡◌, [], IfOk, OnOk, Err, Some, None, option_map, ⊥};
+ghost use Rattle.std.specs.Prelude.{◌≡◌, [], IfOk, OnOk, Err, Some, None, option_map};
 ghost use Rattle.serde_json.specs.View.{view};
 ghost use Rattle.irp_types.specs.Refusals.{first_refusal};
 ghost use Rattle.irp_forms.specs.declared.unread.Unread.TheVariants.{Form};

@@ -207,8 +207,8 @@ pub fn live<R: BufRead, O: Out>(
     match begin(alloc, line.as_slice()) {
         Ok(begun) => serve(alloc, input, output, begun),
         Err(Unheard::Fault(fault)) => {
-            let said = line_of(alloc, &Faulty { fault, line: 1 })?;
-            put(output, said.as_slice())?;
+            let complaint = line_of(alloc, &Faulty { fault, line: 1 })?;
+            put(output, complaint.as_slice())?;
             Err(LiveFault::RefusedHeader)
         }
         Err(Unheard::NoMemory) => Err(LiveFault::Stream(StreamFault::NoMemory)),
