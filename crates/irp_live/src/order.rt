@@ -41,7 +41,7 @@ pub enum Order {
 }
 
 /// What the words ask for.
-pub fn order(rt: &HostRuntime) -> Order {
+pub fn words_ask(rt: &HostRuntime) -> Order {
     let Ok(words) = env::args(rt) else {
         return Order::Other;
     };
