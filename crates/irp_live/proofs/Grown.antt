@@ -1,6 +1,9 @@
 -- What the next line of a transcript adds: an entry, or a word line.
-use Rattle.std.proofs.Common.{◌≡◌, ℕ, ◌<◌, ◌==◌, ◌&&◌, nat_lt, Bool, true, false, List, [], ◌∷◌, ◌++◌, length, Option, Some, None, refl, sym, subst, ap, ◌∙◌, if◌then◌else◌}
-use Rattle.std.specs.Prelude.{◌⊎◌}
+use Rattle.std.proofs.Common.{◌≡◌, ℕ, ◌<◌, ◌==◌, ◌&&◌, nat_lt, Bool, true, false, List, [], ◌∷◌, ◌++◌, length, Option, Some, None, refl, sym, subst, ap, ◌∙◌, if◌then◌else◌, inl, inr, arith, ◌+◌, ◌≤◌, ◌^◌, get_or, length-append}
+use Rattle.std.specs.Prelude.{◌⊎◌, slice_index_or}
+use Rattle.std.proofs.lemmas.List.{get_or_push}
+use Rattle.irp_judge.specs.Judging.{HasJudged, JudgeValue}
+use Rattle.irp_live.specs.Sessions.{Stands}
 use Rattle.std.proofs.lemmas.Option.{none-some, same_Some}
 use Rattle.serde_json.specs.Data.{Data}
 use Rattle.irp_forms.specs.Parts.{◌>>=◌}
@@ -64,3 +67,40 @@ pub grown : (header : Header) (before after : TranscriptValue) (form : Data) →
 grown header before after form is next =
     let under : IsNextUnder (Some header) before form after = subst (λ known. IsNextUnder known before form after) is next in
     line_grows header.form header.seats before after form under
+
+same_stands : (judge : JudgeValue) (before after : TranscriptValue) → after.header ≡ before.header
+    → (after.entries ≡ before.entries) ⊎ Added before after → length after.entries ≤ length before.entries
+    → before.header ≡ Some judge.header → HasJudged judge before.entries → Stands (record { told = after; judge = judge })
+same_stands judge before after stays (inl same) few header judged =
+    record { header = stays ∙ header; judged = subst (HasJudged judge) (sym same) judged }
+same_stands judge before after stays (inr added) few header judged =
+    absurd (omega (arith, few, ap length added.entries, length-append before.entries (added.entry ∷ [])))
+
+-- where no entry is added the judge goes on
+pub stands_same : (judge : JudgeValue) (before after : TranscriptValue) → Grown before after → length after.entries ≤ length before.entries
+    → before.header ≡ Some judge.header → HasJudged judge before.entries → Stands (record { told = after; judge = judge })
+stands_same judge before after grown few header judged = same_stands judge before after grown.0 grown.1 few header judged
+
+more_stands : (old new : JudgeValue) (before after : TranscriptValue) (entry : Entry) → after.header ≡ before.header
+    → (after.entries ≡ before.entries) ⊎ Added before after → length before.entries < length after.entries
+    → entry ≡ slice_index_or after.entries (length before.entries) entry → before.header ≡ Some old.header → new.header ≡ old.header
+    → (length before.entries + 1 < 2 ^ 64 → HasJudged new (before.entries ++ entry ∷ [])) → Stands (record { told = after; judge = new })
+more_stands old new before after entry stays (inl same) more is header kept judged = absurd (omega (arith, more, ap length same))
+more_stands old new before after entry stays (inr added) more is header kept judged =
+    let last : entry ≡ added.entry =
+    is ∙ ap (λ entries. slice_index_or entries (length before.entries) entry) added.entries
+    ∙ get_or_push before.entries added.entry entry (length before.entries) refl in
+    let all : after.entries ≡ before.entries ++ entry ∷ [] =
+    added.entries ∙ ap (λ it. before.entries ++ it ∷ []) (sym last) in
+    record {
+      header = stays ∙ header ∙ ap Some (sym kept);
+      judged = subst (HasJudged new) (sym all) (judged (omega (arith, added.few)));
+    }
+
+-- where one is added the judge was fed it
+pub stands_more : (old new : JudgeValue) (before after : TranscriptValue) (entry : Entry) → Grown before after
+    → length before.entries < length after.entries → entry ≡ slice_index_or after.entries (length before.entries) entry
+    → before.header ≡ Some old.header → new.header ≡ old.header
+    → (length before.entries + 1 < 2 ^ 64 → HasJudged new (before.entries ++ entry ∷ [])) → Stands (record { told = after; judge = new })
+stands_more old new before after entry grown more is header kept judged =
+    more_stands old new before after entry grown.0 grown.1 more is header kept judged

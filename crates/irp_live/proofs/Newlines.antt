@@ -2,7 +2,7 @@
 use Rattle.std.proofs.Common.{◌≡◌, ◌≢◌, ℕ, List, [], ◌∷◌, ◌++◌, refl, sym, ap, ◌∙◌, arith}
 use Rattle.irp_live.specs.Streams.{IsEndless}
 
-last_of : ℕ → List ℕ → ℕ
+abbrev last_of : ℕ → List ℕ → ℕ
 last_of given [] = given
 last_of given (one ∷ others) = last_of one others
 

@@ -1,5 +1,5 @@
 -- The streams of the program: its input and its output, before and after some work.
-use Rattle.std.specs.Prelude.{ℕ, ◌≡◌, ◌<◌, ◌++◌, ◌∷◌, [], List, Bool, true, false, length, IfSome, Option}
+use Rattle.std.specs.Prelude.{ℕ, ◌≡◌, ◌<◌, ◌++◌, ◌∷◌, ◌⊎◌, [], List, Bool, true, false, length, IfSome, Option}
 use Rattle.std.specs.Io.{StopsAt}
 use Rattle.std.specs.Io.BufRead.{take_through}
 use Rattle.std.specs.Io.KnownBytes.{Appends, Consumes}
@@ -56,3 +56,7 @@ pub record Breaks (text : List ℕ) (old new : Output) : Type 0 where
   pub short : 0 < length rest
   pub gone : Appends old.gone new.gone front
   pub failed : new.failures ≡ risen old.failures
+
+-- nothing of the text went out, or it broke off
+abbrev pub IsCut : List ℕ → Output → Output → Type 0
+IsCut text old new = (new ≡ old) ⊎ Breaks text old new

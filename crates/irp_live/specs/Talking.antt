@@ -17,7 +17,7 @@ use Rattle.irp_live.specs.Asking.{IsHeard, IsUnheard}
 use Rattle.irp_live.specs.declared.asking.Unheard.{Unheard}
 use Rattle.irp_live.specs.declared.asking.Unheard.TheVariants.{Fault, NoMemory}
 use Rattle.irp_live.specs.Sessions.{IsAnswered, IsEnd, SessionValue, Stands}
-use Rattle.irp_live.specs.Streams.{Breaks, IsRead, Output, Puts, Streams, TakesSome}
+use Rattle.irp_live.specs.Streams.{Breaks, IsCut, IsRead, Output, Puts, Streams, TakesSome}
 use Rattle.irp_live.specs.Told.{fault_json}
 use Rattle.irp_live.specs.declared.asking.LineFault.{LineFault}
 use Rattle.irp_live.specs.declared.asking.LineFault.TheVariants.{NoForm}
@@ -109,21 +109,21 @@ IsTurn number before old (Err fault) after new = IsStopped number before old new
 -- what came of all turns: lines were answered, and then nothing more is to be answered, or it stopped
 abbrev pub IsConversed : SessionValue → Streams → Result (Unit {0}) StreamFault → SessionValue → Streams → Type 0
 IsConversed before old (Ok done) after new =
-    (next : ℕ) (between : SessionValue) (mid : Streams) × Talked 2 before old next between mid
+    (next : ℕ) × (between : SessionValue) × (mid : Streams) × Talked 2 before old next between mid
     × Ended between mid after new
 IsConversed before old (Err fault) after new =
-    (next : ℕ) (between : SessionValue) (mid : Streams) × Talked 2 before old next between mid
+    (next : ℕ) × (between : SessionValue) × (mid : Streams) × Talked 2 before old next between mid
     × IsStopped next between mid new
 
 -- ---- the whole
 
 -- a line is a header that the formats accept: this one, and the transcript has nothing else yet
-pub record IsBegun (line : List ℕ) (header : Header) (told : TranscriptValue) : Type 0 where
+pub record IsBegun (line : List ℕ) (known : Header) (told : TranscriptValue) : Type 0 where
   pub form : Data
   pub heard : IsHeard line (Ok form)
   pub next : IsNext no_lines form told
-  pub header : told.header ≡ Some header
-  pub accepted : IsHeader header
+  pub header : told.header ≡ Some known
+  pub accepted : IsHeader known
   pub none : told.entries ≡ []
 
 -- why a value is no header, unless memory ran out
@@ -142,69 +142,65 @@ abbrev pub Says : List ℕ → Streams → Streams → Type 0
 Says text old new = (new.left ≡ old.left) × Puts text old.output new.output
 
 abbrev pub Stops : List ℕ → Streams → Streams → Type 0
-Stops text old new = (new.left ≡ old.left) × ((new.output ≡ old.output) ⊎ Breaks text old.output new.output)
+Stops text old new = (new.left ≡ old.left) × IsCut text old.output new.output
 
--- behind a header the answer to it went out, then those to the further lines, up to the last one
-pub record Served (told : TranscriptValue) (old : Streams) (session : SessionValue) (new : Streams) : Type 0 where
+-- what came of the further lines and the verdict: the lines were answered, and the verdict on the entries went out; or it
+-- stopped, in an answer or in the verdict
+abbrev pub IsFinished : SessionValue → Streams → Result Verdict StreamFault → Streams → Type 0
+IsFinished begun old (Ok verdict) new =
+    (session : SessionValue) × (mid : Streams) × IsConversed begun old (Ok tt) session mid
+    × IsVerdictOn session.told verdict × Says (verdict_line verdict) mid new
+IsFinished begun old (Err fault) new =
+    ((session : SessionValue) × IsConversed begun old (Err fault) session new)
+    ⊎ ((session : SessionValue) × (mid : Streams) × (verdict : Verdict) × IsConversed begun old (Ok tt) session mid
+    × IsVerdictOn session.told verdict × Stops (verdict_line verdict) mid new)
+
+-- behind a header the answer to it went out, and then this came of the further lines
+pub record Served (told : TranscriptValue) (old : Streams) (result : Result Verdict StreamFault) (new : Streams)
+    : Type 0 where
   pub begun : SessionValue
   pub same : begun.told ≡ told
   pub stands : Stands begun
-  pub one : Streams
-  pub answered : Says (line_text null) old one
-  pub conversed : IsConversed begun one (Ok tt) session new
+  pub mid : Streams
+  pub answered : Says (line_text null) old mid
+  pub finished : IsFinished begun mid result new
 
--- the same up to where it stopped
-pub record StopsServing (told : TranscriptValue) (old new : Streams) : Type 0 where
-  pub begun : SessionValue
-  pub same : begun.told ≡ told
-  pub stands : Stands begun
-  pub one : Streams
-  pub answered : Says (line_text null) old one
-  pub fault : StreamFault
-  pub after : SessionValue
-  pub conversed : IsConversed begun one (Err fault) after new
+-- the same, or it stopped in the answer to the header
+abbrev pub IsServed : TranscriptValue → Streams → Result Verdict StreamFault → Streams → Type 0
+IsServed told old (Ok verdict) new = Served told old (Ok verdict) new
+IsServed told old (Err fault) new = Stops (line_text null) old new ⊎ Served told old (Err fault) new
 
--- what came of it: the verdict on the entries went out; or it stopped in the answer to the header, in those to the
--- further lines, or in the verdict
-abbrev pub IsServed : TranscriptValue → Streams → Result Verdict LiveFault → Streams → Type 0
-IsServed told old (Ok verdict) new =
-    (session : SessionValue) (mid : Streams) × Served told old session mid × IsVerdictOn session.told verdict
-    × Says (verdict_line verdict) mid new
-IsServed told old (Err fault) new =
-    Stops (line_text null) old new ⊎ (StopsServing told old new
-    ⊎ ((session : SessionValue) (mid : Streams) (verdict : Verdict) × Served told old session mid
-    × IsVerdictOn session.told verdict × Stops (verdict_line verdict) mid new))
+-- what came of it with this first line: behind a header the further lines and the verdict; another line is answered by
+-- its fault, or that stopped
+abbrev pub IsFirst : List ℕ → Streams → Result Verdict LiveFault → Streams → Type 0
+IsFirst line old (Ok verdict) new =
+    (header : Header) × (told : TranscriptValue) × IsBegun line header told × IsServed told old (Ok verdict) new
+IsFirst line old (Err RefusedHeader) new =
+    (fault : LineFault) × IsUnbegun line (Fault fault) × Says (line_text (fault_json fault 1)) old new
+IsFirst line old (Err (Stream fault)) new =
+    ((header : Header) × (told : TranscriptValue) × IsBegun line header told × IsServed told old (Err fault) new)
+    ⊎ ((why : LineFault) × IsUnbegun line (Fault why) × Stops (line_text (fault_json why 1)) old new)
+    ⊎ (new ≡ old)
 
 -- the first line was read, and nothing went out
-pub record First (old : Streams) (line : List ℕ) (more : Bool) (new : Streams) : Type 0 where
+pub record Read (old : Streams) (line : List ℕ) (more : Bool) (new : Streams) : Type 0 where
   pub read : IsRead old.left new.left line more
   pub quiet : new.output ≡ old.output
 
--- the first line is a header, and this came of the program behind it
-abbrev pub IsLivedWith : Streams → Result Verdict LiveFault → Streams → Type 0
-IsLivedWith old result new =
-    (line : List ℕ) (header : Header) (told : TranscriptValue) (mid : Streams) × First old line true mid
-    × IsBegun line header told × IsServed told mid result new
+-- without a line the verdict is the one on no entries, or that stopped
+abbrev pub IsUnled : Streams → Result Verdict LiveFault → Streams → Type 0
+IsUnled old (Ok verdict) new = (verdict ≡ Legal 0) × Says (verdict_line (Legal 0)) old new
+IsUnled old (Err RefusedHeader) new = ⊥
+IsUnled old (Err (Stream fault)) new = Stops (verdict_line (Legal 0)) old new
 
--- there is no line, and the verdict is the one on no entries
-abbrev pub IsLivedWithout : Streams → (Streams → Type 0) → Type 0
-IsLivedWithout old rest = (line : List ℕ) (mid : Streams) × First old line false mid × rest mid
+-- the input or the output failed, or memory ran out
+abbrev pub IsStream : Result Verdict LiveFault → Type 0
+IsStream (Err (Stream fault)) = Unit {0}
+IsStream other = ⊥
 
--- what goes out where there is no header: the verdict on no entries, or the fault of the first line
-abbrev pub IsFirstText : List ℕ → Type 0
-IsFirstText text =
-    (text ≡ verdict_line (Legal 0)) ⊎ ((fault : LineFault) × (text ≡ line_text (fault_json fault 1)))
-
--- what came of the program. With no line the verdict is the one on no entries. A first line that is no header is
--- answered by its fault. Behind a header lines are answered, up to the verdict. Or it stopped
+-- what came of the program: of the first line, and behind it; or there is no line, and the verdict on no entries went out
 abbrev pub IsLived : Streams → Result Verdict LiveFault → Streams → Type 0
-IsLived old (Ok verdict) new =
-    IsLivedWith old (Ok verdict) new
-    ⊎ ((verdict ≡ Legal 0) × IsLivedWithout old (λ mid. Says (verdict_line (Legal 0)) mid new))
-IsLived old (Err RefusedHeader) new =
-    (line : List ℕ) (fault : LineFault) (mid : Streams) × First old line true mid × IsUnbegun line (Fault fault)
-    × Says (line_text (fault_json fault 1)) mid new
-IsLived old (Err (Stream fault)) new =
-    IsLivedWith old (Err (Stream fault)) new
-    ⊎ (TakesSome old.left new.left × ((new.output ≡ old.output)
-    ⊎ ((text : List ℕ) × IsFirstText text × Breaks text old.output new.output)))
+IsLived old result new =
+    ((line : List ℕ) × (mid : Streams) × Read old line true mid × IsFirst line mid result new)
+    ⊎ ((line : List ℕ) × (mid : Streams) × Read old line false mid × IsUnled mid result new)
+    ⊎ (IsStream result × TakesSome old.left new.left × (new.output ≡ old.output))

@@ -68,9 +68,9 @@ field_name field.Cancel = codes "cancel"
 field_name field.Context = codes "context"
 field_name field.HasLower = codes "has_lower"
 
-abbrev pub shown_of : Difference → Option ShownField
-shown_of (kind.Question at (part.Shown field)) = Some field
-shown_of other = None
+abbrev pub shown_json : Difference → Data
+shown_json (kind.Question at (part.Shown field)) = string (field_name field)
+shown_json other = null
 
 -- the place of the question that differs, from 0
 abbrev pub question_of : Difference → Option ℕ
@@ -90,7 +90,7 @@ wrong_json wrong =
     ∷ (codes "part", part_json wrong.difference)
     ∷ (codes "question", or_null natural (question_of wrong.difference))
     ∷ (codes "refused", or_null refusal_json (refusal_in wrong.made.reply))
-    ∷ (codes "shown", or_null (λ field. string (field_name field)) (shown_of wrong.difference))
+    ∷ (codes "shown", shown_json wrong.difference)
     ∷ (codes "wrong_at", natural wrong.at)
     ∷ [])
 

@@ -48,7 +48,7 @@ fn would_at(value: &Value) -> Option<Question>
     ensures { result ≡ spec.would_at (view value.now) }
 {
     only_keys(value, &["would"], &[])?;
-    let called = value.get("would").and_then(entry_call_at)?;
+    let called = entry_call_at(value.get("would")?)?;
     Some(Question::Would(called))
 }
 

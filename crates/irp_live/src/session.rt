@@ -73,11 +73,13 @@ impl<'a> Session<'a> {
     {
         let before = self.reading.entries.len();
         self.reading.take_value(alloc, value)?;
-        let entries = self.reading.entries.as_slice();
-        if before < entries.len() && self.judge.feed(&entries[before]).is_err() {
-            return Err(Unread::NoMemory);
+        if self.reading.entries.len() <= before {
+            return Ok(());
         }
-        Ok(())
+        match self.judge.feed(&self.reading.entries[before]) {
+            Ok(()) => Ok(()),
+            Err(_) => Err(Unread::NoMemory),
+        }
     }
 
     /// The line that answers a value as the next line of the transcript, where it is the line of this number.
@@ -138,6 +140,7 @@ impl<'a> Session<'a> {
 
     /// The line that answers the line of this number; none where it asks for the verdict. The one error is want of
     /// memory.
+    #[tactic(auto, using(crate::proofs::Replies::reply_gives))]
     pub fn reply(
         &mut self,
         alloc: Global,

@@ -1,15 +1,20 @@
 //! Lines are read and answered, one after another.
 
-ghost use Rattle.std.specs.Prelude.{◌≡◌, [], IfErr, IfOk, OnOk, Some};
+ghost use Rattle.std.specs.Prelude.{◌≡◌, [], IfErr, IfOk, OnErr, OnOk, Some};
+ghost use Rattle.serde_json.specs.Data.{null};
 ghost use Rattle.serde_json.specs.View.{view};
 ghost use Rattle.irp_transcript.specs.Headers.{IsHeader};
 ghost use Rattle.irp_transcript.specs.Transcripts.{no_lines};
 ghost use Rattle.irp_transcript_reader.specs.Reading.{IsNext, so_far};
+ghost use Rattle.irp_transcript_writer.specs.Json.{line_text};
 ghost use Rattle.irp_live.specs.Sessions.{Stands, session_of};
-ghost use Rattle.irp_live.specs.Streams.{streams_of};
+ghost use Rattle.irp_live.specs.Streams.{IsCut, Puts, output_of, streams_of};
+ghost use Rattle.irp_live.specs.Told.{fault_json};
 ghost use Rattle.irp_live.specs.Talking.{
   IsBegun,
   IsConversed,
+  IsFinished,
+  IsFirst,
   IsLived,
   IsNoHeader,
   IsServed,
@@ -41,28 +46,16 @@ pub enum LiveFault {
     Stream(StreamFault),
 }
 
-impl From<StreamFault> for LiveFault {
-    ghost use Rattle.irp_live.specs.declared.talking.LiveFault.TheVariants.{Stream};
-
-    ghost from_gives = { λ fault it. it ≡ Stream fault };
-
-    fn from(fault: StreamFault) -> LiveFault {
-        LiveFault::Stream(fault)
-    }
-}
-
-impl From<AllocError> for LiveFault {
-    ghost use Rattle.irp_live.specs.declared.lines.StreamFault.TheVariants.{NoMemory};
-    ghost use Rattle.irp_live.specs.declared.talking.LiveFault.TheVariants.{Stream};
-
-    ghost from_gives = { λ _ it. it ≡ Stream NoMemory };
-
-    fn from(_error: AllocError) -> LiveFault {
-        LiveFault::Stream(StreamFault::NoMemory)
-    }
-}
-
 /// One turn: the next line is read, and answered. False where nothing more is to be answered.
+#[tactic(auto, using(
+    crate::proofs::Turns::stopped,
+    crate::proofs::Turns::takes_line,
+    crate::proofs::Turns::takes_rest,
+    crate::proofs::Turns::ended_rest,
+    crate::proofs::Turns::ended_line,
+    crate::proofs::Turns::exchanged,
+    crate::proofs::Turns::interrupted
+))]
 fn turn<R: BufRead, O: Out>(
     alloc: Global,
     input: &mut R,
@@ -83,8 +76,10 @@ fn turn<R: BufRead, O: Out>(
     match session.reply(alloc, number, line.as_slice())? {
         None => Ok(false),
         Some(said) => {
-            put(output, said.as_slice())?;
-            Ok(true)
+            match put(output, said.as_slice()) {
+                Ok(()) => Ok(true),
+                Err(fault) => Err(fault),
+            }
         }
     }
 }
@@ -105,8 +100,10 @@ fn converse<R: BufRead, O: Out>(
 {
     let mut line = Vec::new(alloc);
     for number in 2..u64::MAX {
-        if !turn(alloc, input, output, session, number, &mut line)? {
-            return Ok(());
+        match turn(alloc, input, output, session, number, &mut line) {
+            Ok(true) => {}
+            Ok(false) => return Ok(()),
+            Err(fault) => return Err(fault),
         }
     }
     Err(StreamFault::Failed)
@@ -142,16 +139,71 @@ fn header_reading(alloc: Global, value: &Value) -> Result<Reading, Unheard>
 }
 
 /// What the first line begins. It is refused where it is no header that the formats accept.
+#[tactic(auto, using(crate::proofs::Begun::begun))]
 fn begin(alloc: Global, line: &[u8]) -> Result<Begun, Unheard>
     ensures ok { IfOk result (λ begun. IsBegun line.now begun.header (so_far begun.reading)) }
     ensures err { IfErr result (IsUnbegun line.now) }
 {
     let value = value_of(alloc, line)?;
     let reading = header_reading(alloc, &value)?;
-    match header_reading(alloc, &value)?.header {
+    let Reading { header, .. } = header_reading(alloc, &value)?;
+    match header {
         Some(header) => Ok(Begun { header, reading }),
         None => Err(Unheard::Fault(LineFault::NoForm)),
     }
+}
+
+/// Tells the output a verdict.
+fn tell<O: Out>(alloc: Global, output: &mut O, verdict: Verdict) -> Result<(), StreamFault>
+    ensures ok { OnOk result (Puts (told_line verdict)
+        (output_of (O.gone output.old) (O.failures output.old))
+        (output_of (O.gone output.new) (O.failures output.new))) }
+    ensures err { OnErr result (IsCut (told_line verdict)
+        (output_of (O.gone output.old) (O.failures output.old))
+        (output_of (O.gone output.new) (O.failures output.new))) }
+{
+    let Ok(line) = verdict_line(alloc, verdict) else {
+        return Err(StreamFault::NoMemory);
+    };
+    put(output, line.as_bytes())
+}
+
+/// Answers the lines behind the header's, and tells the verdict.
+fn finish<R: BufRead, O: Out>(
+    alloc: Global,
+    input: &mut R,
+    output: &mut O,
+    session: &mut Session<'_>,
+) -> Result<Verdict, StreamFault>
+    requires { Stands (session_of session.now) }
+    ensures { IsFinished (session_of session.old)
+        (streams_of (R.remaining input.old) (O.gone output.old) (O.failures output.old)) result
+        (streams_of (R.remaining input.new) (O.gone output.new) (O.failures output.new)) }
+{
+    match converse(alloc, input, output, session) {
+        Ok(()) => {}
+        Err(fault) => return Err(fault),
+    }
+    let verdict = session.verdict();
+    match tell(alloc, output, verdict) {
+        Ok(()) => Ok(verdict),
+        Err(fault) => Err(fault),
+    }
+}
+
+/// Answers a header.
+fn accept<O: Out>(alloc: Global, output: &mut O) -> Result<(), StreamFault>
+    ensures ok { OnOk result (Puts (line_text null)
+        (output_of (O.gone output.old) (O.failures output.old))
+        (output_of (O.gone output.new) (O.failures output.new))) }
+    ensures err { OnErr result (IsCut (line_text null)
+        (output_of (O.gone output.old) (O.failures output.old))
+        (output_of (O.gone output.new) (O.failures output.new))) }
+{
+    let Ok(answer) = line_of(alloc, &None::<Refusal>) else {
+        return Err(StreamFault::NoMemory);
+    };
+    put(output, answer.as_slice())
 }
 
 /// Answers the header's line, and those behind it. The verdict.
@@ -160,7 +212,7 @@ fn serve<R: BufRead, O: Out>(
     input: &mut R,
     output: &mut O,
     begun: Begun,
-) -> Result<Verdict, LiveFault>
+) -> Result<Verdict, StreamFault>
     requires header { (so_far begun.reading).header ≡ Some begun.header }
     requires accepted { IsHeader begun.header }
     requires none { (so_far begun.reading).entries ≡ [] }
@@ -169,14 +221,51 @@ fn serve<R: BufRead, O: Out>(
         (streams_of (R.remaining input.new) (O.gone output.new) (O.failures output.new)) }
 {
     let Begun { header, reading } = begun;
-    let answer = line_of(alloc, &None::<Refusal>)?;
-    put(output, answer.as_slice())?;
+    match accept(alloc, output) {
+        Ok(()) => {}
+        Err(fault) => return Err(fault),
+    }
     let mut session = Session::new(alloc, &header, reading);
-    converse(alloc, input, output, &mut session)?;
-    let verdict = session.verdict();
-    let line = verdict_line(alloc, verdict)?;
-    put(output, line.as_bytes())?;
-    Ok(verdict)
+    finish(alloc, input, output, &mut session)
+}
+
+/// Refuses the first line. The fault is that of the output, or want of memory.
+fn refuse<O: Out>(alloc: Global, output: &mut O, fault: LineFault) -> Result<(), StreamFault>
+    ensures ok { OnOk result (Puts (line_text (fault_json fault 1))
+        (output_of (O.gone output.old) (O.failures output.old))
+        (output_of (O.gone output.new) (O.failures output.new))) }
+    ensures err { OnErr result (IsCut (line_text (fault_json fault 1))
+        (output_of (O.gone output.old) (O.failures output.old))
+        (output_of (O.gone output.new) (O.failures output.new))) }
+{
+    let Ok(complaint) = line_of(alloc, &Faulty { fault, line: 1 }) else {
+        return Err(StreamFault::NoMemory);
+    };
+    put(output, complaint.as_slice())
+}
+
+/// What a first line gives.
+fn first<R: BufRead, O: Out>(
+    alloc: Global,
+    input: &mut R,
+    output: &mut O,
+    line: &[u8],
+) -> Result<Verdict, LiveFault>
+    ensures { IsFirst line.now
+        (streams_of (R.remaining input.old) (O.gone output.old) (O.failures output.old)) result
+        (streams_of (R.remaining input.new) (O.gone output.new) (O.failures output.new)) }
+{
+    match begin(alloc, line) {
+        Ok(begun) => match serve(alloc, input, output, begun) {
+            Ok(verdict) => Ok(verdict),
+            Err(fault) => Err(LiveFault::Stream(fault)),
+        },
+        Err(Unheard::Fault(fault)) => match refuse(alloc, output, fault) {
+            Ok(()) => Err(LiveFault::RefusedHeader),
+            Err(fault) => Err(LiveFault::Stream(fault)),
+        },
+        Err(Unheard::NoMemory) => Err(LiveFault::Stream(StreamFault::NoMemory)),
+    }
 }
 
 /// Reads lines and answers each by a line, at once: a header's by null; then questions, and the further lines of the
@@ -198,19 +287,15 @@ pub fn live<R: BufRead, O: Out>(
         (streams_of (R.remaining input.new) (O.gone output.new) (O.failures output.new)) }
 {
     let mut line = Vec::new(alloc);
-    if !read_line(input, &mut line)? {
-        let verdict = Verdict::Legal { entries: 0 };
-        let line = verdict_line(alloc, verdict)?;
-        put(output, line.as_bytes())?;
-        return Ok(verdict);
-    }
-    match begin(alloc, line.as_slice()) {
-        Ok(begun) => serve(alloc, input, output, begun),
-        Err(Unheard::Fault(fault)) => {
-            let complaint = line_of(alloc, &Faulty { fault, line: 1 })?;
-            put(output, complaint.as_slice())?;
-            Err(LiveFault::RefusedHeader)
+    match read_line(input, &mut line) {
+        Ok(true) => first(alloc, input, output, line.as_slice()),
+        Ok(false) => {
+            let verdict = Verdict::Legal { entries: 0 };
+            match tell(alloc, output, verdict) {
+                Ok(()) => Ok(verdict),
+                Err(fault) => Err(LiveFault::Stream(fault)),
+            }
         }
-        Err(Unheard::NoMemory) => Err(LiveFault::Stream(StreamFault::NoMemory)),
+        Err(fault) => Err(LiveFault::Stream(fault)),
     }
 }

@@ -5,7 +5,7 @@ ghost use Rattle.std.specs.Prelude.{◌≡◌, ◌++◌, IfOk, OnOk};
 ghost use Rattle.std.specs.Option.{option_copied};
 ghost use Rattle.serde_json.specs.Data.{string};
 ghost use Rattle.serde_json.specs.Written.{compact_text};
-ghost use Rattle.irp_transcript_writer.specs.Json.{line_text, or_null};
+ghost use Rattle.irp_transcript_writer.specs.Json.{line_text};
 ghost use Rattle.irp_live.specs.Told as spec;
 
 use crate::asking::LineFault;
@@ -128,8 +128,7 @@ fn field_text(field: ShownField) -> &'static str
 
 /// The text that says which place of what is shown differs, or null.
 fn shown_text(difference: Difference) -> &'static str
-    ensures { result.now ≡ compact_text (or_null (λ field. string (spec.field_name field))
-        (spec.shown_of difference)) }
+    ensures { result.now ≡ compact_text (spec.shown_json difference) }
 {
     match difference {
         Difference::Question {
@@ -160,6 +159,48 @@ fn refusal_in(reply: Reply) -> Option<Refusal>
     }
 }
 
+/// What differs.
+#[derive(Drop)]
+struct Differs {
+    difference: Difference,
+}
+
+impl Written for Differs {
+    ghost json = { λ it. spec.difference_json it.difference };
+
+    fn write(&self, out: &mut Vec<u8>) -> Result<(), AllocError> {
+        put_text(out, difference_text(self.difference))
+    }
+}
+
+/// Which part of a question differs, or null.
+#[derive(Drop)]
+struct Part {
+    difference: Difference,
+}
+
+impl Written for Part {
+    ghost json = { λ it. spec.part_json it.difference };
+
+    fn write(&self, out: &mut Vec<u8>) -> Result<(), AllocError> {
+        put_text(out, part_text(self.difference))
+    }
+}
+
+/// Which place of what is shown differs, or null.
+#[derive(Drop)]
+struct ShownPlace {
+    difference: Difference,
+}
+
+impl Written for ShownPlace {
+    ghost json = { λ it. spec.shown_json it.difference };
+
+    fn write(&self, out: &mut Vec<u8>) -> Result<(), AllocError> {
+        put_text(out, shown_text(self.difference))
+    }
+}
+
 /// What is wrong with an entry.
 #[derive(Drop)]
 pub struct WrongEntry<'a> {
@@ -171,15 +212,13 @@ impl<'a> Written for WrongEntry<'a> {
 
     fn write(&self, out: &mut Vec<u8>) -> Result<(), AllocError> {
         let wrong = self.wrong;
-        put_text(out, "{\"differs\":")?;
-        put_text(out, difference_text(wrong.difference))?;
+        let difference = wrong.difference;
+        put(out, "{\"differs\":", &Differs { difference })?;
         put(out, ",\"made\":", &wrong.made)?;
-        put_text(out, ",\"part\":")?;
-        put_text(out, part_text(wrong.difference))?;
-        put(out, ",\"question\":", &question_of(wrong.difference))?;
+        put(out, ",\"part\":", &Part { difference })?;
+        put(out, ",\"question\":", &question_of(difference))?;
         put(out, ",\"refused\":", &refusal_in(wrong.made.reply))?;
-        put_text(out, ",\"shown\":")?;
-        put_text(out, shown_text(wrong.difference))?;
+        put(out, ",\"shown\":", &ShownPlace { difference })?;
         put(out, ",\"wrong_at\":", &wrong.at)?;
         put_text(out, "}")
     }
@@ -208,7 +247,7 @@ pub fn next_line(
     wrong: Option<&Wrong>,
 ) -> Result<Vec<u8>, AllocError>
     ensures { IfOk result (λ line. line.items
-        ≡ line_text (spec.next_json before (option_copied wrong))) }
+        ≡ line_text (spec.next_json before (option_copied wrong.entry))) }
 {
     match (before, wrong) {
         (Some(at), _) => line_of(alloc, &Since { at }),
