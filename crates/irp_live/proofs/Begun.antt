@@ -1,5 +1,5 @@
 -- What a first line begins.
-use Rattle.std.proofs.Common.{◌≡◌, List, ℕ, [], Some, sym, ap, subst, ◌∙◌}
+use Rattle.std.proofs.Common.{◌≡◌, List, ℕ, Some, sym, ap, subst, ◌∙◌}
 use Rattle.std.proofs.lemmas.Option.{same_Some}
 use Rattle.serde_json.specs.Data.{Data}
 use Rattle.irp_transcript.specs.Headers.{IsHeader}

@@ -48,7 +48,7 @@ talked_more first next a b c old mid new talked exchanged =
           (Consumes-trans old.left mid.left new.left _ _ talked.heard exchanged.heard);
       said = (
         subst (Appends old.output.gone new.output.gone) (text_more said_text others last)
-        (Appends-trans old.output.gone mid.output.gone new.output.gone _ _ talked.said.0 exchanged.said.0),
+            (Appends-trans old.output.gone mid.output.gone new.output.gone _ _ talked.said.0 exchanged.said.0),
         exchanged.said.1 ∙ talked.said.1,
       );
     }

@@ -1,8 +1,8 @@
 -- What one turn comes to.
 use Rattle.std.proofs.Common.{◌≡◌, ℕ, List, [], ◌∷◌, ◌++◌, true, false, Some, None, refl, subst, inl, inr}
-use Rattle.irp_live.specs.Sessions.{IsReplyLine, SessionValue, Stands}
+use Rattle.irp_live.specs.Sessions.{IsReplyLine, SessionValue}
 use Rattle.irp_live.specs.Streams.{Breaks, Bytes, IsRead, Puts, Streams, TakesSome}
-use Rattle.irp_live.specs.Talking.{Ended, Exchange, Exchanged, Interrupted, IsStopped}
+use Rattle.irp_live.specs.Talking.{Ended, Exchanged, IsStopped}
 
 -- a line that was read was taken
 pub takes_line : (old new : Bytes) (line : List ℕ) → IsRead old new line true → TakesSome old new

@@ -93,7 +93,13 @@ impl<'a> Session<'a> {
             Ok(()) => next_line(alloc, before, self.judge.wrong()),
             Err(Unread::Form) => {
                 let fault = LineFault::NoForm;
-                line_of(alloc, &Faulty { fault, line: number })
+                line_of(
+                    alloc,
+                    &Faulty {
+                        fault,
+                        line: number,
+                    },
+                )
             }
             Err(Unread::NoMemory) => Err(AllocError),
         }
@@ -154,7 +160,13 @@ impl<'a> Session<'a> {
         match value_of(alloc, line) {
             Ok(value) => self.answer(alloc, number, &value),
             Err(Unheard::Fault(fault)) => {
-                let said = line_of(alloc, &Faulty { fault, line: number })?;
+                let said = line_of(
+                    alloc,
+                    &Faulty {
+                        fault,
+                        line: number,
+                    },
+                )?;
                 Ok(Some(said))
             }
             Err(Unheard::NoMemory) => Err(AllocError),

@@ -1,5 +1,5 @@
 -- At most one entry is added, and that one was fed.
-use Rattle.std.proofs.Common.{rules, ◌≡◌, ◌≤◌, ◌<◌, length, ap, subst, sym, ◌∙◌, arith}
+use Rattle.std.proofs.Common.{rules, ◌≡◌, ◌≤◌, ◌<◌, length, subst}
 use Rattle.std.specs.Prelude.{slice_index_or}
 use Rattle.serde_json.specs.View.{view}
 use Rattle.irp_judge.specs.Judges.{seen}
