@@ -5,3 +5,4 @@ pub mod Causes
 pub mod Checked
 pub mod Judging
 pub mod Judges
+pub mod Looks

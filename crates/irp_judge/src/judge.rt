@@ -13,15 +13,17 @@ ghost use Rattle.irp_transcript.specs.Headers.{IsHeader, fixed_of};
 ghost use Rattle.irp_judge.specs.Causes.{cause_of};
 ghost use Rattle.irp_judge.specs.Checked.{IsVerdict};
 ghost use Rattle.irp_judge.specs.Judging.{HasJudged};
+ghost use Rattle.irp_judge.specs.Looks.{looked};
 
 use crate::cause::Cause;
 use crate::causes::{cause_in, cause_of};
+use crate::looks::shown_by;
 use crate::replaying::made_of;
 use crate::verdict::{Verdict, Wrong};
 use irp_difference::first_difference;
 use irp_manager::{ManagerState, MapKeep};
 use irp_transcript::Header;
-use irp_types::{Call, Entry, Refusal, history_goes_on, history_settles_states};
+use irp_types::{Call, Entry, IrpRef, Refusal, Reply, history_goes_on, history_settles_states};
 use std::alloc::{AllocError, Global};
 
 /// Judges a history that is fed to it, entry by entry. It keeps the state that the sequential manager is in, and what
@@ -154,6 +156,20 @@ impl<'a> Judge<'a> {
         let drivers = self.header.drivers.as_slice().len() as u32;
         self.core
             .first_refusal(self.header.completions, drivers, call, drained)
+    }
+
+    /// What a Look of this packet would be replied with now: what it shows, or the refusal. Behind an entry that isn't
+    /// legal the state is as `would` says.
+    pub fn look(&self, irp: IrpRef) -> Reply
+        ensures { result ≡ looked (seen self.now).state irp }
+    {
+        let Some(live) = self.core.live(irp.slot) else {
+            return Reply::Refused(Refusal::NoIrp);
+        };
+        match self.would(Call::Look { irp }, false) {
+            Some(refusal) => Reply::Refused(refusal),
+            None => Reply::Seen(shown_by(&live.packet)),
+        }
     }
 
     /// What of the present state a refusal of this call comes from.

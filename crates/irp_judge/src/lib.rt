@@ -7,6 +7,7 @@ mod cause;
 mod causes;
 mod checker;
 mod judge;
+mod looks;
 mod recorded_answers;
 mod replaying;
 mod verdict;

@@ -11,7 +11,7 @@ mod reading;
 mod replies;
 mod word_lines;
 
-pub use calls::EntryCall;
+pub use calls::{EntryCall, entry_call_at};
 pub use read::{TakeLine, read_lines};
 pub use read_fault::ReadFault;
 pub use reading::{MOST_BYTES, Reading};

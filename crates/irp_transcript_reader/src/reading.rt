@@ -1,6 +1,6 @@
 //! What is read of a transcript so far. Source: this project's own format (docs/FORMATS.md).
 
-ghost use Rattle.std.specs.Prelude.{◌≡◌};
+ghost use Rattle.std.specs.Prelude.{◌≡◌, OnErr};
 ghost use Rattle.serde_json.specs.View.{view};
 ghost use Rattle.irp_transcript.specs.Transcripts.{no_lines};
 ghost use Rattle.irp_transcript_reader.specs.Reading as spec;
@@ -46,8 +46,9 @@ impl Reading {
     /// Takes an entry where it may stand: one of these seats, which the form has.
     #[tactic(auto, unfolding(crate::specs::Reading::with_entry))]
     fn take_entry(&mut self, form: Form, seats: u32, entry: Entry) -> Result<(), Unread>
-        ensures { GivesLine result
+        ensures gives { GivesLine result
             (spec.with_entry form seats (so_far self.old) entry) (so_far self.new) }
+        ensures err { OnErr result (so_far self.new ≡ so_far self.old) }
     {
         if !self.words.is_empty() || self.entries.len() >= MOST_ENTRIES {
             return Err(Unread::Form);
@@ -62,8 +63,9 @@ impl Reading {
     /// has.
     #[tactic(auto, unfolding(crate::specs::Reading::with_word))]
     fn take_word(&mut self, form: Form, seats: u32, value: &Value) -> Result<(), Unread>
-        ensures { GivesLine result (spec.with_word form seats (so_far self.old) (view value.now))
+        ensures gives { GivesLine result (spec.with_word form seats (so_far self.old) (view value.now))
             (so_far self.new) }
+        ensures err { OnErr result (so_far self.new ≡ so_far self.old) }
     {
         let line = form_of(word_line_at(value))?;
         let hands_beyond = matches!(line.act, Act::Hand(hand) if hand.to >= seats);
@@ -73,10 +75,16 @@ impl Reading {
         self.words.push(line).map_err(|_| Unread::NoMemory)
     }
 
-    /// Takes the value of a header that the formats accept first, and then those of entries and word lines.
+    /// Takes the next line by its JSON value: that of a header that the formats accept first, and then those of entries
+    /// and word lines. How long the line is isn't asked.
+    ///
+    /// # Errors
+    ///
+    /// `Unread::Form` where the value is refused; `Unread::NoMemory` where memory ran out. Nothing changes then.
     #[tactic(auto, unfolding(crate::specs::Reading::with_line))]
-    fn take_value(&mut self, alloc: Global, value: &Value) -> Result<(), Unread>
-        ensures { spec.TakesValue result (so_far self.old) (view value.now) (so_far self.new) }
+    pub fn take_value(&mut self, alloc: Global, value: &Value) -> Result<(), Unread>
+        ensures takes { spec.TakesValue result (so_far self.old) (view value.now) (so_far self.new) }
+        ensures err { OnErr result (so_far self.new ≡ so_far self.old) }
     {
         match &self.header {
             None => {

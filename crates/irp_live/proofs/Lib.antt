@@ -1,0 +1,8 @@
+mod Begun
+mod Grown
+mod Newlines
+mod Pieces
+mod Replies
+mod Served
+mod Talks
+mod Turns

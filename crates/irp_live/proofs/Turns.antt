@@ -1,0 +1,53 @@
+-- What one turn comes to.
+use Rattle.std.proofs.Common.{◌≡◌, ℕ, List, [], ◌∷◌, ◌++◌, true, false, Some, None, refl, subst, inl, inr}
+use Rattle.irp_live.specs.Sessions.{IsReplyLine, SessionValue}
+use Rattle.irp_live.specs.Streams.{Breaks, Bytes, IsRead, Puts, Streams, TakesSome}
+use Rattle.irp_live.specs.Talking.{Ended, Exchanged, IsStopped}
+
+-- a line that was read was taken
+pub takes_line : (old new : Bytes) (line : List ℕ) → IsRead old new line true → TakesSome old new
+takes_line old new line read = (line ++ 10 ∷ [], read.2)
+
+-- so was the rest
+pub takes_rest : (old new : Bytes) (line : List ℕ) → IsRead old new line false → TakesSome old new
+takes_rest old new line read = (read.0, read.3)
+
+-- some of the input was taken, and nothing went out
+pub stopped : (number : ℕ) (before : SessionValue) (old new : Streams) → TakesSome old.left new.left → new.output ≡ old.output
+    → IsStopped number before old new
+stopped number before old new takes quiet = (takes, inl quiet)
+
+-- there is no line any more
+pub ended_rest : (before : SessionValue) (old new : Streams) (line : List ℕ) → IsRead old.left new.left line false → new.output ≡ old.output
+    → Ended before old before new
+ended_rest before old new line read quiet = record { same = refl; line = line; more = false; read = read; last = tt; quiet = quiet }
+
+-- the line asks for the verdict
+pub ended_line : (number : ℕ) (before after : SessionValue) (old new : Streams) (line : List ℕ) → IsRead old.left new.left line true
+    → IsReplyLine number before line None after → new.output ≡ old.output → Ended before old after new
+ended_line number before after old new line read reply quiet =
+    record { same = reply.1; line = line; more = true; read = read; last = reply.0; quiet = quiet }
+
+-- the line was answered
+pub exchanged : (number : ℕ) (before after : SessionValue) (old new : Streams) (line said : List ℕ) → IsRead old.left new.left line true
+    → IsReplyLine number before line (Some said) after → Puts said old.output new.output → Exchanged number before old after new
+exchanged number before after old new line said read reply put = record {
+  exchange = record { line = line; answer = reply.0 };
+  is = (read.0, reply.3);
+  heard = read.2;
+  said = subst (λ (text : List ℕ). Puts text old.output new.output) reply.1 put;
+  stands = reply.2;
+}
+
+-- the answer to the line broke off
+pub interrupted : (number : ℕ) (before after : SessionValue) (old new : Streams) (line said : List ℕ) → IsRead old.left new.left line true
+    → IsReplyLine number before line (Some said) after → Breaks said old.output new.output → IsStopped number before old new
+interrupted number before after old new line said read reply broke = (
+  takes_line old.left new.left line read,
+  inr (record {
+    exchange = record { line = line; answer = reply.0 };
+    after = after;
+    is = (read.0, reply.3);
+    breaks = subst (λ (text : List ℕ). Breaks text old.output new.output) reply.1 broke;
+  }),
+)

@@ -1,0 +1,62 @@
+-- The streams of the program: its input and its output, before and after some work.
+use Rattle.std.specs.Prelude.{ℕ, ◌≡◌, ◌<◌, ◌++◌, ◌∷◌, ◌⊎◌, [], List, Bool, true, false, length, IfSome, Option}
+use Rattle.std.specs.Io.{StopsAt}
+use Rattle.std.specs.Io.BufRead.{take_through}
+use Rattle.std.specs.Io.KnownBytes.{Appends, Consumes}
+use Rattle.irp_transcript_writer.specs.Out.{risen}
+
+-- what is left of an input, or what went out, where that is known
+abbrev pub Bytes : Type 0
+Bytes = Option (List ℕ)
+
+-- what went out, and how often the output failed
+pub record Output : Type 0 where
+  pub gone : Bytes
+  pub failures : ℕ
+
+abbrev pub output_of : Bytes → ℕ → Output
+output_of gone failures = record { gone = gone; failures = failures }
+
+-- what is left of the input, and the output
+pub record Streams : Type 0 where
+  pub left : Bytes
+  pub output : Output
+
+abbrev pub streams_of : Bytes → Bytes → ℕ → Streams
+streams_of left gone failures = record { left = left; output = output_of gone failures }
+
+-- what was taken of an input is all up to its first newline, or to its end
+abbrev pub IsUpToNewline : Bytes → List ℕ → Type 0
+IsUpToNewline old taken = IfSome old (λ left. taken ≡ take_through 10 left)
+
+-- no newline ends it
+abbrev pub IsEndless : List ℕ → Type 0
+IsEndless rest = (front : List ℕ) → rest ≡ front ++ 10 ∷ [] → ⊥
+
+-- this line was taken with its newline, which is its only one; or there is no newline any more, and what was left was
+-- taken
+abbrev pub IsRead : Bytes → Bytes → List ℕ → Bool → Type 0
+IsRead old new line true =
+    StopsAt (line ++ 10 ∷ []) 10 × IsUpToNewline old (line ++ 10 ∷ []) × Consumes old new (line ++ 10 ∷ [])
+IsRead old new line false = (rest : List ℕ) × IsEndless rest × IsUpToNewline old rest × Consumes old new rest
+
+-- some of the input was taken
+abbrev pub TakesSome : Bytes → Bytes → Type 0
+TakesSome old new = (taken : List ℕ) × Consumes old new taken
+
+-- all of the text went out, and nothing failed
+abbrev pub Puts : List ℕ → Output → Output → Type 0
+Puts text old new = Appends old.gone new.gone text × (new.failures ≡ old.failures)
+
+-- a beginning of the text went out, which isn't the whole, and the output failed
+pub record Breaks (text : List ℕ) (old new : Output) : Type 0 where
+  pub front : List ℕ
+  pub rest : List ℕ
+  pub whole : text ≡ front ++ rest
+  pub short : 0 < length rest
+  pub gone : Appends old.gone new.gone front
+  pub failed : new.failures ≡ risen old.failures
+
+-- nothing of the text went out, or it broke off
+abbrev pub IsCut : List ℕ → Output → Output → Type 0
+IsCut text old new = (new ≡ old) ⊎ Breaks text old new

@@ -1,0 +1,49 @@
+//! The program: a manager that answers, line by line, what a call would be refused with, what a packet shows, and what is
+//! wrong with an entry.
+#![tactic(auto)]
+
+mod asking;
+mod ending;
+mod lines;
+mod order;
+mod session;
+mod talking;
+mod told;
+
+ghost use Rattle.irp_live.specs.Program.{Obeys};
+ghost use Rattle.irp_live.specs.Streams.{streams_of};
+
+use crate::ending::{Ending, ending_of};
+use crate::order::{HELP, Order, words_ask};
+use irp_transcript_writer::{Out, WriterOut};
+use std::alloc::Global;
+use std::io::{self, BufRead, Write};
+use std::process::ExitCode;
+
+/// Does what is asked for.
+fn run<R: BufRead, O: Out>(alloc: Global, input: &mut R, output: &mut O, order: Order) -> Ending
+    ensures { Obeys order
+        (streams_of (R.remaining input.old) (O.gone output.old) (O.failures output.old))
+        (streams_of (R.remaining input.new) (O.gone output.new) (O.failures output.new)) result }
+{
+    match order {
+        Order::Live => ending_of(talking::live(alloc, input, output)),
+        Order::Help => match lines::put(output, HELP.as_bytes()) {
+            Ok(()) => Ending::Done,
+            Err(_) => Ending::Failed,
+        },
+        Order::Other => Ending::OtherWords,
+        Order::NoMemory => Ending::NoMemory,
+    }
+}
+
+fn main(rt: HostRuntime) -> ExitCode {
+    let mut output = WriterOut::new(io::writer(&rt));
+    let mut input = rt.stdin().lock();
+    let mut ending = run(rt.alloc(), &mut input, &mut output, words_ask(&rt));
+    let complaint = ending.complaint();
+    if !complaint.is_empty() && writeln!(rt.stderr(), "{complaint}").is_err() {
+        ending = Ending::Failed;
+    }
+    ExitCode::from(ending.status())
+}
