@@ -143,7 +143,7 @@ entry 4096 (line 4098): IoAllocateIrp(1 location)
 END
 
 # Wrong words; they are judged before the input is read. Then a file that isn't there, and a folder.
-echo 'irp_view: usage: irp_view why, text or packet SLOT USE, then [FILE]; see irp_view --help' >"$room/usage"
+echo 'irp_view: usage: irp_view why, text, page or packet SLOT USE, then [FILE]; see irp_view --help' >"$room/usage"
 while read -r words; do
     # shellcheck disable=SC2086
     run $words <.

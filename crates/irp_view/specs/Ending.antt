@@ -82,6 +82,6 @@ complaint_of (Refused line expected) =
 complaint_of Wrong = Some (codes "")
 complaint_of NoMemory = Some (codes "irp_view: out of memory")
 complaint_of OtherWords =
-    Some (codes "irp_view: usage: irp_view why, text or packet SLOT USE, then [FILE]; see irp_view --help")
+    Some (codes "irp_view: usage: irp_view why, text, page or packet SLOT USE, then [FILE]; see irp_view --help")
 complaint_of NoFile = Some (codes "irp_view: the file can't be opened")
 complaint_of Failed = Some (codes "irp_view: input or output failed")

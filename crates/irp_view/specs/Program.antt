@@ -5,6 +5,7 @@ use Rattle.irp_judge.specs.declared.verdict.Verdict.{Verdict}
 use Rattle.irp_listing.specs.Bytes.{Bytes}
 use Rattle.irp_listing.specs.Writing.{BreaksOff, IsQuiet, Written}
 use Rattle.irp_listing.specs.declared.writing.Unwritten.{Unwritten}
+use Rattle.irp_page.specs.Drawing.{Draws, DrawsPart}
 use Rattle.irp_view.specs.Ending.{ending_of, of_unread, of_verdict}
 use Rattle.irp_view.specs.Reading.{Holds, HoldsNone}
 use Rattle.irp_view.specs.Showing.{Shows, ShowsPart}
@@ -14,7 +15,7 @@ use Rattle.irp_view.specs.declared.ending.Ending.TheVariants.{Done}
 use Rattle.irp_view.specs.declared.orders.Order.{Order}
 use Rattle.irp_view.specs.declared.orders.Order.TheVariants.{Help, Read}
 use Rattle.irp_view.specs.declared.orders.Task.{Task}
-use Rattle.irp_view.specs.declared.orders.Task.TheVariants.{Why, List as Listing}
+use Rattle.irp_view.specs.declared.orders.Task.TheVariants.{Why, List as Listing, Draw}
 use Rattle.irp_view.specs.declared.reading.Unread.{Unread}
 
 -- what went out, and how often the output failed
@@ -50,6 +51,10 @@ Answers (Listing only span) transcript before after ending =
     (result : Result (Unit {0}) Unwritten) × (ending ≡ ending_of (λ done. Done) result)
     × MatchResult result (λ done. Shows only span transcript before.gone after.gone before.failures after.failures)
     (ShowsPart only span transcript before.gone after.gone before.failures after.failures)
+Answers (Draw choice) transcript before after ending =
+    (result : Result (Unit {0}) Unwritten) × (ending ≡ ending_of (λ done. Done) result)
+    × MatchResult result (λ done. Draws choice transcript before.gone after.gone before.failures after.failures)
+    (DrawsPart choice transcript before.gone after.gone before.failures after.failures)
 
 -- the input holds a transcript, of which this is told
 abbrev pub AnswersRead : Task → Streams → Streams → Ending → Type 0

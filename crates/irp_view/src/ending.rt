@@ -76,7 +76,7 @@ impl fmt::Display for Ending {
             }
             Ending::NoMemory => f.write_str("irp_view: out of memory"),
             Ending::OtherWords => f.write_str(
-                "irp_view: usage: irp_view why, text or packet SLOT USE, then [FILE]; see irp_view --help",
+                "irp_view: usage: irp_view why, text, page or packet SLOT USE, then [FILE]; see irp_view --help",
             ),
             Ending::NoFile => f.write_str("irp_view: the file can't be opened"),
             Ending::Failed => f.write_str("irp_view: input or output failed"),

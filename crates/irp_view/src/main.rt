@@ -1,4 +1,5 @@
-//! The program that shows transcripts: what is wrong with one, its history as text, and the entries of one packet.
+//! The program that shows transcripts: what is wrong with one, its history as text or as a page, and the entries of one
+//! packet.
 #![tactic(auto)]
 
 mod answers;
@@ -23,6 +24,7 @@ ghost use Rattle.irp_view.specs.Program.{Answers, Obeys, streams_of, output_of};
 
 use crate::ending::Ending;
 use crate::orders::{Asked, Order, Task, Unasked};
+use irp_page::draw;
 use irp_transcript::Transcript;
 use irp_transcript_writer::{Out, WriterOut};
 use std::alloc::Global;
@@ -31,8 +33,14 @@ use std::fs::File;
 use std::io::{self, Read, Write};
 use std::process::ExitCode;
 
-/// Tells of a transcript what is asked.
-fn tell<O: Out>(alloc: Global, output: &mut O, transcript: &Transcript, task: Task) -> Ending
+/// Tells of a transcript with this title what is asked.
+fn tell<O: Out>(
+    alloc: Global,
+    output: &mut O,
+    transcript: &Transcript,
+    task: Task,
+    title: &str,
+) -> Ending
     ensures { Answers task transcript.now (output_of (O.gone output.old) (O.failures output.old))
         (output_of (O.gone output.new) (O.failures output.new)) result }
 {
@@ -45,11 +53,21 @@ fn tell<O: Out>(alloc: Global, output: &mut O, transcript: &Transcript, task: Ta
             Ok(()) => Ending::Done,
             Err(fault) => Ending::from(fault),
         },
+        Task::Draw(choice) => match draw(alloc, output, transcript, title, choice) {
+            Ok(()) => Ending::Done,
+            Err(fault) => Ending::from(fault),
+        },
     }
 }
 
-/// Does what is asked for: reads a transcript from the input, and writes to the output.
-fn run<R: Read, O: Out>(alloc: Global, input: &mut R, output: &mut O, order: Order) -> Ending
+/// Does what is asked for: reads a transcript, which has this title, from the input, and writes to the output.
+fn run<R: Read, O: Out>(
+    alloc: Global,
+    input: &mut R,
+    output: &mut O,
+    order: Order,
+    title: &str,
+) -> Ending
     ensures { Obeys order
         (streams_of (R.remaining input.old) (output_of (O.gone output.old) (O.failures output.old)))
         (streams_of (R.remaining input.new) (output_of (O.gone output.new) (O.failures output.new))) result }
@@ -59,7 +77,7 @@ fn run<R: Read, O: Out>(alloc: Global, input: &mut R, output: &mut O, order: Ord
         Order::Read(task) => task,
     };
     match reading::transcript_of(alloc, input) {
-        Ok(transcript) => tell(alloc, output, &transcript, task),
+        Ok(transcript) => tell(alloc, output, &transcript, task, title),
         Err(unread) => Ending::from(unread),
     }
 }
@@ -68,10 +86,10 @@ fn run<R: Read, O: Out>(alloc: Global, input: &mut R, output: &mut O, order: Ord
 fn run_on<O: Out>(rt: &HostRuntime, output: &mut O, asked: Asked<'_>) -> Ending {
     let Some(name) = asked.file else {
         let mut input = rt.stdin();
-        return run(rt.alloc(), &mut input, output, asked.order);
+        return run(rt.alloc(), &mut input, output, asked.order, "a history");
     };
     match File::open(rt, name) {
-        Ok(mut file) => run(rt.alloc(), &mut file, output, asked.order),
+        Ok(mut file) => run(rt.alloc(), &mut file, output, asked.order, name),
         Err(_) => Ending::NoFile,
     }
 }

@@ -1,5 +1,6 @@
 //! What the words ask for, and why they may not be taken.
 
+use irp_page::Choice;
 use irp_types::IrpRef;
 use std::alloc::AllocError;
 
@@ -20,6 +21,8 @@ pub enum Task {
         only: Option<IrpRef>,
         span: Option<Span>,
     },
+    /// A page with pictures, of these entries.
+    Draw(Choice),
 }
 
 /// What the program is asked to do.

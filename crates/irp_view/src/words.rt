@@ -3,6 +3,7 @@
 use crate::orders::{Asked, Order, Span, Task, Unasked};
 use clap::error::ErrorKind;
 use clap::{Arg, ArgAction, ArgMatches, Command, Error, value_parser};
+use irp_page::Choice;
 use irp_types::IrpRef;
 use std::alloc::{AllocError, Global};
 use std::convert::AsStr;
@@ -35,6 +36,15 @@ fn packet<'a>(alloc: Global) -> Result<Command<'a>, AllocError> {
         .arg(entries(alloc))
 }
 
+/// The subcommand `page`.
+fn page<'a>(alloc: Global) -> Result<Command<'a>, AllocError> {
+    let packet = Arg::new(alloc, "packet").long("packet").num_args(2);
+    Command::new(alloc, "page")
+        .arg(file(alloc))?
+        .arg(entries(alloc))?
+        .arg(packet.value_parser(value_parser!(u64)))
+}
+
 /// The command line that the program takes.
 fn command<'a>(alloc: Global) -> Result<Command<'a>, AllocError> {
     let why = Command::new(alloc, "why").arg(file(alloc))?;
@@ -43,7 +53,8 @@ fn command<'a>(alloc: Global) -> Result<Command<'a>, AllocError> {
     let command = Command::new(alloc, "irp_view").subcommand_required(true);
     let command = command.subcommand(why)?;
     let command = command.subcommand(text)?;
-    command.subcommand(packet(alloc)?)
+    let command = command.subcommand(packet(alloc)?)?;
+    command.subcommand(page(alloc)?)
 }
 
 /// A place in the history, or this one where the text is empty.
@@ -57,12 +68,17 @@ fn place(text: &str, missing: usize) -> Option<usize> {
     }
 }
 
-/// The span that a text names: `A..B`, `A..` or `..B`.
+/// The span that a text names: `A..B`, where B isn't below A, `A..` or `..B`.
 fn span_in(text: &str) -> Option<Span> {
     let (from, to) = text.split_once("..")?;
-    let from = place(from, 0)?;
-    let to = place(to, usize::MAX)?;
-    Some(Span { from, to })
+    let span = Span {
+        from: place(from, 0)?,
+        to: place(to, usize::MAX)?,
+    };
+    if span.from > span.to {
+        return None;
+    }
+    Some(span)
 }
 
 /// The span that the matches name, if they name one.
@@ -90,6 +106,36 @@ fn use_of(matches: &ArgMatches<'_>) -> Result<IrpRef, Unasked> {
     }
 }
 
+/// The use of a packet that the matches of `page` name, if they name one.
+fn packet_of(matches: &ArgMatches<'_>) -> Result<Option<IrpRef>, Unasked> {
+    let Some(mut numbers) = matches.get_many::<u64>("packet") else {
+        return Ok(None);
+    };
+    match (numbers.next(), numbers.next()) {
+        (Some(slot), Some(use_no)) => Ok(Some(IrpRef {
+            slot: slot as usize,
+            use_no,
+        })),
+        _ => Err(Unasked::Usage),
+    }
+}
+
+/// Which entries a page is to show.
+fn choice_of(matches: &ArgMatches<'_>) -> Result<Choice, Unasked> {
+    let only = packet_of(matches)?;
+    let Some(span) = span_of(matches)? else {
+        return Ok(Choice {
+            only,
+            ..Choice::ALL
+        });
+    };
+    Ok(Choice {
+        from: span.from as u64,
+        to: span.to as u64,
+        only,
+    })
+}
+
 /// What clap's matches of a subcommand ask for.
 fn task_of(name: &str, matches: &ArgMatches<'_>) -> Result<Task, Unasked> {
     match name {
@@ -102,6 +148,7 @@ fn task_of(name: &str, matches: &ArgMatches<'_>) -> Result<Task, Unasked> {
             only: Some(use_of(matches)?),
             span: span_of(matches)?,
         }),
+        "page" => Ok(Task::Draw(choice_of(matches)?)),
         _ => Err(Unasked::Usage),
     }
 }
