@@ -20,6 +20,7 @@ mod words;
 
 ghost use Rattle.std.specs.Prelude.{◌≡◌};
 ghost use Rattle.irp_view.specs.Program.{Answers, Obeys, streams_of, output_of};
+ghost use Rattle.irp_view.specs.Reading.{TakesAtMost, most_taken};
 
 use crate::ending::Ending;
 use crate::orders::{Asked, Order, Task, Unasked};
@@ -49,8 +50,10 @@ fn tell<O: Out>(alloc: Global, output: &mut O, transcript: &Transcript, task: Ta
 }
 
 /// Does what is asked for: reads a transcript from the input, and writes to the output.
+#[tactic(auto, using(crate::proofs::Pieces::takes_none))]
 fn run<R: Read, O: Out>(alloc: Global, input: &mut R, output: &mut O, order: Order) -> Ending
-    ensures { Obeys order
+    ensures took { TakesAtMost most_taken (R.remaining input.old) (R.remaining input.new) }
+    ensures obeys { Obeys order
         (streams_of (R.remaining input.old) (output_of (O.gone output.old) (O.failures output.old)))
         (streams_of (R.remaining input.new) (output_of (O.gone output.new) (O.failures output.new))) result }
 {

@@ -57,12 +57,16 @@ fn place(text: &str, missing: usize) -> Option<usize> {
     }
 }
 
-/// The span that a text names: `A..B`, `A..` or `..B`.
+/// The span that a text names: `A..B`, where A isn't above B, `A..` or `..B`.
 fn span_in(text: &str) -> Option<Span> {
     let (from, to) = text.split_once("..")?;
     let from = place(from, 0)?;
     let to = place(to, usize::MAX)?;
-    Some(Span { from, to })
+    if from <= to {
+        Some(Span { from, to })
+    } else {
+        None
+    }
 }
 
 /// The span that the matches name, if they name one.
