@@ -59,3 +59,6 @@ pub takes_piece : (t buffer : List ℕ) (n limit : ℕ) (old mid new : Option (L
 takes_piece t buffer n limit old mid new within few first second =
     let whole : length (take n buffer) ≡ n = length-take-le n buffer within in
     takes_both t (take n buffer) limit old mid new (omega (arith, few, whole)) first second
+
+pub takes_none : (limit : ℕ) (old : Option (List ℕ)) → TakesAtMost limit old old
+takes_none limit old = takes [] limit old old (omega arith) (reads_none old)

@@ -10,7 +10,7 @@ plain_text expected.Newline = codes ": the last line has no newline"
 plain_text expected.Shorter = codes ": a line has at most 65536 bytes"
 plain_text (expected.Json column) = codes ""
 plain_text expected.Header =
-    codes ": a header was expected, with the keys cancels, completions, dispatches, drivers, form, locks and seats"
+    codes ": a header was expected, with the keys cancels, completions, dispatches, drivers, form, locks, seats, in form 2 slots"
 plain_text expected.Entry = codes ": an entry was expected, with the keys asked, call, n, reply and seat, each in its form"
 plain_text expected.NoEntry = codes ": an entry stands behind a word line"
 plain_text expected.WordLine =

@@ -21,6 +21,7 @@ mod words;
 
 ghost use Rattle.std.specs.Prelude.{◌≡◌};
 ghost use Rattle.irp_view.specs.Program.{Answers, Obeys, streams_of, output_of};
+ghost use Rattle.irp_view.specs.Reading.{TakesAtMost, most_taken};
 
 use crate::ending::Ending;
 use crate::orders::{Asked, Order, Task, Unasked};
@@ -61,6 +62,7 @@ fn tell<O: Out>(
 }
 
 /// Does what is asked for: reads a transcript, which has this title, from the input, and writes to the output.
+#[tactic(auto, using(crate::proofs::Pieces::takes_none))]
 fn run<R: Read, O: Out>(
     alloc: Global,
     input: &mut R,
@@ -68,7 +70,8 @@ fn run<R: Read, O: Out>(
     order: Order,
     title: &str,
 ) -> Ending
-    ensures { Obeys order
+    ensures took { TakesAtMost most_taken (R.remaining input.old) (R.remaining input.new) }
+    ensures obeys { Obeys order
         (streams_of (R.remaining input.old) (output_of (O.gone output.old) (O.failures output.old)))
         (streams_of (R.remaining input.new) (output_of (O.gone output.new) (O.failures output.new))) result }
 {

@@ -68,7 +68,7 @@ fn plain_text(expected: Expected) -> &'static str
         Expected::Newline => ": the last line has no newline",
         Expected::Shorter => ": a line has at most 65536 bytes",
         Expected::Header => {
-            ": a header was expected, with the keys cancels, completions, dispatches, drivers, form, locks and seats"
+            ": a header was expected, with the keys cancels, completions, dispatches, drivers, form, locks, seats, in form 2 slots"
         }
         Expected::Entry => {
             ": an entry was expected, with the keys asked, call, n, reply and seat, each in its form"

@@ -68,17 +68,16 @@ fn place(text: &str, missing: usize) -> Option<usize> {
     }
 }
 
-/// The span that a text names: `A..B`, where B isn't below A, `A..` or `..B`.
+/// The span that a text names: `A..B`, where A isn't above B, `A..` or `..B`.
 fn span_in(text: &str) -> Option<Span> {
     let (from, to) = text.split_once("..")?;
-    let span = Span {
-        from: place(from, 0)?,
-        to: place(to, usize::MAX)?,
-    };
-    if span.from > span.to {
-        return None;
+    let from = place(from, 0)?;
+    let to = place(to, usize::MAX)?;
+    if from <= to {
+        Some(Span { from, to })
+    } else {
+        None
     }
-    Some(span)
 }
 
 /// The span that the matches name, if they name one.
@@ -112,7 +111,7 @@ fn packet_of(matches: &ArgMatches<'_>) -> Result<Option<IrpRef>, Unasked> {
         return Ok(None);
     };
     match (numbers.next(), numbers.next()) {
-        (Some(slot), Some(use_no)) => Ok(Some(IrpRef {
+        (Some(Ok(slot)), Some(Ok(use_no))) => Ok(Some(IrpRef {
             slot: slot as usize,
             use_no,
         })),

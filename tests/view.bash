@@ -1,0 +1,50 @@
+#!/bin/bash
+# Shows that `irp_view text` and `irp_view packet` show the entries that their words ask for: a use of a packet, a span, or
+# all, with word lines only behind all. IRP_VIEW names the program; without it, it is the one that bin/irp_view runs.
+# Each failure has a line of its own. Ends with status 0 where all was as expected, else with 1.
+set -u
+cd "$(dirname "$(readlink -f "$0")")" || exit 1
+irp_view=${IRP_VIEW:-$(../bin/program irp_view quick)} || exit 1
+tried=0
+wrong=0
+
+# Checks that the words from $2 on show exactly the entries whose numbers are $1, from a file and from standard input.
+# The transcript is the last word.
+shows() {
+    local numbers=$1 words=("${@:2:$#-2}") text=${*: -1} got
+    for got in "$("$irp_view" "${words[@]}" "$text")" "$("$irp_view" "${words[@]}" <"$text")"; do
+        tried=$((tried + 1))
+        got=$(grep -oE '^ {0,3}[0-9]+  ' <<<"$got" | xargs)
+        [ "$got" = "$numbers" ] && continue
+        wrong=$((wrong + 1))
+        echo "failed: view: ${words[*]} $text: entries $got in place of $numbers"
+    done
+}
+
+# Checks that the words from $2 on show $1 lines of steps on remove locks and cancel slots.
+shows_steps() {
+    local got
+    tried=$((tried + 1))
+    got=$("$irp_view" "${@:2}" | grep -c '^    step [0-9]*  seat ')
+    [ "$got" = "$1" ] && return
+    wrong=$((wrong + 1))
+    echo "failed: view: ${*:2}: $got steps in place of $1"
+}
+
+cancels=../examples/cancelling/each_cancel_routine_answers_its_own.transcript
+shows "$(seq -s ' ' 0 $(($(wc -l <"$cancels") - 2)))" text "$cancels"
+shows '3 4' text --entries 3..5 "$cancels"
+shows '0 1' text --entries ..2 "$cancels"
+shows '' text --entries 2..2 "$cancels"
+shows "$(seq -s ' ' 9 $(($(wc -l <"$cancels") - 2)))" text --entries 9.. "$cancels"
+shows "$(grep -nE '"irp":\[0,1\]' "$cancels" | sed 's/:.*//' | awk '{print $1 - 2}' | xargs)" packet 0 1 "$cancels"
+shows '4 5' packet 0 1 --entries 4..6 "$cancels"
+shows '' packet 99 1 "$cancels"
+
+locks=$(grep -l '"tag"' ../examples/removal/*.transcript | head -n 1)
+shows_steps "$(grep -c '"step"' "$locks")" text "$locks"
+shows_steps 0 text --entries 0.. "$locks"
+shows_steps 0 packet 0 1 "$locks"
+
+echo "tried: $tried $wrong shown"
+[ "$wrong" -eq 0 ]
