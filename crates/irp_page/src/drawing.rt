@@ -13,10 +13,10 @@ use irp_transcript_writer::Out;
 use std::alloc::{AllocError, Global};
 
 /// The page of a transcript, which it judges. The one error is want of memory.
-fn text_of(
+fn text_of<'a>(
     alloc: Global,
-    transcript: &Transcript,
-    title: &str,
+    transcript: &'a Transcript,
+    title: &'a str,
     choice: Choice,
 ) -> Result<Vec<u8>, AllocError>
     ensures { IfOk result (λ text. IsPageOf choice transcript.now.entries text.items) }
@@ -38,11 +38,11 @@ fn text_of(
 ///
 /// `Failed` where the output failed, and exactly then its count of failures rose: a beginning of the page went out, and
 /// not the whole. `NoMemory` where memory ran out, and nothing went out.
-pub fn draw<O: Out>(
+pub fn draw<'a, O: Out>(
     alloc: Global,
     output: &mut O,
-    transcript: &Transcript,
-    title: &str,
+    transcript: &'a Transcript,
+    title: &'a str,
     choice: Choice,
 ) -> Result<(), Unwritten>
     ensures ok { OnOk result (Draws choice transcript.now (O.gone output.old) (O.gone output.new)
