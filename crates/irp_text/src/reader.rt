@@ -1,6 +1,20 @@
 //! A transcript's text, read block after block. Source: this project's own format (docs/FORMATS.md).
 
-ghost use Rattle.std.specs.Prelude.{ℕ, ◌≡◌, ◌+◌, ◌<◌, ◌^◌, List, [], ◌++◌, length, OnOk};
+ghost use Rattle.std.specs.Prelude.{
+  ℕ,
+  ◌≡◌,
+  ◌+◌,
+  ◌<◌,
+  ◌≤◌,
+  ◌^◌,
+  List,
+  [],
+  ◌++◌,
+  length,
+  IfOk,
+  IfSome,
+  OnOk,
+};
 ghost use Rattle.irp_transcript.specs.Transcripts.{TranscriptValue, no_lines};
 ghost use Rattle.irp_transcript_reader.specs.Reading.{ReadsFrom, cut};
 ghost use Rattle.irp_text.specs.Fed.{Given, Gives, HasRead, HasTaken, Keeps, ended, fault_at};
@@ -86,7 +100,9 @@ impl Reader {
     /// (`irp_transcript_reader::read_lines` tells which are); `ReadFault::NoMemory` where memory ran out, behind lines
     /// that are all taken. After an error the reader is of no use.
     pub fn next(&mut self, alloc: Global, block: &[u8]) -> Result<Option<(Line, usize)>, ReadFault>
-        ensures { (text : List ℕ) (before : TranscriptValue) → HasRead self.old text before
+        ensures within { IfOk result (λ read.
+            IfSome read (λ given. (0 < given.1) × (given.1 ≤ length block.now))) }
+        ensures gives { (text : List ℕ) (before : TranscriptValue) → HasRead self.old text before
             → length text + length block.now + 1 < 2 ^ 64
             → Gives result self.new text before block.now }
     {

@@ -59,6 +59,12 @@ ends_within reader judge text block rest none within =
 joined : (text block piece rest : List ℕ) → block ≡ piece ++ rest → (text ++ piece) ++ rest ≡ text ++ block
 joined text block piece rest whole = append_assoc text piece rest ∙ ap (λ (given : List ℕ). text ++ given) (sym whole)
 
+-- the numbers of its lines are exact
+pub fits_within : (text block piece rest : List ℕ) → block ≡ piece ++ rest → length text + length block ≤ most_bytes → length (text ++ piece) + length rest + 1 < 2 ^ 64
+fits_within text block piece rest whole few =
+    let size : length block ≡ length piece + length rest = ap length whole ∙ length-append piece rest in
+    omega (arith, size, length-append text piece, few)
+
 -- the block ends before the line does
 pub kept_within : (old new : Reader) (judge : JudgeValue) (text block rest : List ℕ) (within : IsWithin old judge text block rest)
     → HasRead new ((text ++ within.piece) ++ rest) within.judged.transcript → AreJudged new judge (text ++ block)

@@ -62,8 +62,9 @@ fn judge_block(
             return Ok(());
         };
         let (line, count) = taken;
-        if judge_line(judge, line).is_err() {
-            return Err(ReadFault::NoMemory);
+        match judge_line(judge, line) {
+            Ok(()) => {}
+            Err(_) => return Err(ReadFault::NoMemory),
         }
         rest = &rest[count..];
     }
@@ -90,11 +91,14 @@ fn refuse<R: Read>(input: &mut R, buffer: &mut [u8], left: usize, fault: ReadFau
 {
     let mut left = left;
     loop {
-        match take_block(input, buffer, left) {
-            Ok(0) => return refusal(fault),
-            Ok(count) => left -= count,
+        let count = match take_block(input, buffer, left) {
+            Ok(count) => count,
             Err(failed) => return Unjudged::Input(failed),
+        };
+        if count == 0 {
+            return refusal(fault);
         }
+        left -= count;
     }
 }
 

@@ -6,8 +6,8 @@ use Rattle.irpx.specs.Judging.{AreJudged, IsSoFar, Starts, piece_of}
 use Rattle.irpx.specs.Streams.{Bytes}
 use Rattle.irpx.proofs.judging.judge_rest.Given as goal
 
-abbrev pub invariant-loop-input : goal.invariant-loop-input
-invariant-loop-input g l = record {
+abbrev pub invariant-loop-fault : goal.invariant-loop-fault
+invariant-loop-fault g l = record {
   few : l.left ≤ most_bytes;
   room : length l.buffer ≡ length l.initial.buffer;
   order : l.from ≤ l.to;
@@ -19,5 +19,5 @@ invariant-loop-input g l = record {
       × IsSoFar old (g.R.Read.remaining l.input) l.left (text ++ piece_of l.buffer l.from l.to);
 }
 
-abbrev pub decreases-loop-input : goal.decreases-loop-input
-decreases-loop-input g l = l.left
+abbrev pub decreases-loop-fault : goal.decreases-loop-fault
+decreases-loop-fault g l = l.left

@@ -6,8 +6,8 @@ use Rattle.irpx.specs.Checking.{most_bytes}
 use Rattle.irpx.specs.Judging.{IsSoFar}
 use Rattle.irpx.proofs.judging.read_header.Given as goal
 
-abbrev pub invariant-loop-input : goal.invariant-loop-input
-invariant-loop-input g l = record {
+abbrev pub invariant-loop-to : goal.invariant-loop-to
+invariant-loop-to g l = record {
   few : l.left ≤ most_bytes;
   room : length l.buffer ≡ length l.initial.buffer;
   text : List ℕ;
@@ -15,5 +15,5 @@ invariant-loop-input g l = record {
   so_far : IsSoFar (g.R.Read.remaining l.initial.input) (g.R.Read.remaining l.input) l.left text;
 }
 
-abbrev pub decreases-loop-input : goal.decreases-loop-input
-decreases-loop-input g l = l.left
+abbrev pub decreases-loop-to : goal.decreases-loop-to
+decreases-loop-to g l = l.left

@@ -5,8 +5,8 @@ use Rattle.irpx.specs.Judging.{IsSoFar}
 use Rattle.irpx.specs.Streams.{Bytes}
 use Rattle.irpx.proofs.judging.refuse.Given as goal
 
-abbrev pub invariant-loop-input : goal.invariant-loop-input
-invariant-loop-input g l = record {
+abbrev pub invariant-loop-count : goal.invariant-loop-count
+invariant-loop-count g l = record {
   few : l.left ≤ most_bytes;
   room : 0 < length l.buffer;
   so_far :
@@ -15,5 +15,5 @@ invariant-loop-input g l = record {
       → (more : List ℕ) × IsSoFar old (g.R.Read.remaining l.input) l.left (text ++ more);
 }
 
-abbrev pub decreases-loop-input : goal.decreases-loop-input
-decreases-loop-input g l = l.left
+abbrev pub decreases-loop-count : goal.decreases-loop-count
+decreases-loop-count g l = l.left

@@ -7,13 +7,13 @@ use Rattle.irp_text.proofs.Blocks.{IsBare, bare_all}
 use Rattle.irp_text.proofs.Fed.{EndsAt, block_fails, block_kept, line_fails, line_read, few}
 use Rattle.irp_text.proofs.reader.Reader.next.Goals as goal
 
-pub returns-in-Ok : goal.returns-in-Ok
-returns-in-Ok c = λ text before read short.
+pub returns-in-Ok-clause-gives : goal.returns-in-Ok-clause-gives
+returns-in-Ok-clause-gives c = λ text before read short.
     (let bare : IsBare c.args.block.now = bare_all c.args.block.now (λ before below same. c.in_default.ensures before (omega arith) below (eq-eqb _ 10 same)) in
     block_kept c.args.self.now text before read c.keep.new.self c.args.block.now bare c.in-Ok.ensures.kept.0 c.in-Ok.ensures.kept.1 c.keep.ensures.lines c.keep.ensures.count)
 
-pub returns-in-Err : goal.returns-in-Err
-returns-in-Err c = λ text before read short.
+pub returns-in-Err-clause-gives : goal.returns-in-Err-clause-gives
+returns-in-Err-clause-gives c = λ text before read short.
     (let bare : IsBare c.args.block.now = bare_all c.args.block.now (λ before below same. c.in_default.ensures before (omega arith) below (eq-eqb _ 10 same)) in
     let low : c.keep.new.self.count + 1 < 2 ^ 64 = omega (arith, (few c.args.self.now text before read).0, c.keep.ensures.count, short) in
     let told : c.fault.result ≡ fault_at (c.args.self.now.count + 1) c.in-Err.unread =
@@ -21,8 +21,8 @@ returns-in-Err c = λ text before read short.
     subst (λ (fault : ReadFault). Gives (Err fault) c.keep.new.self text before c.args.block.now) (sym told)
     (block_fails c.args.self.now text before read c.in-Err.unread c.keep.new.self c.args.block.now c.keep.new.self.kept.items bare c.in-Err.ensures.kept))
 
-pub returns-in-Ok-end_line : goal.returns-in-Ok-end_line
-returns-in-Ok-end_line c = λ text before read short.
+pub returns-in-Ok-end_line-clause-gives : goal.returns-in-Ok-end_line-clause-gives
+returns-in-Ok-end_line-clause-gives c = λ text before read short.
     (let first = c.in-Some.ensures in
     let ends : EndsAt c.args.block.now c.in-Some.place =
     record { none = λ before below same. first.0.before before (omega arith) below (eq-eqb _ 10 same); within = first.0.high; newline = eqb-true _ 10 first.1 } in
@@ -35,8 +35,8 @@ returns-in-Ok-end_line c = λ text before read short.
       line_read c.args.self.now text before read _ c.args.block.now c.in-Some.place c.in-Ok-end_line.line ends given c.in-Ok-end_line.ensures.kept counted,
     ))
 
-pub returns-in-Err-end_line : goal.returns-in-Err-end_line
-returns-in-Err-end_line c = λ text before read short.
+pub returns-in-Err-end_line-clause-gives : goal.returns-in-Err-end_line-clause-gives
+returns-in-Err-end_line-clause-gives c = λ text before read short.
     (let first = c.in-Some.ensures in
     let ends : EndsAt c.args.block.now c.in-Some.place =
     record { none = λ before below same. first.0.before before (omega arith) below (eq-eqb _ 10 same); within = first.0.high; newline = eqb-true _ 10 first.1 } in
