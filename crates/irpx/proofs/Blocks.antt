@@ -113,6 +113,23 @@ so_far_on old now next left count text block so_far took is few = record {
   count = omega (arith, length-append text block, is, few, so_far.count);
 }
 
+pub so_far_more : (old now next : Bytes) (left count : ℕ) (text more block : List ℕ) → IsSoFar old now left (text ++ more) → Consumes now next block → length block ≡ count → count ≤ left
+    → IsSoFar old next (left - count) (text ++ (more ++ block))
+so_far_more old now next left count text more block so_far took is few =
+    subst (IsSoFar old next (left - count)) (append_assoc text more block) (so_far_on old now next left count (text ++ more) block so_far took is few)
+
+-- and where it has none
+pub so_far_end : (old now next : Bytes) (left count : ℕ) (text buffer : List ℕ) → count ≡ 0 → IsSoFar old now left text → Consumes now next (take count buffer)
+    → IsSoFar old next left text
+so_far_end old now next left count text buffer none so_far took = record {
+  took = subst (Consumes old next) (append-nil text) (reads_on text [] old now next so_far.took (subst (λ (given : ℕ). Consumes now next (take given buffer)) none took));
+  count = so_far.count;
+}
+
+-- a text and a block aren't too long
+pub few_so_far : (old now : Bytes) (left : ℕ) (text block : List ℕ) → IsSoFar old now left (text ++ block) → length text + length block ≤ most_bytes
+few_so_far old now left text block so_far = omega (arith, length-append text block, so_far.count)
+
 at_end : (old now : Bytes) (text : List ℕ) → Consumes old now text → IsAtEnd now → IfSome old (λ left. text ≡ left)
 at_end None now text took end = tt
 at_end (Some left) None text took end = absurd took
@@ -173,7 +190,7 @@ hopeless_block NoMemory after text before block gives = tt
 -- what is concluded of the text of an input at its end
 ends_fault : (fault : Unjudged) (old now : Bytes) (text : List ℕ) → IsInput old now text → TakesAtMost most_taken old now → Unjudgeable text fault → Fails old now fault
 ends_fault (RefusedLine line) old now text input takes refused = ((text, input, refused), takes)
-ends_fault (Input failed) old now text input takes refused = absurd refused
+ends_fault (Input cause) old now text input takes refused = absurd refused
 ends_fault OutOfMemory old now text input takes refused = (tt, takes)
 
 pub ends : (result : Result Verdict Unjudged) (old now : Bytes) (left : ℕ) (text : List ℕ) → IsSoFar old now left text → IsAtEnd now → Concludes result text → Ends old now result
