@@ -1,12 +1,12 @@
 -- Each line of the block is read, and each entry judged.
-use Rattle.std.proofs.Common.{ℕ, ◌≡◌, ◌+◌, ◌<◌, ◌^◌, List, ◌++◌, length, take, drop, Option, Some, Ok, Err, sym, subst, ap, ◌∙◌, arith}
+use Rattle.std.proofs.Common.{ℕ, List, ◌++◌, Option, Ok, Err, sym, subst, ◌∙◌, arith}
 use Rattle.std.proofs.lemmas.List.{take_rest}
 use Rattle.std.proofs.lemmas.Result.{err_from_is_err_and}
 use Rattle.irp_judge.specs.Judges.{seen}
 use Rattle.irp_text.specs.Fed.{Gives}
 use Rattle.irp_text.specs.declared.line.Line.{Line}
 use Rattle.irp_transcript_reader.specs.declared.read_fault.ReadFault.{ReadFault}
-use Rattle.irpx.proofs.Blocks.{IsWithin, ends_within, fits_within, hopeless_within, kept_within, on_within, starts_within}
+use Rattle.irpx.proofs.Blocks.{IsWithin, fits_within, hopeless_within, kept_within, on_within}
 use Rattle.irpx.proofs.judging.judge_block.Goals as goal
 
 pub returns-in_err-taken-clause-judged : goal.returns-in_err-taken-clause-judged

@@ -1,5 +1,5 @@
 -- Block after block is judged, up to the end of the input.
-use Rattle.std.proofs.Common.{ℕ, ◌≡◌, ◌≤◌, ◌-◌, List, ◌++◌, length, take, sym, subst, ◌∙◌, arith, length-take-le}
+use Rattle.std.proofs.Common.{ℕ, ◌≡◌, ◌-◌, List, ◌++◌, take, subst, ◌∙◌, arith, length-take-le}
 use Rattle.irpx.specs.Judging.{IsSoFar, piece_of}
 use Rattle.irpx.proofs.Blocks.{ends, few_so_far, so_far_end, so_far_on, takes_more, whole_piece}
 use Rattle.irpx.proofs.judging.judge_rest.Goals as goal

@@ -1,5 +1,5 @@
 -- The rest of the input was taken, or couldn't be.
-use Rattle.std.proofs.Common.{ℕ, ◌≡◌, ◌<◌, ◌≤◌, ◌-◌, List, ◌++◌, length, take, sym, subst, arith, length-take-le}
+use Rattle.std.proofs.Common.{ℕ, ◌≡◌, ◌<◌, List, ◌++◌, take, sym, subst, arith, length-take-le}
 use Rattle.irpx.specs.Judging.{Fails, IsSoFar}
 use Rattle.irpx.specs.declared.checking.Unjudged.{Unjudged}
 use Rattle.irpx.proofs.Blocks.{refused_fails, so_far_end, so_far_more, takes_more}

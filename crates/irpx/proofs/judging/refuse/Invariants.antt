@@ -1,5 +1,5 @@
 -- What was taken so far.
-use Rattle.std.proofs.Common.{◌≡◌, ◌<◌, ◌≤◌, ℕ, List, ◌++◌, length}
+use Rattle.std.proofs.Common.{◌<◌, ◌≤◌, ℕ, List, ◌++◌, length}
 use Rattle.irpx.specs.Checking.{most_bytes}
 use Rattle.irpx.specs.Judging.{IsSoFar}
 use Rattle.irpx.specs.Streams.{Bytes}
