@@ -2,6 +2,7 @@
 //!
 //! - [`read_script`] reads bytes as a script, or answers its first fault.
 //! - [`read_transcript`] reads bytes as a transcript, or answers the first line that is refused.
+//! - [`Reader`] reads a transcript, too, and is fed its bytes block after block; it gives each line as it ends.
 //! - [`write_transcript`] writes a transcript, or answers how much of it went out.
 //!
 //! What was written is read again as the same: that is a law of the form of transcripts. So an entry of a line is
@@ -14,7 +15,10 @@ mod guess;
 mod guessed_calls;
 mod guessed_parts;
 mod guessed_questions;
+mod line;
+mod line_reader;
 mod read;
+mod reader;
 mod round_trip;
 mod scan;
 
@@ -24,5 +28,7 @@ pub use irp_script_reader::{
 };
 pub use irp_transcript_reader::ReadFault;
 pub use irp_transcript_writer::{Cause, Failed, Out, WriteFault, WriterOut, write_transcript};
+pub use line::Line;
 pub use read::read_transcript;
+pub use reader::Reader;
 pub use round_trip::{entry_is_read, read_again, written_is_read};

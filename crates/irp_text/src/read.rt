@@ -19,7 +19,7 @@ const MOST_MISSES: u32 = 16;
 
 /// Each line is taken by a guess where that is right, and else by its JSON value.
 #[derive(Drop)]
-struct ByGuess {
+pub struct ByGuess {
     /// How many lines were guessed in vain, or not at all.
     misses: u32,
     /// The room in which a guess is written.
@@ -30,7 +30,7 @@ struct ByGuess {
 
 impl ByGuess {
     /// With no room yet. It takes no memory.
-    fn new(alloc: Global) -> ByGuess {
+    pub fn new(alloc: Global) -> ByGuess {
         ByGuess {
             misses: 0,
             written: Vec::new(alloc),

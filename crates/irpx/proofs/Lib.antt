@@ -1,5 +1,6 @@
 pub mod Adding
 pub mod AtSlots
+pub mod Blocks
 pub mod Calls
 pub mod CommandLine
 pub mod OneSeat

@@ -1,30 +1,20 @@
-//! The word `check`: a transcript is read and judged, and the verdict is written.
+//! The word `check`: the verdict on a transcript is written.
 
 ghost use Rattle.std.specs.Prelude.{IfErr, IfOk, OnOk, ◌≡◌};
-ghost use Rattle.irpx.specs.Checking.{
-  Checks,
-  HasVerdict,
-  IsInput,
-  Judges,
-  NotRead,
-  Told,
-  Unjudgeable,
-  Untold,
-  most_taken,
-  verdict_line,
-};
+ghost use Rattle.irpx.specs.Checking.{Checks, Told, Untold, most_taken, verdict_line};
+ghost use Rattle.irpx.specs.Judging.{Ends};
 ghost use Rattle.irpx.specs.Streams.{TakesAtMost, output_of, streams_of};
 
-use crate::input::{StreamFault, read_up_to};
-use irp_judge::{Verdict, check as verdict_of};
-use irp_text::read_transcript;
-use irp_transcript_reader::ReadFault;
+use crate::input::{PIECE, StreamFault};
+use crate::judging::{judge_rest, read_header};
+use irp_judge::Verdict;
+use irp_text::Reader;
 use irp_transcript_writer::{Out, put_all};
 use std::alloc::{AllocError, Global};
 use std::io::Read;
 
 /// As many bytes as the text of a transcript may have that is checked.
-const MOST_BYTES: usize = 1_073_741_824;
+pub const MOST_BYTES: usize = 1_073_741_824;
 
 /// Why there is no verdict on a transcript.
 #[derive(Clone, Copy)]
@@ -76,42 +66,16 @@ impl From<StreamFault> for CheckFault {
     }
 }
 
-/// What is left of the input. It fails where it can't be read, or is too long.
-fn text_of<R: Read>(alloc: Global, input: &mut R) -> Result<Vec<u8>, StreamFault>
-    ensures ok { IfOk result (λ text.
-        IsInput (R.remaining input.old) (R.remaining input.new) text.items) }
-    ensures took { TakesAtMost most_taken (R.remaining input.old) (R.remaining input.new) }
-{
-    let text = read_up_to(alloc, input, MOST_BYTES + 1)?;
-    if text.len() > MOST_BYTES {
-        return Err(StreamFault::Failed);
-    }
-    Ok(text)
-}
-
-/// The verdict on the transcript of this text. The fault where the text is refused, or memory ran out.
-fn judged_text(alloc: Global, text: &[u8]) -> Result<Verdict, Unjudged>
-    ensures ok { IfOk result (Judges text.now) }
-    ensures err { IfErr result (Unjudgeable text.now) }
-{
-    match read_transcript(alloc, text) {
-        Ok(transcript) => match verdict_of(alloc, &transcript) {
-            Ok(verdict) => Ok(verdict),
-            Err(_) => Err(Unjudged::NoMemory),
-        },
-        Err(ReadFault::Line(line)) => Err(Unjudged::RefusedLine { line }),
-        Err(ReadFault::NoMemory) => Err(Unjudged::NoMemory),
-    }
-}
-
 /// The verdict on the transcript that the input holds. The fault where there is none.
 fn judged<R: Read>(alloc: Global, input: &mut R) -> Result<Verdict, Unjudged>
-    ensures ok { IfOk result (HasVerdict (R.remaining input.old) (R.remaining input.new)) }
-    ensures err { IfErr result (NotRead (R.remaining input.old) (R.remaining input.new)) }
-    ensures took { TakesAtMost most_taken (R.remaining input.old) (R.remaining input.new) }
+    ensures { Ends (R.remaining input.old) (R.remaining input.new) result }
 {
-    let text = text_of(alloc, input)?;
-    judged_text(alloc, text.as_slice())
+    let mut buffer = [0u8; PIECE];
+    let mut reader = Reader::new(alloc);
+    match read_header(alloc, input, &mut buffer, &mut reader)? {
+        Some(start) => judge_rest(alloc, input, &mut buffer, &mut reader, &start),
+        None => Ok(Verdict::Legal { entries: 0 }),
+    }
 }
 
 /// The line that tells a verdict.

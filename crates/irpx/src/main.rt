@@ -5,6 +5,7 @@ mod checking;
 mod demo;
 mod ending;
 mod input;
+mod judging;
 mod orders;
 mod planned;
 mod running;
