@@ -144,14 +144,20 @@ def why_refused(wrong, name):
     do = 'complete' if call['do'] == 'finish_taken' else call['do']
     windows = IN_WINDOWS.get((do, name))
     found = cause(wrong.manager, call, name)
-    return f'{MEANINGS[name]}{f": {found}" if found else ""}{f" (in Windows: {windows})" if windows else ""}'
+    meaning = MEANINGS[name]
+    if name == 'Stale' and call['do'] == 'finish_taken' and wrong.manager.live[call['irp'][0]].use == call['irp'][1]:
+        meaning = 'the token is of another use'
+    if name == 'InFlight' and call['do'] == 'delete':
+        meaning = 'the device still has a packet'
+    return f'{meaning}{f": {found}" if found else ""}{f" (in Windows: {windows})" if windows else ""}'
 
 
 def rows_of_refusal(wrong):
     """Returns the rows where the entry is refused and the manager's isn't, or the other way round, or otherwise."""
     call, name = wrong.given['call'], refusal(wrong.made['reply'])
     title, checks = calls_of_page()[call['do']]
-    rows = [('says', reply_words(call, wrong.given['reply'])), ('manager', reply_words(call, wrong.made['reply'])),
+    manager = reply_words(call, wrong.made['reply']) if name else "doesn't refuse it"
+    rows = [('says', reply_words(call, wrong.given['reply'])), ('manager', manager),
             ('rule', f"{title}'s checks are {checks}: {f'the first that fails is {name}' if name else 'none fails'}")]
     return rows + ([('why', why_refused(wrong, name))] if name else []) + [('see', CALLS)]
 

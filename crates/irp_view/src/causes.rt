@@ -18,11 +18,22 @@ impl fmt::Display for CauseWords {
         let Reply::Refused(refusal) = self.reply else {
             return Ok(());
         };
-        f.write_str(refusal_meaning(refusal))?;
+        f.write_str(meaning(self.call, refusal, self.cause))?;
         if !matches!(self.cause, Cause::Nothing) {
             write!(f, ": {}", StateWords(self.cause))?;
         }
         write!(f, "{}", WindowsWords(self.call, refusal))
+    }
+}
+
+/// When this refusal of a call comes. A FinishTaken is refused as stale also where its token alone is of another use, and
+/// a Delete as in flight where the device has a packet, which the call doesn't name.
+fn meaning(call: Call, refusal: Refusal, cause: Cause) -> &'static str {
+    match (call, refusal, cause) {
+        (Call::FinishTaken { irp, .. }, Refusal::Stale, Cause::Use(number))
+            if irp.use_no == number => { "the token is of another use" }
+        (Call::Delete { .. }, Refusal::InFlight, _) => "the device still has a packet",
+        _ => refusal_meaning(refusal),
     }
 }
 

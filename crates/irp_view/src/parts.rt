@@ -7,7 +7,7 @@ use crate::answers::AnswerParts;
 use crate::fields::{FieldWords, field_name, field_place};
 use irp_judge::{Difference, QuestionPart, ShownField};
 use irp_names::{ClosureWords, DeviceWords, ReplyWords, shown_of};
-use irp_types::{Asked, Entry, LockNo};
+use irp_types::{Asked, Entry, LockNo, Reply};
 use std::fmt;
 
 /// The part in which an entry differs.
@@ -105,7 +105,8 @@ fn bool_text(value: bool) -> &'static str
 }
 
 /// What stands in the part of an entry that differs. Of an answer, those of the manager are told as such: any that is
-/// allowed could stand there.
+/// allowed could stand there. Of a call that it doesn't refuse its reply isn't told: it may come of answers that nobody
+/// gave.
 #[derive(Clone, Copy)]
 pub struct ValueWords<'a> {
     pub entry: &'a Entry,
@@ -130,6 +131,9 @@ impl fmt::Display for ValueWords<'_> {
             Difference::Number => write!(f, "{}", number),
             Difference::Lock => write!(f, "{}", LockWords(lock)),
             Difference::Drained => f.write_str(bool_text(drained)),
+            Difference::Refusal if self.is_made && !matches!(reply, Reply::Refused(_)) => {
+                f.write_str("doesn't refuse it")
+            }
             Difference::Refusal | Difference::Reply => write!(f, "{}", ReplyWords { call, reply }),
             Difference::Question { at, part } => { write!(f, "{}", QuestionValue(*self, at, part)) }
         }
