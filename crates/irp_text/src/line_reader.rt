@@ -68,8 +68,10 @@ impl LineReader {
 
     /// Counts an entry, where one may stand.
     fn count_entry(&mut self) -> Result<(), Unread>
-        ensures room { Counts result (self.old.before_words && nat_lt self.old.entries most_entries) }
-        ensures counted { OnOk result (self.new ≡ record self.old { entries = self.old.entries + 1 }) }
+        ensures room { Counts result
+            (self.old.before_words && nat_lt self.old.entries most_entries) }
+        ensures counted { OnOk result
+            (self.new ≡ record self.old { entries = self.old.entries + 1 }) }
     {
         if !self.before_words || self.entries >= MOST_ENTRIES {
             return Err(Unread::Form);
