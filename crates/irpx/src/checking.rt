@@ -108,15 +108,16 @@ fn tell<O: Out>(alloc: Global, output: &mut O, verdict: Verdict) -> Result<(), S
 /// manager could have made its history, of K entries, and else `illegal I`, where entry I, from 0, is the first that
 /// isn't legal (this project's own command line, README.md). The verdict that was written.
 ///
-/// All that is left of the input is taken, and at most 1,073,741,825 bytes of it: one more than the text may have.
+/// All that is left of the input is taken, and at most 1,073,741,825 bytes of it: one more than the text may have. Of
+/// the text a block is kept, and the beginning of a line that ends in the next one.
 ///
 /// # Errors
 ///
 /// `Unjudged` where there is no verdict, and then nothing goes out: `RefusedLine` with the number of the first line
-/// that is refused, where the input isn't the text of a transcript; `Input` where the input failed, has more than
-/// 1,073,741,824 bytes, or memory ran out for it; `NoMemory` where memory ran out later. `Untold` where there is one:
-/// `Failed` where the output failed, which its count of failures tells, after a beginning of the line; `NoMemory`
-/// before anything goes out.
+/// that is refused, where the input isn't the text of a transcript; `Input` where the input failed, or has more than
+/// 1,073,741,824 bytes; `NoMemory` where memory ran out before that line. `Untold` where there is one: `Failed` where
+/// the output failed, which its count of failures tells, after a beginning of the line; `NoMemory` before anything goes
+/// out.
 pub fn check<R: Read, O: Out>(
     alloc: Global,
     input: &mut R,

@@ -60,8 +60,8 @@ pub fn read_up_to<R: Read>(
 ///
 /// # Errors
 ///
-/// `Failed` where the read failed; an interrupted read is a failed one. Also where the input has more than `left` bytes:
-/// then at most one more was taken from it.
+/// `Failed` where the read failed; an interrupted read is a failed one. Also where the input has more than `left`
+/// bytes: then at most one more was taken from it.
 pub fn take_block<R: Read>(
     reader: &mut R,
     buffer: &mut [u8],

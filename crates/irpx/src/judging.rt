@@ -124,7 +124,8 @@ pub fn read_header<R: Read>(
 ) -> Result<Option<Start>, Unjudged>
     requires room { 0 < length buffer.old }
     requires fresh { HasRead reader.old [] no_lines }
-    ensures start { IsStart (R.remaining input.old) (R.remaining input.new) result reader.new buffer.new }
+    ensures start { IsStart (R.remaining input.old) (R.remaining input.new) result reader.new
+        buffer.new }
     ensures room { length buffer.new ≡ length buffer.old }
 {
     let mut left = MOST_BYTES;
