@@ -51,3 +51,5 @@ interrupted number before after old new line said read reply broke = (
     breaks = subst (λ (text : List ℕ). Breaks text old.output new.output) reply.1 broke;
   }),
 )
+
+pub ruleset turns = (stopped, takes_line, takes_rest, ended_rest, ended_line)

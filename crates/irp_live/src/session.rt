@@ -28,8 +28,8 @@ use std::alloc::{AllocError, Global};
 /// What is read of a transcript so far, and the judge of its entries.
 #[derive(Drop)]
 pub struct Session<'a> {
-    pub reading: Reading,
-    pub judge: Judge<'a>,
+    reading: Reading,
+    judge: Judge<'a>,
 }
 
 impl<'a> Session<'a> {

@@ -47,7 +47,7 @@ pub enum LiveFault {
 }
 
 /// One turn: the next line is read, and answered. False where nothing more is to be answered.
-#[tactic(auto, using(crate::proofs::Turns::stopped, crate::proofs::Turns::takes_line, crate::proofs::Turns::takes_rest, crate::proofs::Turns::ended_rest, crate::proofs::Turns::ended_line, crate::proofs::Turns::exchanged, crate::proofs::Turns::interrupted))]
+#[tactic(auto, using(crate::proofs::Turns::turns))]
 fn turn<R: BufRead, O: Out>(
     alloc: Global,
     input: &mut R,
