@@ -144,108 +144,53 @@ fn ask_all(store: &Store, kind: Kind, count: &AtomicU32) -> Result<(), Halt> {
     Ok(())
 }
 
-/// The completion routine of this place, which counts.
-fn new_routine(alloc: Global, count: &Arc<AtomicU32>, place: u32) -> Result<Routine, Halt> {
-    let own = count.clone()?;
-    let rule = routine_at(place).rule;
-    let run = move |shown: Shown| answers(&own, place.wrapping_add(1), rule, shown, CONTINUES);
-    Ok(Routine::new(rule, Box::new(alloc, run)?))
-}
-
-/// Adds the completion routine of this place. A refused call has to hand it back, and it is added again.
-fn add_routine(
-    alloc: Global,
-    store: &mut Store,
-    count: &Arc<AtomicU32>,
-    place: u32,
-    tried: &mut Tried,
-) -> Result<(), Halt> {
-    let before = standing_of(store, count);
-    let id = match store.add(new_routine(alloc, count, place)?) {
-        Ok(id) => id,
-        Err(back) => {
-            let is_same = standing_of(store, count) == before && back.reason == Reason::Memory;
-            tried.refused("Store::add", is_same)?;
-            store.add(back.item)?
-        }
-    };
-    wanted(id == routine_at(place), "a routine has another number")
-}
-
-/// Adds completion routines of each rule. A refused call has to hand the completion routine back, which is added again.
+/// Adds completion routines of each rule. A refused call has to hand the routine back, which is added again.
 pub fn add_routines(alloc: Global, tried: &mut Tried) -> Result<(), Halt> {
     let count = Arc::new(alloc, AtomicU32::new(0))?;
     let mut store = Store::new(alloc);
     for place in 0..MANY {
         tried.step = place as usize;
-        add_routine(alloc, &mut store, &count, place, tried)?;
+        let before = standing_of(&store, &count);
+        let own = count.clone()?;
+        let rule = routine_at(place).rule;
+        let run = move |shown: Shown| answers(&own, place.wrapping_add(1), rule, shown, CONTINUES);
+        let item = Routine::new(rule, Box::new(alloc, run)?);
+        let id = match store.add(item) {
+            Ok(id) => id,
+            Err(back) => {
+                let is_same = standing_of(&store, &count) == before
+                    && back.reason == Reason::Memory;
+                tried.refused("Store::add", is_same)?;
+                store.add(back.item)?
+            }
+        };
+        wanted(id == routine_at(place), "a routine has another number")?;
     }
     ask_all(&store, Kind::Routine, &count)
 }
 
-/// The cancel routine of this place, which counts.
-fn new_cancel(alloc: Global, count: &Arc<AtomicU32>, place: u32) -> Result<CancelRoutine, Halt> {
-    let own = count.clone()?;
-    let run = move |_shown: Shown| leaves(&own, place.wrapping_add(1));
-    Ok(CancelRoutine::new(CancelRule::MustLeave, Box::new(alloc, run)?))
-}
-
-/// Adds the cancel routine of this place. A refused call has to hand it back, and it is added again.
-fn add_cancel(
-    alloc: Global,
-    store: &mut Store,
-    count: &Arc<AtomicU32>,
-    place: u32,
-    tried: &mut Tried,
-) -> Result<(), Halt> {
-    let before = standing_of(store, count);
-    let id = match store.add_cancel(new_cancel(alloc, count, place)?) {
-        Ok(id) => id,
-        Err(back) => {
-            let is_same = standing_of(store, count) == before && back.reason == Reason::Memory;
-            tried.refused("Store::add_cancel", is_same)?;
-            store.add_cancel(back.item)?
-        }
-    };
-    wanted(id == CancelId(place), "a cancel routine has another number")
-}
-
-/// Adds cancel routines. A refused call has to hand the cancel routine back, which is added again.
+/// Adds cancel routines. A refused call has to hand the routine back, which is added again.
 pub fn add_cancels(alloc: Global, tried: &mut Tried) -> Result<(), Halt> {
     let count = Arc::new(alloc, AtomicU32::new(0))?;
     let mut store = Store::new(alloc);
     for place in 0..MANY {
         tried.step = place as usize;
-        add_cancel(alloc, &mut store, &count, place, tried)?;
+        let before = standing_of(&store, &count);
+        let own = count.clone()?;
+        let run = move |_shown: Shown| leaves(&own, place.wrapping_add(1));
+        let item = CancelRoutine::new(CancelRule::MustLeave, Box::new(alloc, run)?);
+        let id = match store.add_cancel(item) {
+            Ok(id) => id,
+            Err(back) => {
+                let is_same = standing_of(&store, &count) == before
+                    && back.reason == Reason::Memory;
+                tried.refused("Store::add_cancel", is_same)?;
+                store.add_cancel(back.item)?
+            }
+        };
+        wanted(id == CancelId(place), "a cancel routine has another number")?;
     }
     ask_all(&store, Kind::Cancel, &count)
-}
-
-/// The dispatch of this place, which counts.
-fn new_dispatch(alloc: Global, count: &Arc<AtomicU32>, place: u32) -> Result<Dispatch, Halt> {
-    let own = count.clone()?;
-    let run = move |shown: Shown| plans(&own, place.wrapping_add(1), shown);
-    Ok(Dispatch::new(Known::NONE, Box::new(alloc, run)?))
-}
-
-/// Adds the dispatch of this place. A refused call has to hand it back, and it is added again.
-fn add_dispatch(
-    alloc: Global,
-    store: &mut Store,
-    count: &Arc<AtomicU32>,
-    place: u32,
-    tried: &mut Tried,
-) -> Result<(), Halt> {
-    let before = standing_of(store, count);
-    let id = match store.add_dispatch(new_dispatch(alloc, count, place)?) {
-        Ok(id) => id,
-        Err(back) => {
-            let is_same = standing_of(store, count) == before && back.reason == Reason::Memory;
-            tried.refused("Store::add_dispatch", is_same)?;
-            store.add_dispatch(back.item)?
-        }
-    };
-    wanted(id == DispatchId(place), "a dispatch has another number")
 }
 
 /// Adds dispatches. A refused call has to hand the dispatch back, which is added again.
@@ -254,45 +199,45 @@ pub fn add_dispatches(alloc: Global, tried: &mut Tried) -> Result<(), Halt> {
     let mut store = Store::new(alloc);
     for place in 0..MANY {
         tried.step = place as usize;
-        add_dispatch(alloc, &mut store, &count, place, tried)?;
+        let before = standing_of(&store, &count);
+        let own = count.clone()?;
+        let run = move |shown: Shown| plans(&own, place.wrapping_add(1), shown);
+        let item = Dispatch::new(Known::NONE, Box::new(alloc, run)?);
+        let id = match store.add_dispatch(item) {
+            Ok(id) => id,
+            Err(back) => {
+                let is_same = standing_of(&store, &count) == before
+                    && back.reason == Reason::Memory;
+                tried.refused("Store::add_dispatch", is_same)?;
+                store.add_dispatch(back.item)?
+            }
+        };
+        wanted(id == DispatchId(place), "a dispatch has another number")?;
     }
     ask_all(&store, Kind::Dispatch, &count)
-}
-
-/// A store with one dispatch, which counts.
-fn store_with_dispatch(alloc: Global, count: &Arc<AtomicU32>) -> Result<Store, Halt> {
-    let mut store = Store::new(alloc);
-    store.add_dispatch(new_dispatch(alloc, count, 0)?)?;
-    Ok(store)
-}
-
-/// Adds the driver of this place, with one dispatch. A refused call has to hand the pairs back, which are added again.
-fn add_driver(
-    alloc: Global,
-    store: &mut Store,
-    count: &Arc<AtomicU32>,
-    place: u32,
-    tried: &mut Tried,
-) -> Result<(), Halt> {
-    let before = standing_of(store, count);
-    let id = match store.add_driver([(3, DispatchId(0))].to_vec(alloc)?) {
-        Ok(id) => id,
-        Err(back) => {
-            let is_same = standing_of(store, count) == before && back.reason == Reason::Memory;
-            tried.refused("Store::add_driver", is_same)?;
-            store.add_driver(back.item)?
-        }
-    };
-    wanted(id == DriverId(place), "a driver has another number")
 }
 
 /// Adds drivers of one dispatch. A refused call has to hand the pairs back, which are added again.
 pub fn add_drivers(alloc: Global, tried: &mut Tried) -> Result<(), Halt> {
     let count = Arc::new(alloc, AtomicU32::new(0))?;
-    let mut store = store_with_dispatch(alloc, &count)?;
+    let own = count.clone()?;
+    let run = move |shown: Shown| plans(&own, 1, shown);
+    let mut store = Store::new(alloc);
+    store.add_dispatch(Dispatch::new(Known::NONE, Box::new(alloc, run)?))?;
     for place in 0..MANY {
         tried.step = place as usize;
-        add_driver(alloc, &mut store, &count, place, tried)?;
+        let before = standing_of(&store, &count);
+        let item = [(3, DispatchId(0))].to_vec(alloc)?;
+        let id = match store.add_driver(item) {
+            Ok(id) => id,
+            Err(back) => {
+                let is_same = standing_of(&store, &count) == before
+                    && back.reason == Reason::Memory;
+                tried.refused("Store::add_driver", is_same)?;
+                store.add_driver(back.item)?
+            }
+        };
+        wanted(id == DriverId(place), "a driver has another number")?;
     }
     ask_all(&store, Kind::Driver, &count)
 }
