@@ -18,7 +18,8 @@ static void judge_return(Packet *p, const Frame *f, NTSTATUS answer)
     else if (!marked && !f->forced && f->passed && (ULONG)answer != f->lower)
         fault_of("Status", p, f, "returned %#x, the driver below %#x", (unsigned)answer, f->lower);
     else if (!marked && pending && ((!f->forced && !f->passed) || f->completed_unmarked))
-        fault_of("Returned", p, f, "returned STATUS_PENDING and marked nothing");
+        fault_of("Returned", p, f, "returned STATUS_PENDING and marked nothing: call IoMarkIrpPending before the packet "
+                 "is kept");
     else {
         if (!marked && f->forced && !pending)
             note("pended by the host", "%s: %s; its caller gets STATUS_PENDING, where Windows would have returned %#x",

@@ -108,7 +108,7 @@ void tell_repeats(void)
 {
     for (int i = 0; i < n_told; i++)
         if (told[i].times > 1)
-            fprintf(stderr, "host: FAULT %s at the same place %d times more (%s)\n", told[i].rule, told[i].times - 1,
+            fprintf(stderr, "host: FAULT %s %d times at the same place (%s)\n", told[i].rule, told[i].times,
                     told[i].file ? place((WDM_SITE){ told[i].file, NULL, told[i].line }) : function_name(told[i].fn));
 }
 
