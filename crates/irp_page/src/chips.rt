@@ -214,8 +214,8 @@ fn put_uses(
     Ok(())
 }
 
-/// Draws a line of chips for each use of a packet that the entries at these places are about, at most 200; nothing where
-/// there are none. The one error is want of memory.
+/// Draws a line of chips for each use of a packet that the entries at these places are about, at most 200; nothing
+/// where there are none. The one error is want of memory.
 pub fn put_packets(
     alloc: Global,
     markup: &mut Markup,

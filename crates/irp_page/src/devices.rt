@@ -79,8 +79,8 @@ fn after(alloc: Global, made: Vec<Made>, entry: &Entry) -> Result<Vec<Made>, All
     }
 }
 
-/// The devices that these entries create, at most 64, top first: each attach puts a device just above what was the top of
-/// the stack then. The one error is want of memory.
+/// The devices that these entries create, at most 64, top first: each attach puts a device just above what was the top
+/// of the stack then. The one error is want of memory.
 pub fn devices_of(alloc: Global, entries: &[Entry]) -> Result<Vec<Made>, AllocError> {
     let mut made = Vec::new(alloc);
     for entry in entries {

@@ -139,7 +139,7 @@ pub fn head(
 }
 
 /// How pictures are read.
-const LEGEND: &str =
-    "In a picture the left column is the way down, each device\u{2019}s dispatch, and the right one the \
-way up, each completion routine that was asked. Numbers give the order. The letters s, e and c stand for on success, on \
-error, on cancel.";
+const LEGEND: &str = "\
+In a picture the left column is the way down, each device\u{2019}s dispatch, and the right one the way up, each \
+completion routine that was asked. Numbers give the order. The letters s, e and c stand for on success, on error, \
+on cancel.";

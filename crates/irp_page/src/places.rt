@@ -78,8 +78,8 @@ pub fn arrow_down(markup: &mut Markup, trail: Trail, top: u32) -> Result<(), All
     tip(markup, "#down", "fall", x, to)
 }
 
-/// Draws the arrow up from the last box to a box with this top: from one on the way down it goes to the right first. The
-/// one error is want of memory.
+/// Draws the arrow up from the last box to a box with this top: from one on the way down it goes to the right first.
+/// The one error is want of memory.
 pub fn arrow_up(markup: &mut Markup, trail: Trail, top: u32) -> Result<(), AllocError> {
     let x = u64::from(UP);
     let mut from = u64::from(trail.top);

@@ -162,7 +162,8 @@ fn put_difference(
     markup.close()
 }
 
-/// Draws what is wrong with an entry, and the entry that the manager makes of its call. The one error is want of memory.
+/// Draws what is wrong with an entry, and the entry that the manager makes of its call. The one error is want of
+/// memory.
 pub fn put_wrong(
     alloc: Global,
     markup: &mut Markup,
