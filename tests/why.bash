@@ -4,7 +4,8 @@
 # each section that is named stands in docs/RULES.md. Limits that no small transcript reaches are told by their numbers.
 # Wrong words and a file that isn't there end as they should. Transcripts that are changed, by chance too, are compared
 # with `irpx check` and with the second reading. IRP_VIEW and IRPX name the programs; without them, they are those that
-# bin/irp_view and bin/irpx run. SEED and COUNT are those of the changed transcripts: 1 and 60 without them.
+# bin/irp_view and bin/irpx run. SEED and COUNT are those of the changed transcripts: without them 1, and 400 or, with a
+# program that was built without proofs, 60.
 set -u
 cd "$(dirname "$(readlink -f "$0")")" || exit 1
 irp_view=${IRP_VIEW:-$(../bin/program irp_view quick)} || exit 1
@@ -12,6 +13,7 @@ irpx=${IRPX:-$(../bin/program irpx quick)} || exit 1
 room=$(mktemp -d) || exit 1
 trap 'rm -rf "$room"' EXIT
 examples=../examples/why
+case $irp_view in *.unproved) count=${COUNT:-60} ;; *) count=${COUNT:-400} ;; esac
 tried=0
 wrong=0
 
@@ -183,7 +185,7 @@ meets 'a history as text in WRITING' cmp -s "$room/shown" "$room/printed"
 echo "tried: $tried $wrong reasons"
 if ! python3 -c 'import sys; sys.exit(sys.version_info < (3, 9))' 2>/dev/null; then
     echo 'passed over, for want of Python 3.9: reasons by the second reading'
-elif ! second_reading/why_by_chance "$irp_view" "$irpx" "${COUNT:-60}" "${SEED:-1}"; then
+elif ! second_reading/why_by_chance "$irp_view" "$irpx" "$count" "${SEED:-1}"; then
     wrong=$((wrong + 1))
 fi
 [ "$wrong" -eq 0 ]
