@@ -101,7 +101,8 @@ pub record AddsRows (entry : Entry) (wrong : Wrong) (before after : List ℕ) : 
   pub put : after ≡ before ++ rows
 
 -- the text for what is wrong with an entry: these rows; what a refusal comes from, exactly where the manager refuses
--- the call and the entry differs in that; and the section of the rules, which the difference settles for all but who is asked, and replies
+-- the call and the entry differs in that; and the section of the rules, which the difference settles for all but who
+-- is asked, and replies
 pub record IsWhy (entry : Entry) (wrong : Wrong) (text : List ℕ) : Type 0 where
   pub rows : List ℕ
   pub are : AreRows entry wrong rows

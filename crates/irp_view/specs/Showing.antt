@@ -39,7 +39,8 @@ pub record WordsOff (words : List WordLine) (old new : Bytes) (before after : �
 
 -- the text went out: what stands for the entries of the span, one after the other, a block for each that is chosen; and
 -- behind it what stands for the word lines
-pub record Shows (only : Option IrpRef) (span : Option Span) (transcript : TranscriptValue) (old new : Bytes) (before after : ℕ) : Type 0 where
+pub record Shows (only : Option IrpRef) (span : Option Span) (transcript : TranscriptValue)
+    (old new : Bytes) (before after : ℕ) : Type 0 where
   pub listing : List ℕ
   pub is_listing : IsListing only (part_of span transcript.entries) listing
   pub words : List ℕ
@@ -53,7 +54,8 @@ AreWordsBehind only span transcript count words =
 
 -- a beginning of the text went out, before this fault: of what stands for the first so many entries of the span, and
 -- for the word lines behind them
-pub record ShowsPart (only : Option IrpRef) (span : Option Span) (transcript : TranscriptValue) (old new : Bytes) (before after : ℕ) (fault : Unwritten) : Type 0 where
+pub record ShowsPart (only : Option IrpRef) (span : Option Span) (transcript : TranscriptValue)
+    (old new : Bytes) (before after : ℕ) (fault : Unwritten) : Type 0 where
   pub count : ℕ
   pub listing : List ℕ
   pub is_listing : IsListing only (take count (part_of span transcript.entries)) listing

@@ -26,8 +26,8 @@ impl fmt::Display for CauseWords {
     }
 }
 
-/// When this refusal of a call comes. A FinishTaken is refused as stale also where its token alone is of another use, and
-/// a Delete as in flight where the device has a packet, which the call doesn't name.
+/// When this refusal of a call comes. A FinishTaken is refused as stale also where its token alone is of another use,
+/// and a Delete as in flight where the device has a packet, which the call doesn't name.
 fn meaning(call: Call, refusal: Refusal, cause: Cause) -> &'static str {
     match (call, refusal, cause) {
         (Call::FinishTaken { irp, .. }, Refusal::Stale, Cause::Use(number))
