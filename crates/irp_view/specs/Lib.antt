@@ -1,5 +1,6 @@
 pub mod Blocks
 pub mod Ending
+pub mod Judging
 pub mod Parts
 pub mod Program
 pub mod Reading

@@ -1,14 +1,14 @@
 //! Reading an input up to a limit.
 
-ghost use Rattle.std.specs.Prelude.{◌≡◌, ◌≤◌, take, vec_len, IfOk, IfSome};
-ghost use Rattle.std.specs.Io.KnownBytes.{Consumes};
+ghost use Rattle.std.specs.Prelude.{◌≡◌, ◌+◌, ◌≤◌, ◌<◌, ◌^◌, length, take, vec_len, IfOk, IfSome};
+ghost use Rattle.std.specs.Io.KnownBytes.{Consumes, IsAtEnd};
 ghost use Rattle.irp_view.specs.Reading.{TakesAtMost};
 
 use std::alloc::Global;
 use std::io::Read;
 
 /// How many bytes are asked for in one turn, at most.
-const PIECE: usize = 65_536;
+pub const PIECE: usize = 65_536;
 
 /// Why an input was not read, or an output not written whole.
 #[derive(Clone, Copy)]
@@ -53,4 +53,32 @@ pub fn read_up_to<R: Read>(
         }
     }
     Ok(bytes)
+}
+
+/// Takes the next bytes of the input into a buffer, and counts them: none at the end of the input. `left` is how many
+/// bytes the input may still have.
+///
+/// # Errors
+///
+/// `Failed` where the read failed; an interrupted read is a failed one. Also where the input has more than `left`
+/// bytes: then at most one more was taken from it.
+pub fn take_block<R: Read>(
+    reader: &mut R,
+    buffer: &mut [u8],
+    left: usize,
+) -> Result<usize, StreamFault>
+    requires room { 0 < length buffer.old }
+    requires bound { left + 1 < 2 ^ 64 }
+    ensures room { length buffer.new ≡ length buffer.old }
+    ensures bound { IfOk result (λ count. (count ≤ left) × (count ≤ length buffer.new)) }
+    ensures bytes { IfOk result (λ count.
+        Consumes (R.remaining reader.old) (R.remaining reader.new) (take count buffer.new)) }
+    ensures end { IfOk result (λ count. count ≡ 0 → IsAtEnd (R.remaining reader.new)) }
+    ensures within { TakesAtMost (left + 1) (R.remaining reader.old) (R.remaining reader.new) }
+{
+    let wanted = buffer.len().min(left + 1);
+    match reader.read(&mut buffer[..wanted]) {
+        Ok(count) if count <= left => Ok(count),
+        _ => Err(StreamFault::Failed),
+    }
 }

@@ -9,6 +9,8 @@ mod ending;
 mod fields;
 mod help;
 mod input;
+mod judging;
+mod lines;
 mod orders;
 mod parts;
 mod reading;
@@ -21,43 +23,94 @@ mod words;
 
 ghost use Rattle.std.specs.Prelude.{◌≡◌};
 ghost use Rattle.irp_view.specs.Program.{Answers, Obeys, streams_of, output_of};
+ghost use Rattle.irp_view.specs.Judging.{IsFound};
 ghost use Rattle.irp_view.specs.Reading.{TakesAtMost, most_taken};
+ghost use Rattle.irp_view.specs.declared.orders.Order.TheVariants.{Read as AsksFor};
+ghost use Rattle.irp_view.specs.declared.orders.Task.TheVariants.{Why, List as Listing, Draw as Drawing};
+ghost use Rattle.irp_transcript.specs.Transcripts.{TranscriptValue};
 
 use crate::ending::Ending;
-use crate::orders::{Asked, Order, Task, Unasked};
-use irp_page::draw;
-use irp_transcript::Transcript;
+use crate::judging::{Judged, judge_input};
+use crate::orders::{Asked, Order, Span, Task, Unasked};
+use crate::reading::transcript_of;
+use crate::showing::show;
+use irp_page::{Choice, draw};
 use irp_transcript_writer::{Out, WriterOut};
+use irp_types::IrpRef;
 use std::alloc::Global;
 use std::env;
 use std::fs::File;
 use std::io::{self, Read, Write};
 use std::process::ExitCode;
 
-/// Tells of a transcript with this title what is asked.
-fn tell<O: Out>(
-    alloc: Global,
-    output: &mut O,
-    transcript: &Transcript,
-    task: Task,
-    title: &str,
-) -> Ending
-    ensures { Answers task transcript.now (output_of (O.gone output.old) (O.failures output.old))
+/// Tells what is wrong with a transcript that was judged.
+fn tell_why<O: Out>(alloc: Global, output: &mut O, judged: &Judged) -> Ending
+    ensures { (transcript : TranscriptValue) → IsFound transcript judged.now.found
+        → Answers Why transcript (output_of (O.gone output.old) (O.failures output.old))
         (output_of (O.gone output.new) (O.failures output.new)) result }
 {
-    match task {
-        Task::Why => match why::why(alloc, output, transcript) {
-            Ok(verdict) => Ending::from(verdict),
-            Err(fault) => Ending::from(fault),
-        },
-        Task::List { only, span } => match showing::show(alloc, output, transcript, only, span) {
-            Ok(()) => Ending::Done,
-            Err(fault) => Ending::from(fault),
-        },
-        Task::Draw(choice) => match draw(alloc, output, transcript, title, choice) {
-            Ok(()) => Ending::Done,
-            Err(fault) => Ending::from(fault),
-        },
+    match why::why(alloc, output, judged) {
+        Ok(verdict) => Ending::from(verdict),
+        Err(fault) => Ending::from(fault),
+    }
+}
+
+/// Tells what is wrong with the transcript in the input, which is judged as it is read.
+fn judge<R: Read, O: Out>(alloc: Global, input: &mut R, output: &mut O) -> Ending
+    ensures took { TakesAtMost most_taken (R.remaining input.old) (R.remaining input.new) }
+    ensures obeys { Obeys (AsksFor Why)
+        (streams_of (R.remaining input.old) (output_of (O.gone output.old) (O.failures output.old)))
+        (streams_of (R.remaining input.new) (output_of (O.gone output.new) (O.failures output.new))) result }
+{
+    match judge_input(alloc, input) {
+        Ok(judged) => tell_why(alloc, output, &judged),
+        Err(unread) => Ending::from(unread),
+    }
+}
+
+/// Shows the entries of the transcript in the input.
+fn list<R: Read, O: Out>(
+    alloc: Global,
+    input: &mut R,
+    output: &mut O,
+    only: Option<IrpRef>,
+    span: Option<Span>,
+) -> Ending
+    ensures took { TakesAtMost most_taken (R.remaining input.old) (R.remaining input.new) }
+    ensures obeys { Obeys (AsksFor (Listing only span))
+        (streams_of (R.remaining input.old) (output_of (O.gone output.old) (O.failures output.old)))
+        (streams_of (R.remaining input.new) (output_of (O.gone output.new) (O.failures output.new))) result }
+{
+    let transcript = match transcript_of(alloc, input) {
+        Ok(transcript) => transcript,
+        Err(unread) => return Ending::from(unread),
+    };
+    match show(alloc, output, &transcript, only, span) {
+        Ok(()) => Ending::Done,
+        Err(fault) => Ending::from(fault),
+    }
+}
+
+/// Draws a page, which has this title, of the transcript in the input.
+fn draw_page<R: Read, O: Out>(
+    alloc: Global,
+    input: &mut R,
+    output: &mut O,
+    choice: Choice,
+    title: &str,
+) -> Ending
+    ensures took { TakesAtMost most_taken (R.remaining input.old) (R.remaining input.new) }
+    ensures obeys { Obeys (AsksFor (Drawing choice))
+        (streams_of (R.remaining input.old) (output_of (O.gone output.old) (O.failures output.old)))
+        (streams_of (R.remaining input.new) (output_of (O.gone output.new) (O.failures output.new))) result }
+{
+    let transcript = match transcript_of(alloc, input) {
+        Ok(transcript) => transcript,
+        Err(unread) => return Ending::from(unread),
+    };
+    match draw(alloc, output, &transcript, title, choice) {
+        Ok(()) => Ending::Done,
+        Err(fault) => Ending::from(fault),
     }
 }
 
@@ -79,9 +132,10 @@ fn run<R: Read, O: Out>(
         Order::Help => return help::help(output),
         Order::Read(task) => task,
     };
-    match reading::transcript_of(alloc, input) {
-        Ok(transcript) => tell(alloc, output, &transcript, task, title),
-        Err(unread) => Ending::from(unread),
+    match task {
+        Task::Why => judge(alloc, input, output),
+        Task::List { only, span } => list(alloc, input, output, only, span),
+        Task::Draw(choice) => draw_page(alloc, input, output, choice, title),
     }
 }
 

@@ -11,7 +11,7 @@ use std::alloc::Global;
 use std::io::Read;
 
 /// As many bytes as the text of a transcript may have.
-const MOST_BYTES: usize = 1_073_741_824;
+pub const MOST_BYTES: usize = 1_073_741_824;
 
 /// Why the input holds no transcript.
 #[derive(Clone, Copy)]

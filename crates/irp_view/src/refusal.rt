@@ -118,34 +118,81 @@ fn expected_of_entry(alloc: Global, seats: u32, value: &Value) -> Expected {
     }
 }
 
+/// What stands before a line, as far as it tells what is expected of the line.
+#[derive(Clone, Copy)]
+pub struct Before {
+    /// The header's seats, where there is a header.
+    pub seats: Option<u32>,
+    /// Whether there is a word line.
+    pub words: bool,
+}
+
+/// What stands in a transcript's lines.
+fn before_of(transcript: &Transcript) -> Before {
+    let seats = match transcript.header() {
+        Some(header) => Some(header.seats),
+        None => None,
+    };
+    Before {
+        seats,
+        words: !transcript.words().is_empty(),
+    }
+}
+
 /// What was expected of this value behind these lines.
-fn expected_behind(alloc: Global, before: &Transcript, value: &Value) -> Expected {
-    let Some(header) = before.header() else {
+fn expected_behind(alloc: Global, before: Before, value: &Value) -> Expected {
+    let Some(seats) = before.seats else {
         return Expected::Header;
     };
     if value.get("call").is_none() {
         return Expected::WordLine;
     }
-    if !before.words().is_empty() {
+    if before.words {
         return Expected::NoEntry;
     }
-    expected_of_entry(alloc, header.seats, value)
+    expected_of_entry(alloc, seats, value)
+}
+
+/// The value that this line is; or what was expected of the line where it isn't one.
+fn value_of(alloc: Global, line: &[u8]) -> Result<Value, Expected> {
+    match Value::from_slice(alloc, line) {
+        Ok(value) => Ok(value),
+        Err(error) if error.is_memory() => Err(Expected::Fitting),
+        Err(error) => Err(Expected::Json {
+            column: error.column().max(1),
+        }),
+    }
 }
 
 /// What was expected of this line behind the text of those before it.
 fn expected_of_line(alloc: Global, before: &[u8], line: &[u8]) -> Expected {
-    let value = match Value::from_slice(alloc, line) {
+    let value = match value_of(alloc, line) {
         Ok(value) => value,
-        Err(error) if error.is_memory() => return Expected::Fitting,
-        Err(error) => {
-            return Expected::Json {
-                column: error.column().max(1),
-            };
-        }
+        Err(expected) => return expected,
     };
     match read_transcript(alloc, before) {
-        Ok(transcript) => expected_behind(alloc, &transcript, &value),
+        Ok(transcript) => expected_behind(alloc, before_of(&transcript), &value),
         Err(_) => Expected::Fitting,
+    }
+}
+
+/// What was expected of a line that begins like this and ends in this block, on condition that it is the first that is
+/// refused. `Newline` where it doesn't end in the block.
+pub fn expected_in(alloc: Global, before: Before, beginning: &[u8], block: &[u8]) -> Expected {
+    let Some(place) = memchr(b'\n', block) else {
+        return Expected::Newline;
+    };
+    if beginning.len().saturating_add(place) > MOST_BYTES {
+        return Expected::Shorter;
+    }
+    let mut line = Vec::new(alloc);
+    if line.extend_from_slice(beginning).is_err() || line.extend_from_slice(&block[..place]).is_err()
+    {
+        return Expected::Fitting;
+    }
+    match value_of(alloc, line.as_slice()) {
+        Ok(value) => expected_behind(alloc, before, &value),
+        Err(expected) => expected,
     }
 }
 

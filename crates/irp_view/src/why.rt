@@ -1,26 +1,29 @@
 //! The word `why`: what is wrong with a transcript is told.
 
-ghost use Rattle.std.specs.Prelude.{◌≡◌, ◌++◌, IfErr, IfOk, OnOk};
-ghost use Rattle.std.specs.Option.{option_copied};
+ghost use Rattle.std.specs.Prelude.{◌≡◌, ◌++◌, List, length, IfErr, IfOk, OnOk};
+ghost use Rattle.irp_types.specs.declared.entry.Entry.{Entry};
+ghost use Rattle.irp_transcript.specs.Transcripts.{TranscriptValue};
 ghost use Rattle.irp_judge.specs.Checked.{verdict_of};
+ghost use Rattle.irp_view.specs.Judging.{IsFound, IsKept};
 ghost use Rattle.irp_view.specs.Telling.{AddsText, IsText, Says, SaysNothing, entry_noun, legal_line, note_line};
 
 use crate::block::put_why;
-use irp_judge::{Verdict, Wrong, explain};
+use crate::judging::{Found, Judged};
+use irp_judge::{Verdict, Wrong};
 use irp_listing::{Unwritten, put_line, send};
-use irp_transcript::Transcript;
+use irp_transcript::Header;
 use irp_transcript_writer::Out;
 use std::alloc::{AllocError, Global};
 
 /// The noun for so many entries.
-fn entry_noun(count: usize) -> &'static str
+fn entry_noun(count: u64) -> &'static str
     ensures { result.now ≡ entry_noun count }
 {
     if count == 1 { "entry" } else { "entries" }
 }
 
 /// Puts the line that tells that nothing is wrong. The one error is want of memory.
-fn put_legal(out: &mut Vec<u8>, words: &mut String, count: usize) -> Result<(), AllocError>
+fn put_legal(out: &mut Vec<u8>, words: &mut String, count: u64) -> Result<(), AllocError>
     ensures { OnOk result (out.new.items ≡ out.old.items ++ legal_line count) }
 {
     words.clear();
@@ -34,7 +37,7 @@ fn put_legal(out: &mut Vec<u8>, words: &mut String, count: usize) -> Result<(), 
 }
 
 /// Puts the line that tells of word lines, where there are some. The one error is want of memory.
-fn put_note(out: &mut Vec<u8>, words: &mut String, count: usize) -> Result<(), AllocError>
+fn put_note(out: &mut Vec<u8>, words: &mut String, count: u64) -> Result<(), AllocError>
     ensures { OnOk result (out.new.items ≡ out.old.items ++ note_line count) }
 {
     if count == 0 {
@@ -49,73 +52,69 @@ fn put_note(out: &mut Vec<u8>, words: &mut String, count: usize) -> Result<(), A
     put_line(out, words.as_str())
 }
 
-/// Puts what is told of a transcript with which this is wrong, if anything is. The one error is want of memory.
-#[tactic(auto, using(crate::proofs::Said::says_legal, crate::proofs::Said::says_wrong, crate::proofs::Said::says_nowhere))]
+/// Puts what is told of a transcript with this header in which this was found. The one error is want of memory.
+#[tactic(auto, using(crate::proofs::Said::says_legal, crate::proofs::Said::says_wrong, crate::proofs::Said::says_nowhere, crate::proofs::Said::says_nothing))]
 fn put_answer(
     out: &mut Vec<u8>,
     words: &mut String,
-    transcript: &Transcript,
-    wrong: Option<&Wrong>,
+    header: Option<&Header>,
+    found: &Found,
 ) -> Result<(), AllocError>
-    ensures { OnOk result (AddsText transcript.now.entries (option_copied wrong.entry) out.old.items out.new.items) }
+    ensures { (entries : List Entry) → found.now.entries ≡ length entries
+        → IsKept entries found.now.wrong found.now.entry
+        → OnOk result (AddsText entries found.now.wrong out.old.items out.new.items) }
 {
-    let entries = transcript.entries();
-    let Some(wrong) = wrong else {
-        return put_legal(out, words, entries.len());
+    let Some(wrong) = &found.wrong else {
+        return put_legal(out, words, found.entries);
     };
-    match entries.get(wrong.at as usize) {
-        Some(entry) => put_why(out, words, transcript.header(), entry, wrong),
+    match &found.entry {
+        Some(entry) => put_why(out, words, header, entry, wrong),
         None => Ok(()),
     }
 }
 
-/// What is told of a transcript with which this is wrong, if anything is.
+/// What is told of a transcript that was judged.
 #[tactic(auto, using(crate::proofs::Said::whole_text))]
-fn text_of(
-    alloc: Global,
-    transcript: &Transcript,
-    wrong: Option<&Wrong>,
-) -> Result<Vec<u8>, AllocError>
-    ensures { IfOk result (λ text. IsText transcript.now (option_copied wrong.entry) text.items) }
+fn text_of(alloc: Global, judged: &Judged) -> Result<Vec<u8>, AllocError>
+    ensures { (transcript : TranscriptValue) → IsFound transcript judged.now.found
+        → IfOk result (λ text. IsText transcript judged.now.found.wrong text.items) }
 {
     let mut out = Vec::new(alloc);
     let mut words = String::new(alloc);
-    put_answer(&mut out, &mut words, transcript, wrong)?;
-    put_note(&mut out, &mut words, transcript.words().len())?;
+    put_answer(&mut out, &mut words, judged.header.as_ref(), &judged.found)?;
+    put_note(&mut out, &mut words, judged.found.words)?;
     Ok(out)
 }
 
-/// The verdict on so many entries where this is wrong with them.
-fn verdict_of(entries: usize, wrong: Option<&Wrong>) -> Verdict
-    ensures { result ≡ verdict_of entries (option_copied wrong.entry) }
+/// The verdict that goes with what was found.
+fn verdict_of(found: &Found) -> Verdict
+    ensures { result ≡ verdict_of found.now.entries found.now.wrong }
 {
-    match wrong {
+    match &found.wrong {
         None => Verdict::Legal {
-            entries: entries as u64,
+            entries: found.entries,
         },
         Some(wrong) => Verdict::Illegal { at: wrong.at },
     }
 }
 
-/// Tells what is wrong with a transcript, or that nothing is. The verdict on it (this project's own form).
+/// Tells what is wrong with a transcript that was judged, or that nothing is. The verdict on it (this project's own
+/// form).
 ///
 /// # Errors
 ///
 /// `Failed` where the output failed, and exactly then its count of failures rose: a beginning of the text went out.
 /// `NoMemory` where memory ran out, before anything goes out.
 #[tactic(auto, using(crate::proofs::Said::tells, crate::proofs::Said::quiet))]
-pub fn why<O: Out>(
-    alloc: Global,
-    output: &mut O,
-    transcript: &Transcript,
-) -> Result<Verdict, Unwritten>
-    ensures ok { IfOk result (Says transcript.now (O.gone output.old) (O.gone output.new)
+pub fn why<O: Out>(alloc: Global, output: &mut O, judged: &Judged) -> Result<Verdict, Unwritten>
+    ensures ok { (transcript : TranscriptValue) → IsFound transcript judged.now.found
+        → IfOk result (Says transcript (O.gone output.old) (O.gone output.new)
         (O.failures output.old) (O.failures output.new)) }
-    ensures err { IfErr result (SaysNothing transcript.now (O.gone output.old) (O.gone output.new)
+    ensures err { (transcript : TranscriptValue) → IsFound transcript judged.now.found
+        → IfErr result (SaysNothing transcript (O.gone output.old) (O.gone output.new)
         (O.failures output.old) (O.failures output.new)) }
 {
-    let wrong = explain(alloc, transcript)?;
-    let text = text_of(alloc, transcript, wrong.as_ref())?;
+    let text = text_of(alloc, judged)?;
     send(output, text.as_slice())?;
-    Ok(verdict_of(transcript.entries().len(), wrong.as_ref()))
+    Ok(verdict_of(&judged.found))
 }

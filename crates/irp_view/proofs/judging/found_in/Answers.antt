@@ -1,0 +1,10 @@
+-- What was found.
+use Rattle.std.proofs.Common.{refl, arith}
+use Rattle.irp_judge.specs.Judges.{seen}
+use Rattle.irp_view.proofs.Fed.{finds}
+use Rattle.irp_view.proofs.judging.found_in.Goals as goal
+
+pub returns : goal.returns
+returns c = λ text judged few.
+    (finds c.args.lines.now.reader (seen c.args.judge) c.args.kept text _ judged
+    (c.in_ok-finish.ensures text judged.transcript judged.read (omega (arith, few))) c.fed.ensures refl c.into_wrong.ensures refl)

@@ -1,0 +1,295 @@
+//! The text of an input, judged block after block. Of it a block is kept, and of what was judged the first entry that
+//! isn't legal.
+
+ghost use Rattle.std.specs.Prelude.{ℕ, ◌≡◌, ◌+◌, ◌<◌, ◌≤◌, ◌^◌, List, [], ◌∷◌, ◌++◌, length, Some, OnOk};
+ghost use Rattle.irp_types.specs.declared.entry.Entry.{Entry};
+ghost use Rattle.irp_judge.specs.Judges.{seen};
+ghost use Rattle.irp_judge.specs.Judging.{HasJudged};
+ghost use Rattle.irp_text.specs.Fed.{HasRead, IsInPlace, with_line};
+ghost use Rattle.irp_transcript.specs.Headers.{IsHeader};
+ghost use Rattle.irp_transcript.specs.Transcripts.{TranscriptValue, no_lines};
+ghost use Rattle.irp_listing.specs.Bytes.{Bytes};
+ghost use Rattle.irp_view.specs.Reading.{most_bytes};
+ghost use Rattle.irp_view.specs.Judging.{
+  AreJudged,
+  Concludes,
+  Ends,
+  EndsWith,
+  Fails,
+  IsHopeless,
+  IsKept,
+  IsSoFar,
+  IsStart,
+  JudgesBlock,
+  Starts,
+};
+
+use crate::input::{PIECE, take_block};
+use crate::lines::{Lines, before_more};
+use crate::reading::{MOST_BYTES, Unread};
+use irp_judge::{Judge, Wrong};
+use irp_text::Line;
+use irp_transcript::Header;
+use irp_types::Entry;
+use std::alloc::{AllocError, Global};
+use std::io::Read;
+
+/// What is kept of the lines that were judged.
+#[derive(Drop)]
+pub struct Kept {
+    /// How many word lines there were.
+    pub words: u64,
+    /// The first entry that isn't legal; where there is none, the last one.
+    pub entry: Option<Entry>,
+}
+
+/// What was found in a transcript.
+#[derive(Drop)]
+pub struct Found {
+    /// How many entries it has.
+    pub entries: u64,
+    /// How many word lines it has.
+    pub words: u64,
+    /// What is wrong with it, if anything is.
+    pub wrong: Option<Wrong>,
+    /// Then the entry that is wrong.
+    pub entry: Option<Entry>,
+}
+
+/// A transcript that was judged.
+#[derive(Drop)]
+pub struct Judged {
+    /// Its header, where it has lines.
+    pub header: Option<Header>,
+    /// What was found in it.
+    pub found: Found,
+}
+
+/// Has the judge judge an entry, and keeps the entry unless one before it is wrong.
+fn judge_entry(judge: &mut Judge, kept: &mut Kept, entry: Entry) -> Result<(), AllocError>
+    ensures header { (seen judge.new).header ≡ (seen judge.old).header }
+    ensures words { kept.new.words ≡ kept.old.words }
+    ensures judged { (history : List Entry) → HasJudged (seen judge.old) history
+        → IsKept history (seen judge.old).wrong kept.old.entry → length history + 1 < 2 ^ 64
+        → OnOk result (HasJudged (seen judge.new) (history ++ entry ∷ [])
+            × IsKept (history ++ entry ∷ []) (seen judge.new).wrong kept.new.entry) }
+{
+    let found = judge.wrong().is_some();
+    judge.feed(&entry)?;
+    if !found {
+        kept.entry = Some(entry);
+    }
+    Ok(())
+}
+
+/// Has the judge judge a line, if it is an entry, and keeps what is kept of lines.
+fn judge_line(judge: &mut Judge, kept: &mut Kept, line: Line) -> Result<(), AllocError>
+    ensures header { (seen judge.new).header ≡ (seen judge.old).header }
+    ensures judged { (before : TranscriptValue) → IsInPlace before line
+        → before.header ≡ Some (seen judge.old).header
+        → HasJudged (seen judge.old) before.entries → length before.entries + 1 < 2 ^ 64
+        → IsKept before.entries (seen judge.old).wrong kept.old.entry
+        → kept.old.words ≡ length before.words → length before.words + 1 < 2 ^ 64
+        → OnOk result (HasJudged (seen judge.new) (with_line before line).entries
+            × IsKept (with_line before line).entries (seen judge.new).wrong kept.new.entry
+            × (kept.new.words ≡ length (with_line before line).words)) }
+{
+    match line {
+        Line::Entry(entry) => judge_entry(judge, kept, entry),
+        Line::Word(_) => {
+            kept.words = kept.words.saturating_add(1);
+            Ok(())
+        }
+        Line::Header(_) => Ok(()),
+    }
+}
+
+/// Reads the lines that end in a block, and has the judge judge their entries.
+fn judge_block(
+    alloc: Global,
+    lines: &mut Lines,
+    judge: &mut Judge,
+    kept: &mut Kept,
+    block: &[u8],
+) -> Result<(), Unread>
+    ensures header { (seen judge.new).header ≡ (seen judge.old).header }
+    ensures judged { (text : List ℕ) → AreJudged lines.old.reader (seen judge.old) kept.old text
+        → length text + length block.now ≤ most_bytes
+        → JudgesBlock result lines.new.reader (seen judge.new) kept.new (text ++ block.now) }
+{
+    let mut rest = block;
+    while !rest.is_empty() {
+        let Some(taken) = lines.next(alloc, rest)? else {
+            return Ok(());
+        };
+        let (line, count) = taken;
+        match judge_line(judge, kept, line) {
+            Ok(()) => {}
+            Err(_) => return Err(Unread::NoMemory),
+        }
+        rest = &rest[count..];
+    }
+    Ok(())
+}
+
+/// Takes the rest of an input whose text isn't read to its end, and tells why it holds no transcript: where the rest
+/// can't be taken, or is too long, since the input failed.
+fn refuse<R: Read>(input: &mut R, buffer: &mut [u8], left: usize, unread: Unread) -> Unread
+    requires few { left ≤ most_bytes }
+    requires room { 0 < length buffer.old }
+    ensures { (old : Bytes) (text : List ℕ) → IsSoFar old (R.remaining input.old) left text
+        → IsHopeless unread text → Fails old (R.remaining input.new) result }
+{
+    let (mut left, mut unread) = (left, unread);
+    loop {
+        let count = match take_block(input, buffer, left) {
+            Ok(count) => count,
+            Err(failed) => return Unread::Input(failed),
+        };
+        if count == 0 {
+            return unread;
+        }
+        unread = before_more(unread, &buffer[..count]);
+        left -= count;
+    }
+}
+
+/// A text whose header was read.
+#[derive(Drop)]
+pub struct Start {
+    /// The header.
+    pub header: Header,
+    /// Where in the buffer what follows it begins.
+    pub from: usize,
+    /// Where in the buffer that ends.
+    pub to: usize,
+    /// How many bytes may follow in the input.
+    pub left: usize,
+}
+
+/// Reads the header of an input's text, of which nothing was read yet. None where the text has no lines.
+fn read_header<R: Read>(
+    alloc: Global,
+    input: &mut R,
+    buffer: &mut [u8],
+    lines: &mut Lines,
+) -> Result<Option<Start>, Unread>
+    requires room { 0 < length buffer.old }
+    requires fresh { HasRead lines.old.reader [] no_lines }
+    ensures start { IsStart (R.remaining input.old) (R.remaining input.new) result lines.new.reader
+        buffer.new }
+    ensures room { length buffer.new ≡ length buffer.old }
+{
+    let mut left = MOST_BYTES;
+    loop {
+        let to = match take_block(input, buffer, left) {
+            Ok(to) => to,
+            Err(failed) => return Err(Unread::Input(failed)),
+        };
+        if to == 0 {
+            return match lines.finish() {
+                Ok(()) => Ok(None),
+                Err(unread) => Err(unread),
+            };
+        }
+        left -= to;
+        let read = match lines.next(alloc, &buffer[..to]) {
+            Ok(read) => read,
+            Err(unread) => return Err(refuse(input, buffer, left, unread)),
+        };
+        let Some(taken) = read else {
+            continue;
+        };
+        let (line, from) = taken;
+        let Line::Header(header) = line else {
+            unreachable!();
+        };
+        return Ok(Some(Start {
+            header,
+            from,
+            to,
+            left,
+        }));
+    }
+}
+
+/// What was found in a text that was read to its end.
+fn found_in(lines: &Lines, judge: Judge, kept: Kept) -> Result<Found, Unread>
+    ensures { (text : List ℕ) → AreJudged lines.now.reader (seen judge.entry) kept text
+        → length text ≤ most_bytes → Concludes result text }
+{
+    lines.finish()?;
+    Ok(Found {
+        entries: judge.fed(),
+        words: kept.words,
+        wrong: judge.into_wrong(),
+        entry: kept.entry,
+    })
+}
+
+/// Judges what follows the header of a text.
+fn judge_rest<R: Read>(
+    alloc: Global,
+    input: &mut R,
+    buffer: &mut [u8],
+    lines: &mut Lines,
+    start: &Start,
+) -> Result<Found, Unread>
+    requires room { 0 < length buffer.old }
+    requires header { IsHeader start.now.header }
+    requires order { start.now.from ≤ start.now.to }
+    requires within { start.now.to ≤ length buffer.old }
+    requires few { start.now.left ≤ most_bytes }
+    ensures { (old : Bytes) → Starts old (R.remaining input.old) start.now lines.old.reader buffer.old
+        → Ends old (R.remaining input.new) result }
+{
+    let mut judge = Judge::new(alloc, &start.header);
+    let mut kept = Kept {
+        words: 0,
+        entry: None,
+    };
+    let (mut from, mut to, mut left) = (start.from, start.to, start.left);
+    loop {
+        if let Err(unread) = judge_block(alloc, lines, &mut judge, &mut kept, &buffer[from..to]) {
+            return Err(refuse(input, buffer, left, unread));
+        }
+        from = 0;
+        to = match take_block(input, buffer, left) {
+            Ok(count) => count,
+            Err(failed) => return Err(Unread::Input(failed)),
+        };
+        if to == 0 {
+            return found_in(lines, judge, kept);
+        }
+        left -= to;
+    }
+}
+
+/// Judges the transcript that the input holds, which is read up to its end: at most 1,073,741,825 bytes are taken, one
+/// more than the text may have. Of the text a block is kept, and the beginning of a line that ends in the next one.
+///
+/// # Errors
+///
+/// Those of `reading::transcript_of`.
+pub fn judge_input<R: Read>(alloc: Global, input: &mut R) -> Result<Judged, Unread>
+    ensures { EndsWith (R.remaining input.old) (R.remaining input.new) result }
+{
+    let mut buffer = [0u8; PIECE];
+    let mut lines = Lines::new(alloc);
+    let Some(start) = read_header(alloc, input, &mut buffer, &mut lines)? else {
+        return Ok(Judged {
+            header: None,
+            found: Found {
+                entries: 0,
+                words: 0,
+                wrong: None,
+                entry: None,
+            },
+        });
+    };
+    let found = judge_rest(alloc, input, &mut buffer, &mut lines, &start)?;
+    Ok(Judged {
+        header: Some(start.header),
+        found,
+    })
+}

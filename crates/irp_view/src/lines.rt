@@ -1,0 +1,113 @@
+//! The lines of a transcript's text that comes in blocks, and what was expected of the first that is refused.
+
+ghost use Rattle.std.specs.Prelude.{ℕ, ◌≡◌, ◌+◌, ◌<◌, ◌≤◌, ◌^◌, List, [], length, IfOk, IfSome};
+ghost use Rattle.irp_text.specs.Fed.{HasRead};
+ghost use Rattle.irp_transcript.specs.Transcripts.{TranscriptValue, no_lines};
+ghost use Rattle.irp_view.specs.Judging.{IsEnd, IsHopeless, Reads, unread_of};
+
+use crate::reading::Unread;
+use crate::refusal::{Before, Expected, expected_in};
+use irp_text::{Line, Reader};
+use irp_transcript_reader::ReadFault;
+use memchr::memchr;
+use std::alloc::Global;
+
+/// Reads a transcript's lines, and keeps what tells of the first that is refused what was expected there.
+#[derive(Drop)]
+pub struct Lines {
+    /// Reads the lines.
+    pub reader: Reader,
+    /// The beginning of a line that didn't end yet.
+    beginning: Vec<u8>,
+    /// What stands in the lines that ended.
+    before: Before,
+}
+
+/// Why a text isn't read where this was expected.
+fn unread_of(fault: ReadFault, expected: Expected) -> Unread
+    ensures { result ≡ unread_of fault expected }
+{
+    match fault {
+        ReadFault::Line(line) => Unread::Refused { line, expected },
+        ReadFault::NoMemory => Unread::NoMemory,
+    }
+}
+
+/// Why a text isn't read, where this block follows: a line that ends in it had its newline, and is too long.
+pub fn before_more(unread: Unread, block: &[u8]) -> Unread
+    ensures { (text : List ℕ) → IsHopeless unread text → IsHopeless result text }
+{
+    match unread {
+        Unread::Refused {
+            line,
+            expected: Expected::Newline,
+        } if memchr(b'\n', block).is_some() => Unread::Refused {
+            line,
+            expected: Expected::Shorter,
+        },
+        other => other,
+    }
+}
+
+impl Lines {
+    /// Those of a text of which nothing was read yet.
+    pub fn new(alloc: Global) -> Lines
+        ensures { HasRead result.reader [] no_lines }
+    {
+        Lines {
+            reader: Reader::new(alloc),
+            beginning: Vec::new(alloc),
+            before: Before {
+                seats: None,
+                words: false,
+            },
+        }
+    }
+
+    /// Keeps what stands in a line that ended.
+    fn pass(&mut self, line: &Line)
+        ensures { self.new.reader ≡ self.old.reader }
+    {
+        self.beginning.clear();
+        match line {
+            Line::Header(header) => self.before.seats = Some(header.seats),
+            Line::Word(_) => self.before.words = true,
+            Line::Entry(_) => {}
+        }
+    }
+
+    /// Reads on in a block, as `irp_text::Reader` does.
+    pub fn next(&mut self, alloc: Global, block: &[u8]) -> Result<Option<(Line, usize)>, Unread>
+        ensures within { IfOk result (λ read.
+            IfSome read (λ given. (0 < given.1) × (given.1 ≤ length block.now))) }
+        ensures reads { (text : List ℕ) (before : TranscriptValue) → HasRead self.old.reader text before
+            → length text + length block.now + 1 < 2 ^ 64
+            → Reads result self.new.reader text before block.now }
+    {
+        match self.reader.next(alloc, block) {
+            Ok(Some(taken)) => {
+                self.pass(&taken.0);
+                Ok(Some(taken))
+            }
+            Ok(None) => match self.beginning.extend_from_slice(block) {
+                Ok(()) => Ok(None),
+                Err(_) => Err(Unread::NoMemory),
+            },
+            Err(fault) => {
+                let expected = expected_in(alloc, self.before, self.beginning.as_slice(), block);
+                Err(unread_of(fault, expected))
+            }
+        }
+    }
+
+    /// The end of the text. `Refused` where its last line has no newline.
+    pub fn finish(&self) -> Result<(), Unread>
+        ensures { (text : List ℕ) (before : TranscriptValue) → HasRead self.now.reader text before
+            → length text < 2 ^ 64 → IsEnd result text before }
+    {
+        match self.reader.finish() {
+            Ok(()) => Ok(()),
+            Err(fault) => Err(unread_of(fault, Expected::Newline)),
+        }
+    }
+}
