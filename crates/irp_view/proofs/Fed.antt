@@ -203,9 +203,10 @@ same_place fixed history at other first second =
 not_within : (fixed : Fixed) (history : List Entry) (entry : Entry) (at : ℕ) → IsLegal fixed history → IsFirstIllegal fixed (history ++ entry ∷ []) at → length history ≤ at
 not_within fixed history entry at legal first =
     elim (cases_lt at (length history)) as (λ _. length history ≤ at) [
-      | inl low ↦ absurd (cc (((legal_verdict fixed history legal).illegal at).1
-          (subst (IsLegal fixed) (take-append-le at history (entry ∷ []) (omega (arith, low))) first.0,
-          λ more. first.1 (subst (IsLegal fixed) (sym (take-append-le (at + 1) history (entry ∷ []) (omega (arith, low)))) more))))
+      | inl low ↦ absurd (cc (((legal_verdict fixed history legal).illegal at).1 (
+        subst (IsLegal fixed) (take-append-le at history (entry ∷ []) (omega (arith, low))) first.0,
+        λ more. first.1 (subst (IsLegal fixed) (sym (take-append-le (at + 1) history (entry ∷ []) (omega (arith, low)))) more),
+      )))
       | inr high ↦ omega (arith, high)
     ]
 

@@ -72,7 +72,7 @@ fn judge_entry(judge: &mut Judge, kept: &mut Kept, entry: Entry) -> Result<(), A
     ensures judged { (history : List Entry) → HasJudged (seen judge.old) history
         → IsKept history (seen judge.old).wrong kept.old.entry → length history + 1 < 2 ^ 64
         → OnOk result (HasJudged (seen judge.new) (history ++ entry ∷ [])
-            × IsKept (history ++ entry ∷ []) (seen judge.new).wrong kept.new.entry) }
+        × IsKept (history ++ entry ∷ []) (seen judge.new).wrong kept.new.entry) }
 {
     let found = judge.wrong().is_some();
     judge.feed(&entry)?;
@@ -91,8 +91,8 @@ fn judge_line(judge: &mut Judge, kept: &mut Kept, line: Line) -> Result<(), Allo
         → IsKept before.entries (seen judge.old).wrong kept.old.entry
         → kept.old.words ≡ length before.words → length before.words + 1 < 2 ^ 64
         → OnOk result (HasJudged (seen judge.new) (with_line before line).entries
-            × IsKept (with_line before line).entries (seen judge.new).wrong kept.new.entry
-            × (kept.new.words ≡ length (with_line before line).words)) }
+        × IsKept (with_line before line).entries (seen judge.new).wrong kept.new.entry
+        × (kept.new.words ≡ length (with_line before line).words)) }
 {
     match line {
         Line::Entry(entry) => judge_entry(judge, kept, entry),

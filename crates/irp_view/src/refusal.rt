@@ -186,7 +186,8 @@ pub fn expected_in(alloc: Global, before: Before, beginning: &[u8], block: &[u8]
         return Expected::Shorter;
     }
     let mut line = Vec::new(alloc);
-    if line.extend_from_slice(beginning).is_err() || line.extend_from_slice(&block[..place]).is_err()
+    if line.extend_from_slice(beginning).is_err()
+        || line.extend_from_slice(&block[..place]).is_err()
     {
         return Expected::Fitting;
     }
