@@ -159,6 +159,8 @@ TEXT = json.dumps(schema, indent=1) + '\n'
 PLACE = os.path.join(os.path.dirname(os.path.realpath(__file__)), 'script.schema.json')
 
 if __name__ == '__main__':
+    if sys.argv[1:] not in ([], ['--check']):
+        sys.exit('usage: make_schema.py writes script.schema.json beside it; make_schema.py --check tells whether it is that')
     if '--check' in sys.argv[1:]:
         with open(PLACE, encoding='utf-8') as file:
             sys.exit(0 if file.read() == TEXT else 'schema/script.schema.json is not what make_schema.py writes')
