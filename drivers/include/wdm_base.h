@@ -79,13 +79,10 @@ typedef const GUID *LPCGUID;
 #define min(a, b) ((a) < (b) ? (a) : (b))
 #define max(a, b) ((a) > (b) ? (a) : (b))
 
-/* What a driver prints for its debugger is dropped. */
-static inline ULONG DbgPrint(PCSTR Format, ...) { (void)Format; return 0; }
-static inline ULONG DbgPrintEx(ULONG Component, ULONG Level, PCSTR Format, ...)
-{
-    (void)Component, (void)Level, (void)Format;
-    return 0;
-}
+/* What a driver prints for its debugger goes to standard error, whatever its level. */
+ULONG DbgPrint(PCSTR Format, ...);
+ULONG DbgPrintEx(ULONG Component, ULONG Level, PCSTR Format, ...);
+ULONG vDbgPrintEx(ULONG Component, ULONG Level, PCSTR Format, va_list List);
 #define KdPrint(x) ((void)DbgPrint x)
 #define KdPrintEx(x) ((void)DbgPrintEx x)
 #define DPFLTR_IHVDRIVER_ID 77
