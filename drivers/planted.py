@@ -64,7 +64,7 @@ FAULTS = [
            ["CancelRoutineSet (0x48)", "bus.c:", "by D0 (bus)", "set before at bus.c:"], refused="CancelRoutineSet"),
     sample("touched after its end", "bus.c", [(WRITE_DONE, "    BusComplete(Irp, STATUS_SUCCESS, length);\n"
                                                "    return Irp->IoStatus.Status;\n")],
-           ["Touched", "BusWrite", "D0 (bus)", "completed at bus.c:"]),
+           ["Touched", "bus.c:", " in BusWrite", "D0 (bus)", "completed at bus.c:"]),
     sample("routine forgets the mark", "filter.c", [(ROUTINE_MARKS, "")],
            ["Mark ", "FilterReadDone, completion routine of D2 (filter)", "doesn't mark"], verdict="illegal"),
     sample("STATUS_PENDING unmarked", "bus.c", [("    IoMarkIrpPending(Irp);\n    InsertTail", "    InsertTail")],
@@ -107,7 +107,7 @@ FAULTS = [
            [("    status = IoCallDriver(ext->Lower, Irp);\n    return STATUS_PENDING;",
              "    status = IoCallDriver(ext->Lower, Irp);\n    ext->Started = Irp->IoStatus.Status == 0;\n"
              "    return STATUS_PENDING;")],
-           ["Touched", "ToasterReadWrite", "D1 (toaster)"]),
+           ["Touched", "toaster.c:", " in ToasterReadWrite", "D1 (toaster)"]),
     sample("own packet that no routine keeps", "toaster.c", [(OWN, OWN_WRITE + OWN)],
            ["NotKept", "bus.c:", "allocated it at toaster.c:"]),
     sample("own packet with too few locations", "toaster.c", [(OWN, TOO_SHORT + OWN)],

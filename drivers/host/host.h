@@ -216,6 +216,7 @@ bool is_expected_refusal(const char *name);
 size_t expected_entries(void);
 void tell_expected(FILE *out);
 const char *function_name(const void *address);
+unsigned long place_in_program(const void *address);
 const char *major_name(int major);
 
 /* recording.c, writing.c */

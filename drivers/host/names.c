@@ -53,6 +53,13 @@ const char *function_name(const void *address)
     return "?";
 }
 
+/* Where the address lies in the program's file: what `addr2line` takes. */
+unsigned long place_in_program(const void *address)
+{
+    function_name(address);
+    return (unsigned long)((uintptr_t)address - base);
+}
+
 const char *major_name(int major)
 {
     static const char *const names[] = { "CREATE", "CREATE_NAMED_PIPE", "CLOSE", "READ", "WRITE", "QUERY_INFORMATION",

@@ -85,7 +85,9 @@ void protect(Packet *p)
 
 static void tell(Packet *p)
 {
-    Call *const calls = self.calls, here = { .name = function_name(p->touched_at) };
+    char where[200]; /* `run` has the line in place of the address */
+    snprintf(where, sizeof where, "+0x%lx in %s", place_in_program(p->touched_at), function_name(p->touched_at));
+    Call *const calls = self.calls, here = { .name = where };
     Frame *const frames = self.frames;
     p->touch_untold = false;
     self.calls = (Call *)&here; /* not the call that runs, and perhaps not the routine either */
