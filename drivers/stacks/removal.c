@@ -112,6 +112,8 @@ static NTSTATUS Pnp(PDEVICE_OBJECT DeviceObject, PIRP Irp)
     return status;
 }
 
+static KEVENT gave_back;
+
 /* Completes its packet, gives the lock back, and takes its time to return. */
 static NTSTATUS Write(PDEVICE_OBJECT DeviceObject, PIRP Irp)
 {
@@ -121,6 +123,7 @@ static NTSTATUS Write(PDEVICE_OBJECT DeviceObject, PIRP Irp)
         return Complete(Irp, status, 0);
     Complete(Irp, STATUS_SUCCESS, 0);
     IoReleaseRemoveLock(&ext->RemoveLock, Irp);
+    KeSetEvent(&gave_back, IO_NO_INCREMENT, FALSE);
     Pause(60);
     return STATUS_SUCCESS;
 }
@@ -178,8 +181,9 @@ int main(void)
         Start(&r[i], top, IRP_MJ_READ, 6);
     IoCancelIrp(r[1].Irp);
     WdmSend(top, IRP_MJ_PNP, IRP_MN_SURPRISE_REMOVAL, 0);
+    KeInitializeEvent(&gave_back, NotificationEvent, FALSE);
     pthread_create(&t, NULL, write_once, NULL);
-    Pause(30);
+    KeWaitForSingleObject(&gave_back, Executive, KernelMode, FALSE, NULL);
     WdmSend(top, IRP_MJ_PNP, IRP_MN_REMOVE_DEVICE, 0);
     for (int i = 0; i < 4; i++)
         Finish(&r[i]);
