@@ -2,7 +2,7 @@
    waits for the send. A thread of the driver waits for ever with nothing in flight. */
 #include "common.h"
 
-static KEVENT never;
+static KEVENT never, completed;
 
 static VOID Idle(PVOID Context)
 {
@@ -13,6 +13,7 @@ static NTSTATUS Read(PDEVICE_OBJECT DeviceObject, PIRP Irp)
 {
     UNREFERENCED_PARAMETER(DeviceObject);
     Complete(Irp, STATUS_SUCCESS, 1);
+    KeSetEvent(&completed, IO_NO_INCREMENT, FALSE);
     Pause(300);
     return STATUS_SUCCESS;
 }
@@ -24,6 +25,7 @@ NTSTATUS DriverEntry(PDRIVER_OBJECT DriverObject, PUNICODE_STRING RegistryPath)
     UNREFERENCED_PARAMETER(RegistryPath);
     DriverObject->MajorFunction[IRP_MJ_READ] = Read;
     KeInitializeEvent(&never, NotificationEvent, FALSE);
+    KeInitializeEvent(&completed, NotificationEvent, FALSE);
     PsCreateSystemThread(&thread, THREAD_ALL_ACCESS, NULL, NULL, NULL, Idle, &never);
     return IoCreateDevice(DriverObject, 0, NULL, FILE_DEVICE_UNKNOWN, 0, FALSE, &device);
 }
@@ -42,7 +44,7 @@ int main(void)
     pthread_t t;
     device = WdmLoadDriver("late", DriverEntry)->DeviceObject;
     pthread_create(&t, NULL, send, NULL);
-    Pause(100);
+    KeWaitForSingleObject(&completed, Executive, KernelMode, FALSE, NULL);
     Finish(&r);
     return WdmFinish();
 }
