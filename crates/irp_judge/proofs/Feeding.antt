@@ -19,7 +19,7 @@ use Rattle.irp_types.specs.declared.refusal.Refusal.{Refusal}
 use Rattle.irp_types.specs.declared.reply.Reply.{Reply}
 use Rattle.irp_types.specs.declared.reply.Reply.TheVariants.{Done, Device, Irp, Status as StatusIs, Previous, Cancelled, Seen as SeenAs, Refused}
 use Rattle.irp_types.proofs.LongerLists.{get_front, get_last}
-use Rattle.irp_difference.specs.Differences.{Differs}
+use Rattle.irp_judge.specs.Differences.{Differs}
 use Rattle.irp_judge.specs.Causes.{cause_of, cause_in}
 use Rattle.irp_judge.specs.Checked.{IsFirstIllegal, IsWrong}
 use Rattle.irp_judge.specs.Judging.{followed}

@@ -7,7 +7,7 @@ use Rattle.irp_types.specs.Standing.{StandingFacts}
 use Rattle.irp_types.specs.declared.entry.Entry.{Entry}
 use Rattle.irp_transcript.specs.Headers.{fixed_of}
 use Rattle.irp_transcript.specs.declared.header.Header.{Header}
-use Rattle.irp_difference.specs.Differences.{Differs}
+use Rattle.irp_judge.specs.Differences.{Differs}
 use Rattle.irp_judge.specs.Causes.{cause_in}
 use Rattle.irp_judge.specs.Checked.{IsFirstWrong, IsVerdict, verdict_of}
 use Rattle.irp_judge.specs.Judging.{JudgeValue, HasJudged, followed}

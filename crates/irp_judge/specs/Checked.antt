@@ -1,6 +1,6 @@
 -- Which transcripts are legal, and what is wrong with one that isn't.
 use Rattle.std.specs.Prelude.{⊤, ℕ, ◌≡◌, ◌+◌, false, List, [], ◌∷◌, ◌++◌, take, length, slice_get, Option, Some, None, ◌↔◌}
-use Rattle.irp_difference.specs.Differences.{Differs}
+use Rattle.irp_judge.specs.Differences.{Differs}
 use Rattle.irp_types.specs.State.{Fixed, StateValue, Tables}
 use Rattle.irp_types.specs.declared.asked.Asked.{Asked}
 use Rattle.irp_types.specs.Histories.{IsLegal, LeadsTo}
@@ -8,10 +8,10 @@ use Rattle.irp_types.specs.declared.entry.Entry.{Entry}
 use Rattle.irp_transcript.specs.Headers.{fixed_of}
 use Rattle.irp_transcript.specs.Transcripts.{TranscriptValue}
 use Rattle.irp_transcript.specs.declared.header.Header.{Header}
-use Rattle.irp_difference.specs.declared.difference.QuestionPart.{QuestionPart}
-use Rattle.irp_difference.specs.declared.difference.QuestionPart.TheVariants as part
-use Rattle.irp_difference.specs.declared.difference.Difference.{Difference}
-use Rattle.irp_difference.specs.declared.difference.Difference.TheVariants as kind
+use Rattle.irp_judge.specs.declared.difference.QuestionPart.{QuestionPart}
+use Rattle.irp_judge.specs.declared.difference.QuestionPart.TheVariants as part
+use Rattle.irp_judge.specs.declared.difference.Difference.{Difference}
+use Rattle.irp_judge.specs.declared.difference.Difference.TheVariants as kind
 use Rattle.irp_judge.specs.Answers.{is_answer_allowed}
 use Rattle.irp_judge.specs.Causes.{cause_in}
 use Rattle.irp_judge.specs.Recorded.{AreTold}

@@ -1,3 +1,4 @@
+pub mod Differences
 pub mod Recorded
 pub mod Replayed
 pub mod Answers

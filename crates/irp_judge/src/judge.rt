@@ -17,10 +17,10 @@ ghost use Rattle.irp_judge.specs.Looks.{looked};
 
 use crate::cause::Cause;
 use crate::causes::{cause_in, cause_of};
+use crate::comparing::first_difference;
 use crate::looks::shown_by;
 use crate::replaying::made_of;
 use crate::verdict::{Verdict, Wrong};
-use irp_difference::first_difference;
 use irp_manager::{ManagerState, MapKeep};
 use irp_transcript::Header;
 use irp_types::{Call, Entry, IrpRef, Refusal, Reply, history_goes_on, history_settles_states};

@@ -1,7 +1,7 @@
 //! What a judge answers.
 
 use crate::cause::Cause;
-use irp_difference::Difference;
+use crate::difference::Difference;
 use irp_types::Entry;
 
 /// Whether the sequential manager could have made a history.

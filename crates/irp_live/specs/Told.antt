@@ -5,11 +5,11 @@ use Rattle.irp_forms.specs.Names.{refusal_name}
 use Rattle.irp_types.specs.declared.refusal.Refusal.{Refusal}
 use Rattle.irp_types.specs.declared.reply.Reply.{Reply}
 use Rattle.irp_types.specs.declared.reply.Reply.TheVariants.{Refused}
-use Rattle.irp_difference.specs.declared.difference.Difference.{Difference}
-use Rattle.irp_difference.specs.declared.difference.Difference.TheVariants as kind
-use Rattle.irp_difference.specs.declared.difference.QuestionPart.TheVariants as part
-use Rattle.irp_difference.specs.declared.difference.ShownField.{ShownField}
-use Rattle.irp_difference.specs.declared.difference.ShownField.TheVariants as field
+use Rattle.irp_judge.specs.declared.difference.Difference.{Difference}
+use Rattle.irp_judge.specs.declared.difference.Difference.TheVariants as kind
+use Rattle.irp_judge.specs.declared.difference.QuestionPart.TheVariants as part
+use Rattle.irp_judge.specs.declared.difference.ShownField.{ShownField}
+use Rattle.irp_judge.specs.declared.difference.ShownField.TheVariants as field
 use Rattle.irp_judge.specs.declared.verdict.Wrong.{Wrong}
 use Rattle.irp_transcript_writer.specs.Json.{fields, natural, or_null}
 use Rattle.irp_transcript_writer.specs.Lines.{entry_json, reply_json}

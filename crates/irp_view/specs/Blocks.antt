@@ -3,8 +3,8 @@ use Rattle.std.specs.Prelude.{ℕ, ◌≡◌, ◌+◌, ◌<◌, ◌^◌, List, [
 use Rattle.std.specs.Fmt.{decimal}
 use Rattle.irp_types.specs.declared.entry.Entry.{Entry}
 use Rattle.irp_listing.specs.Lines.{line_of, row_of}
-use Rattle.irp_difference.specs.declared.difference.Difference.{Difference}
-use Rattle.irp_difference.specs.declared.difference.Difference.TheVariants as kind
+use Rattle.irp_judge.specs.declared.difference.Difference.{Difference}
+use Rattle.irp_judge.specs.declared.difference.Difference.TheVariants as kind
 use Rattle.irp_judge.specs.declared.cause.Cause.{Cause}
 use Rattle.irp_judge.specs.declared.verdict.Wrong.{Wrong}
 use Rattle.irp_view.specs.Parts.{part_text, value_text}

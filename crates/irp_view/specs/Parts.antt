@@ -3,13 +3,13 @@ use Rattle.std.specs.Prelude.{ℕ, ◌+◌, List, ◌++◌, codes, Bool, true, f
 use Rattle.std.specs.Fmt.{decimal}
 use Rattle.irp_types.specs.declared.entry.Entry.{Entry}
 use Rattle.irp_types.specs.declared.names.LockNo.{LockNo}
-use Rattle.irp_difference.specs.Differences.{place_of}
-use Rattle.irp_difference.specs.declared.difference.ShownField.{ShownField}
-use Rattle.irp_difference.specs.declared.difference.ShownField.TheVariants as field
-use Rattle.irp_difference.specs.declared.difference.QuestionPart.{QuestionPart}
-use Rattle.irp_difference.specs.declared.difference.QuestionPart.TheVariants as part
-use Rattle.irp_difference.specs.declared.difference.Difference.{Difference}
-use Rattle.irp_difference.specs.declared.difference.Difference.TheVariants as kind
+use Rattle.irp_judge.specs.Differences.{place_of}
+use Rattle.irp_judge.specs.declared.difference.ShownField.{ShownField}
+use Rattle.irp_judge.specs.declared.difference.ShownField.TheVariants as field
+use Rattle.irp_judge.specs.declared.difference.QuestionPart.{QuestionPart}
+use Rattle.irp_judge.specs.declared.difference.QuestionPart.TheVariants as part
+use Rattle.irp_judge.specs.declared.difference.Difference.{Difference}
+use Rattle.irp_judge.specs.declared.difference.Difference.TheVariants as kind
 
 -- the name of a field of what is shown
 abbrev pub field_name : ShownField → List ℕ

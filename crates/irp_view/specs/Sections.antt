@@ -1,9 +1,9 @@
 -- The sections of docs/RULES.md that are named.
 use Rattle.std.specs.Prelude.{ℕ, List, codes, Option, Some, None}
-use Rattle.irp_difference.specs.declared.difference.QuestionPart.{QuestionPart}
-use Rattle.irp_difference.specs.declared.difference.QuestionPart.TheVariants as part
-use Rattle.irp_difference.specs.declared.difference.Difference.{Difference}
-use Rattle.irp_difference.specs.declared.difference.Difference.TheVariants as kind
+use Rattle.irp_judge.specs.declared.difference.QuestionPart.{QuestionPart}
+use Rattle.irp_judge.specs.declared.difference.QuestionPart.TheVariants as part
+use Rattle.irp_judge.specs.declared.difference.Difference.{Difference}
+use Rattle.irp_judge.specs.declared.difference.Difference.TheVariants as kind
 use Rattle.irp_view.specs.declared.sections.Section.{Section}
 use Rattle.irp_view.specs.declared.sections.Section.TheVariants as section
 

@@ -1,7 +1,7 @@
 //! What closures are shown, field by field (docs/RULES.md, What each closure is shown).
 
 ghost use Rattle.std.specs.Prelude.{◌≡◌, ◌+◌};
-ghost use Rattle.irp_difference.specs.Differences.{place_of};
+ghost use Rattle.irp_judge.specs.Differences.{place_of};
 ghost use Rattle.irp_view.specs.Parts.{field_name};
 
 use irp_judge::ShownField;
