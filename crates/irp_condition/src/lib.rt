@@ -1,0 +1,20 @@
+//! Conditions on what an order of a script's steps leaves: read from a text, and whether they hold.
+#![tactic(auto)]
+
+mod condition;
+mod facts;
+mod fault;
+mod holding;
+mod parsing;
+mod scope;
+mod tokens;
+mod value;
+mod words;
+
+pub use condition::{Comparison, Condition, Fact, Term};
+pub use facts::{Facts, Packet, Told};
+pub use fault::{Expected, Fault, Unread};
+pub use holding::holds;
+pub use parsing::read_condition;
+pub use scope::Scope;
+pub use value::{Answer, Value};
