@@ -1,0 +1,47 @@
+-- The exit statuses, and the lines for standard error.
+use Rattle.std.specs.Prelude.{ℕ, List, codes, Bool, true, false, Option, Some}
+use Rattle.irp_words.specs.declared.ending.Ending.{Ending}
+use Rattle.irp_words.specs.declared.ending.Ending.TheVariants.{
+  Done,
+  Faulty,
+  Differs,
+  NoMemory,
+  OtherWords,
+  NoFile,
+  Failed,
+}
+use Rattle.irp_words.specs.declared.orders.Unasked.{Unasked}
+use Rattle.irp_words.specs.declared.orders.Unasked.TheVariants as unasked
+
+-- other words, or want of memory for them
+abbrev pub of_words : Unasked → Ending
+of_words unasked.Usage = OtherWords
+of_words unasked.NoMemory = NoMemory
+
+-- the exit status of an ending
+abbrev pub status_of : Ending → ℕ
+status_of Done = 0
+status_of Faulty = 1
+status_of Differs = 1
+status_of NoMemory = 3
+status_of OtherWords = 4
+status_of NoFile = 5
+status_of Failed = 5
+
+-- whether an ending has a line for standard error
+abbrev pub has_line : Ending → Bool
+has_line Done = false
+has_line Faulty = false
+has_line ending = true
+
+-- the line for standard error, without its newline
+abbrev pub complaint_of : Ending → Option (List ℕ)
+complaint_of Done = Some (codes "")
+complaint_of Faulty = Some (codes "")
+complaint_of Differs =
+    Some (codes "irp_words: a fault of this program: the JSON isn't read as what the words say")
+complaint_of NoMemory = Some (codes "irp_words: out of memory")
+complaint_of OtherWords =
+    Some (codes "irp_words: usage: irp_words json, words or faults, then [FILE]; see irp_words --help")
+complaint_of NoFile = Some (codes "irp_words: the file can't be opened")
+complaint_of Failed = Some (codes "irp_words: input or output failed")

@@ -1,0 +1,66 @@
+//! What the command line asks for.
+
+use crate::orders::{Asked, Order, Task, Unasked};
+use clap::error::ErrorKind;
+use clap::{Arg, ArgMatches, Command, Error};
+use std::alloc::{AllocError, Global};
+use std::convert::AsStr;
+
+/// A subcommand that takes the name of a file, which may be left out.
+fn subcommand<'a>(alloc: Global, name: &'a str) -> Result<Command<'a>, AllocError> {
+    Command::new(alloc, name).arg(Arg::new(alloc, "file"))
+}
+
+/// The command line that the program takes.
+fn command<'a>(alloc: Global) -> Result<Command<'a>, AllocError> {
+    let command = Command::new(alloc, "irp_words").subcommand_required(true);
+    let command = command.subcommand(subcommand(alloc, "json")?)?;
+    let command = command.subcommand(subcommand(alloc, "words")?)?;
+    command.subcommand(subcommand(alloc, "faults")?)
+}
+
+/// What a subcommand asks for.
+fn task_of(name: &str) -> Result<Task, Unasked> {
+    match name {
+        "json" => Ok(Task::Json),
+        "words" => Ok(Task::Words),
+        "faults" => Ok(Task::Faults),
+        _ => Err(Unasked::Usage),
+    }
+}
+
+/// What clap's matches ask for.
+fn asked_of<'a>(matches: &ArgMatches<'a>) -> Result<Asked<'a>, Unasked> {
+    let Some((name, inner)) = matches.subcommand() else {
+        return Err(Unasked::Usage);
+    };
+    Ok(Asked {
+        order: Order::Read(task_of(name)?),
+        file: inner.get_str("file"),
+    })
+}
+
+/// What words that clap doesn't match ask for.
+fn asked_by<'a>(error: &Error) -> Result<Asked<'a>, Unasked> {
+    match error.kind() {
+        ErrorKind::DisplayHelp => Ok(Asked {
+            order: Order::Help,
+            file: None,
+        }),
+        ErrorKind::OutOfMemory => Err(Unasked::NoMemory),
+        _ => Err(Unasked::Usage),
+    }
+}
+
+/// What the words ask for; the first is the program's name (this project's own command line).
+///
+/// # Errors
+///
+/// `Usage` for words that the program doesn't take; `NoMemory` where memory ran out.
+pub fn asked<'a, S: AsStr>(alloc: Global, words: &'a [S]) -> Result<Asked<'a>, Unasked> {
+    let command = command(alloc)?;
+    match command.try_get_matches_from(words) {
+        Ok(matches) => asked_of(&matches),
+        Err(error) => asked_by(&error),
+    }
+}

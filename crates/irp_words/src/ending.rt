@@ -1,0 +1,89 @@
+//! How the program ends.
+
+ghost use Rattle.std.specs.Prelude.{◌≡◌};
+ghost use Rattle.std.specs.Process.{exit_status};
+ghost use Rattle.irp_words.specs.Ending.{has_line, of_words, status_of};
+
+use crate::orders::Unasked;
+use std::fmt;
+use std::process::ExitCode;
+
+/// How the program ends: its exit status, and the line for standard error (this project's own command line).
+#[derive(Clone, Copy)]
+pub enum Ending {
+    /// All was done, and nothing is wrong: status 0, and no line.
+    Done,
+    /// The script has faults, which were told: status 1, and no line.
+    Faulty,
+    /// The JSON isn't read as what the words say; no text is known that brings this about: status 1.
+    Differs,
+    /// Memory ran out: status 3.
+    NoMemory,
+    /// The words are none that the program takes: status 4.
+    OtherWords,
+    /// The file can't be opened: status 5.
+    NoFile,
+    /// The input or the output failed: status 5.
+    Failed,
+}
+
+impl Ending {
+    /// The exit status.
+    pub fn status(self) -> u8
+        ensures { result ≡ status_of self }
+    {
+        match self {
+            Ending::Done => 0,
+            Ending::Faulty | Ending::Differs => 1,
+            Ending::NoMemory => 3,
+            Ending::OtherWords => 4,
+            Ending::NoFile | Ending::Failed => 5,
+        }
+    }
+
+    /// The exit status, as a process ends with it.
+    pub fn code(self) -> ExitCode
+        ensures { exit_status result ≡ status_of self }
+    {
+        ExitCode::from(self.status())
+    }
+
+    /// Whether there is a line for standard error.
+    pub fn has_line(self) -> bool
+        ensures { result ≡ has_line self }
+    {
+        !matches!(self, Ending::Done | Ending::Faulty)
+    }
+}
+
+/// The line for standard error, without its newline; no text where there is none.
+impl fmt::Display for Ending {
+    ghost use Rattle.irp_words.specs.Ending.{complaint_of};
+
+    ghost output = { λ ending. complaint_of ending };
+
+    fn fmt<W: fmt::Write>(&self, f: &mut fmt::Formatter<W>) -> fmt::Result {
+        f.write_str(match self {
+            Ending::Done | Ending::Faulty => "",
+            Ending::Differs =>
+                "irp_words: a fault of this program: the JSON isn't read as what the words say",
+            Ending::NoMemory => "irp_words: out of memory",
+            Ending::OtherWords => {
+                "irp_words: usage: irp_words json, words or faults, then [FILE]; see irp_words --help"
+            }
+            Ending::NoFile => "irp_words: the file can't be opened",
+            Ending::Failed => "irp_words: input or output failed",
+        })
+    }
+}
+
+impl From<Unasked> for Ending {
+    ghost from_gives = { λ given ending. ending ≡ of_words given };
+
+    fn from(given: Unasked) -> Ending {
+        match given {
+            Unasked::Usage => Ending::OtherWords,
+            Unasked::NoMemory => Ending::NoMemory,
+        }
+    }
+}

@@ -1,0 +1,37 @@
+//! The help.
+
+use crate::ending::Ending;
+use irp_transcript_writer::{Out, put_all};
+
+/// What the help says.
+const HELP: &str = "\
+irp_words takes scripts as people write them: a step a line, with names, comments and hexadecimal numbers.
+
+Usage: irp_words json [FILE]
+       irp_words words [FILE]
+       irp_words faults [FILE]
+
+The text is read from FILE, or from standard input.
+
+  json    prints the JSON of a script in words, which irpx run reads
+  words   prints a script of JSON in words, with made-up names
+  faults  prints what is wrong with a script in words, or with one of JSON, each with its line and column
+
+  --help  prints this
+
+Exit status: 0 done (faults: nothing is wrong), 1 the script has faults, 3 out of memory, 4 other words, 5 input or
+output failed. What is wrong is printed on standard error, but by faults on standard output.
+
+Examples:
+  irp_words json my.words | irpx run
+  irp_words words examples/recipes/a_cancel_race.script > race.words
+  irp_words faults my.words
+";
+
+/// Writes the help.
+pub fn help<O: Out>(output: &mut O) -> Ending {
+    match put_all(output, HELP.as_bytes()) {
+        Ok(()) => Ending::Done,
+        Err(_) => Ending::Failed,
+    }
+}

@@ -1,0 +1,50 @@
+//! What the words ask for, and why they may not be taken.
+
+use std::alloc::AllocError;
+
+/// What is done with a text (this project's own command line).
+#[derive(Clone, Copy)]
+pub enum Task {
+    /// The JSON of a script in words.
+    Json,
+    /// The words of a script in JSON.
+    Words,
+    /// What is wrong with a script, in words or in JSON.
+    Faults,
+}
+
+/// What the program is asked to do.
+#[derive(Clone, Copy)]
+pub enum Order {
+    /// Write the help.
+    Help,
+    /// Read a text and do this with it.
+    Read(Task),
+}
+
+/// An order, and the file to read where it isn't standard input.
+#[derive(Clone, Copy)]
+pub struct Asked<'a> {
+    pub order: Order,
+    pub file: Option<&'a str>,
+}
+
+/// Why words ask for nothing.
+#[derive(Clone, Copy)]
+pub enum Unasked {
+    /// The words are none that the program takes.
+    Usage,
+    /// Memory ran out.
+    NoMemory,
+}
+
+impl From<AllocError> for Unasked {
+    ghost use Rattle.std.specs.Prelude.{◌≡◌};
+    ghost use Rattle.irp_words.specs.declared.orders.Unasked.TheVariants.{NoMemory};
+
+    ghost from_gives = { λ _ unasked. unasked ≡ NoMemory };
+
+    fn from(_error: AllocError) -> Unasked {
+        Unasked::NoMemory
+    }
+}

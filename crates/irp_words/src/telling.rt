@@ -1,0 +1,111 @@
+//! What is told of a text.
+
+ghost use Rattle.irp_words.specs.Telling.{Fails, Prints};
+
+use crate::ending::Ending;
+use irp_grammar::{Untold, WordsFault, json, words};
+use irp_script_reader::{ScriptFault, read_script};
+use irp_transcript_writer::{Out, put_all};
+use std::alloc::{AllocError, Global};
+
+/// Puts out what is wrong with a script.
+fn put_faults<E: Out>(errors: &mut E, lines: &str) -> Ending
+    ensures { Fails result }
+{
+    match put_all(errors, lines.as_bytes()) {
+        Ok(()) => Ending::Faulty,
+        Err(_) => Ending::Failed,
+    }
+}
+
+/// The lines that tell faults.
+fn lines_of(alloc: Global, faults: &[WordsFault<'_>]) -> Result<String, AllocError> {
+    let mut text = String::new(alloc);
+    for fault in faults {
+        write!(text, "{}\n", fault)?;
+    }
+    Ok(text)
+}
+
+/// Tells why there is no JSON of a text.
+fn tell_untold<E: Out>(alloc: Global, errors: &mut E, untold: Untold<'_>) -> Ending
+    ensures { Fails result }
+{
+    match untold {
+        Untold::Faults(faults) => match lines_of(alloc, faults.as_slice()) {
+            Ok(lines) => put_faults(errors, lines.as_str()),
+            Err(_) => Ending::NoMemory,
+        },
+        Untold::Differs => Ending::Differs,
+        Untold::NoMemory => Ending::NoMemory,
+    }
+}
+
+/// Tells why a script of JSON isn't read.
+fn tell_refused<E: Out>(alloc: Global, errors: &mut E, fault: ScriptFault) -> Ending {
+    match fault {
+        ScriptFault::Refused(refusal) => match format!(in alloc;
+            "irp_words: script refused: {refusal}\n"
+        ) {
+            Ok(line) => put_faults(errors, line.as_str()),
+            Err(_) => Ending::NoMemory,
+        },
+        ScriptFault::NoMemory => Ending::NoMemory,
+    }
+}
+
+/// Writes the JSON of a text in words; what is wrong with it goes to `errors`.
+pub fn tell_json<O: Out, E: Out>(
+    alloc: Global,
+    output: &mut O,
+    errors: &mut E,
+    text: &[u8],
+) -> Ending
+    ensures { Prints result (O.gone output.old) (O.gone output.new) }
+{
+    match json(alloc, text) {
+        Ok(told) => match put_all(output, told.text.as_bytes()) {
+            Ok(()) => Ending::Done,
+            Err(_) => Ending::Failed,
+        },
+        Err(untold) => tell_untold(alloc, errors, untold),
+    }
+}
+
+/// Writes the words of a script of JSON; why it isn't read goes to `errors`.
+pub fn tell_words<O: Out, E: Out>(
+    alloc: Global,
+    output: &mut O,
+    errors: &mut E,
+    text: &[u8],
+) -> Ending {
+    match words(alloc, text) {
+        Ok(text) => match put_all(output, text.as_bytes()) {
+            Ok(()) => Ending::Done,
+            Err(_) => Ending::Failed,
+        },
+        Err(fault) => tell_refused(alloc, errors, fault),
+    }
+}
+
+/// Whether a text is meant as JSON: it begins with a brace or a bracket.
+fn is_json(text: &[u8]) -> bool {
+    match text.iter().find(|byte| !byte.is_ascii_whitespace()) {
+        Some(byte) => *byte == b'{' || *byte == b'[',
+        None => false,
+    }
+}
+
+/// Tells what is wrong with a text, in words or in JSON.
+pub fn tell_faults<O: Out>(alloc: Global, output: &mut O, text: &[u8]) -> Ending {
+    if is_json(text) {
+        return match read_script(alloc, text) {
+            Ok(_) => Ending::Done,
+            Err(fault) => tell_refused(alloc, output, fault),
+        };
+    }
+    match json(alloc, text) {
+        Ok(_) => Ending::Done,
+        Err(untold) => tell_untold(alloc, output, untold),
+    }
+}

@@ -1,0 +1,104 @@
+#!/bin/bash
+# Tries `irp_words`: each script of the examples goes into words and back as the same script, and runs to the same
+# transcript; scripts that were written in words are the scripts of JSON beside them; and each wrong text of
+# wrong_words.txt is told with its faults, line by line. IRP_WORDS names the program; without it, it is the one that
+# bin/irp_words runs. IRPX names irpx. Each failure has a line of its own. Ends with status 0 where all was as expected,
+# else with 1.
+set -u
+cd "$(dirname "$(readlink -f "$0")")" || exit 1
+irp_words=${IRP_WORDS:-$(../bin/program irp_words quick)} || exit 1
+irpx=${IRPX:-$(../bin/program irpx quick)} || exit 1
+kept=$(mktemp -d) || exit 1
+trap 'rm -rf "$kept"' EXIT
+tried=0
+wrong=0
+
+# Counts one check. Its name is $1; the rest is a command that succeeds where the check is met.
+meets() {
+    local name=$1
+    shift
+    tried=$((tried + 1))
+    "$@" && return
+    wrong=$((wrong + 1))
+    echo "failed: words: $name"
+}
+
+# Prints the script of standard input in one form, so that equal scripts are equal texts: words that the program makes.
+form_of() {
+    "$irp_words" words
+}
+
+# A script's size, in steps, above which a program that was built without proofs is too slow for it.
+most=100000
+[ "${irp_words%.unproved}" = "$irp_words" ] || most=10000
+
+# Each script there and back.
+for script in ../examples/*/*.script; do
+    [ "$(wc -c <"$script")" -le "$most" ] || continue
+    "$irp_words" words "$script" >"$kept/words"
+    meets "$script: words, status" [ $? -eq 0 ]
+    "$irp_words" json <"$kept/words" >"$kept/json"
+    meets "$script: JSON, status" [ $? -eq 0 ]
+    form_of <"$kept/json" | cmp -s - "$kept/words"
+    meets "$script: the same words" [ $? -eq 0 ]
+    if command -v python3 >/dev/null; then
+        meets "$script: the same script" python3 -c 'import json, sys
+sys.exit(json.load(open(sys.argv[1])) != json.load(open(sys.argv[2])))' "$script" "$kept/json"
+    fi
+    [ -e "${script%.script}.transcript" ] || continue
+    "$irpx" run <"$kept/json" >"$kept/transcript"
+    meets "$script: the same transcript" cmp -s "${script%.script}.transcript" "$kept/transcript"
+done
+
+# Scripts that were written in words.
+for words in ../examples/*/*.words; do
+    "$irp_words" json "$words" >"$kept/json"
+    meets "$words: status" [ $? -eq 0 ]
+    form_of <"$kept/json" >"$kept/one"
+    form_of <"${words%.words}.script" >"$kept/other"
+    meets "$words: the script beside it" cmp -s "$kept/one" "$kept/other"
+done
+
+# Tries the wrong text in $kept/text: its name is $1, and its faults are in $kept/expected.
+try_wrong() {
+    "$irp_words" json <"$kept/text" >"$kept/output" 2>"$kept/told"
+    meets "$1: status" [ $? -eq 1 ]
+    meets "$1: no output" [ ! -s "$kept/output" ]
+    if ! cmp -s "$kept/expected" "$kept/told"; then
+        diff "$kept/expected" "$kept/told" | sed "s/^/failed: words: $1: /"
+    fi
+    meets "$1: what is told" cmp -s "$kept/expected" "$kept/told"
+    "$irp_words" faults <"$kept/text" >"$kept/told"
+    meets "$1: faults, status" [ $? -eq 1 ]
+    meets "$1: faults" cmp -s "$kept/expected" "$kept/told"
+}
+
+# Wrong texts: a name behind '# ', lines behind '|', faults behind '>'.
+name=
+while IFS= read -r line; do
+    case $line in
+    '# '*)
+        [ -z "$name" ] || [ ! -s "$kept/text" ] || try_wrong "$name"
+        name=${line#??}
+        : >"$kept/text"
+        : >"$kept/expected"
+        ;;
+    '|'*) printf '%s\n' "${line#?}" >>"$kept/text" ;;
+    '>'*) printf '%s\n' "${line#?}" >>"$kept/expected" ;;
+    esac
+done < <(cat wrong_words.txt && echo '# end')
+printf 'steps # \xff\n' >"$kept/text"
+echo 'the text; expected UTF-8' >"$kept/expected"
+try_wrong 'a text that is not UTF-8'
+head -c 1048577 /dev/zero | tr '\0' ' ' >"$kept/text"
+echo 'the text; expected a text of at most 1,048,576 bytes' >"$kept/expected"
+try_wrong 'a text that is too long'
+
+# An empty text is a script without anything, with one seat and one remove lock.
+"$irp_words" json </dev/null >"$kept/json"
+echo '{"form":1,"seats":1,"locks":1,"completions":[],"cancels":[],"dispatches":[],"drivers":[],"setup":[],"steps":[]}' |
+    form_of | cmp -s - <(form_of <"$kept/json")
+meets 'an empty text' [ $? -eq 0 ]
+
+echo "tried: $tried $wrong words"
+[ "$wrong" -eq 0 ]
