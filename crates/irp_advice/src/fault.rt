@@ -259,7 +259,10 @@ fn in_front(alloc: Global, first: Fault, more: Vec<Fault>) -> Result<Vec<Fault>,
 fn all_faults(alloc: Global, text: &[u8], refusal: ScriptRefusal) -> Result<Vec<Fault>, AllocError>
     ensures { IfOk result (λ found. BeginsWith refusal found.items) }
 {
-    let tokens = tokens_of(alloc, text)?;
+    let tokens = match refusal {
+        ScriptRefusal::TooLong => Vec::new(alloc),
+        _ => tokens_of(alloc, text)?,
+    };
     let whole = Node {
         text,
         tokens: tokens.as_slice(),
