@@ -1,5 +1,5 @@
 -- What follows of a text whose first fault is told.
-use Rattle.std.specs.Prelude.{◌≡◌, ℕ, List, [], ◌∷◌, Err}
+use Rattle.std.specs.Prelude.{ℕ, List, [], ◌∷◌, Err}
 use Rattle.std.proofs.Common.{sym, subst}
 use Rattle.irp_advice.specs.Advice.{BeginsWith, IsAdviceOn}
 use Rattle.irp_advice.specs.declared.fault.Fault.{Fault}
