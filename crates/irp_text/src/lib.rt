@@ -10,6 +10,7 @@
 //! entry (`entry_is_read`). Nothing is promised of a guess. Any other line is read as `irp_transcript_reader` does.
 #![tactic(auto)]
 
+mod ahead;
 mod fits;
 mod guess;
 mod guessed_calls;
@@ -22,6 +23,7 @@ mod reader;
 mod round_trip;
 mod scan;
 
+pub use ahead::{Ahead, count_threads};
 pub use irp_script_reader::{
     Behaviour, CompletionRoutine, Fault, Named, Script, ScriptFault, ScriptForm, ScriptParts,
     ScriptRefusal, Section, Step, StepAct, read_script,
