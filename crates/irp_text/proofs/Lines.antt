@@ -1,6 +1,5 @@
 -- The text of the form of an entry that fits is a line that is read as the entry.
-use Rattle.std.proofs.Common.{◌≡◌, ℕ, ◌≤◌, List, [], ◌++◌, length, refl, sym, subst, ap, ◌∙◌}
-use Rattle.serde_json.specs.Written.{compact_text}
+use Rattle.std.proofs.Common.{ℕ, ◌≤◌, List, length, refl, sym, subst}
 use Rattle.irp_types.specs.declared.entry.Entry.{Entry}
 use Rattle.irp_transcript_reader.specs.Reading.{IsEntryLine, most_bytes}
 use Rattle.irp_transcript_writer.specs.Lines.{entry_json}
