@@ -1,0 +1,22 @@
+//! Scripts in words: a text with a step on each line, and the JSON of the script that it says.
+#![tactic(auto)]
+
+mod act;
+mod cursor;
+mod law;
+mod members;
+mod names;
+mod numbers;
+mod read;
+mod said;
+mod same;
+mod step_line;
+mod steps;
+mod to_json;
+mod to_words;
+mod wanted;
+
+pub use cursor::WordsFault;
+pub use law::{Told, Untold, json};
+pub use to_words::words;
+pub use wanted::Wanted;

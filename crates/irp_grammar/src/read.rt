@@ -1,0 +1,189 @@
+//! A text, read line by line.
+
+use crate::cursor::{Cursor, Stop, Word, WordsFault};
+use crate::members::count_of;
+use crate::names::{Kind, number_below};
+use crate::numbers::begins_with_digit;
+use crate::said::{MOST_FAULTS, Said};
+use crate::wanted::Wanted;
+use irp_script_reader::Section;
+use std::alloc::{AllocError, Global};
+
+/// The most bytes of a text.
+const MOST_BYTES: usize = 1_048_576;
+
+/// The section whose heading a word is.
+fn heading(text: &str) -> Option<Section> {
+    Some(match text {
+        "completions" => Section::Completions,
+        "cancels" => Section::Cancels,
+        "dispatches" => Section::Dispatches,
+        "drivers" => Section::Drivers,
+        "setup" => Section::Setup,
+        "steps" => Section::Steps,
+        _ => return None,
+    })
+}
+
+/// Whether a character parts words.
+fn is_blank(character: char) -> bool {
+    matches!(character, ' ' | '\t' | '\r')
+}
+
+/// Puts the words of a line in place of those that are there, and gives the column behind them.
+fn split<'a>(line: &'a str, words: &mut Vec<Word<'a>>) -> Result<usize, AllocError> {
+    words.clear();
+    let said = match line.split_once('#') {
+        Some((said, _)) => said,
+        None => line,
+    };
+    let mut column = 1usize;
+    let mut end = 1usize;
+    for text in said.split(is_blank) {
+        if !text.is_empty() {
+            words.push(Word { text, column })?;
+            end = column.saturating_add(text.len());
+        }
+        column = column.saturating_add(text.len()).saturating_add(1);
+    }
+    Ok(end)
+}
+
+impl<'a> Said<'a> {
+    /// The count that the rest of a line is: a number, or as many names as there are.
+    fn take_count(&mut self, kind: Kind, words: &mut Cursor<'a, '_>) -> Result<u32, Stop<'a>> {
+        let Some(first) = words.peek() else {
+            return Err(words.fault(Wanted::Count));
+        };
+        if begins_with_digit(first) {
+            return words.take_as(Wanted::Number32, number_below);
+        }
+        let count = count_of(words.left());
+        for number in 0..count {
+            if let Some(text) = words.peek() {
+                self.name(kind, text, number, words)?;
+                words.pass();
+            }
+        }
+        Ok(count)
+    }
+
+    /// Takes a line above the sections.
+    fn take_top(&mut self, words: &mut Cursor<'a, '_>) -> Result<(), Stop<'a>> {
+        let begin = *words;
+        let section = words.take_as(Wanted::Heading, |text| match text {
+            "form" => Some(Section::Top),
+            "seats" => Some(Section::Seats),
+            "locks" => Some(Section::Locks),
+            "slots" => Some(Section::Slots),
+            _ => None,
+        })?;
+        if self.is_placed(section) {
+            return Err(begin.fault(Wanted::Once));
+        }
+        self.place(section, &begin)?;
+        match section {
+            Section::Seats => self.seats = Some(self.take_count(Kind::Seat, words)?),
+            Section::Locks => self.locks = Some(self.take_count(Kind::Lock, words)?),
+            Section::Slots => self.slots = Some(self.take_count(Kind::Slot, words)?),
+            _ => {
+                self.form = Some(words.take_as(Wanted::Form, |text| match text {
+                    "1" => Some(1),
+                    "2" => Some(2),
+                    _ => None,
+                })?)
+            }
+        }
+        Ok(())
+    }
+
+    /// Takes a line that is no heading, in the section that a heading above began.
+    fn take_member(
+        &mut self,
+        alloc: Global,
+        section: Section,
+        words: &mut Cursor<'a, '_>,
+    ) -> Result<(), Stop<'a>> {
+        match section {
+            Section::Completions => self.take_completion(words)?,
+            Section::Cancels => self.take_cancel(words)?,
+            Section::Dispatches => self.take_dispatch(words)?,
+            Section::Drivers => self.take_driver(alloc, words)?,
+            Section::Setup | Section::Steps => self.take_step(section, words)?,
+            _ => self.take_top(words)?,
+        }
+        words.ended()
+    }
+
+    /// Takes a line, in the section that a heading above began. It gives the section in which the next line is.
+    fn take_line(
+        &mut self,
+        alloc: Global,
+        section: Section,
+        words: &mut Cursor<'a, '_>,
+    ) -> Result<Section, Stop<'a>> {
+        let Some(first) = words.peek() else {
+            return Ok(section);
+        };
+        if let Some(next) = heading(first) {
+            words.pass();
+            words.ended()?;
+            return Ok(next);
+        }
+        self.take_member(alloc, section, words)?;
+        Ok(section)
+    }
+
+    /// Takes a line, and notes its fault where it has one.
+    fn take(
+        &mut self,
+        alloc: Global,
+        section: Section,
+        words: &mut Cursor<'a, '_>,
+    ) -> Result<Section, AllocError> {
+        match self.take_line(alloc, section, words) {
+            Ok(next) => Ok(next),
+            Err(Stop::Fault(fault)) => {
+                self.note(alloc, fault)?;
+                Ok(section)
+            }
+            Err(Stop::NoMemory) => Err(AllocError),
+        }
+    }
+
+    /// Takes the lines of a text, up to the tenth fault.
+    fn take_lines(&mut self, alloc: Global, text: &'a str) -> Result<(), AllocError> {
+        let mut section = Section::Top;
+        let mut words = Vec::new(alloc);
+        let mut number = 0usize;
+        for line in text.split('\n') {
+            number = number.saturating_add(1);
+            let end = split(line, &mut words)?;
+            let mut cursor = Cursor::new(words.as_slice(), number, end);
+            section = self.take(alloc, section, &mut cursor)?;
+            if self.faults.len() >= MOST_FAULTS {
+                return Ok(());
+            }
+        }
+        Ok(())
+    }
+}
+
+/// What the lines of a text say, and what is wrong with them: at most ten faults, in the order of the lines, one of a
+/// line.
+pub fn read_lines<'a>(alloc: Global, bytes: &'a [u8]) -> Result<Said<'a>, AllocError> {
+    let mut said = Said::new(alloc);
+    if bytes.len() > MOST_BYTES {
+        said.faults.push(WordsFault::of_text(Wanted::Shorter))?;
+        return Ok(said);
+    }
+    match str::from_utf8(bytes) {
+        Ok(text) => said.take_lines(alloc, text)?,
+        Err(_) => said.faults.push(WordsFault::of_text(Wanted::Utf8))?,
+    }
+    if said.form == Some(1) && said.slots.is_some() {
+        let fault = said.fault_at(Section::Slots, 0, Wanted::FormTwo);
+        said.faults.push(fault)?;
+    }
+    Ok(said)
+}

@@ -1,0 +1,203 @@
+//! What the lines of a text say, as far as they were read.
+
+use crate::cursor::{Cursor, Stop, WordsFault};
+use crate::names::{Kind, Name, Names, is_name};
+use crate::step_line::StepLine;
+use crate::wanted::{StepFault, Wanted, hint};
+use irp_script_reader::{CompletionRoutine, ScriptRefusal, Section, StepAct};
+use irp_types::{CancelAnswer, DispatchId, Known, Plan, Row, Rule};
+use std::alloc::{AllocError, Global};
+
+/// How many faults of a text are told at most.
+pub const MOST_FAULTS: usize = 10;
+
+/// Where a member of a list stands in the text.
+#[derive(Clone, Copy)]
+pub struct Place<'a> {
+    pub section: Section,
+    pub line: usize,
+    pub column: usize,
+    pub word: Option<&'a str>,
+}
+
+/// What the lines of a text say.
+#[derive(Drop)]
+pub struct Said<'a> {
+    pub form: Option<u32>,
+    pub seats: Option<u32>,
+    pub locks: Option<u32>,
+    pub slots: Option<u32>,
+    pub completions: Vec<CompletionRoutine>,
+    pub cancels: Vec<CancelAnswer>,
+    pub dispatches: Vec<Plan>,
+    pub drivers: Vec<Row<(u8, DispatchId)>>,
+    pub setup: Vec<StepLine>,
+    pub steps: Vec<StepLine>,
+    pub names: Names<'a>,
+    /// How many devices its steps create.
+    pub devices: u32,
+    /// How many completion routines of each rule it has.
+    pub counts: Known,
+    pub places: Vec<Place<'a>>,
+    pub faults: Vec<WordsFault<'a>>,
+}
+
+impl<'a> Said<'a> {
+    /// Nothing said.
+    pub fn new(alloc: Global) -> Said<'a> {
+        Said {
+            form: None,
+            seats: None,
+            locks: None,
+            slots: None,
+            completions: Vec::new(alloc),
+            cancels: Vec::new(alloc),
+            dispatches: Vec::new(alloc),
+            drivers: Vec::new(alloc),
+            setup: Vec::new(alloc),
+            steps: Vec::new(alloc),
+            names: Names::new(alloc),
+            devices: 0,
+            counts: Known::NONE,
+            places: Vec::new(alloc),
+            faults: Vec::new(alloc),
+        }
+    }
+
+    /// The form: as the text says; else 2 where it has slots, and 1 where it has none.
+    pub fn form_number(&self) -> u32 {
+        match (self.form, self.slots) {
+            (Some(form), _) => form,
+            (None, Some(_)) => 2,
+            (None, None) => 1,
+        }
+    }
+
+    /// Notes that a member of a section begins here.
+    pub fn place(&mut self, section: Section, words: &Cursor<'a, '_>) -> Result<(), AllocError> {
+        Ok(
+            self.places.push(Place {
+                section,
+                line: words.line(),
+                column: words.column(),
+                word: words.peek(),
+            })?,
+        )
+    }
+
+    /// Whether the section has a line.
+    pub fn is_placed(&self, section: Section) -> bool {
+        self.places.iter().any(|place| place.section == section)
+    }
+
+    /// The number of this kind that the next word is.
+    pub fn number(&self, kind: Kind, words: &mut Cursor<'a, '_>) -> Result<u32, Stop<'a>> {
+        words.take_as(Wanted::Of(kind), |text| self.names.number(kind, text))
+    }
+
+    /// Gives a name to a number.
+    pub fn name(
+        &mut self,
+        kind: Kind,
+        text: &'a str,
+        number: u32,
+        words: &Cursor<'a, '_>,
+    ) -> Result<(), Stop<'a>> {
+        self.name_routine(kind, text, Rule::Watch, number, words)
+    }
+
+    /// Gives a name to a number, of a completion routine within a rule.
+    pub fn name_routine(
+        &mut self,
+        kind: Kind,
+        text: &'a str,
+        rule: Rule,
+        number: u32,
+        words: &Cursor<'a, '_>,
+    ) -> Result<(), Stop<'a>> {
+        if !is_name(text) {
+            return Err(words.fault(Wanted::Name));
+        }
+        if self.names.has(kind, text) {
+            return Err(words.fault(Wanted::NewName(kind)));
+        }
+        self.names.give(Name {
+            kind,
+            text,
+            number,
+            rule,
+        })?;
+        Ok(())
+    }
+
+    /// Notes a fault, and what may be meant.
+    pub fn note(&mut self, alloc: Global, fault: WordsFault<'a>) -> Result<(), AllocError> {
+        let found = match fault.word {
+            Some(word) => hint(alloc, word, fault.wanted, &self.names)?,
+            None => None,
+        };
+        Ok(
+            self.faults.push(WordsFault {
+                hint: found,
+                ..fault
+            })?,
+        )
+    }
+
+    /// The fault that the script is refused so.
+    pub fn refused(&self, refusal: ScriptRefusal) -> WordsFault<'a> {
+        let ScriptRefusal::At { section, index, .. } = refusal else {
+            return WordsFault::of_text(Wanted::Script(refusal));
+        };
+        let wanted = match self.step_fault(section, index) {
+            Some(fault) => Wanted::Step(refusal, fault),
+            None => Wanted::Script(refusal),
+        };
+        self.fault_at(section, index, wanted)
+    }
+
+    /// The fault that a member of a section isn't what was wanted.
+    pub fn fault_at(&self, section: Section, index: usize, wanted: Wanted) -> WordsFault<'a> {
+        match self.place_of(section, index) {
+            Some(place) => WordsFault {
+                line: place.line,
+                column: place.column,
+                word: place.word,
+                wanted,
+                hint: None,
+            },
+            None => WordsFault::of_text(wanted),
+        }
+    }
+
+    /// Why the step of a section with this index isn't taken; none where it isn't one that this tells of.
+    fn step_fault(&self, section: Section, index: usize) -> Option<StepFault> {
+        let line = match section {
+            Section::Setup => self.setup.get(index)?,
+            Section::Steps => self.steps.get(index)?,
+            _ => return None,
+        };
+        let act = line.step().act;
+        if line.seat >= self.seats.unwrap_or(1) {
+            return Some(StepFault::Seat);
+        }
+        if section == Section::Setup && !act.suits_setup() {
+            return Some(StepFault::Setup);
+        }
+        match act {
+            _ if self.form_number() == 1 => Some(StepFault::Form),
+            StepAct::Hand(_) => Some(StepFault::Hand),
+            StepAct::Publish { .. } | StepAct::Withdraw { .. } => Some(StepFault::Slot),
+            _ => None,
+        }
+    }
+
+    /// Where the member of a section with this index stands.
+    fn place_of(&self, section: Section, index: usize) -> Option<Place<'a>> {
+        self.places
+            .iter()
+            .copied()
+            .filter(|place| place.section == section)
+            .nth(index)
+    }
+}

@@ -1,0 +1,269 @@
+//! Steps, each by its line, and a stack of devices in one line.
+
+use crate::act::{Act, Key};
+use crate::cursor::{Cursor, Stop};
+use crate::members::{byte_in, take_major, take_number, take_setting, take_status};
+use crate::names::{Kind, is_label, number_below};
+use crate::numbers::{begins_with_digit, minor_named, number_in};
+use crate::said::Said;
+use crate::step_line::{StepLine, Values};
+use crate::wanted::Wanted;
+use irp_script_reader::{Named, Section};
+use irp_types::{CancelId, DeviceId, DriverId, IrpRef, LockNo, Party};
+
+/// The packet that a word names by its slot, a point and its use number.
+fn use_in(text: &str) -> Option<IrpRef> {
+    let (slot, use_no) = text.split_once('.')?;
+    Some(IrpRef {
+        slot: number_below(slot)? as usize,
+        use_no: number_in(use_no)?,
+    })
+}
+
+/// A packet as a word names it.
+#[derive(Clone, Copy)]
+enum Packet<'a> {
+    Label(&'a str),
+    Irp(IrpRef),
+}
+
+/// The packet that a word names.
+fn packet_in<'a>(text: &'a str) -> Option<Packet<'a>> {
+    if is_label(text) {
+        return Some(Packet::Label(text));
+    }
+    match use_in(text) {
+        Some(irp) => Some(Packet::Irp(irp)),
+        None => None,
+    }
+}
+
+/// The label that a word is.
+fn label_in<'a>(text: &'a str) -> Option<&'a str> {
+    is_label(text).then_some(text)
+}
+
+/// The word of a location.
+fn word_in(text: &str) -> Option<u64> {
+    if begins_with_digit(text) {
+        number_in(text)
+    } else {
+        minor_named(text)
+    }
+}
+
+impl<'a> Said<'a> {
+    /// The packet that the next word names.
+    fn take_packet(&mut self, words: &mut Cursor<'a, '_>) -> Result<Named, Stop<'a>> {
+        match words.take_as(Wanted::Packet, packet_in)? {
+            Packet::Label(label) => Ok(Named::Label(self.names.label(label)?)),
+            Packet::Irp(irp) => Ok(Named::Irp(irp)),
+        }
+    }
+
+    /// The party that the next word is.
+    fn take_party(&self, words: &mut Cursor<'a, '_>) -> Result<Party, Stop<'a>> {
+        words.take_as(Wanted::Party, |text| match text {
+            "o" | "originator" => Some(Party::Originator),
+            device => self
+                .names
+                .number(Kind::Device, device)
+                .map(|number| Party::Device(DeviceId(number))),
+        })
+    }
+
+    /// The cancel routine that the next word is, or none.
+    fn take_cancel_id(&self, words: &mut Cursor<'a, '_>) -> Result<Option<CancelId>, Stop<'a>> {
+        if words.takes("none") {
+            return Ok(None);
+        }
+        let number = words.take_as(Wanted::Cancel, |text| {
+            self.names.number(Kind::Cancel, text)
+        })?;
+        Ok(Some(CancelId(number)))
+    }
+
+    /// Takes the value of a key that has a number below 2^32 or a name.
+    fn take_numbered(
+        &self,
+        key: Key,
+        values: &mut Values,
+        words: &mut Cursor<'a, '_>,
+    ) -> Result<(), Stop<'a>> {
+        match key {
+            Key::Driver => values.driver = DriverId(self.number(Kind::Driver, words)?),
+            Key::Lock => values.lock = LockNo(self.number(Kind::Lock, words)?),
+            Key::To => values.to = DeviceId(self.number(Kind::Device, words)?),
+            Key::Slot => values.slot = self.number(Kind::Slot, words)?,
+            Key::ToSeat => values.seat = self.number(Kind::Seat, words)?,
+            Key::Tag => values.tag = words.take_as(Wanted::Number32, number_below)?,
+            _ => values.device = DeviceId(self.number(Kind::Device, words)?),
+        }
+        Ok(())
+    }
+
+    /// Takes the value of a key.
+    fn take_value(
+        &mut self,
+        key: Key,
+        values: &mut Values,
+        words: &mut Cursor<'a, '_>,
+    ) -> Result<(), Stop<'a>> {
+        match key {
+            Key::Size => values.size = words.take_as(Wanted::Number8, byte_in)?,
+            Key::As => {
+                let label = words.take_as(Wanted::Label, label_in)?;
+                values.label = self.names.label(label)?;
+            }
+            Key::Irp => values.packet = self.take_packet(words)?,
+            Key::By => values.party = self.take_party(words)?,
+            Key::Major => values.major = take_major(words)?,
+            Key::Word => values.word = words.take_as(Wanted::Minor, word_in)?,
+            Key::Status => values.status = take_status(words)?,
+            Key::Set => values.setting = take_setting(self, words)?,
+            Key::Information => values.information = take_number(words)?,
+            Key::Cancel => values.cancel = self.take_cancel_id(words)?,
+            other => self.take_numbered(other, values, words)?,
+        }
+        Ok(())
+    }
+
+    /// Takes the keys of a step with their values, in any order.
+    fn take_values(&mut self, act: Act, words: &mut Cursor<'a, '_>) -> Result<Values, Stop<'a>> {
+        let mut values = Values::NONE;
+        let mut taken = [false; 4];
+        for _ in act.keys() {
+            let key = words.take_as(Wanted::Key(act), |text| key_of(act, text, &taken))?;
+            mark(act, key, &mut taken);
+            self.take_value(key, &mut values, words)?;
+        }
+        Ok(values)
+    }
+
+    /// Takes a step.
+    fn add_step(&mut self, section: Section, step: StepLine) -> Result<(), Stop<'a>> {
+        if step.act == Act::CreateDevice {
+            self.devices = self.devices.saturating_add(1);
+        }
+        match section {
+            Section::Setup => self.setup.push(step)?,
+            _ => self.steps.push(step)?,
+        }
+        Ok(())
+    }
+
+    /// Gives the device that the next step creates a name, where the next word is `as`.
+    fn take_device_name(&mut self, words: &mut Cursor<'a, '_>) -> Result<(), Stop<'a>> {
+        if !words.takes("as") {
+            return Ok(());
+        }
+        let Some(text) = words.peek() else {
+            return Err(words.fault(Wanted::Name));
+        };
+        let number = self.devices;
+        self.name(Kind::Device, text, number, words)?;
+        words.pass();
+        Ok(())
+    }
+
+    /// Takes the line of a stack: from the bottom up the drivers of its devices, each perhaps with a name, behind the lock
+    /// that it and those above it have. It stands for the steps that create the devices, and those that attach each to
+    /// the one below it.
+    fn take_stack(
+        &mut self,
+        section: Section,
+        seat: u32,
+        words: &mut Cursor<'a, '_>,
+    ) -> Result<(), Stop<'a>> {
+        let begin = *words;
+        let bottom = self.devices;
+        self.take_stack_devices(section, seat, words)?;
+        let mut values = Values::NONE;
+        for device in bottom..self.devices {
+            if device > bottom {
+                values.device = DeviceId(device);
+                values.to = DeviceId(device - 1);
+                let step = StepLine {
+                    seat,
+                    act: Act::Attach,
+                    values,
+                };
+                self.place(section, &begin)?;
+                self.add_step(section, step)?;
+            }
+        }
+        Ok(())
+    }
+
+    /// Takes the locks and the drivers of a stack.
+    fn take_stack_devices(
+        &mut self,
+        section: Section,
+        seat: u32,
+        words: &mut Cursor<'a, '_>,
+    ) -> Result<(), Stop<'a>> {
+        let mut values = Values::NONE;
+        for at in 0..words.left() {
+            if at > 0 {
+                self.place(section, words)?;
+            }
+            if words.takes("lock") {
+                values.lock = LockNo(self.number(Kind::Lock, words)?);
+            } else if at == 0 {
+                return Err(words.fault(Wanted::StackLock));
+            }
+            values.driver = DriverId(self.number(Kind::Driver, words)?);
+            self.take_device_name(words)?;
+            let step = StepLine {
+                seat,
+                act: Act::CreateDevice,
+                values,
+            };
+            self.add_step(section, step)?;
+            if words.left() == 0 {
+                return Ok(());
+            }
+        }
+        Err(words.fault(Wanted::StackLock))
+    }
+
+    /// Takes the line of a step of this section.
+    pub fn take_step(
+        &mut self,
+        section: Section,
+        words: &mut Cursor<'a, '_>,
+    ) -> Result<(), Stop<'a>> {
+        self.place(section, words)?;
+        let mut seat = 0;
+        if words.takes("seat") {
+            seat = self.number(Kind::Seat, words)?;
+        }
+        if words.takes("stack") {
+            return self.take_stack(section, seat, words);
+        }
+        let act = words.take_as(Wanted::Act, Act::named)?;
+        let values = self.take_values(act, words)?;
+        if act == Act::CreateDevice {
+            self.take_device_name(words)?;
+        }
+        self.add_step(section, StepLine { seat, act, values })
+    }
+}
+
+/// The key of a step that a word names, and that wasn't taken.
+fn key_of(act: Act, text: &str, taken: &[bool]) -> Option<Key> {
+    let place = act.keys().iter().position(|key| key.word() == text)?;
+    match (act.keys().get(place), taken.get(place)) {
+        (Some(key), Some(false)) => Some(*key),
+        _ => None,
+    }
+}
+
+/// Marks a key as taken.
+fn mark(act: Act, key: Key, taken: &mut [bool]) {
+    if let Some(place) = act.keys().iter().position(|other| *other == key) {
+        if let Some(flag) = taken.get_mut(place) {
+            *flag = true;
+        }
+    }
+}
