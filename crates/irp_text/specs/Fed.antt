@@ -1,5 +1,5 @@
 -- What a reader keeps of a text that it is fed block after block, and what it gives.
-use Rattle.std.specs.Prelude.{⊤, ℕ, ◌≡◌, ◌==◌, ◌≤◌, ◌<◌, List, [], ◌∷◌, ◌++◌, length, take, Bool, true, false, is_some, Option, Some, None, Result, Ok, Err}
+use Rattle.std.specs.Prelude.{⊤, ℕ, ◌≡◌, ◌==◌, ◌≤◌, ◌<◌, ◌+◌, ◌&&◌, nat_lt, List, [], ◌∷◌, ◌++◌, length, take, Bool, true, false, is_some, Option, Some, None, Result, Ok, Err}
 use Rattle.std.specs.Option.{option_map}
 use Rattle.irp_forms.specs.declared.unread.Unread.{Unread}
 use Rattle.irp_forms.specs.declared.unread.Unread.TheVariants as unread
@@ -46,9 +46,18 @@ pub record HasTaken (reader : LineReader) (before : TranscriptValue) : Type 0 wh
 -- what it gives for the next line, behind this transcript: what the line is, unless it is refused, or memory ran out
 abbrev pub Given : Result Line Unread → LineReader → TranscriptValue → List ℕ → Type 0
 Given (Ok given) reader before line =
-    IsInPlace before given × Takes before line (with_line before given) × HasTaken reader (with_line before given)
+    IsInPlace before given × Takes before line (with_line before given)
+    × HasTaken reader (with_line before given)
 Given (Err unread.Form) reader before line = Refuses before line
 Given (Err unread.NoMemory) reader before line = ⊤
+
+-- another entry may stand there: before the word lines, and where there are not too many
+abbrev pub has_room : LineReader → Bool
+has_room reader = reader.before_words && nat_lt reader.entries most_entries
+
+-- with one entry more
+abbrev pub with_one_more : LineReader → LineReader
+with_one_more reader = record reader { entries = reader.entries + 1 }
 
 -- whether an entry was counted, by whether one may stand
 abbrev pub Counts : Result (Unit {0}) Unread → Bool → Type 0
@@ -80,7 +89,8 @@ pub record HasRead (reader : Reader) (text : List ℕ) (before : TranscriptValue
 -- what it makes of one more block, behind this text and this transcript: it gives the next line, and with how many bytes
 -- of the block that ends; or none, where the block ends before the line does. Or the line is refused, whatever follows
 -- the block; or memory ran out
-abbrev pub Gives : Result (Option (Line × ℕ)) ReadFault → Reader → List ℕ → TranscriptValue → List ℕ → Type 0
+abbrev pub Gives : Result (Option (Line × ℕ)) ReadFault → Reader → List ℕ → TranscriptValue
+    → List ℕ → Type 0
 Gives (Ok None) reader text before block = HasRead reader (text ++ block) before
 Gives (Ok (Some (line, count))) reader text before block =
     (0 < count) × (count ≤ length block) × IsInPlace before line

@@ -1,6 +1,6 @@
 -- Which transcripts are read again as they were written. Most conditions are the ranges of the numbers' types, which
 -- every value in a program keeps; the others are a packet's slot below 2 to the 32nd, and what a reader takes.
-use Rattle.std.specs.Prelude.{◌≡◌, ◌<◌, ◌≤◌, ◌^◌, Bool, true, false, IfSome, length, Option, None, ⊤}
+use Rattle.std.specs.Prelude.{ℕ, ◌≡◌, List, ◌<◌, ◌≤◌, ◌^◌, Bool, true, false, IfSome, length, Option, None, ⊤}
 use Rattle.std.specs.List.{All}
 use Rattle.serde_json.specs.Data.{Data}
 use Rattle.serde_json.specs.Written.{compact_text}
@@ -162,6 +162,10 @@ pub record WordFits (line : WordLine) : Type 0 where
   pub step : line.step < 2 ^ 32
   pub act : ActFits line.act
   pub reply : WordReplyFits line.reply
+
+-- the line, without its newline, is written of the entry
+abbrev pub IsWritten : List ℕ → Entry → Type 0
+IsWritten line entry = line ≡ compact_text (entry_json entry)
 
 -- the line of this form isn't longer than a reader takes
 abbrev pub IsShort : Data → Type 0

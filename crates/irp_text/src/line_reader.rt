@@ -1,15 +1,16 @@
 //! Lines of a transcript, each read as it comes. Source: this project's own format (docs/FORMATS.md).
 
-ghost use Rattle.std.specs.Prelude.{◌≡◌, ◌+◌, ◌&&◌, nat_lt, IsSome, OnOk, Some};
+ghost use Rattle.std.specs.Prelude.{◌≡◌, IsSome, OnOk, Some};
 ghost use Rattle.irp_transcript.specs.Transcripts.{TranscriptValue, no_lines};
-ghost use Rattle.irp_transcript_reader.specs.Reading.{most_entries, so_far};
-ghost use Rattle.irp_text.specs.Fed.{Counts, Given, HasTaken, bare_of};
+ghost use Rattle.irp_transcript_reader.specs.Reading.{so_far};
+ghost use Rattle.irp_text.specs.Fed.{Counts, Given, HasTaken, bare_of, has_room, with_one_more};
 
+use crate::ahead::Known;
 use crate::line::Line;
 use crate::read::ByGuess;
 use irp_forms::Unread;
 use irp_transcript::Header;
-use irp_transcript_reader::{Reading, TakeLine};
+use irp_transcript_reader::Reading;
 use irp_types::limits::MOST_ENTRIES;
 use irp_types::{Entry, Row};
 use std::alloc::Global;
@@ -68,8 +69,8 @@ impl LineReader {
 
     /// Counts an entry, where one may stand.
     fn count_entry(&mut self) -> Result<(), Unread>
-        ensures room { Counts result (self.old.before_words && nat_lt self.old.entries most_entries) }
-        ensures counted { OnOk result (self.new ≡ record self.old { entries = self.old.entries + 1 }) }
+        ensures room { Counts result (has_room self.old) }
+        ensures counted { OnOk result (self.new ≡ with_one_more self.old) }
     {
         if !self.before_words || self.entries >= MOST_ENTRIES {
             return Err(Unread::Form);
@@ -78,17 +79,23 @@ impl LineReader {
         Ok(())
     }
 
-    /// Takes the next line, without its newline, and gives it.
+    /// Takes the next line, without its newline, and gives it. What was read of it before is a help, if it is so.
     ///
     /// # Errors
     ///
     /// `Unread::Form` where the line is refused; `Unread::NoMemory` where memory ran out.
-    pub fn take(&mut self, alloc: Global, line: &[u8]) -> Result<Line, Unread>
+    pub fn take(
+        &mut self,
+        alloc: Global,
+        line: &[u8],
+        known: Option<Known<'_>>,
+    ) -> Result<Line, Unread>
         ensures { (before : TranscriptValue) → HasTaken self.old before
             → Given result self.new before line.now }
     {
         let is_header = self.alone.header.is_none();
-        self.guesses.take_line(alloc, &mut self.alone, line)?;
+        self.guesses
+            .take_known(alloc, &mut self.alone, line, known)?;
         if is_header {
             return Ok(Line::Header(give_header(alloc, &mut self.alone)));
         }

@@ -4,6 +4,7 @@ use Rattle.irp_words.specs.declared.ending.Ending.{Ending}
 use Rattle.irp_words.specs.declared.ending.Ending.TheVariants.{
   Done,
   Faulty,
+  Warned,
   Differs,
   NoMemory,
   OtherWords,
@@ -23,6 +24,7 @@ abbrev pub status_of : Ending → ℕ
 status_of Done = 0
 status_of Faulty = 1
 status_of Differs = 1
+status_of Warned = 2
 status_of NoMemory = 3
 status_of OtherWords = 4
 status_of NoFile = 5
@@ -32,12 +34,14 @@ status_of Failed = 5
 abbrev pub has_line : Ending → Bool
 has_line Done = false
 has_line Faulty = false
+has_line Warned = false
 has_line ending = true
 
 -- the line for standard error, without its newline
 abbrev pub complaint_of : Ending → Option (List ℕ)
 complaint_of Done = Some (codes "")
 complaint_of Faulty = Some (codes "")
+complaint_of Warned = Some (codes "")
 complaint_of Differs =
     Some (codes "irp_words: a fault of this program: the JSON isn't read as what the words say")
 complaint_of NoMemory = Some (codes "irp_words: out of memory")

@@ -2,7 +2,7 @@
 
 use crate::orders::{Asked, Order, Task, Unasked};
 use clap::error::ErrorKind;
-use clap::{Arg, ArgMatches, Command, Error};
+use clap::{Arg, ArgAction, ArgMatches, Command, Error};
 use std::alloc::{AllocError, Global};
 use std::convert::AsStr;
 
@@ -16,15 +16,20 @@ fn command<'a>(alloc: Global) -> Result<Command<'a>, AllocError> {
     let command = Command::new(alloc, "irp_words").subcommand_required(true);
     let command = command.subcommand(subcommand(alloc, "json")?)?;
     let command = command.subcommand(subcommand(alloc, "words")?)?;
-    command.subcommand(subcommand(alloc, "faults")?)
+    let strict = Arg::new(alloc, "strict")
+        .long("strict")
+        .action(ArgAction::SetTrue);
+    command.subcommand(subcommand(alloc, "faults")?.arg(strict)?)
 }
 
 /// What a subcommand asks for.
-fn task_of(name: &str) -> Result<Task, Unasked> {
+fn task_of(name: &str, matches: &ArgMatches<'_>) -> Result<Task, Unasked> {
     match name {
         "json" => Ok(Task::Json),
         "words" => Ok(Task::Words),
-        "faults" => Ok(Task::Faults),
+        "faults" => Ok(Task::Faults {
+            strict: matches.get_flag("strict"),
+        }),
         _ => Err(Unasked::Usage),
     }
 }
@@ -35,7 +40,7 @@ fn asked_of<'a>(matches: &ArgMatches<'a>) -> Result<Asked<'a>, Unasked> {
         return Err(Unasked::Usage);
     };
     Ok(Asked {
-        order: Order::Read(task_of(name)?),
+        order: Order::Read(task_of(name, inner)?),
         file: inner.get_str("file"),
     })
 }

@@ -15,6 +15,8 @@ pub enum Ending {
     Done,
     /// The script has faults, which were told: status 1, and no line.
     Faulty,
+    /// The script has no faults, and what is hardly meant was told, where that was to count: status 2, and no line.
+    Warned,
     /// The JSON isn't read as what the words say; no text is known that brings this about: status 1.
     Differs,
     /// Memory ran out: status 3.
@@ -35,6 +37,7 @@ impl Ending {
         match self {
             Ending::Done => 0,
             Ending::Faulty | Ending::Differs => 1,
+            Ending::Warned => 2,
             Ending::NoMemory => 3,
             Ending::OtherWords => 4,
             Ending::NoFile | Ending::Failed => 5,
@@ -52,7 +55,7 @@ impl Ending {
     pub fn has_line(self) -> bool
         ensures { result ≡ has_line self }
     {
-        !matches!(self, Ending::Done | Ending::Faulty)
+        !matches!(self, Ending::Done | Ending::Faulty | Ending::Warned)
     }
 }
 
@@ -64,7 +67,7 @@ impl fmt::Display for Ending {
 
     fn fmt<W: fmt::Write>(&self, f: &mut fmt::Formatter<W>) -> fmt::Result {
         f.write_str(match self {
-            Ending::Done | Ending::Faulty => "",
+            Ending::Done | Ending::Faulty | Ending::Warned => "",
             Ending::Differs =>
                 "irp_words: a fault of this program: the JSON isn't read as what the words say",
             Ending::NoMemory => "irp_words: out of memory",

@@ -9,18 +9,21 @@ irp_words takes scripts as people write them: a step a line, with names, comment
 
 Usage: irp_words json [FILE]
        irp_words words [FILE]
-       irp_words faults [FILE]
+       irp_words faults [--strict] [FILE]
 
 The text is read from FILE, or from standard input.
 
   json    prints the JSON of a script in words, which irpx run reads
   words   prints a script of JSON in words, with made-up names
-  faults  prints what is wrong with a script in words, or with one of JSON, each with its line and column
+  faults  prints what is wrong with a script in words, or with one of JSON, each with its line and column; where
+          nothing is wrong with one of JSON, warnings of what is hardly meant
 
-  --help  prints this
+  --strict  ends with status 2 where there is a warning
+  --help    prints this
 
-Exit status: 0 done (faults: nothing is wrong), 1 the script has faults, 3 out of memory, 4 other words, 5 input or
-output failed. What is wrong is printed on standard error, but by faults on standard output.
+Exit status: 0 done (faults: nothing is wrong), 1 the script has faults, 2 faults --strict: there is a warning, 3 out of
+memory, 4 other words, 5 input or output failed. What is wrong is printed on standard error, but by faults on standard
+output.
 
 Examples:
   irp_words json my.words | irpx run

@@ -38,7 +38,7 @@ fn run<R: Read + Drop, O: Out, E: Out>(
     match task {
         Task::Json => telling::tell_json(alloc, output, errors, text.as_slice()),
         Task::Words => telling::tell_words(alloc, output, errors, text.as_slice()),
-        Task::Faults => telling::tell_faults(alloc, output, text.as_slice()),
+        Task::Faults { strict } => telling::tell_faults(alloc, output, strict, text.as_slice()),
     }
 }
 

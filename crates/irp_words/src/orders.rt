@@ -9,8 +9,8 @@ pub enum Task {
     Json,
     /// The words of a script in JSON.
     Words,
-    /// What is wrong with a script, in words or in JSON.
-    Faults,
+    /// What is wrong with a script, in words or in JSON, and whether what is hardly meant counts as wrong.
+    Faults { strict: bool },
 }
 
 /// What the program is asked to do.

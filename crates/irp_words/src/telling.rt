@@ -3,6 +3,7 @@
 ghost use Rattle.irp_words.specs.Telling.{Fails, Prints};
 
 use crate::ending::Ending;
+use irp_advice::{Fault, Warning, faults, warnings};
 use irp_grammar::{Untold, WordsFault, json, words};
 use irp_script_reader::{ScriptFault, read_script};
 use irp_transcript_writer::{Out, put_all};
@@ -96,12 +97,66 @@ fn is_json(text: &[u8]) -> bool {
     }
 }
 
-/// Tells what is wrong with a text, in words or in JSON.
-pub fn tell_faults<O: Out>(alloc: Global, output: &mut O, text: &[u8]) -> Ending {
+/// Appends a line for each fault, and tells whether there is one.
+fn put_fault_lines(lines: &mut Vec<u8>, faults: &[Fault]) -> Result<bool, AllocError> {
+    for fault in faults {
+        fault.write(lines)?;
+        lines.push(b'\n')?;
+    }
+    Ok(!faults.is_empty())
+}
+
+/// Appends a line for each warning, and tells whether there is one.
+fn put_warning_lines(lines: &mut Vec<u8>, warnings: &[Warning]) -> Result<bool, AllocError> {
+    for warning in warnings {
+        warning.write(lines)?;
+        lines.push(b'\n')?;
+    }
+    Ok(!warnings.is_empty())
+}
+
+/// Appends what is hardly meant in a script of JSON, and gives the ending: `Warned` where there is such.
+fn put_warnings(alloc: Global, lines: &mut Vec<u8>, text: &[u8]) -> Result<Ending, AllocError> {
+    let Ok(script) = read_script(alloc, text) else {
+        return Err(AllocError);
+    };
+    let warnings = warnings(alloc, text, &script)?;
+    if put_warning_lines(lines, warnings.as_slice())? {
+        Ok(Ending::Warned)
+    } else {
+        Ok(Ending::Done)
+    }
+}
+
+/// Appends what is wrong with a script of JSON, or else what is hardly meant, and gives the ending.
+fn put_advice(alloc: Global, lines: &mut Vec<u8>, text: &[u8]) -> Result<Ending, AllocError> {
+    let faults = faults(alloc, text)?;
+    if put_fault_lines(lines, faults.as_slice())? {
+        Ok(Ending::Faulty)
+    } else {
+        put_warnings(alloc, lines, text)
+    }
+}
+
+/// Tells what is wrong with a script of JSON, or else what is hardly meant.
+fn tell_advice<O: Out>(alloc: Global, output: &mut O, text: &[u8]) -> Ending {
+    let mut lines = Vec::new(alloc);
+    let Ok(ending) = put_advice(alloc, &mut lines, text) else {
+        return Ending::NoMemory;
+    };
+    match put_all(output, lines.as_slice()) {
+        Ok(()) => ending,
+        Err(_) => Ending::Failed,
+    }
+}
+
+/// Tells what is wrong with a text, in words or in JSON. What is hardly meant in JSON is told too, and makes another
+/// ending only where that is asked for.
+pub fn tell_faults<O: Out>(alloc: Global, output: &mut O, strict: bool, text: &[u8]) -> Ending {
     if is_json(text) {
-        return match read_script(alloc, text) {
-            Ok(_) => Ending::Done,
-            Err(fault) => tell_refused(alloc, output, fault),
+        return match tell_advice(alloc, output, text) {
+            Ending::Warned if !strict => Ending::Done,
+            ending => ending,
         };
     }
     match json(alloc, text) {

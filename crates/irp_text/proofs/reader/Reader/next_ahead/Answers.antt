@@ -5,7 +5,7 @@ use Rattle.irp_transcript_reader.specs.declared.read_fault.ReadFault.{ReadFault}
 use Rattle.irp_text.specs.Fed.{Gives, fault_at}
 use Rattle.irp_text.proofs.Blocks.{IsBare, bare_all}
 use Rattle.irp_text.proofs.Fed.{EndsAt, block_fails, block_kept, line_fails, line_read, few}
-use Rattle.irp_text.proofs.reader.Reader.next.Goals as goal
+use Rattle.irp_text.proofs.reader.Reader.next_ahead.Goals as goal
 
 pub returns-in-Ok-clause-gives : goal.returns-in-Ok-clause-gives
 returns-in-Ok-clause-gives c = λ text before read short.

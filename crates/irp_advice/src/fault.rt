@@ -1,0 +1,295 @@
+//! The faults of a script, each with its place.
+
+ghost use Rattle.std.specs.Prelude.{◌≡◌, ◌∷◌, IfOk};
+ghost use Rattle.irp_advice.specs.Advice.{BeginsWith, IsAdviceOn};
+
+use crate::lists::{Around, check_cancel, check_completion, check_driver, check_plan};
+use crate::nodes::Node;
+use crate::not_json::not_json;
+use crate::places::{Place, place_of};
+use crate::steps::check_step;
+use crate::tokens::{Kind, tokens_of};
+use crate::top::{check_top, count_detail, form_detail, key_of, no_list, too_long};
+use crate::words::{Detail, END, Piece, put, put_detail, wrong};
+use Piece::{Number, Say};
+use irp_script_reader::Fault::{BadField, RuleBroken};
+use irp_script_reader::{ScriptFault, ScriptRefusal, Section, read_script};
+use std::alloc::{AllocError, Global};
+
+/// The most faults that are told.
+const MOST_FAULTS: usize = 10;
+
+/// One thing that is wrong with a script (this project's own rule).
+#[derive(Drop)]
+pub struct Fault {
+    /// What `irpx` names: its display is `S4 steps 37`.
+    pub refusal: ScriptRefusal,
+    /// Where it stands.
+    pub place: Place,
+    /// What is wrong, what it may be, and a remedy where there is one.
+    words: Vec<u8>,
+}
+
+impl Fault {
+    /// Puts the message behind what the buffer holds, in one line without a newline: the section and the member, line
+    /// and column, what is wrong, what it may be, and a remedy where there is one. The one error is want of memory.
+    pub fn write(&self, out: &mut Vec<u8>) -> Result<(), AllocError> {
+        if let ScriptRefusal::At { section, index, .. } = self.refusal {
+            put_section(out, section, index)?;
+        }
+        put_place(out, self.place)?;
+        out.extend_from_slice(self.words.as_slice())
+    }
+}
+
+/// Puts a section, and which of its members is meant. The one error is want of memory.
+pub fn put_section(out: &mut Vec<u8>, section: Section, index: usize) -> Result<(), AllocError> {
+    match section {
+        Section::Top => Ok(()),
+        Section::Seats | Section::Locks | Section::Slots => {
+            put(out, &[Say(key_of(section)), Say(", ")])
+        }
+        _ => put(
+            out,
+            &[
+                Say(key_of(section)),
+                Say("["),
+                Number(index as u64),
+                Say("], "),
+            ],
+        ),
+    }
+}
+
+/// Puts a place. The one error is want of memory.
+pub fn put_place(out: &mut Vec<u8>, place: Place) -> Result<(), AllocError> {
+    put(
+        out,
+        &[
+            Say("line "),
+            Number(place.line as u64),
+            Say(", column "),
+            Number(place.column as u64),
+            Say(": "),
+        ],
+    )
+}
+
+/// What a script says around its members.
+fn around_of<'t>(whole: Node<'t>) -> Around<'t> {
+    Around {
+        whole,
+        form: number_under(whole, "form"),
+        seats: number_under(whole, "seats"),
+        slots: number_under(whole, "slots"),
+    }
+}
+
+/// The number under a key; 0 where there is none.
+fn number_under(whole: Node, key: &str) -> u64 {
+    whole.get(key).and_then(Node::number).unwrap_or(0)
+}
+
+/// What is wrong with a member of a section, if anything is.
+fn check_member(around: Around, section: Section, node: Node) -> Result<(), Detail> {
+    match section {
+        Section::Completions => check_completion(node),
+        Section::Cancels => check_cancel(node),
+        Section::Dispatches => check_plan(around, node),
+        Section::Drivers => check_driver(around, node),
+        Section::Setup => check_step(around, true, node),
+        Section::Steps => check_step(around, false, node),
+        _ => Ok(()),
+    }
+}
+
+/// What is said of a member that has nothing else wrong: there are too many.
+fn too_many(section: Section, node: Node) -> Detail {
+    let words = match section {
+        Section::Completions =>
+            "there are at most 256 completion routines of a rule; this is one more",
+        Section::Cancels => "there are at most 256 cancel routines; this is one more",
+        Section::Dispatches => "there are at most 256 dispatches; this is one more",
+        Section::Drivers => "there are at most 64 drivers; this is one more",
+        _ => "there are at most 4096 labels; this step names one more",
+    };
+    wrong(node, [Say(words), END, END, END, END, END, END])
+}
+
+/// What is wrong with the member at a place of a section.
+fn member_detail(around: Around, section: Section, index: usize) -> Detail {
+    let list = match around.whole.get(key_of(section)) {
+        Some(list) if list.kind() == Kind::List => list,
+        _ => return no_list(around, section),
+    };
+    let Some(node) = list.nth(index) else {
+        return no_list(around, section);
+    };
+    match check_member(around, section, node) {
+        Err(detail) => detail,
+        Ok(()) => too_many(section, node),
+    }
+}
+
+/// What is wrong with a text that is refused so.
+fn detail_of(whole: Node, refusal: ScriptRefusal) -> Detail {
+    let around = around_of(whole);
+    match refusal {
+        ScriptRefusal::TooLong | ScriptRefusal::NotJson => too_long(whole.text),
+        ScriptRefusal::BadForm => form_detail(whole),
+        ScriptRefusal::At { section, index, .. } => match section {
+            Section::Top => match check_top(around) {
+                Err(detail) => detail,
+                Ok(()) => form_detail(whole),
+            },
+            Section::Seats | Section::Locks | Section::Slots => count_detail(around, section),
+            _ => member_detail(around, section, index),
+        },
+    }
+}
+
+/// The fault with its words and its place. The one error is want of memory.
+fn fault_of(
+    alloc: Global,
+    text: &[u8],
+    refusal: ScriptRefusal,
+    detail: Detail,
+) -> Result<Fault, AllocError>
+    ensures { IfOk result (λ fault. fault.refusal ≡ refusal) }
+{
+    let mut words = Vec::new(alloc);
+    put_detail(&mut words, text, detail)?;
+    Ok(Fault {
+        refusal,
+        place: place_of(text, detail.at),
+        words,
+    })
+}
+
+/// What is wrong with a member by itself, whatever the other lists have: an earlier fault in these may be the cause of
+/// the rest.
+fn seen_by_itself(around: Around, section: Section, node: Node) -> Option<Detail> {
+    match check_member(around, section, node) {
+        Err(detail) if matches!(detail.fault, BadField | RuleBroken) => Some(detail),
+        _ => None,
+    }
+}
+
+/// Puts the faults of a section's members from this place on, up to so many in all. The one error is want of memory.
+fn add_faults(
+    alloc: Global,
+    more: &mut Vec<Fault>,
+    around: Around,
+    section: Section,
+    from: usize,
+) -> Result<(), AllocError> {
+    let list = around.whole.get(key_of(section));
+    let mut next = list.and_then(|list| list.nth(from));
+    for index in from..around.whole.tokens.len() {
+        let Some(node) = next else {
+            return Ok(());
+        };
+        if more.len() >= MOST_FAULTS {
+            return Ok(());
+        }
+        if let Some(detail) = seen_by_itself(around, section, node) {
+            let refusal = ScriptRefusal::At {
+                fault: detail.fault,
+                section,
+                index,
+            };
+            more.push(fault_of(alloc, around.whole.text, refusal, detail)?)?;
+        }
+        next = node.next();
+    }
+    Ok(())
+}
+
+/// The sections that are lists, in the order in which they are read.
+const LISTS: &[Section] = &[
+    Section::Completions,
+    Section::Cancels,
+    Section::Dispatches,
+    Section::Drivers,
+    Section::Setup,
+    Section::Steps,
+];
+
+/// The faults behind the first one, where that is in a list. The one error is want of memory.
+fn more_faults(
+    alloc: Global,
+    whole: Node,
+    refusal: ScriptRefusal,
+) -> Result<Vec<Fault>, AllocError> {
+    let mut more = Vec::new(alloc);
+    let ScriptRefusal::At { section, index, .. } = refusal else {
+        return Ok(more);
+    };
+    let mut comes = false;
+    for list in LISTS {
+        if comes {
+            add_faults(alloc, &mut more, around_of(whole), *list, 0)?;
+        }
+        if *list == section {
+            comes = true;
+            add_faults(
+                alloc,
+                &mut more,
+                around_of(whole),
+                *list,
+                index.saturating_add(1),
+            )?;
+        }
+    }
+    Ok(more)
+}
+
+/// A fault, and others behind it. The one error is want of memory.
+fn in_front(alloc: Global, first: Fault, more: Vec<Fault>) -> Result<Vec<Fault>, AllocError>
+    ensures { IfOk result (λ all. all.items ≡ first ∷ more.items) }
+{
+    let mut all = Vec::new(alloc);
+    let mut others = more;
+    all.push(first)?;
+    all.append(&mut others)?;
+    Ok(all)
+}
+
+/// The faults of a text that is refused so: first that of this refusal. The one error is want of memory.
+fn all_faults(alloc: Global, text: &[u8], refusal: ScriptRefusal) -> Result<Vec<Fault>, AllocError>
+    ensures { IfOk result (λ found. BeginsWith refusal found.items) }
+{
+    let tokens = match refusal {
+        ScriptRefusal::TooLong => Vec::new(alloc),
+        _ => tokens_of(alloc, text)?,
+    };
+    let whole = Node {
+        text,
+        tokens: tokens.as_slice(),
+        at: 0,
+    };
+    let detail = match refusal {
+        ScriptRefusal::NotJson => not_json(alloc, whole)?,
+        _ => detail_of(whole, refusal),
+    };
+    let first = fault_of(alloc, text, refusal, detail)?;
+    let more = more_faults(alloc, whole, refusal)?;
+    in_front(alloc, first, more)
+}
+
+/// What is wrong with a script, in order: nothing exactly where `read_script` reads it; else first the fault for which
+/// it is refused, and behind it what else is seen in its lists, ten faults or so in all (this project's own rule).
+///
+/// # Errors
+///
+/// Memory runs out.
+#[tactic(auto, using(crate::proofs::Telling::begins_advice))]
+pub fn faults(alloc: Global, text: &[u8]) -> Result<Vec<Fault>, AllocError>
+    ensures { IfOk result (λ found. IsAdviceOn found.items text.now) }
+{
+    match read_script(alloc, text) {
+        Ok(_script) => Ok(Vec::new(alloc)),
+        Err(ScriptFault::NoMemory) => Err(AllocError),
+        Err(ScriptFault::Refused(refusal)) => all_faults(alloc, text, refusal),
+    }
+}

@@ -1,0 +1,255 @@
+//! What is wrong with a text that is no JSON.
+
+use crate::nodes::Node;
+use crate::small::{hexadecimal, major_meant, status_meant};
+use crate::tokens::{Kind, Token, cut};
+use crate::words::{Detail, END, Piece, Remedy, Span, wrong_at};
+use Piece::{Say, Show};
+use serde_json::Value;
+use std::alloc::{AllocError, Global};
+
+/// What may come next.
+#[derive(Clone, Copy, PartialEq, Eq)]
+enum Wants {
+    /// A value.
+    Value,
+    /// A value, or the end of the list.
+    Item,
+    /// A key.
+    Key,
+    /// A key, or the end of the object.
+    Member,
+    /// A colon behind a key.
+    Colon,
+    /// A comma, or the end of the list.
+    ListMore,
+    /// A comma, or the end of the object.
+    ObjectMore,
+    /// Nothing.
+    Nothing,
+}
+
+impl Wants {
+    /// What was expected, in words.
+    fn words(self) -> &'static str {
+        match self {
+            Wants::Value => "a value was expected",
+            Wants::Item => "a value or \"]\" was expected",
+            Wants::Key => "a key in quotation marks was expected",
+            Wants::Member => "a key in quotation marks, or \"}\", was expected",
+            Wants::Colon => "\":\" was expected behind a key",
+            Wants::ListMore => "\",\" or \"]\" was expected",
+            Wants::ObjectMore => "\",\" or \"}\" was expected",
+            Wants::Nothing => "nothing was expected behind the script",
+        }
+    }
+
+    /// Whether a value may come.
+    fn takes_value(self) -> bool {
+        matches!(self, Wants::Value | Wants::Item)
+    }
+
+    /// Whether a key may come.
+    fn takes_key(self) -> bool {
+        matches!(self, Wants::Key | Wants::Member)
+    }
+}
+
+/// What may come behind a value, in the innermost of what is open.
+fn behind_value(opened: &[Kind]) -> Wants {
+    match opened.last() {
+        Some(Kind::List) => Wants::ListMore,
+        Some(_) => Wants::ObjectMore,
+        None => Wants::Nothing,
+    }
+}
+
+/// What may come behind a comma or a colon. None where no such may stand there.
+fn behind_mark(wants: Wants, kind: Kind) -> Option<Wants> {
+    match (wants, kind) {
+        (Wants::Colon, Kind::Colon) => Some(Wants::Value),
+        (Wants::ListMore, Kind::Comma) => Some(Wants::Value),
+        (Wants::ObjectMore, Kind::Comma) => Some(Wants::Key),
+        _ => None,
+    }
+}
+
+/// Whether what is open may end here.
+fn may_end(wants: Wants, kind: Kind) -> bool {
+    match kind {
+        Kind::ListEnd => matches!(wants, Wants::Item | Wants::ListMore),
+        Kind::ObjectEnd => matches!(wants, Wants::Member | Wants::ObjectMore),
+        _ => false,
+    }
+}
+
+/// What may come behind this token. None where it may not stand there. The one error is want of memory.
+fn behind(wants: Wants, opened: &mut Vec<Kind>, kind: Kind) -> Result<Option<Wants>, AllocError> {
+    match kind {
+        Kind::List | Kind::Object if wants.takes_value() => {
+            opened.push(kind)?;
+            Ok(Some(if kind == Kind::List {
+                Wants::Item
+            } else {
+                Wants::Member
+            }))
+        }
+        Kind::ListEnd | Kind::ObjectEnd if may_end(wants, kind) => {
+            let _ = opened.pop();
+            Ok(Some(behind_value(opened.as_slice())))
+        }
+        Kind::Text if wants.takes_key() => Ok(Some(Wants::Colon)),
+        Kind::Text | Kind::Word if wants.takes_value() => Ok(Some(behind_value(opened.as_slice()))),
+        _ => Ok(behind_mark(wants, kind)),
+    }
+}
+
+/// Whether a text or a word by itself is JSON. The one error is want of memory.
+fn is_json(alloc: Global, token: &[u8]) -> Result<bool, AllocError> {
+    match Value::from_slice(alloc, token) {
+        Ok(_value) => Ok(true),
+        Err(error) if error.is_memory() => Err(AllocError),
+        Err(_) => Ok(false),
+    }
+}
+
+/// Whether a number begins with this byte, or what is meant as one.
+fn begins_number(byte: &u8) -> bool {
+    byte.is_ascii_digit() || *byte == b'-' || *byte == b'+'
+}
+
+/// Why a word or a text is no JSON, or nothing of that.
+fn of_token(bytes: &[u8], kind: Kind) -> &'static str {
+    match (kind, bytes.last()) {
+        (Kind::Text, Some(b'"')) if bytes.len() > 1 => {
+            "no JSON: an escape that isn't known, or bytes that are no UTF-8"
+        }
+        (Kind::Word, _) if bytes.first().is_some_and(begins_number) => "no number of JSON",
+        (Kind::Text, _) => "a text that has no closing quotation mark in its line",
+        _ => "no JSON",
+    }
+}
+
+/// What helps against a word that is no JSON.
+fn word_remedy(word: &[u8]) -> Remedy {
+    if let Some(number) = hexadecimal(word) {
+        return Remedy::Number(number);
+    }
+    if let Some((number, name)) = status_meant(word).or_else(|| major_meant(word)) {
+        return Remedy::Named(number, name);
+    }
+    match word {
+        b"True" | b"TRUE" => return Remedy::Do("Write true"),
+        b"False" | b"FALSE" => return Remedy::Do("Write false"),
+        b"None" | b"Null" | b"NULL" | b"nil" | b"nullptr" => return Remedy::Do("Write null"),
+        _ => {}
+    }
+    match word.first() {
+        Some(b'\'') => Remedy::Do("JSON has double quotation marks"),
+        Some(b'/' | b'#') => Remedy::Do("JSON has no comments"),
+        Some(0xEF) => Remedy::Do("Take out the byte-order mark"),
+        Some(b'0') => Remedy::Do("A number has no leading zeros"),
+        Some(b'+') => Remedy::Do("A number has no plus sign"),
+        _ => Remedy::Unknown,
+    }
+}
+
+/// What helps where this token may not stand.
+fn mark_remedy(wants: Wants, kind: Kind, word: &[u8]) -> Remedy {
+    match (wants, kind) {
+        (_, Kind::Word) if word_remedy_is_known(word) => word_remedy(word),
+        (Wants::Value, Kind::ListEnd) | (Wants::Key, Kind::ObjectEnd) => {
+            Remedy::Do("Take out the comma before it")
+        }
+        (
+            Wants::ListMore | Wants::ObjectMore,
+            Kind::Text | Kind::Word | Kind::List | Kind::Object,
+        ) => Remedy::Do("Put a comma before it"),
+        (Wants::Key | Wants::Member, Kind::Word) => Remedy::Do("Put the key in quotation marks"),
+        _ => Remedy::Unknown,
+    }
+}
+
+/// Whether something helps against a word that is no JSON.
+fn word_remedy_is_known(word: &[u8]) -> bool {
+    !matches!(word_remedy(word), Remedy::Unknown)
+}
+
+/// From where to where a token stands in the text.
+fn span_of(token: Token) -> Span {
+    Span {
+        start: token.start,
+        end: token.end,
+    }
+}
+
+/// A token may not stand here.
+fn misplaced(text: &[u8], token: Token, wants: Wants) -> Detail {
+    let bytes = cut(text, token.start, token.end);
+    let pieces = [
+        Say("here is "),
+        Show(span_of(token)),
+        Say("; "),
+        Say(wants.words()),
+        END,
+        END,
+        END,
+    ];
+    wrong_at(token.start, pieces).with(mark_remedy(wants, token.kind, bytes))
+}
+
+/// A word or a text is no JSON.
+fn misspelt(text: &[u8], token: Token) -> Detail {
+    let bytes = cut(text, token.start, token.end);
+    let pieces = [
+        Say("here is "),
+        Show(span_of(token)),
+        Say(", "),
+        Say(of_token(bytes, token.kind)),
+        END,
+        END,
+        END,
+    ];
+    wrong_at(token.start, pieces).with(word_remedy(bytes))
+}
+
+/// The text ends too early.
+fn ends(text: &[u8], wants: Wants) -> Detail {
+    let pieces = [
+        Say("the text ends here; "),
+        Say(wants.words()),
+        END,
+        END,
+        END,
+        END,
+        END,
+    ];
+    wrong_at(text.len(), pieces)
+}
+
+/// Each token is right: what is left is that they nest too deep.
+fn too_deep() -> Detail {
+    let words = "this isn't JSON: lists and objects nest at most 127 deep";
+    wrong_at(0, [Say(words), END, END, END, END, END, END])
+}
+
+/// What is wrong with a text that is no JSON. The one error is want of memory.
+pub fn not_json(alloc: Global, whole: Node) -> Result<Detail, AllocError> {
+    let text = whole.text;
+    let mut opened = Vec::new(alloc);
+    let mut wants = Wants::Value;
+    for token in whole.tokens {
+        let Some(next) = behind(wants, &mut opened, token.kind)? else {
+            return Ok(misplaced(text, *token, wants));
+        };
+        let plain = matches!(token.kind, Kind::Text | Kind::Word);
+        if plain && !is_json(alloc, cut(text, token.start, token.end))? {
+            return Ok(misspelt(text, *token));
+        }
+        wants = next;
+    }
+    if wants != Wants::Nothing {
+        return Ok(ends(text, wants));
+    }
+    Ok(too_deep())
+}
