@@ -45,14 +45,14 @@ use Rattle.irp_script_reader.specs.declared.script.Script.{Script}
 use Rattle.irp_script_reader.specs.declared.script.ScriptForm.{ScriptForm}
 use Rattle.irp_script_reader.specs.declared.script.ScriptForm.TheVariants as script_form
 use Rattle.irp_script.specs.Between.{hands_between}
-use Rattle.irp_workers.specs.Behaviours.{cancel_rule_of}
-use Rattle.irp_workers.specs.Made.{calls_in, calls_of}
-use Rattle.irp_workers.specs.Numbers.{EachAsOften, NoneMoreOften}
-use Rattle.irp_workers.specs.Outcomes.{Outcome, Test, outcomes}
-use Rattle.irp_workers.specs.Told.{IsTold}
-use Rattle.irp_workers.specs.Words.{AreInOrder, told_by, word_steps}
+use Rattle.irp_script.specs.Behaviours.{cancel_rule_of}
+use Rattle.irp_script.specs.Made.{calls_in, calls_of}
+use Rattle.irp_script.specs.Numbers.{EachAsOften, NoneMoreOften}
+use Rattle.irp_script.specs.Outcomes.{Outcome, Test, outcomes}
+use Rattle.irp_script.specs.Told.{IsTold}
+use Rattle.irp_script.specs.Words.{AreInOrder, told_by, word_steps}
 use Rattle.irp_transcript_writer.specs.Lines.{lines, text_of}
-use Rattle.irp_workers.specs.Ran.{Ran}
+use Rattle.irp_script.specs.Ran.{Ran}
 use Rattle.irpx.specs.Streams.{Bytes, IsQuiet, Output, Streams}
 use Rattle.irpx.specs.Writing.{BreaksOff, Written}
 use Rattle.irpx.specs.declared.running.RunFault.{RunFault}

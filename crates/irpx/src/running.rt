@@ -10,10 +10,10 @@ ghost use Rattle.irp_shared.specs.Closing.{Closes};
 ghost use Rattle.irp_transcript.specs.Headers.{slots_of};
 ghost use Rattle.irp_transcript.specs.Transcripts.{IsTranscript, TranscriptValue};
 ghost use Rattle.irp_script.specs.Between.{hands_between};
-ghost use Rattle.irp_workers.specs.Numbers.{EachAsOften};
-ghost use Rattle.irp_workers.specs.Seats.{seats_of};
-ghost use Rattle.irp_workers.specs.Told.{AnswersAll, IsTold};
-ghost use Rattle.irp_workers.specs.Ran.{Ran};
+ghost use Rattle.irp_script.specs.Numbers.{EachAsOften};
+ghost use Rattle.irp_script.specs.Seats.{seats_of};
+ghost use Rattle.irp_script.specs.Told.{AnswersAll, IsTold};
+ghost use Rattle.irp_script.specs.Ran.{Ran};
 ghost use Rattle.irpx.specs.Running.{
   AfterRun,
   AfterScript,
@@ -35,16 +35,16 @@ use crate::planned::Planned;
 use crate::told::{cancel_told, dispatch_told, routine_told};
 use crate::writing::write;
 use irp_routines::{Ask, Store};
-use irp_script::hand_between;
+use irp_script::{
+    AlwaysOpen, ScriptSeat, Worked, hand_between, run_workers, script_seats, table_answer,
+    table_cancel,
+};
 use irp_script_reader::{Script, ScriptFault, ScriptForm, ScriptParts, ScriptRefusal, read_script};
 use irp_shared::{
     Form, Seat, Session, Shared, Transcript, TranscriptParts, WordLine, open_with_limit,
 };
 use irp_transcript_writer::Out;
 use irp_types::{Row, Shown};
-use irp_workers::{
-    AlwaysOpen, ScriptSeat, Worked, run_workers, script_seats, table_answer, table_cancel,
-};
 use std::alloc::{AllocError, AllocFailed, Global};
 use std::io::Read;
 use std::marker::Brand;

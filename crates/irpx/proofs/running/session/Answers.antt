@@ -13,15 +13,15 @@ use Rattle.irp_shared.specs.Closing.{AllHere, Closes}
 use Rattle.irp_transcript.specs.Headers.{IsHeader, slots_of as slots_in}
 use Rattle.irp_shared.specs.Answered.{EachAnswered}
 use Rattle.irp_transcript.specs.Transcripts.{TranscriptValue}
-use Rattle.irp_workers.specs.Accounts.{calls_at, pair_at}
-use Rattle.irp_workers.specs.Made.{NoneTwice, once_made, seat_calls}
-use Rattle.irp_workers.specs.Numbers.{EachAsOften}
-use Rattle.irp_workers.specs.Outcomes.{Outcome, outcomes}
-use Rattle.irp_workers.specs.Ran.{AreOpened, Ran}
-use Rattle.irp_workers.specs.Seats.{pairs_of, seat_at_work, seats_at_work}
-use Rattle.irp_workers.specs.Told.{IsTold}
-use Rattle.irp_workers.specs.Working.{RunsScript}
-use Rattle.irp_workers.proofs.Ran.{all_opened, closed_ran}
+use Rattle.irp_script.specs.Accounts.{calls_at, pair_at}
+use Rattle.irp_script.specs.Made.{NoneTwice, once_made, seat_calls}
+use Rattle.irp_script.specs.Numbers.{EachAsOften}
+use Rattle.irp_script.specs.Outcomes.{Outcome, outcomes}
+use Rattle.irp_script.specs.Ran.{AreOpened, Ran}
+use Rattle.irp_script.specs.Seats.{pairs_of, seat_at_work, seats_at_work}
+use Rattle.irp_script.specs.Told.{IsTold}
+use Rattle.irp_script.specs.Working.{RunsScript}
+use Rattle.irp_script.proofs.Ran.{all_opened, closed_ran}
 use Rattle.irpx.specs.Running.{IsRun, MakesCalls, ShowsEach, run_transcript}
 use Rattle.irpx.specs.declared.running.Finished.{Finished}
 use Rattle.irpx.proofs.Calls.{each_made}

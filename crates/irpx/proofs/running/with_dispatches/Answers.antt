@@ -3,7 +3,7 @@ use Rattle.std.proofs.Common.{ℕ, List, ap, ap₂, subst, ◌∙◌}
 use Rattle.irp_types.specs.declared.names.DispatchId.{DispatchId}
 use Rattle.irp_types.specs.State.{Entrance, Tables}
 use Rattle.irp_routines.specs.Tables.{by_major, with_driver}
-use Rattle.irp_workers.proofs.Told.{answers_kept, store_answers_so}
+use Rattle.irp_script.proofs.Told.{answers_kept, store_answers_so}
 use Rattle.irpx.specs.Running.{AfterScript, and_drivers}
 use Rattle.irpx.specs.Streams.{output_of}
 use Rattle.irpx.proofs.Adding.{added, all_added, drivers_grow}
