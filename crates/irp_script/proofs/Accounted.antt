@@ -1,11 +1,10 @@
 -- What ran accounts for the steps.
-use Rattle.std.proofs.Common.{◌≡◌, ◌≤◌, ◌<◌, ◌+◌, ◌==◌, ◌%◌, ℕ, zero, suc, All, Bool, true, false, cond, eq-eqb, List, [], ◌∷◌, ◌++◌, length, map, take, get_or, refl, sym, subst, ap, ◌∙◌, arith}
-use mathlib.Core.Bool.{true≢false}
+use Rattle.std.proofs.Common.{◌≡◌, ◌≤◌, ◌<◌, ◌+◌, ◌==◌, ◌%◌, ℕ, zero, suc, All, Bool, true, false, cond, eq-eqb, Option, Some, None, List, [], ◌∷◌, ◌++◌, length, map, take, get_or, refl, sym, subst, ap, ◌∙◌, arith}
 use Rattle.std.specs.Prelude.{sum_by}
 use Rattle.std.specs.List.{count_by, enumerate_from, filter, flat_map}
 use Rattle.std.proofs.lemmas.List.{take_all}
 use Rattle.std.proofs.lemmas.List.Elements.{All-head, All-tail}
-use Rattle.std.proofs.lemmas.Option.{slice_get-get_or}
+use Rattle.std.proofs.lemmas.Option.{none-some, slice_get-get_or}
 use Rattle.irp_transcript.specs.declared.word_line.WordLine.{WordLine}
 use Rattle.irp_script_reader.specs.declared.act.Step.{Step}
 use Rattle.irp_script.specs.Accounts.{Accounts, calls_at, pair_at}
@@ -14,33 +13,35 @@ use Rattle.irp_script.specs.Numbers.{AreSame, EachAsOften}
 use Rattle.irp_script.specs.Outcomes.{Outcome, Test, is_own_placed, outcome, outcomes, own_placed}
 use Rattle.irp_script.specs.Pairs.{Pair}
 use Rattle.irp_script.specs.Words.{WordStep, told_by, word_steps}
+use Rattle.irp_script.specs.declared.stop.Stop.{Stop}
 use Rattle.irp_script.specs.Working.{AtWork, IsOwn, Left, MakesOwn, RunsScript, WorkAfter, WorkApart, Working, working}
 use Rattle.irp_script.proofs.Chains.{chained, rising}
 use Rattle.irp_script.proofs.Making.{once_both}
-use Rattle.irp_script.proofs.Numbers.{count_map, none_of, sum_at, sum_at_most, sum_from, sum_same}
+use Rattle.irp_script.proofs.Numbers.{count_map, sum_at, sum_at_most, sum_from, sum_same}
+use Rattle.irp_script.proofs.Stopping.{none_stopped}
 use Rattle.irp_script.proofs.Shares.{calls_own, chosen, count_flat, count_words, first_at_most, own_same, part_at_most, shares, weight, whole}
 
 -- how a worker's own steps came out
 record Share (number workers : ℕ) (steps : List Step) (dealt : List AtWork) (one : Left) (tokenless : Test) : Type 0 where
   reached : ℕ
-  all : one.stopped ≡ false → reached ≡ length steps
+  all : one.stop ≡ None → reached ≡ length steps
   told : map told_by one.work.lines ≡ word_steps (map (outcome tokenless) (own_placed number workers (take reached steps)))
   pairs : map pair_at one.work.seats ≡ map pair_at dealt
   called : NoneTwice (map pair_at dealt) → map calls_at one.work.seats ≡ map (once_made (map (outcome tokenless) (own_placed number workers (take reached steps)))) (map calls_at dealt)
 
-share_of : (count number workers : ℕ) (steps : List Step) (dealt : List AtWork) (one : Left) → MakesOwn count number workers steps (working dealt []) one.work one.stopped
+share_of : (count number workers : ℕ) (steps : List Step) (dealt : List AtWork) (one : Left) → MakesOwn count number workers steps (working dealt []) one.work one.stop
     → (tokenless : Test) × Share number workers steps dealt one tokenless
 share_of count number workers steps dealt one made =
     let chain = chained count 0 (own_placed number workers (take made.reached steps)) (working dealt []) one.work (rising (is_own_placed number workers) 0 (take made.reached steps)) made.each in
     (chain.tokenless, record { reached = made.reached; all = made.all; told = chain.told; pairs = chain.pairs; called = chain.called })
 
 abbrev nothing_left : Left
-nothing_left = record { work = working [] []; stopped = false }
+nothing_left = record { work = working [] []; stop = None }
 
 abbrev Shares : (workers : ℕ) (steps : List Step) (dealt : List (List AtWork)) (left : List Left) (each : ℕ → Test) → Type 0
 Shares workers steps dealt left each = (k : ℕ) → k < workers → Share k workers steps (get_or dealt k []) (get_or left k nothing_left) (each k)
 
-all_shares : (count workers : ℕ) (steps : List Step) (ready after : List AtWork) (lines : List WordLine) (stopped : Bool) (work : WorkApart count workers steps ready after lines stopped)
+all_shares : (count workers : ℕ) (steps : List Step) (ready after : List AtWork) (lines : List WordLine) (stopped : Option Stop) (work : WorkApart count workers steps ready after lines stopped)
     → (each : ℕ → Test) × Shares workers steps work.dealt work.left each
 all_shares count workers steps ready after lines stopped work =
     chosen (λ k tokenless. Share k workers steps (get_or work.dealt k []) (get_or work.left k nothing_left) tokenless) (λ seat place. false) workers
@@ -74,7 +75,7 @@ at_this : (k : ℕ) → 0 + k ≡ k
 at_this k = omega arith
 
 -- no step has two lines
-apart_told : (count workers : ℕ) (steps : List Step) (ready after : List AtWork) (lines : List WordLine) (stopped : Bool) (work : WorkApart count workers steps ready after lines stopped)
+apart_told : (count workers : ℕ) (steps : List Step) (ready after : List AtWork) (lines : List WordLine) (stopped : Option Stop) (work : WorkApart count workers steps ready after lines stopped)
     (each : ℕ → Test) → Shares workers steps work.dealt work.left each → 0 < workers → (test : WordStep → Bool)
     → count_by test (map told_by lines) ≤ count_by test (word_steps (outcomes (whole each workers) steps))
 apart_told count workers steps ready after lines stopped work each share some test =
@@ -95,8 +96,8 @@ apart_told count workers steps ready after lines stopped work each share some te
     omega (arith, sum, long, all, found)
 
 -- each step has its lines, where none was stopped
-apart_all_told : (count workers : ℕ) (steps : List Step) (ready after : List AtWork) (lines : List WordLine) (stopped : Bool) (work : WorkApart count workers steps ready after lines stopped)
-    (each : ℕ → Test) → Shares workers steps work.dealt work.left each → 0 < workers → stopped ≡ false → (test : WordStep → Bool)
+apart_all_told : (count workers : ℕ) (steps : List Step) (ready after : List AtWork) (lines : List WordLine) (stopped : Option Stop) (work : WorkApart count workers steps ready after lines stopped)
+    (each : ℕ → Test) → Shares workers steps work.dealt work.left each → 0 < workers → stopped ≡ None → (test : WordStep → Bool)
     → count_by test (map told_by lines) ≡ count_by test (word_steps (outcomes (whole each workers) steps))
 apart_all_told count workers steps ready after lines stopped work each share some going test =
     let w = weight test (whole each workers) in
@@ -104,7 +105,7 @@ apart_all_told count workers steps ready after lines stopped work each share som
     ∙ sum_at (λ (one : Left). count_by (λ line. test (told_by line)) one.work.lines) (λ number. sum_by w (own_placed number workers steps)) 0 work.left (λ k one lt.
     let within : k < workers = omega (arith, lt, work.many.1) in
     let here = share k within in
-    let runs = none_of (λ (one : Left). one.stopped) work.left (sym work.halted ∙ going) k nothing_left lt in
+    let runs = none_stopped (λ (one : Left). one.stop) work.left (sym work.halted ∙ going) k nothing_left lt in
     let all : length steps ≤ here.reached = omega (arith, here.all runs) in
     ap (λ (one : Left). count_by (λ line. test (told_by line)) one.work.lines) (get_or_any work.left k one nothing_left lt)
     ∙ share_words k workers steps (get_or work.dealt k []) (get_or work.left k nothing_left) each here test
@@ -114,7 +115,7 @@ apart_all_told count workers steps ready after lines stopped work each share som
     ∙ all_words workers steps each test some
 
 -- no two of a worker's seats have one number where no two of all have
-once_dealt : (count workers : ℕ) (steps : List Step) (ready after : List AtWork) (lines : List WordLine) (stopped : Bool) (work : WorkApart count workers steps ready after lines stopped)
+once_dealt : (count workers : ℕ) (steps : List Step) (ready after : List AtWork) (lines : List WordLine) (stopped : Option Stop) (work : WorkApart count workers steps ready after lines stopped)
     (k : ℕ) → k < workers → NoneTwice (map pair_at ready) → NoneTwice (map pair_at (get_or work.dealt k []))
 once_dealt count workers steps ready after lines stopped work k lt once number =
     let test : AtWork → Bool = λ own. own.seat.number == number in
@@ -137,8 +138,8 @@ once_all tokenless number workers steps (seat ∷ seats) own =
     λ i. record { pair = pair_at seat; calls = (calls_at seat).calls ++ calls i } ∷ more i
 
 -- the seats of all workers have made the calls of all steps, where none was stopped
-apart_called : (count workers : ℕ) (steps : List Step) (ready after : List AtWork) (lines : List WordLine) (stopped : Bool) (work : WorkApart count workers steps ready after lines stopped)
-    (each : ℕ → Test) → Shares workers steps work.dealt work.left each → stopped ≡ false → NoneTwice (map pair_at ready) → (test : SeatCalls → Bool)
+apart_called : (count workers : ℕ) (steps : List Step) (ready after : List AtWork) (lines : List WordLine) (stopped : Option Stop) (work : WorkApart count workers steps ready after lines stopped)
+    (each : ℕ → Test) → Shares workers steps work.dealt work.left each → stopped ≡ None → NoneTwice (map pair_at ready) → (test : SeatCalls → Bool)
     → count_by test (map calls_at after) ≡ count_by (λ (told : SeatCalls). test (once_made (outcomes (whole each workers) steps) told)) (map calls_at ready)
 apart_called count workers steps ready after lines stopped work each share going once test =
     let outs = outcomes (whole each workers) steps in
@@ -150,7 +151,7 @@ apart_called count workers steps ready after lines stopped work each share going
     let there : k < length work.left = omega (arith, within, work.many.1) in
     let dealt = get_or work.dealt k [] in
     let one = get_or work.left k nothing_left in
-    let runs = none_of (λ (one : Left). one.stopped) work.left (sym work.halted ∙ going) k nothing_left there in
+    let runs = none_stopped (λ (one : Left). one.stop) work.left (sym work.halted ∙ going) k nothing_left there in
     let all : length steps ≤ here.reached = omega (arith, here.all runs) in
     let own = work.own k dealt (slice_get-get_or work.dealt k [] lt) in
     let calls : map calls_at one.work.seats ≡ map (once_made outs) (map calls_at dealt) =
@@ -189,11 +190,11 @@ both_made first last seats test =
     map_twice g f (x ∷ xs) = ap (λ rest. g (f x) ∷ rest) (map_twice g f xs)
 
 -- the setup was made whole
-setup_called : (count : ℕ) (setup : List Step) (before : List AtWork) (ready : Working) (share : MakesOwn count 0 1 setup (working before []) ready false)
+setup_called : (count : ℕ) (setup : List Step) (before : List AtWork) (ready : Working) (share : MakesOwn count 0 1 setup (working before []) ready None)
     → (tokenless : Test) × (map pair_at ready.seats ≡ map pair_at before)
     × (NoneTwice (map pair_at before) → map calls_at ready.seats ≡ map (once_made (outcomes tokenless setup)) (map calls_at before))
 setup_called count setup before ready made =
-    let both = share_of count 0 1 setup before (record { work = ready; stopped = false }) made in
+    let both = share_of count 0 1 setup before (record { work = ready; stop = None }) made in
     let share = both.1 in
     let all : length setup ≤ share.reached = omega (arith, share.all refl) in (
       both.0,
@@ -204,17 +205,17 @@ setup_called count setup before ready made =
           ∙ ap (λ some. map (once_made (map (outcome both.0) some)) (map calls_at before)) (alone_all (enumerate_from 0 setup)),
     )
 
-accounted_after : (count workers : ℕ) (setup steps : List Step) (before after : List AtWork) (lines : List WordLine) (stopped : Bool) (ready : Working) (halted : Bool) → 0 < workers
+accounted_after : (count workers : ℕ) (setup steps : List Step) (before after : List AtWork) (lines : List WordLine) (stopped : Option Stop) (ready : Working) (halted : Option Stop) → 0 < workers
     → MakesOwn count 0 1 setup (working before []) ready halted → WorkAfter halted count workers steps ready.seats after lines stopped
     → Accounts setup steps before after lines stopped
-accounted_after count workers setup steps before after lines stopped ready true some first rest = record {
+accounted_after count workers setup steps before after lines stopped ready (Some told) some first rest = record {
   tokenless_first = λ seat place. false;
   tokenless = λ seat place. false;
   told = λ test. let none : count_by test (map told_by lines) ≡ 0 = ap (λ some. count_by test (map told_by some)) rest.1 in omega (arith, none);
-  all_told = λ going. absurd (true≢false (sym rest.2 ∙ going));
-  all_called = λ going. absurd (true≢false (sym rest.2 ∙ going));
+  all_told = λ going. absurd (none-some told (sym going ∙ rest.2));
+  all_called = λ going. absurd (none-some told (sym going ∙ rest.2));
 }
-accounted_after count workers setup steps before after lines stopped ready false some first rest =
+accounted_after count workers setup steps before after lines stopped ready None some first rest =
     let shared = all_shares count workers steps ready.seats after lines stopped rest in
     let begun = setup_called count setup before ready first in
     let tokenless = whole shared.0 workers in
@@ -229,17 +230,17 @@ accounted_after count workers setup steps before after lines stopped ready false
           ∙ both_made (outcomes begun.0 setup) (outcomes tokenless steps) before test;
     }
 
-pub accounted : (count workers : ℕ) (setup steps : List Step) (before after : List AtWork) (lines : List WordLine) (stopped : Bool) → 0 < workers
+pub accounted : (count workers : ℕ) (setup steps : List Step) (before after : List AtWork) (lines : List WordLine) (stopped : Option Stop) → 0 < workers
     → RunsScript count workers setup steps before after lines stopped → Accounts setup steps before after lines stopped
 accounted count workers setup steps before after lines stopped some ran =
     accounted_after count workers setup steps before after lines stopped ran.ready ran.halted some ran.first ran.rest
 
 -- each seat is one of those that were handed in
-after_pairs : (count workers : ℕ) (setup steps : List Step) (before after : List AtWork) (lines : List WordLine) (stopped : Bool) (ready : Working) (halted : Bool)
+after_pairs : (count workers : ℕ) (setup steps : List Step) (before after : List AtWork) (lines : List WordLine) (stopped : Option Stop) (ready : Working) (halted : Option Stop)
     → map pair_at ready.seats ≡ map pair_at before → WorkAfter halted count workers steps ready.seats after lines stopped
     → EachAsOften (map pair_at before) (map pair_at after)
-after_pairs count workers setup steps before after lines stopped ready true same rest = λ test. ap (count_by test) (ap (map pair_at) rest.0 ∙ same)
-after_pairs count workers setup steps before after lines stopped ready false same rest = λ test.
+after_pairs count workers setup steps before after lines stopped ready (Some told) same rest = λ test. ap (count_by test) (ap (map pair_at) rest.0 ∙ same)
+after_pairs count workers setup steps before after lines stopped ready None same rest = λ test.
     let shared = all_shares count workers steps ready.seats after lines stopped rest in
     count_map pair_at test after ∙ rest.back (λ own. test (pair_at own)) ∙ count_flat (λ own. test (pair_at own)) (λ (one : Left). one.work.seats) rest.left
     ∙ sum_same (λ seats. count_by (λ own. test (pair_at own)) seats) (λ (one : Left). count_by (λ own. test (pair_at own)) one.work.seats) rest.dealt rest.left (rest.many.1 ∙ sym rest.many.0)
@@ -254,10 +255,10 @@ after_pairs count workers setup steps before after lines stopped ready false sam
     ∙ rest.seats (λ own. test (pair_at own))
     ∙ sym (count_map pair_at test ready.seats) ∙ ap (count_by test) same
 
-pub same_pairs : (count workers : ℕ) (setup steps : List Step) (before after : List AtWork) (lines : List WordLine) (stopped : Bool)
+pub same_pairs : (count workers : ℕ) (setup steps : List Step) (before after : List AtWork) (lines : List WordLine) (stopped : Option Stop)
     → RunsScript count workers setup steps before after lines stopped → EachAsOften (map pair_at before) (map pair_at after)
 same_pairs count workers setup steps before after lines stopped ran =
-    let made = share_of count 0 1 setup before (record { work = ran.ready; stopped = ran.halted }) ran.first in
+    let made = share_of count 0 1 setup before (record { work = ran.ready; stop = ran.halted }) ran.first in
     after_pairs count workers setup steps before after lines stopped ran.ready ran.halted made.1.pairs ran.rest
 
 -- what is said of seats at work is said of the seats

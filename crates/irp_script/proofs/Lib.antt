@@ -14,6 +14,7 @@ pub mod Shares
 pub mod Showing
 pub mod Slotted
 pub mod StepCalls
+pub mod Stopping
 pub mod Told
 pub mod Tokens
 pub mod Working

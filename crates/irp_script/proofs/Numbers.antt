@@ -119,20 +119,6 @@ each_set P n xs i v within each here k d lt = elim (eqb_tells k i) as (λ _. P k
   | inr other ↦ subst (P k) (sym (get_or-set_other xs i k v d other.1)) (each k d lt)
 ]
 
-or_left : (a b : Bool) → (a || b) ≡ false → a ≡ false
-or_left true b is = is
-or_left false b is = refl
-
-or_right : (a b : Bool) → (a || b) ≡ false → b ≡ false
-or_right true b is = (cc)
-or_right false b is = is
-
--- where none passes, no item does
-pub none_of : {A : Type 0} (p : A → Bool) (xs : List A) → list_any p xs ≡ false → (k : ℕ) (d : A) → k < length xs → p (get_or xs k d) ≡ false
-none_of p [] none k d lt = absurd (omega arith)
-none_of p (x ∷ xs) none zero d lt = or_left (p x) (list_any p xs) none
-none_of p (x ∷ xs) none (suc k) d lt = none_of p xs (or_right (p x) (list_any p xs) none) k d (omega arith)
-
 -- what holds of each and of one behind them holds of each of all
 pub all_push : {A : Type 0} (P : A → Type 0) (all front : List A) (last : A) → all ≡ front ++ last ∷ [] → All P front → P last → All P all
 all_push P all front last is each here = subst (All P) (sym is) (All-push P front last each here)

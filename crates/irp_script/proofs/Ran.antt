@@ -1,5 +1,5 @@
 -- From what opening, pairing, working and closing say to what ran.
-use Rattle.std.proofs.Common.{◌≡◌, ℕ, All, Bool, List, [], refl, sym, ap, ◌∙◌, subst, map}
+use Rattle.std.proofs.Common.{◌≡◌, ℕ, All, List, [], refl, sym, ap, ◌∙◌, subst, map}
 use Rattle.std.specs.Prelude.{Option, Some, None, slice_get}
 use Rattle.std.specs.List.{count_by}
 use Rattle.std.specs.Option.{option_map}
@@ -24,6 +24,7 @@ use Rattle.irp_script.specs.Numbers.{EachAsOften}
 use Rattle.irp_script.specs.Ran.{AreOpened, Ran, parties_in}
 use Rattle.irp_script.specs.Seats.{HasTakenNothing, cancellers_of, owners_of, parties_of, removes_of, seat_at_work, seats_at_work, seats_of}
 use Rattle.irp_script.specs.Working.{RunsScript, roomless}
+use Rattle.irp_script.specs.declared.stop.Stop.{Stop}
 use Rattle.irp_script.specs.declared.script_seat.ScriptSeat.{ScriptSeat}
 use Rattle.irp_script.proofs.Numbers.{count_map}
 
@@ -81,7 +82,7 @@ all_opened script all opened removes cancellers owners lock_table slot_table cou
 
 -- ---- as they are closed
 
-pub closed_ran : {L : _} {session : _} (workers : ℕ) (script : Script) (before after : List (ScriptSeat L session)) (closed : List Seated) (transcript : TranscriptValue) (stopped : Bool)
+pub closed_ran : {L : _} {session : _} (workers : ℕ) (script : Script) (before after : List (ScriptSeat L session)) (closed : List Seated) (transcript : TranscriptValue) (stopped : Option Stop)
     → AreOpened script (seats_at_work before)
     → RunsScript script.locks workers script.setup script.steps (seats_at_work before) (seats_at_work after) transcript.words stopped
     → EachAsOften (seats_of after) closed → All (IsKept transcript.entries) closed

@@ -1,6 +1,6 @@
 -- What acts on slots do to what a seat has there.
-use Rattle.std.proofs.Common.{◌≡◌, ◌<◌, ℕ, Option, Some, List, length, map, get_or, sym, ap, ◌∙◌}
-use Rattle.std.specs.Prelude.{slice_get, slice_set}
+use Rattle.std.proofs.Common.{◌≡◌, ◌<◌, ℕ, Option, Some, None, List, Contains, length, map, get_or, sym, subst, ap, ◌∙◌}
+use Rattle.std.specs.Prelude.{IfNone, slice_get, slice_set}
 use Rattle.std.proofs.lemmas.Option.{slice_get-get_or}
 use Rattle.irp_slots.specs.Models.{Asker, Publisher}
 use Rattle.irp_slots.specs.Calls.{Publishes, PublishSteps, Requests, RequestSteps, Withdraws, WithdrawSteps}
@@ -10,6 +10,8 @@ use Rattle.irp_slots.specs.declared.answers.Withdrawal.{Withdrawal}
 use Rattle.irp_slots.specs.declared.answers.Request.{Request}
 use Rattle.irp_transcript.specs.declared.word_line.WordReply.{WordReply}
 use Rattle.irp_script.specs.AtSlots.{AtSlots, Publishing, Requesting, Withdrawing, kept, published_reply, published_token, requested_reply, requested_token, withdrawn_reply, withdrawn_token}
+use Rattle.irp_script.specs.Stops.{IsUnowned}
+use Rattle.irp_script.specs.declared.stop.StopReason.TheVariants.{NotOwner}
 use Rattle.irp_script.proofs.Places.{told_at}
 
 there_at : (owners : List Publisher) (place : ℕ) (owner : Publisher) → place < length owners → owner ≡ get_or owners place owner → slice_get owners place ≡ Some owner
@@ -70,3 +72,13 @@ requesting slot before after reply canceller_after answer token table did steps 
   told = told;
   left = left ∙ ap (λ token. record before { canceller = canceller_after; taken = kept slot token before.taken }) same;
 }
+
+-- none of the owners has the slot
+pub unowned : (slot : ℕ) (before after : AtSlots) (owners : List Publisher) (found : Option ℕ) → after ≡ before → before.owners ≡ owners → found ≡ None
+    → IfNone found (¬ Contains (map (λ (owner : Publisher). owner.owning.slot) owners) slot)
+    → (after ≡ before) × IsUnowned slot before NotOwner
+unowned slot before after owners found same own none not = (
+  same,
+  subst (λ all. ¬ Contains (map (λ (owner : Publisher). owner.owning.slot) all) slot) (sym own)
+      (subst (λ there. IfNone there (¬ Contains (map (λ (owner : Publisher). owner.owning.slot) owners) slot)) none not),
+)

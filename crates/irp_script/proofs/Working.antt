@@ -1,8 +1,8 @@
 -- What a worker makes of its seats and lines, step by step, and what the workers of a script make together.
-use Rattle.std.proofs.Common.{◌≡◌, ◌<◌, ◌+◌, ◌%◌, ◌==◌, ◌||◌, ℕ, zero, suc, All, Bool, true, false, cond, eq-eqb, Option, Some, None, List, [], ◌∷◌, ◌++◌, length, map, take, get_or, set, refl, sym, subst, ap, ◌∙◌, arith}
-use Rattle.std.specs.Prelude.{IfOk, MatchOption, Result, Ok, Err, nat_lt, slice_get, slice_set, sum_by}
+use Rattle.std.proofs.Common.{◌≡◌, ◌<◌, ◌+◌, ◌%◌, ◌==◌, ℕ, zero, suc, All, Bool, true, false, cond, eq-eqb, Option, Some, None, List, [], ◌∷◌, ◌++◌, length, map, take, get_or, set, refl, sym, subst, ap, ◌∙◌, arith}
+use Rattle.std.specs.Prelude.{IfOk, MatchResult, Result, Ok, Err, nat_lt, slice_get, slice_set, sum_by}
 use Rattle.std.specs.Option.{option_map, unwrap_or}
-use Rattle.std.specs.List.{count_by, enumerate_from, filter, flat_map, list_any}
+use Rattle.std.specs.List.{count_by, enumerate_from, filter, flat_map}
 use Rattle.std.proofs.lemmas.Bool.{le-ltb}
 use Rattle.std.proofs.lemmas.List.{get_or-map, length-map, length-take-le, map-set, set-get_or, take_more}
 use Rattle.std.proofs.lemmas.List.Elements.{All-nil, All-cons, All-head, All-tail, filter-append}
@@ -27,10 +27,14 @@ use Rattle.irp_script.specs.declared.taken.Taken.{Taken}
 use Rattle.irp_script.specs.AtSlots.{AtSlots, fresh}
 use Rattle.irp_script.specs.Calling.{CallsFor, found_drained}
 use Rattle.irp_script.specs.StepKinds.{IsNamed, kind_of}
+use Rattle.irp_script.specs.Stops.{IsUnmade, IsUnrecorded}
+use Rattle.irp_script.specs.declared.stop.Stop.{Stop}
+use Rattle.irp_script.specs.declared.stop.StopReason.{StopReason}
 use Rattle.irp_script.specs.Outcomes.{is_own_placed, own_placed}
-use Rattle.irp_script.specs.Working.{AtWork, Does, FinishesTaken, IsOwn, Left, Makes, MakesAlone, MakesBy, MakesCall, MakesEach, MakesOwn, Stays, WorkApart, Working, at_work, caught_up, if_own, news, roomless, working}
+use Rattle.irp_script.specs.Working.{AtWork, Does, FinishesTaken, IsOwn, Left, Makes, MakesAlone, MakesBy, MakesCall, MakesEach, MakesOwn, Stays, StopsBy, WorkApart, Working, at_work, caught_up, first_stop, if_own, news, roomless, working}
 use Rattle.irp_script.proofs.Chains.{enumerate-append}
 use Rattle.irp_script.proofs.Numbers.{count_map, map_set_same}
+use Rattle.irp_script.proofs.Stopping.{by_unmade, first_map}
 
 set_twice : {A : Type 0} (xs : List A) (i : ℕ) (one other : A) → set (set xs i one) i other ≡ set xs i other
 set_twice [] i one other = refl
@@ -57,13 +61,13 @@ pub call_stays : (before after : Seated) (remove remove_after : Holder) (parties
 call_stays before after remove remove_after parties parties_after same same_remove same_parties =
     λ i. record { seat = roomless_same before after same i; remove = same_remove i; parties = same_parties i }
 
-pub call_made : {T : Type 0} (result : Option T) (step : Step) (before after : Seated) (remove remove_after : Holder) (parties parties_after : AtSlots) (lines longer : List WordLine)
-    → MatchOption result (IsAsBefore before after) (λ _. CallsFor step.act remove before after) → remove_after ≡ remove → parties_after ≡ parties → longer ≡ lines
-    → MatchOption result (Stays (at_work before remove parties) (at_work after remove_after parties_after) lines longer)
-    (λ _. MakesCall step (at_work before remove parties) (at_work after remove_after parties_after) lines longer)
-call_made None step before after remove remove_after parties parties_after lines longer same same_remove same_parties silent =
-    (call_stays before after remove remove_after parties parties_after same same_remove same_parties, silent)
-call_made (Some one) step before after remove remove_after parties parties_after lines longer calls same_remove same_parties silent = record {
+pub call_made : {T : Type 0} (result : Result T StopReason) (step : Step) (before after : Seated) (remove remove_after : Holder) (parties parties_after : AtSlots) (lines longer : List WordLine)
+    → MatchResult result (λ _. CallsFor step.act remove before after) (λ why. IsAsBefore before after × IsUnrecorded before.seen why) → remove_after ≡ remove → parties_after ≡ parties → longer ≡ lines
+    → MatchResult result (λ _. MakesCall step (at_work before remove parties) (at_work after remove_after parties_after) lines longer)
+    (λ why. Stays (at_work before remove parties) (at_work after remove_after parties_after) lines longer × IsUnrecorded before.seen why)
+call_made (Err why) step before after remove remove_after parties parties_after lines longer same same_remove same_parties silent =
+    ((call_stays before after remove remove_after parties parties_after same.0 same_remove same_parties, silent), same.1)
+call_made (Ok one) step before after remove remove_after parties parties_after lines longer calls same_remove same_parties silent = record {
   called = record { call = calls.call; receipt = calls.receipt; of_act = calls.of_act; recorded = roomless_called before after calls.call (found_drained remove) calls.receipt calls.recorded };
   rest = λ i. record { seat = roomless after; remove = same_remove i; parties = same_parties i };
   silent = silent;
@@ -147,19 +151,25 @@ no_news : (n : ℕ) → news n n ≡ 0
 no_news n = ap (λ b. cond b 0 n) (eq-eqb n n refl)
 
 -- what one seat makes of a step, and all have seen what was recorded; one that wasn't made leaves all as they are
-pub made_at : {S T : Type 0} (result : Option T) (f : S → AtWork) (seats after : List S) (at : ℕ) (new old : S) (lines longer : List WordLine) (count place : ℕ) (step : Step) (shows : ℕ)
+pub made_at : {S T : Type 0} (result : Result T StopReason) (f : S → AtWork) (seats after : List S) (at : ℕ) (new old : S) (lines longer : List WordLine) (count place : ℕ) (step : Step) (shows : ℕ)
     → at < length seats → old ≡ get_or seats at old → (f old).seat.number ≡ step.seat
     → shows ≡ news (f old).seat.seen (f new).seat.seen
     → map f after ≡ map (caught_up shows) (map f (set seats at new))
-    → MatchOption result (Stays (f old) (f new) lines longer) (λ _. Does count place step (kind_of step.act) (f old) (f new) lines longer)
-    → MatchOption result (working (map f after) longer ≡ working (map f seats) lines) (λ _. Makes count place step (working (map f seats) lines) (working (map f after) longer))
-made_at None f seats after at new old lines longer count place step shows lt there named shown saw stays =
+    → MatchResult result (λ _. Does count place step (kind_of step.act) (f old) (f new) lines longer)
+    (λ why. Stays (f old) (f new) lines longer × IsUnmade (kind_of step.act) (f old).seat.seen (f old).parties why)
+    → MatchResult result (λ _. Makes count place step (working (map f seats) lines) (working (map f after) longer))
+    (λ why. (working (map f after) longer ≡ working (map f seats) lines) × StopsBy (kind_of step.act) step (map f seats) why)
+made_at (Err why) f seats after at new old lines longer count place step shows lt there named shown saw unmade =
+    let stays : Stays (f old) (f new) lines longer = unmade.0 in
     let none : shows ≡ 0 = shown ∙ ap (λ (own : AtWork). news (f old).seat.seen own.seat.seen) stays.0 ∙ no_news (f old).seat.seen in
     let all : map f after ≡ map f seats =
     saw ∙ ap (λ n. map (caught_up n) (map f (set seats at new))) none ∙ none_learned (map f (set seats at new))
     ∙ map_set_same f seats at new old (stays.0 ∙ ap f there) lt in
-    λ i. working (all i) (stays.1 i)
-made_at (Some x) f seats after at new old lines longer count place step shows lt there named shown saw did = by_alone count place step (kind_of step.act) _ _ record {
+    let here : slice_get (map f seats) at ≡ Some (f old) =
+    slice_get-get_or (map f seats) at (f old) (omega (arith, lt, length-map seats f))
+    ∙ ap Some (get_or-map f seats at old (f old) lt ∙ ap f (sym there)) in
+    ((λ i. working (all i) (stays.1 i)), by_unmade step (kind_of step.act) (map f seats) why at (f old) here named unmade.1)
+made_at (Ok x) f seats after at new old lines longer count place step shows lt there named shown saw did = by_alone count place step (kind_of step.act) _ _ record {
   at = at;
   old = f old;
   new = f new;
@@ -202,7 +212,7 @@ makes_more count number workers steps i d before old new n w lt so_far same_numb
     subst (λ all. MakesEach count all before new) (sym (placed_more number workers steps i d lt)) (both_make count _ _ before old new so_far one)
 
 -- the same of a worker that is known to be this one and to have begun so
-pub own_from : (count number workers : ℕ) (steps : List Step) (before : Working) (halted : Bool) (other_number other_workers : ℕ) (given : List Step) (from after : Working) (stopped : Bool)
+pub own_from : (count number workers : ℕ) (steps : List Step) (before : Working) (halted : Option Stop) (other_number other_workers : ℕ) (given : List Step) (from after : Working) (stopped : Option Stop)
     → MakesOwn count other_number other_workers given from after stopped → other_number ≡ number → other_workers ≡ workers → given ≡ steps → from ≡ before → stopped ≡ halted
     → MakesOwn count number workers steps before after halted
 own_from count number workers steps before halted other_number other_workers given from after stopped made same_number same_workers same_steps same_before same_halt =
@@ -227,10 +237,6 @@ count_pieces test piece h g each (w ∷ ws) =
     let sum : sum_by g (w ∷ ws) ≡ g w + sum_by g ws = sum_by-cons g w ws in
     omega (arith, both, here, rest, sum)
 
-any_map : {W P : Type 0} (p : P → Bool) (h : W → P) (ws : List W) → list_any p (map h ws) ≡ list_any (λ w. p (h w)) ws
-any_map p h [] = refl
-any_map p h (w ∷ ws) = ap (λ rest. p (h w) || rest) (any_map p h ws)
-
 told_from : {W P : Type 0} (h : W → P) (o : Option W) (p : P) → option_map h o ≡ Some p → (w : W) × (o ≡ Some w) × (h w ≡ p)
 told_from h None p is = absurd (none-some p is)
 told_from h (Some w) p is = (w, refl, ap (λ found. unwrap_or found p) is)
@@ -242,8 +248,8 @@ All-mapped : {S X : Type 0} (f : S → X) (P : X → Type 0) (xs : List S) → A
 All-mapped f P [] each = All-nil P
 All-mapped f P (x ∷ xs) each = All-cons P (f x) (map f xs) (All-head (λ s. P (f s)) x xs each) (All-mapped f P xs (All-tail (λ s. P (f s)) x xs each))
 
-abbrev left_of : {S W : Type 0} → (S → AtWork) → (W → List S) → (W → List WordLine) → (W → Bool) → W → Left
-left_of f seats_of lines_of stopped_of w = record { work = working (map f (seats_of w)) (lines_of w); stopped = stopped_of w }
+abbrev left_of : {S W : Type 0} → (S → AtWork) → (W → List S) → (W → List WordLine) → (W → Option Stop) → W → Left
+left_of f seats_of lines_of stopped_of w = record { work = working (map f (seats_of w)) (lines_of w); stop = stopped_of w }
 
 -- what follows of each answer by three facts follows where there is one
 pub if_ok_all : {T E : Type 0} (result : Result T E) {P Q R S : T → Type 0} → ((value : T) → P value → Q value → R value → S value) → IfOk result P → IfOk result Q → IfOk result R → IfOk result S
@@ -251,14 +257,14 @@ if_ok_all (Ok value) step one two three = step value one two three
 if_ok_all (Err fault) step one two three = one
 
 -- workers that seats were dealt to, and what is gathered of what they left
-pub work_apart : {S W : Type 0} (f : S → AtWork) (seats_of : W → List S) (lines_of : W → List WordLine) (stopped_of : W → Bool) (count workers : ℕ) (steps : List Step) (ready : List S) (groups done : List W) (after : List S) (lines : List WordLine) (stopped : Bool)
+pub work_apart : {S W : Type 0} (f : S → AtWork) (seats_of : W → List S) (lines_of : W → List WordLine) (stopped_of : W → Option Stop) (count workers : ℕ) (steps : List Step) (ready : List S) (groups done : List W) (after : List S) (lines : List WordLine) (stopped : Option Stop)
     → length groups ≡ workers → length done ≡ workers
     → ((test : S → Bool) → sum_by (λ worker. count_by test (seats_of worker)) groups ≡ count_by test ready)
     → ((k : ℕ) (one : W) → k < workers → All (λ s. IsOwn k workers (f s)) (seats_of (get_or groups k one)))
     → ((k : ℕ) (one other : W) → k < workers → MakesOwn count k workers steps (working (map f (seats_of (get_or groups k other))) []) (working (map f (seats_of (get_or done k one))) (lines_of (get_or done k one))) (stopped_of (get_or done k one)))
     → ((test : S → Bool) → count_by test after ≡ sum_by (λ worker. count_by test (seats_of worker)) done)
     → ((test : WordLine → Bool) → count_by test lines ≡ sum_by (λ worker. count_by test (lines_of worker)) done)
-    → stopped ≡ list_any stopped_of done
+    → stopped ≡ first_stop stopped_of done
     → WorkApart count workers steps (map f ready) (map f after) lines stopped
 work_apart f seats_of lines_of stopped_of count workers steps ready groups done after lines stopped grouped counted dealt own made gathered told halted =
     record {
@@ -278,7 +284,7 @@ work_apart f seats_of lines_of stopped_of count workers steps ready groups done 
           let within : number < workers = omega (arith, slice_get_within groups number group.0 group.1, grouped) in
           let first = get_or_from_slice_get groups number group.0 group.0 group.1 in
           let last = get_or_from_slice_get done number left.0 left.0 left.1 in
-          subst (λ (one : Left). MakesOwn count number workers steps (working seats []) one.work one.stopped) left.2
+          subst (λ (one : Left). MakesOwn count number workers steps (working seats []) one.work one.stop) left.2
           (subst (λ seats. MakesOwn count number workers steps (working seats []) (working (map f (seats_of left.0)) (lines_of left.0)) (stopped_of left.0)) group.2
           (subst (λ w. MakesOwn count number workers steps (working (map f (seats_of group.0)) []) (working (map f (seats_of w)) (lines_of w)) (stopped_of w)) last
           (subst (λ w. MakesOwn count number workers steps (working (map f (seats_of w)) []) (working (map f (seats_of (get_or done number left.0))) (lines_of (get_or done number left.0))) (stopped_of (get_or done number left.0))) first
@@ -287,5 +293,5 @@ work_apart f seats_of lines_of stopped_of count workers steps ready groups done 
           count_map f test after ∙ gathered (λ s. test (f s))
           ∙ sym (count_pieces test (λ (one : Left). one.work.seats) (left_of f seats_of lines_of stopped_of) (λ w. count_by (λ s. test (f s)) (seats_of w)) (λ w. count_map f test (seats_of w)) done);
       told = λ test. told test ∙ sym (count_pieces test (λ (one : Left). one.work.lines) (left_of f seats_of lines_of stopped_of) (λ w. count_by test (lines_of w)) (λ w. refl) done);
-      halted = halted ∙ sym (any_map (λ (one : Left). one.stopped) (left_of f seats_of lines_of stopped_of) done);
+      halted = halted ∙ sym (first_map (λ (one : Left). one.stop) (left_of f seats_of lines_of stopped_of) done);
     }

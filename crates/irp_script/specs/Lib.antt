@@ -12,6 +12,7 @@ pub mod Pairs
 pub mod Ran
 pub mod Seats
 pub mod StepKinds
+pub mod Stops
 pub mod Told
 pub mod Words
 pub mod Workers

@@ -1,6 +1,6 @@
 -- What ran of a script: the chains of steps that its workers made, from the seats as they were opened to the entries
 -- and word lines that the transcript has.
-use Rattle.std.specs.Prelude.{ℕ, ◌≡◌, All, Bool, List, [], map}
+use Rattle.std.specs.Prelude.{ℕ, ◌≡◌, All, List, [], Option, map}
 use Rattle.std.specs.List.{flat_map}
 use Rattle.atomic_table.specs.Seated.{TableId}
 use Rattle.irp_manager.specs.Seats.{Seated}
@@ -16,6 +16,7 @@ use Rattle.irp_script_reader.specs.declared.script.Script.{Script}
 use Rattle.irp_script_reader.specs.Forms.{slots_of}
 use Rattle.irp_script.specs.Numbers.{EachAsOften}
 use Rattle.irp_script.specs.Working.{AtWork, RunsScript}
+use Rattle.irp_script.specs.declared.stop.Stop.{Stop}
 
 -- ---- the parts of a script's seats, in order
 
@@ -60,13 +61,13 @@ pub record AreOpened (script : Script) (all : List AtWork) : Type 0 where
 -- begins with the seats as they are opened, the steps with seats that have seen all of it; all steps are made, where
 -- nothing stopped. The transcript has the word lines that came of it, and for each seat just the entries that it had in
 -- the end
-pub record Ran (workers : ℕ) (script : Script) (transcript : TranscriptValue) (stopped : Bool)
+pub record Ran (workers : ℕ) (script : Script) (transcript : TranscriptValue) (stop : Option Stop)
     : Type 0 where
   pub before : List AtWork
   pub after : List AtWork
   pub opened : AreOpened script before
   pub made : RunsScript script.locks workers script.setup script.steps before after
-      transcript.words stopped
+      transcript.words stop
   pub closed : List Seated
   pub back : EachAsOften (seats_in after) closed
   pub kept : All (IsKept transcript.entries) closed

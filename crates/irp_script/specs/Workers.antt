@@ -1,5 +1,5 @@
 -- What clauses read of workers.
-use Rattle.std.specs.Prelude.{ℕ, ◌≡◌, ◌%◌, All, Bool, false, List, [], sum_by}
+use Rattle.std.specs.Prelude.{ℕ, ◌≡◌, ◌%◌, All, Bool, List, [], None, sum_by}
 use Rattle.std.specs.List.{count_by}
 use Rattle.irp_remove.specs.declared.table.Locks.{Locks}
 use Rattle.irp_transcript.specs.declared.word_line.WordLine.{WordLine}
@@ -18,26 +18,26 @@ abbrev pub IsSameWorker : {L : _} {session : _}
     → Worker L session → Worker L session → Type 0
 IsSameWorker before after =
     (after.number ≡ before.number) × (after.workers ≡ before.workers)
-    × (after.stopped ≡ before.stopped) × (after.locks.now ≡ before.locks.now)
+    × (after.stop ≡ before.stop) × (after.locks.now ≡ before.locks.now)
 
 -- it has this number among so many workers, has run nothing, and has no seat, at these locks
 abbrev pub IsIdle : {L : _} {session : _}
     → ℕ → Locks → ℕ → Worker L session → Type 0
 IsIdle workers locks number worker =
     (worker.number ≡ number) × (worker.workers ≡ workers) × (worker.words.items ≡ [])
-    × (worker.stopped ≡ false) × (worker.seats.items ≡ []) × (worker.locks.now ≡ locks)
+    × (worker.stop ≡ None) × (worker.seats.items ≡ []) × (worker.locks.now ≡ locks)
 
 -- it has this number among so many workers, has run nothing, and has seats of its own alone
 abbrev pub IsReady : {L : _} {session : _} → ℕ → ℕ → Worker L session → Type 0
 IsReady workers number worker =
     (worker.number ≡ number) × (worker.workers ≡ workers) × (worker.words.items ≡ [])
-    × (worker.stopped ≡ false) × All (λ own. number_of own % workers ≡ number) worker.seats.items
+    × (worker.stop ≡ None) × All (λ own. number_of own % workers ≡ number) worker.seats.items
 
 -- with so many locks it ran its own among the steps, up to the first that wasn't made
 abbrev pub RunsOwn : {L : _} {session : _}
     → ℕ → List Step → Worker L session → Worker L session → Type 0
 RunsOwn count steps before after =
-    MakesOwn count before.number before.workers steps (work_of before) (work_of after) after.stopped
+    MakesOwn count before.number before.workers steps (work_of before) (work_of after) after.stop
 
 -- how many of the workers' seats pass a test, and how many of their word lines
 abbrev pub count_seats : {L : _} {session : _}

@@ -7,14 +7,17 @@ use Rattle.std.specs.Prelude.{
   ◌≤◌,
   ◌%◌,
   ◌==◌,
+  ◌^◌,
   All,
-  Bool,
+  Contains,
   true,
   false,
   if◌then◌else◌,
   map,
   nat_lt,
+  Option,
   Some,
+  None,
   List,
   [],
   ◌∷◌,
@@ -24,7 +27,8 @@ use Rattle.std.specs.Prelude.{
   slice_get,
   slice_set,
 }
-use Rattle.std.specs.List.{flat_map, list_any}
+use Rattle.std.specs.List.{flat_map}
+use Rattle.std.specs.Option.{option_or}
 use Rattle.irp_types.specs.declared.names.IrpRef.{IrpRef}
 use Rattle.irp_types.specs.declared.names.LockNo.{LockNo}
 use Rattle.irp_types.specs.declared.seat_act.Hand.{Hand}
@@ -58,6 +62,10 @@ use Rattle.irp_script.specs.Calling.{CallsFor}
 use Rattle.irp_script.specs.StepKinds.{IsNamed, kind_of}
 use Rattle.irp_script.specs.Outcomes.{is_own_step, own_placed}
 use Rattle.irp_script.specs.Numbers.{EachAsOften}
+use Rattle.irp_script.specs.Stops.{IsUnmade}
+use Rattle.irp_script.specs.declared.stop.Stop.{Stop}
+use Rattle.irp_script.specs.declared.stop.StopReason.{StopReason}
+use Rattle.irp_script.specs.declared.stop.StopReason.TheVariants as why
 
 -- a seat of a script: the one that makes calls, whatever room it has, the remove seat, and what it has at the slots
 pub record AtWork : Type 0 where
@@ -231,16 +239,52 @@ abbrev pub if_own : ℕ → ℕ → ℕ → Step → List (ℕ × Step)
 if_own number workers place step =
     if is_own_step number workers step then (place, step) ∷ [] else []
 
--- one of so many workers made its own among the first steps, and among all where it wasn't stopped; where it was, the
--- next step is one of its own
+-- a worker has a seat of this number
+abbrev pub HasSeat : List AtWork → ℕ → Type 0
+HasSeat seats number = Contains (map (λ (own : AtWork). own.seat.number) seats) number
+
+-- a hand isn't made: the seat that the step names isn't there, or the other isn't, both are one, or memory ran out
+abbrev pub HandStops : Step → Hand → List AtWork → StopReason → Type 0
+HandStops step hand seats why.NoSeat = ¬ HasSeat seats step.seat
+HandStops step hand seats why.NoTaker = HasSeat seats step.seat × ¬ HasSeat seats hand.to
+HandStops step hand seats why.SameSeat = HasSeat seats step.seat × (hand.to ≡ step.seat)
+HandStops step hand seats why.Memory = HasSeat seats step.seat × HasSeat seats hand.to
+HandStops step hand seats other = ⊥
+
+-- another step of this kind isn't made: the seat that it names isn't there, or is and doesn't make it
+abbrev pub AloneStops : StepKind → Step → List AtWork → StopReason → Type 0
+AloneStops kind step seats reason =
+    ((reason ≡ why.NoSeat) × ¬ HasSeat seats step.seat)
+    ⊎ ((at : ℕ) × (own : AtWork) × (slice_get seats at ≡ Some own) × (own.seat.number ≡ step.seat)
+    × IsUnmade kind own.seat.seen own.parties reason)
+
+-- a worker with these seats doesn't make a step of this kind, for this reason
+abbrev pub StopsBy : StepKind → Step → List AtWork → StopReason → Type 0
+StopsBy (Hands hand) step seats reason = HandStops step hand seats reason
+StopsBy alone step seats reason = AloneStops alone step seats reason
+
+-- the same of a step at this place: places are below 2 ^ 32
+abbrev pub StopsAt : ℕ → Step → List AtWork → StopReason → Type 0
+StopsAt place step seats reason =
+    ((reason ≡ why.TooManySteps) × (2 ^ 32 ≤ place)) ⊎ StopsBy (kind_of step.act) step seats reason
+
+-- one of so many workers, with these seats, stopped in front of a step of its own, and tells so
+pub record IsStopAt (number workers place : ℕ) (step : Step) (seats : List AtWork) (stop : Stop) : Type 0 where
+  pub own : is_own_step number workers step ≡ true
+  pub named : stop.seat ≡ step.seat
+  pub why : StopsAt place step seats stop.reason
+
+-- one of so many workers made its own among the first steps, and among all where it didn't stop; where it did, it was
+-- in front of the next step
 pub record MakesOwn (count number workers : ℕ) (steps : List Step) (before after : Working)
-    (stopped : Bool) : Type 0 where
+    (stop : Option Stop) : Type 0 where
   pub reached : ℕ
   pub within : reached ≤ length steps
   pub each : MakesEach count (own_placed number workers (take reached steps)) before after
-  pub all : stopped ≡ false → reached ≡ length steps
-  pub next : stopped ≡ true
-      → (step : Step) × (slice_get steps reached ≡ Some step) × (is_own_step number workers step ≡ true)
+  pub all : stop ≡ None → reached ≡ length steps
+  pub next : (told : Stop) → stop ≡ Some told
+      → (step : Step) × (slice_get steps reached ≡ Some step)
+      × IsStopAt number workers reached step after.seats told
 
 -- a seat is one of a worker's own
 abbrev pub IsOwn : ℕ → ℕ → AtWork → Type 0
@@ -249,12 +293,17 @@ IsOwn number workers own = own.seat.number % workers ≡ number
 -- what a worker left
 pub record Left : Type 0 where
   pub work : Working
-  pub stopped : Bool
+  pub stop : Option Stop
+
+-- the first stop of those that workers tell
+abbrev pub first_stop : {W : Type 0} → (W → Option Stop) → List W → Option Stop
+first_stop told_by [] = None
+first_stop told_by (worker ∷ others) = option_or (told_by worker) (first_stop told_by others)
 
 -- each seat was dealt to the one of so many workers whose own it is, each worker made its own steps, and what they left
 -- was gathered
 pub record WorkApart (count workers : ℕ) (steps : List Step) (ready after : List AtWork)
-    (lines : List WordLine) (stopped : Bool) : Type 0 where
+    (lines : List WordLine) (stop : Option Stop) : Type 0 where
   pub dealt : List (List AtWork)
   pub left : List Left
   pub many : (length dealt ≡ workers) × (length left ≡ workers)
@@ -263,24 +312,24 @@ pub record WorkApart (count workers : ℕ) (steps : List Step) (ready after : Li
       → slice_get dealt number ≡ Some seats → All (IsOwn number workers) seats
   pub made : (number : ℕ) (seats : List AtWork) (one : Left)
       → slice_get dealt number ≡ Some seats → slice_get left number ≡ Some one
-      → MakesOwn count number workers steps (working seats []) one.work one.stopped
+      → MakesOwn count number workers steps (working seats []) one.work one.stop
   pub back : EachAsOften (flat_map (λ (one : Left). one.work.seats) left) after
   pub told : EachAsOften (flat_map (λ (one : Left). one.work.lines) left) lines
-  pub halted : stopped ≡ list_any (λ (one : Left). one.stopped) left
+  pub halted : stop ≡ first_stop (λ (one : Left). one.stop) left
 
--- what came behind the setup: nothing, where its worker was stopped, and else the steps
-abbrev pub WorkAfter : Bool → ℕ → ℕ → List Step → List AtWork → List AtWork
-    → List WordLine → Bool → Type 0
-WorkAfter true count workers steps ready after lines stopped =
-    (after ≡ ready) × (lines ≡ []) × (stopped ≡ true)
-WorkAfter false count workers steps ready after lines stopped =
-    WorkApart count workers steps ready after lines stopped
+-- what came behind the setup: nothing, where its worker stopped, which is told; and else the steps
+abbrev pub WorkAfter : Option Stop → ℕ → ℕ → List Step → List AtWork → List AtWork
+    → List WordLine → Option Stop → Type 0
+WorkAfter (Some told) count workers steps ready after lines stop =
+    (after ≡ ready) × (lines ≡ []) × (stop ≡ Some told)
+WorkAfter None count workers steps ready after lines stop =
+    WorkApart count workers steps ready after lines stop
 
--- one worker made the setup with all seats, and then, unless it was stopped, so many made the steps. All seats have seen
+-- one worker made the setup with all seats, and then, unless it stopped, so many made the steps. All seats have seen
 -- the whole setup then, so each call of the steps stands behind all calls of the setup in the history
 pub record RunsScript (count workers : ℕ) (setup steps : List Step)
-    (before after : List AtWork) (lines : List WordLine) (stopped : Bool) : Type 0 where
+    (before after : List AtWork) (lines : List WordLine) (stop : Option Stop) : Type 0 where
   pub ready : Working
-  pub halted : Bool
+  pub halted : Option Stop
   pub first : MakesOwn count 0 1 setup (working before []) ready halted
-  pub rest : WorkAfter halted count workers steps ready.seats after lines stopped
+  pub rest : WorkAfter halted count workers steps ready.seats after lines stop

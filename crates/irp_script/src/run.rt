@@ -1,7 +1,7 @@
 //! Running a script.
 
 ghost use Rattle.std.specs.Prelude.{◌≡◌, ◌<◌, ℕ, Bool, All, IfOk, slice_index_or, vec_len};
-ghost use Rattle.std.specs.List.{count_by, list_any};
+ghost use Rattle.std.specs.List.{count_by};
 ghost use Rattle.irp_transcript.specs.declared.word_line.WordLine.{WordLine};
 ghost use Rattle.irp_remove.specs.Pairing.{IsSeatOf, lock_count};
 ghost use Rattle.irp_slots.specs.Pairing.{IsCancellerOf, IsOwnerOf};
@@ -25,7 +25,7 @@ ghost use Rattle.irp_script.specs.Seats.{
 };
 ghost use Rattle.irp_script.specs.Words.{AreInOrder};
 ghost use Rattle.irp_script.specs.Workers.{IsIdle, IsReady, RunsOwn, count_lines, count_seats};
-ghost use Rattle.irp_script.specs.Working.{RunsScript};
+ghost use Rattle.irp_script.specs.Working.{RunsScript, first_stop};
 
 use crate::gate::{AlwaysOpen, Gate};
 use crate::labels::Labels;
@@ -33,6 +33,7 @@ use crate::meeting::Meeting;
 use crate::run_context::RunContext;
 use crate::script_seat::ScriptSeat;
 use crate::slot_parties::SlotParties;
+use crate::stop::Stop;
 use crate::words::put_in_order;
 use crate::worker::Worker;
 use irp_remove::{Locks, RemoveSeat};
@@ -52,9 +53,8 @@ pub struct Worked<'a, L: Session> {
     pub seats: Vec<ScriptSeat<'a, L>>,
     /// The word lines of the steps on locks and slots, by rising seat and then by rising step.
     pub words: Vec<WordLine>,
-    /// Whether a worker stopped: a step found no memory or wasn't recorded, or named a seat or a slot that the worker
-    /// can't act for, as `run_workers` tells.
-    pub stopped: bool,
+    /// None where no worker stopped. Else where the first one of those did that stopped, and why.
+    pub stop: Option<Stop>,
 }
 
 /// Each seat with the remove seat and the canceller of the same place, in order.
@@ -204,25 +204,21 @@ fn gather<'a, L: Session>(
     ensures words { IfOk result (λ worked. AreInOrder worked.words.items) }
     ensures lines { IfOk result (λ worked. (test : WordLine → Bool)
         → count_by test worked.words.items ≡ count_lines test workers.entry.items) }
-    ensures stopped { IfOk result (λ worked. worked.stopped ≡ list_any
-        (λ worker. worker.stopped) workers.entry.items) }
+    ensures stop { IfOk result (λ worked. worked.stop ≡ first_stop
+        (λ worker. worker.stop) workers.entry.items) }
     ensures seats { IfOk result (λ worked. (test : _ → Bool)
         → count_by test worked.seats.items ≡ count_seats test workers.entry.items) }
 {
     let mut seats = Vec::new(alloc);
     let mut words = Vec::new(alloc);
-    let mut stopped = false;
+    let mut stop: Option<Stop> = None;
     while let Some(mut worker) = workers.pop() {
         seats.append(&mut worker.seats)?;
         words.append(&mut worker.words)?;
-        stopped |= worker.stopped;
+        stop = worker.stop.or(stop);
     }
     put_in_order(&mut words)?;
-    Ok(Worked {
-        seats,
-        words,
-        stopped,
-    })
+    Ok(Worked { seats, words, stop })
 }
 
 /// Runs a script: its setup in order, on this thread, and then so many workers in threads of their own, of which
@@ -236,23 +232,23 @@ fn gather<'a, L: Session>(
 ///
 /// Labels are shared by all seats: one that isn't bound yet stands for a packet that is never live. A step whose seat
 /// isn't there, one whose call isn't recorded, a hand to a seat that its worker doesn't have, and a publish or a
-/// withdraw in a slot of another seat stops its worker; in the setup, nothing more is run. The gate is called before
-/// and after each of the script's `steps`, with its seat and its place, outside the session's lock (tests show it, no
-/// clause). A step of the setup on a lock or a slot, which no script that was read has, has no word line (this
-/// project's own format, docs/FORMATS.md).
+/// withdraw in a slot of another seat stops its worker, which says so; in the setup, nothing more is run. The gate is
+/// called before and after each of the script's `steps`, with its seat and its place, outside the session's lock (tests
+/// show it, no clause). A step of the setup on a lock or a slot, which no script that was read has, has no word line
+/// (this project's own format, docs/FORMATS.md).
 ///
 /// All remove seats were opened with these locks, and all that the seats have at slots with these slots, which are the
 /// conditions of this call.
 ///
-/// What was done is a chain for the setup, and then one for each worker over the seats that it was dealt. Each link
-/// is one of its own steps, in the order of the script, made by the seat that the step names: one call, with what
-/// this seat's own remove seat knew of the locks, or one act on remove locks or on a cancel slot, of which one word
-/// line tells what was answered. A finish of a taken packet is one call with a token that this seat took from that
-/// slot and hasn't spent, and where there is none, one word line. A token that comes out of a slot stays with the
-/// seat, and so does one that a finish gives back. The next link goes on from there. No other seat changes, but for
-/// the one that a hand names, and all seats of the worker have seen the entry of a call. A chain ends early only where
-/// its worker stopped, in front of a step of its own. The seats and the word lines that come back are those that the
-/// chains end with.
+/// What was done is a chain for the setup, and then one for each worker over the seats that it was dealt. Each link is
+/// one of its own steps, in the order of the script, made by the seat that the step names: one call, with what this
+/// seat's own remove seat knew of the locks, or one act on remove locks or on a cancel slot, of which one word line
+/// tells what was answered. A finish of a taken packet is one call with a token that this seat took from that slot and
+/// hasn't spent, and where there is none, one word line. A token that comes out of a slot stays with the seat, and so
+/// does one that a finish gives back. The next link goes on from there. No other seat changes, but for the one that a
+/// hand names, and all seats of the worker have seen the entry of a call. A chain ends early only where its worker
+/// stopped, in front of a step of its own, for a reason that is so of its seats there. The seats and the word lines
+/// that come back are those that the chains end with.
 ///
 /// Each word line has the seat, the place and the act of one of the script's `steps` on locks and slots. No such step
 /// has two lines, and where nothing stopped, each has its line, a finish of a taken packet only where it found no
@@ -293,11 +289,11 @@ pub fn run_workers<
         EachAsOften (pairs_of seats.entry.items) (pairs_of worked.seats.items)) }
     ensures accounts { IfOk result (λ worked. Accounts script.now.setup script.now.steps
         (seats_at_work seats.entry.items) (seats_at_work worked.seats.items)
-        worked.words.items worked.stopped) }
+        worked.words.items worked.stop) }
     ensures ran { IfOk result
         (λ worked. RunsScript L.fixed.locks workers script.now.setup script.now.steps
         (seats_at_work seats.entry.items) (seats_at_work worked.seats.items)
-        worked.words.items worked.stopped) }
+        worked.words.items worked.stop) }
 {
     let _ = slots;
     let labels = Labels::new(alloc, script.labels)?;
@@ -305,15 +301,11 @@ pub fn run_workers<
     let all = Worker::new(alloc, 0, 1, locks, seats);
     let alone = Meeting::new(1);
     let ready = all.run(rt, &context, &alone, &AlwaysOpen, script.setup.as_slice());
-    if ready.stopped {
+    if ready.stop.is_some() {
         let seats = ready.seats;
         let words = Vec::new(alloc);
-        let stopped = true;
-        return Ok(Worked {
-            seats,
-            words,
-            stopped,
-        });
+        let stop = ready.stop;
+        return Ok(Worked { seats, words, stop });
     }
     let steps = script.steps.as_slice();
     let groups = deal(alloc, locks, workers, ready.seats)?;

@@ -1,6 +1,6 @@
 //! The steps of a script's seat.
 
-ghost use Rattle.std.specs.Prelude.{◌≡◌, ◌<◌, MatchOption, vec_capacity, vec_len};
+ghost use Rattle.std.specs.Prelude.{◌≡◌, ◌<◌, MatchResult, vec_capacity, vec_len};
 ghost use Rattle.irp_remove.specs.Calls.{IsSameSeat};
 ghost use Rattle.irp_remove.specs.Pairing.{lock_count};
 ghost use Rattle.irp_shared.specs.Sharing.{IsAsBefore};
@@ -8,17 +8,20 @@ ghost use Rattle.irp_script.specs.Acts.{Acts, SlotActs};
 ghost use Rattle.irp_script.specs.Calling.{CallsFor};
 ghost use Rattle.irp_script.specs.StepKinds.{kind_of};
 ghost use Rattle.irp_script.specs.Seats.{seat_at_work};
+ghost use Rattle.irp_script.specs.Stops.{IsAlone, IsUnacted, IsUnmade, IsUnrecorded};
 ghost use Rattle.irp_script.specs.Working.{ActsOnLock, ActsOnSlot, Does, HandsOver, Stays, Tells, caught_up};
 
 use crate::run_context::RunContext;
 use crate::script_seat::ScriptSeat;
 use crate::step_call::{call_of, kind_of};
 use crate::step_kind::StepKind;
+use crate::stop::StopReason;
 use irp_remove::{AcquireRefusal, BeginRefusal, DrainRefusal, HandRefusal, ReleaseRefusal};
 use irp_routines::Ask;
 use irp_script_reader::Step;
 use irp_shared::{Act, Session, WordLine, WordReply};
 use irp_types::{LockAct, LockNo, SlotAct, Status};
+use std::alloc::AllocError;
 use std::sync::Wait;
 
 /// Adds a line, for which there is room.
@@ -51,22 +54,35 @@ impl<'a, L: Session> ScriptSeat<'a, L> {
     }
 
     /// Makes the call of a step once, with what the remove seat knows of the locks, and binds the label that the step
-    /// binds. None where the step has no call, or it wasn't recorded, and then the seat says what it said.
-    fn call<A: Ask>(&mut self, rt: &impl Wait, context: &RunContext<A, L>, step: Step) -> Option<()>
+    /// binds.
+    ///
+    /// # Errors
+    ///
+    /// Why it isn't recorded, and then the seat says what it said.
+    fn call<A: Ask>(
+        &mut self,
+        rt: &impl Wait,
+        context: &RunContext<A, L>,
+        step: Step,
+    ) -> Result<(), StopReason>
+        requires { kind_of step.act ≡ StepKind.Calls }
         ensures remove { self.new.remove ≡ self.old.remove }
         ensures parties { self.new.parties ≡ self.old.parties }
-        ensures called { MatchOption result (IsAsBefore self.old.seat self.new.seat)
-            (λ _. CallsFor step.act self.old.remove self.old.seat self.new.seat) }
+        ensures called { MatchResult result
+            (λ _. CallsFor step.act self.old.remove self.old.seat self.new.seat)
+            (λ why. IsAsBefore self.old.seat self.new.seat × IsUnrecorded self.old.seat.seen why) }
     {
         let irp = context.labels.packet_of(rt, step.act);
-        let call = call_of(step.act, irp)?;
+        let Some(call) = call_of(step.act, irp) else {
+            unreachable!();
+        };
         let seat = &mut self.seat;
         match context.shared.call(rt, seat, call, &self.remove) {
             Ok(receipt) => {
                 context.labels.learn(rt, step.act, receipt.reply());
-                Some(())
+                Ok(())
             }
-            Err(_) => None,
+            Err(error) => Err(StopReason::from(error)),
         }
     }
 
@@ -161,19 +177,23 @@ impl<'a, L: Session> ScriptSeat<'a, L> {
         }
     }
 
-    /// Acts on a cancel slot once, and answers what a word line tells of it. None where the slot's owner is another
-    /// seat's or there is no memory, and then nothing was done.
+    /// Acts on a cancel slot once, and answers what a word line tells of it.
+    ///
+    /// # Errors
+    ///
+    /// `NotOwner` where the slot isn't the seat's own, else `Memory`. Nothing was done then.
     fn act_at_slot<A: Ask>(
         &mut self,
         rt: &impl Wait,
         context: &RunContext<A, L>,
         step: Step,
         on: SlotAct,
-    ) -> Option<WordReply>
+    ) -> Result<WordReply, StopReason>
         ensures seat { self.new.seat ≡ self.old.seat }
         ensures remove { self.new.remove ≡ self.old.remove }
-        ensures acts { MatchOption result (self.new.parties ≡ self.old.parties)
-            (λ reply. SlotActs step.act on self.old.parties self.new.parties reply) }
+        ensures acts { MatchResult result
+            (λ reply. SlotActs step.act on self.old.parties self.new.parties reply)
+            (λ why. (self.new.parties ≡ self.old.parties) × IsUnacted on self.old.parties why) }
     {
         match on {
             SlotAct::Publish { slot } => {
@@ -181,32 +201,40 @@ impl<'a, L: Session> ScriptSeat<'a, L> {
                 self.parties.publish(slot, irp)
             }
             SlotAct::Withdraw { slot } => self.parties.withdraw(slot),
-            SlotAct::Request { slot } => self.parties.request(slot),
+            SlotAct::Request { slot } => Ok(self.parties.request(slot)?),
         }
     }
 
-    /// Acts on a remove lock, and adds the line. None where there was no memory for it, and then nothing was done.
+    /// Acts on a remove lock, and adds the line.
+    ///
+    /// # Errors
+    ///
+    /// `AllocError` where there was no memory for the line. Nothing was done then.
     fn step_on_lock(
         &mut self,
         index: u32,
         step: Step,
         on: LockAct,
         words: &mut Vec<WordLine>,
-    ) -> Option<()>
-        ensures { MatchOption result
-            (Stays (seat_at_work self.old) (seat_at_work self.new) words.old.items words.new.items)
+    ) -> Result<(), AllocError>
+        ensures { MatchResult result
             (λ _. ActsOnLock L.fixed.locks index step on
             (seat_at_work self.old) (seat_at_work self.new)
+            words.old.items words.new.items)
+            (λ _. Stays (seat_at_work self.old) (seat_at_work self.new)
             words.old.items words.new.items) }
     {
-        words.reserve(1).ok()?;
+        words.reserve(1)?;
         let reply = self.act(on);
         tell(words, index, step, Act::OnLock(on), reply);
-        Some(())
+        Ok(())
     }
 
-    /// Acts on a cancel slot, and adds the line. None where the slot's owner is another seat's or there was no
-    /// memory, and then nothing was done.
+    /// Acts on a cancel slot, and adds the line.
+    ///
+    /// # Errors
+    ///
+    /// `NotOwner` where the slot isn't the seat's own, or `Memory`. Nothing was done then.
     fn step_on_slot<A: Ask>(
         &mut self,
         rt: &impl Wait,
@@ -215,32 +243,38 @@ impl<'a, L: Session> ScriptSeat<'a, L> {
         step: Step,
         on: SlotAct,
         words: &mut Vec<WordLine>,
-    ) -> Option<()>
-        ensures { MatchOption result
-            (Stays (seat_at_work self.old) (seat_at_work self.new) words.old.items words.new.items)
+    ) -> Result<(), StopReason>
+        ensures { MatchResult result
             (λ _. ActsOnSlot index step on
             (seat_at_work self.old) (seat_at_work self.new)
-            words.old.items words.new.items) }
+            words.old.items words.new.items)
+            (λ why. Stays (seat_at_work self.old) (seat_at_work self.new)
+            words.old.items words.new.items × IsUnacted on self.old.parties why) }
     {
-        words.reserve(1).ok()?;
+        words.reserve(1)?;
         let reply = self.act_at_slot(rt, context, step, on)?;
         tell(words, index, step, Act::OnSlot(on), reply);
-        Some(())
+        Ok(())
     }
 
-    /// Tells that a finish found no token. None where there was no memory for the line.
+    /// Tells that a finish found no token.
+    ///
+    /// # Errors
+    ///
+    /// `AllocError` where there was no memory for the line.
     fn finish_none(
         &self,
         index: u32,
         step: Step,
         slot: u32,
         words: &mut Vec<WordLine>,
-    ) -> Option<()>
-        ensures { MatchOption result (words.new.items ≡ words.old.items)
+    ) -> Result<(), AllocError>
+        ensures { MatchResult result
             (λ _. Tells index step (Act.FinishTaken slot) WordReply.NoToken words.old.items
-            words.new.items) }
+            words.new.items)
+            (λ _. words.new.items ≡ words.old.items) }
     {
-        words.reserve(1).ok()?;
+        words.reserve(1)?;
         tell(
             words,
             index,
@@ -248,12 +282,15 @@ impl<'a, L: Session> ScriptSeat<'a, L> {
             Act::FinishTaken { slot },
             WordReply::NoToken,
         );
-        Some(())
+        Ok(())
     }
 
     /// Finishes a packet with a token that it took from the slot, and leaves the token in its place where it comes
-    /// back. Where it has none it adds a line, and calls nothing. None where the call wasn't recorded, or there was
-    /// no memory for the line, and then nothing was done.
+    /// back. Where it has none it adds a line, and calls nothing.
+    ///
+    /// # Errors
+    ///
+    /// Why the call isn't recorded, or `Memory` where there was none for the line. Nothing was done then.
     fn finish<A: Ask>(
         &mut self,
         rt: &impl Wait,
@@ -264,15 +301,17 @@ impl<'a, L: Session> ScriptSeat<'a, L> {
         status: Status,
         information: u64,
         words: &mut Vec<WordLine>,
-    ) -> Option<()>
-        ensures { MatchOption result
-            (Stays (seat_at_work self.old) (seat_at_work self.new) words.old.items words.new.items)
+    ) -> Result<(), StopReason>
+        ensures { MatchResult result
             (λ _. Does L.fixed.locks index step (StepKind.Finishes slot status information)
             (seat_at_work self.old) (seat_at_work self.new)
-            words.old.items words.new.items) }
+            words.old.items words.new.items)
+            (λ why. Stays (seat_at_work self.old) (seat_at_work self.new)
+            words.old.items words.new.items × IsUnrecorded self.old.seat.seen why) }
     {
         let Some((at, token)) = self.parties.take(slot) else {
-            return self.finish_none(index, step, slot, words);
+            self.finish_none(index, step, slot, words)?;
+            return Ok(());
         };
         let irp = context.labels.packet_of(rt, step.act);
         let seat = &mut self.seat;
@@ -282,20 +321,23 @@ impl<'a, L: Session> ScriptSeat<'a, L> {
         {
             Ok((_, token)) => {
                 self.parties.put_back(at, slot, token);
-                Some(())
+                Ok(())
             }
-            Err((_, token)) => {
+            Err((error, token)) => {
                 self.parties.put_back(at, slot, Some(token));
-                None
+                Err(StopReason::from(error))
             }
         }
     }
 
     /// Makes a step of its own, which has this place and isn't a hand: a call, with what its own remove seat knows of
     /// the locks, an act on a remove lock or on a cancel slot, of which it adds a word line, or a finish of a taken
-    /// packet, which is a call where it has a token from the slot, and else has a word line. None where the call
-    /// wasn't recorded, the slot's owner is another seat's, or there was no memory for the line, and then nothing was
-    /// done.
+    /// packet, which is a call where it has a token from the slot, and else has a word line.
+    ///
+    /// # Errors
+    ///
+    /// Why the call isn't recorded; `NotOwner` where the slot isn't the seat's own; `Memory`, which may come first.
+    /// Nothing was done then.
     pub fn step<A: Ask>(
         &mut self,
         rt: &impl Wait,
@@ -303,24 +345,27 @@ impl<'a, L: Session> ScriptSeat<'a, L> {
         index: u32,
         step: Step,
         words: &mut Vec<WordLine>,
-    ) -> Option<()>
-        ensures does { MatchOption result
-            (Stays (seat_at_work self.old) (seat_at_work self.new) words.old.items words.new.items)
+    ) -> Result<(), StopReason>
+        requires { IsAlone (kind_of step.act) }
+        ensures does { MatchResult result
             (λ _. Does L.fixed.locks index step (kind_of step.act)
             (seat_at_work self.old) (seat_at_work self.new)
-            words.old.items words.new.items) }
+            words.old.items words.new.items)
+            (λ why. Stays (seat_at_work self.old) (seat_at_work self.new)
+            words.old.items words.new.items
+            × IsUnmade (kind_of step.act) self.old.seat.seen self.old.parties why) }
         ensures same { IsSameSeat self.old.remove self.new.remove }
     {
         match kind_of(step.act) {
             StepKind::Calls => self.call(rt, context, step),
-            StepKind::OnLock(on) => self.step_on_lock(index, step, on, words),
+            StepKind::OnLock(on) => Ok(self.step_on_lock(index, step, on, words)?),
             StepKind::OnSlot(on) => self.step_on_slot(rt, context, index, step, on, words),
             StepKind::Finishes {
                 slot,
                 status,
                 information,
             } => self.finish(rt, context, index, step, slot, status, information, words),
-            StepKind::Hands(_) => None,
+            StepKind::Hands(_) => unreachable!(),
         }
     }
 }

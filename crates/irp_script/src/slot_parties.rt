@@ -1,11 +1,36 @@
 //! What a seat has at the cancel slots.
 
-ghost use Rattle.std.specs.Prelude.{◌≡◌, ◌<◌, ◌++◌, ◌∷◌, [], All, IfNone, IfOk, IfSome, MatchOption, None, OnErr, Some, false, length, map, slice_get, slice_set, true, vec_capacity, vec_len};
+ghost use Rattle.std.specs.Prelude.{
+  ◌≡◌,
+  ◌<◌,
+  ◌++◌,
+  ◌∷◌,
+  [],
+  All,
+  Contains,
+  IfNone,
+  IfOk,
+  IfSome,
+  MatchResult,
+  None,
+  OnErr,
+  Some,
+  false,
+  length,
+  map,
+  slice_get,
+  slice_set,
+  true,
+  vec_capacity,
+  vec_len,
+};
 ghost use Rattle.irp_slots.specs.Pairing.{IsCancellerOf, slot_count};
 ghost use Rattle.irp_slots.specs.declared.answers.Token.{Token};
 ghost use Rattle.irp_script.specs.AtSlots.{IsSpent, Publishing, Requesting, Withdrawing, fresh, kept};
+ghost use Rattle.irp_script.specs.Stops.{IsUnowned};
 
 use crate::slot_replies::{published, requested, withdrawn};
+use crate::stop::StopReason;
 use crate::taken::Taken;
 use irp_shared::WordReply;
 use irp_slots::{Canceller, SlotOwner, Slots, Token};
@@ -58,6 +83,7 @@ fn place_of(owners: &[SlotOwner], slot: u32) -> Option<usize>
     ensures place { IfSome result (λ place. place < length owners.now) }
     ensures some { IfSome result (λ place.
         slice_get (map (λ owner. owner.owning.slot) owners.now) place ≡ Some slot) }
+    ensures none { IfNone result (¬ Contains (map (λ owner. owner.owning.slot) owners.now) slot) }
 {
     for (place, owner) in owners.iter().enumerate() {
         if owner.slot() == slot {
@@ -127,47 +153,61 @@ impl<'a> SlotParties<'a> {
     }
 
     /// Publishes a packet's use in a slot of its own, keeps the token that came out, and answers what a word line
-    /// tells of it. None where the slot is none of its own or there is no memory, and then nothing was done.
-    pub fn publish(&mut self, slot: u32, irp: IrpRef) -> Option<WordReply>
-        ensures { MatchOption result (self.new ≡ self.old)
-            (λ reply. Publishing slot irp.use_no self.old self.new reply) }
+    /// tells of it.
+    ///
+    /// # Errors
+    ///
+    /// `NotOwner` where the slot is none of its own, else `Memory` where a growth was refused. Nothing was done then.
+    pub fn publish(&mut self, slot: u32, irp: IrpRef) -> Result<WordReply, StopReason>
+        ensures { MatchResult result (λ reply. Publishing slot irp.use_no self.old self.new reply)
+            (λ why. (self.new ≡ self.old) × IsUnowned slot self.old why) }
     {
-        let at = place_of(self.owners.as_slice(), slot)?;
-        self.taken.reserve(1).ok()?;
+        let Some(at) = place_of(self.owners.as_slice(), slot) else {
+            return Err(StopReason::NotOwner);
+        };
+        self.taken.reserve(1)?;
         let slots = self.slots;
         let owner = &mut self.owners[at];
         let (reply, token) = published(slots.publish(owner, irp));
         keep(&mut self.taken, slot, token);
-        Some(reply)
+        Ok(reply)
     }
 
     /// Withdraws what its owner has published in a slot of its own, keeps the token that came out, and answers what a
-    /// word line tells of it. None where the slot is none of its own or there is no memory, and then nothing was
-    /// done.
-    pub fn withdraw(&mut self, slot: u32) -> Option<WordReply>
-        ensures { MatchOption result (self.new ≡ self.old)
-            (λ reply. Withdrawing slot self.old self.new reply) }
+    /// word line tells of it.
+    ///
+    /// # Errors
+    ///
+    /// Those of `publish`.
+    pub fn withdraw(&mut self, slot: u32) -> Result<WordReply, StopReason>
+        ensures { MatchResult result (λ reply. Withdrawing slot self.old self.new reply)
+            (λ why. (self.new ≡ self.old) × IsUnowned slot self.old why) }
     {
-        let at = place_of(self.owners.as_slice(), slot)?;
-        self.taken.reserve(1).ok()?;
+        let Some(at) = place_of(self.owners.as_slice(), slot) else {
+            return Err(StopReason::NotOwner);
+        };
+        self.taken.reserve(1)?;
         let slots = self.slots;
         let owner = &mut self.owners[at];
         let (reply, token) = withdrawn(slots.withdraw(owner));
         keep(&mut self.taken, slot, token);
-        Some(reply)
+        Ok(reply)
     }
 
-    /// Asks for what stands in a slot, keeps the token that came out, and answers what a word line tells of it. None
-    /// where there is no memory, and then nothing was done.
-    pub fn request(&mut self, slot: u32) -> Option<WordReply>
-        ensures { MatchOption result (self.new ≡ self.old)
-            (λ reply. Requesting slot self.old self.new reply) }
+    /// Asks for what stands in a slot, keeps the token that came out, and answers what a word line tells of it.
+    ///
+    /// # Errors
+    ///
+    /// `AllocError` where a growth was refused. Nothing was done then.
+    pub fn request(&mut self, slot: u32) -> Result<WordReply, AllocError>
+        ensures { MatchResult result (λ reply. Requesting slot self.old self.new reply)
+            (λ _. self.new ≡ self.old) }
     {
-        self.taken.reserve(1).ok()?;
+        self.taken.reserve(1)?;
         let slots = self.slots;
         let (reply, token) = requested(slots.request(&mut self.canceller, slot));
         keep(&mut self.taken, slot, token);
-        Some(reply)
+        Ok(reply)
     }
 
     /// Takes out a token that was taken from a slot and isn't spent, with its place. None where there is none.

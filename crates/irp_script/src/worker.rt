@@ -1,16 +1,17 @@
 //! Workers.
 
-ghost use Rattle.std.specs.Prelude.{◌≡◌, ◌<◌, [], All, false};
+ghost use Rattle.std.specs.Prelude.{◌≡◌, ◌<◌, [], All, None};
 ghost use Rattle.irp_script.specs.Seats.{IsAtLocks};
 
 use crate::script_seat::ScriptSeat;
+use crate::stop::Stop;
 use irp_remove::Locks;
 use irp_shared::{Session, WordLine};
 use std::alloc::Global;
 
 /// One of so many workers: it has the seats whose numbers leave its own number when divided by how many workers there
-/// are, and runs their steps. Their remove seats were opened with its locks. It stops where a step isn't recorded,
-/// finds no memory, or has a seat or an owner of a slot that isn't there.
+/// are, and runs their steps. Their remove seats were opened with its locks. It stops in front of a step that isn't
+/// made, and says why.
 #[derive(Drop)]
 pub struct Worker<'a, L: Session> {
     pub(crate) number: u32,
@@ -18,7 +19,7 @@ pub struct Worker<'a, L: Session> {
     pub(crate) locks: &'a Locks,
     pub seats: Vec<ScriptSeat<'a, L>>,
     pub words: Vec<WordLine>,
-    pub stopped: bool,
+    pub stop: Option<Stop>,
     ghost some: { 0 < workers },
     ghost fits: { All (IsAtLocks locks.now) seats.items },
 }
@@ -40,7 +41,7 @@ impl<'a, L: Session> Worker<'a, L> {
         ensures workers { result.workers ≡ workers }
         ensures locks { result.locks.now ≡ locks.now }
         ensures words { result.words.items ≡ [] }
-        ensures stopped { result.stopped ≡ false }
+        ensures stop { result.stop ≡ None }
     {
         Worker {
             number,
@@ -48,7 +49,7 @@ impl<'a, L: Session> Worker<'a, L> {
             locks,
             seats,
             words: Vec::new(alloc),
-            stopped: false,
+            stop: None,
         }
     }
 }

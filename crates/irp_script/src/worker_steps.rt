@@ -19,16 +19,30 @@ ghost use Rattle.std.specs.Prelude.{
   slice_get,
   vec_len,
   Contains,
+  IfErr,
   IfNone,
   IfOk,
   IfSome,
-  MatchOption,
+  MatchResult,
+  OnOk,
   Some,
 };
-ghost use Rattle.irp_script.specs.Outcomes.{is_own_step};
 ghost use Rattle.irp_script.specs.Seats.{IsAtLocks, numbers_of, seats_at_work};
 ghost use Rattle.irp_script.specs.Workers.{IsSameWorker, RunsOwn, work_of};
-ghost use Rattle.irp_script.specs.Working.{HandsBetween, Makes, MakesEach, MakesHand, caught_up, if_own, news};
+ghost use Rattle.irp_script.specs.Working.{
+  HandStops,
+  HandsBetween,
+  IsStopAt,
+  Makes,
+  MakesEach,
+  MakesHand,
+  StopsAt,
+  StopsBy,
+  caught_up,
+  if_own,
+  news,
+};
+ghost use Rattle.irp_script.specs.StepKinds.{kind_of};
 
 use crate::gate::Gate;
 use crate::meeting::Meeting;
@@ -37,6 +51,7 @@ use crate::script_seat::ScriptSeat;
 use crate::seat_steps::tell;
 use crate::step_call::kind_of;
 use crate::step_kind::StepKind;
+use crate::stop::{Stop, StopReason};
 use crate::worker::Worker;
 use irp_remove::Locks;
 use irp_routines::Ask;
@@ -135,42 +150,60 @@ impl<'a, L: Session> Worker<'a, L> {
         None
     }
 
-    /// Makes a hand, which has this place. None where one of the seats isn't there, both are one, or there is no
-    /// memory for the line, and then nothing was done.
-    fn hand(&mut self, index: u32, step: Step, hand: Hand) -> Option<()>
+    /// Makes a hand, which has this place.
+    ///
+    /// # Errors
+    ///
+    /// `NoSeat` and `NoTaker` exactly where the one seat isn't there, or else the other; else `SameSeat` where both are
+    /// one; else `Memory` where there is none for the line. Nothing was done then.
+    fn hand(&mut self, index: u32, step: Step, hand: Hand) -> Result<(), StopReason>
         ensures same { IsSameWorker self.old self.new }
-        ensures made { MatchOption result (work_of self.new ≡ work_of self.old)
-            (λ _. MakesHand L.fixed.locks index step hand (work_of self.old) (work_of self.new)) }
+        ensures made { MatchResult result
+            (λ _. MakesHand L.fixed.locks index step hand (work_of self.old) (work_of self.new))
+            (λ why. (work_of self.new ≡ work_of self.old)
+            × HandStops step hand (work_of self.old).seats why) }
     {
-        let from_at = self.place_of(step.seat)?;
-        let to_at = self.place_of(hand.to)?;
+        let Some(from_at) = self.place_of(step.seat) else {
+            return Err(StopReason::NoSeat);
+        };
+        let Some(to_at) = self.place_of(hand.to) else {
+            return Err(StopReason::NoTaker);
+        };
         if from_at == to_at {
-            return None;
+            return Err(StopReason::SameSeat);
         }
-        self.words.reserve(1).ok()?;
+        self.words.reserve(1)?;
         let locks = self.locks;
         let reply = hand_between(locks, &mut self.seats, from_at, to_at, hand.lock, hand.tag);
         tell(&mut self.words, index, step, Act::Hand(hand), reply);
-        Some(())
+        Ok(())
     }
 
-    /// Makes a step, which has this place. All its seats have then seen what was recorded. None where it wasn't
-    /// recorded, found no memory, or has a seat or an owner of a slot that isn't there.
+    /// Makes a step, which has this place. All its seats have then seen what was recorded.
+    ///
+    /// # Errors
+    ///
+    /// `NoSeat` exactly where the seat isn't there; else why the seat doesn't make it, or both don't make the hand.
+    /// Nothing was done then.
     fn step<A: Ask>(
         &mut self,
         rt: &impl Wait,
         context: &RunContext<A, L>,
         index: u32,
         step: Step,
-    ) -> Option<()>
+    ) -> Result<(), StopReason>
         ensures same { IsSameWorker self.old self.new }
-        ensures made { MatchOption result (work_of self.new ≡ work_of self.old)
-            (λ _. Makes L.fixed.locks index step (work_of self.old) (work_of self.new)) }
+        ensures made { MatchResult result
+            (λ _. Makes L.fixed.locks index step (work_of self.old) (work_of self.new))
+            (λ why. (work_of self.new ≡ work_of self.old)
+            × StopsBy (kind_of step.act) step (work_of self.old).seats why) }
     {
         if let StepKind::Hands(hand) = kind_of(step.act) {
             return self.hand(index, step, hand);
         }
-        let at = self.place_of(step.seat)?;
+        let Some(at) = self.place_of(step.seat) else {
+            return Err(StopReason::NoSeat);
+        };
         let own = &mut self.seats[at];
         let before = own.seen();
         let made = own.step(rt, context, index, step, &mut self.words);
@@ -179,7 +212,11 @@ impl<'a, L: Session> Worker<'a, L> {
         made
     }
 
-    /// Makes a step between the calls of the gate. None where it wasn't made.
+    /// Makes a step between the calls of the gate.
+    ///
+    /// # Errors
+    ///
+    /// `TooManySteps` exactly where its place is 2^32 or above, else those of `step`. Nothing was done then.
     fn pass<A: Ask, G: Gate>(
         &mut self,
         rt: &impl Wait,
@@ -187,13 +224,15 @@ impl<'a, L: Session> Worker<'a, L> {
         gate: &G,
         index: usize,
         step: Step,
-    ) -> Option<()>
+    ) -> Result<(), StopReason>
         ensures same { IsSameWorker self.old self.new }
-        ensures made { MatchOption result (work_of self.new ≡ work_of self.old)
-            (λ _. Makes L.fixed.locks index step (work_of self.old) (work_of self.new)) }
+        ensures made { MatchResult result
+            (λ _. Makes L.fixed.locks index step (work_of self.old) (work_of self.new))
+            (λ why. (work_of self.new ≡ work_of self.old)
+            × StopsAt index step (work_of self.old).seats why) }
     {
         let Ok(index) = u32::try_from(index) else {
-            return None;
+            return Err(StopReason::TooManySteps);
         };
         gate.enter(step.seat, index);
         let made = self.step(rt, context, index, step);
@@ -208,7 +247,11 @@ impl<'a, L: Session> Worker<'a, L> {
         step.seat % self.workers == self.number
     }
 
-    /// Makes a step, if it is one of its own, once it has met the other workers. Whether it goes on.
+    /// Makes a step, if it is one of its own, once it has met the other workers.
+    ///
+    /// # Errors
+    ///
+    /// Why the step, which is its own then, wasn't made. Nothing was done then.
     fn turn<A: Ask, G: Gate>(
         &mut self,
         rt: &impl Wait,
@@ -217,26 +260,32 @@ impl<'a, L: Session> Worker<'a, L> {
         gate: &G,
         index: usize,
         step: Step,
-    ) -> bool
+    ) -> Result<(), Stop>
         ensures same { IsSameWorker self.old self.new }
-        ensures turned { result ≡ true
-            → MakesEach L.fixed.locks (if_own self.old.number self.old.workers index step)
-            (work_of self.old) (work_of self.new) }
-        ensures stayed { result ≡ false → work_of self.new ≡ work_of self.old }
-        ensures own { result ≡ false
-            → is_own_step self.old.number self.old.workers step ≡ true }
+        ensures turned { OnOk result
+            (MakesEach L.fixed.locks (if_own self.old.number self.old.workers index step)
+            (work_of self.old) (work_of self.new)) }
+        ensures stayed { IfErr result (λ stop. (work_of self.new ≡ work_of self.old)
+            × IsStopAt self.old.number self.old.workers index step (work_of self.old).seats stop) }
     {
         if !self.has(step) {
-            return true;
+            return Ok(());
         }
         meeting.meet();
-        self.pass(rt, context, gate, index, step).is_some()
+        match self.pass(rt, context, gate, index, step) {
+            Ok(()) => Ok(()),
+            Err(reason) => Err(Stop {
+                seat: step.seat,
+                reason,
+            }),
+        }
     }
 
     /// Runs the steps of its own seats, in the order of the script, up to the first that isn't made, and leaves the
     /// meeting. Its seats come back. Each step was a call, with what the seat's own remove seat knew of the locks, or
     /// an act on remove locks or on a cancel slot, of which a line behind its word lines tells what was answered, or
-    /// a finish of a taken packet, which was either.
+    /// a finish of a taken packet, which was either. Its stop says in front of which seat's step it stopped, and why;
+    /// None exactly where all its own steps were made.
     pub fn run<A: Ask, G: Gate>(
         mut self,
         rt: &impl Wait,
@@ -249,14 +298,14 @@ impl<'a, L: Session> Worker<'a, L> {
         ensures made { RunsOwn L.fixed.locks steps.now self.entry result }
     {
         for (index, step) in steps.iter().enumerate() {
-            if !self.turn(rt, context, meeting, gate, index, *step) {
-                self.stopped = true;
+            if let Err(stop) = self.turn(rt, context, meeting, gate, index, *step) {
+                self.stop = Some(stop);
                 meeting.leave();
                 return self;
             }
         }
         // A worker that is handed in may have stopped before. What is answered tells of this run alone.
-        self.stopped = false;
+        self.stop = None;
         meeting.leave();
         self
     }

@@ -25,10 +25,10 @@ loop-routine-preserved g c = (
   added (λ (routines : List CompletionRoutine). and_routines routines no_tables) (λ (routine : CompletionRoutine) (tables : Tables). with_routine tables routine.rule)
       (routines_grow no_tables) c.as_slice-routines.result.now c.loop-routine.routine-index _ c.loop-routine-test.true
       c.loop-routine.store.tables c.add.new.self.tables c.loop-routine.invariant.0
-      (c.in-Ok.ensures.added.1 ∙ ap (with_routine c.loop-routine.store.tables) c.routine_told.ensures.rule),
+      (c.in-Ok-add.ensures.added.1 ∙ ap (with_routine c.loop-routine.store.tables) c.routine_told.ensures.rule),
   (λ before.
       routines_more c.loop-routine.store c.add.new.self c.routine_told.result c.as_slice-routines.result.now c.loop-routine.routine-index _ c.loop-routine-test.true
-      c.routine_told.ensures.rule c.routine_told.ensures.told c.in-Ok.ensures.shelves (c.loop-routine.invariant.1 before)),
+      c.routine_told.ensures.rule c.routine_told.ensures.told c.in-Ok-add.ensures.shelves (c.loop-routine.invariant.1 before)),
   (λ before. subst (λ given. AllZip CancelsAs given []) (sym c.add.ensures.others.0) (c.loop-routine.invariant.2 before)),
   (λ before. subst (λ given. AllZip PlansAs given []) (sym c.add.ensures.others.1) (c.loop-routine.invariant.3 before)),
 )

@@ -9,7 +9,7 @@ abbrev pub invariant-loop-index : goal.invariant-loop-index
 invariant-loop-index g l = record {
   number : l.self.number ≡ l.fn.self.number;
   workers : l.self.workers ≡ l.fn.self.workers;
-  stopped : l.self.stopped ≡ l.fn.self.stopped;
+  stop : l.self.stop ≡ l.fn.self.stop;
   locks : l.self.locks.now ≡ l.fn.self.locks.now;
   made : MakesEach g.L.Session.fixed.locks (own_placed l.fn.self.number l.fn.self.workers (take l.index l.steps)) (work_of l.fn.self) (work_of l.self);
 }
