@@ -1,5 +1,5 @@
 -- Why steps aren't made.
-use Rattle.std.proofs.Common.{◌≡◌, ◌<◌, ◌≤◌, ℕ, zero, suc, OnOk, take, ◌++◌, true, false, get_or, arith, Option, Some, None, List, [], ◌∷◌, Contains, length, map, refl, sym, subst, ap, ◌∙◌, inl, inr}
+use Rattle.std.proofs.Common.{◌≡◌, ◌<◌, ◌≤◌, ℕ, zero, suc, OnOk, take, ◌++◌, true, false, get_or, arith, Option, Some, None, List, [], ◌∷◌, Contains, length, map, refl, sym, subst, ap, ◌∙◌, inr}
 use mathlib.Core.Bool.{true≢false}
 use Rattle.std.specs.Prelude.{IfNone, MatchResult, Ok, Err, Result, slice_get, is_some}
 use Rattle.std.specs.Option.{option_or, unwrap_or}

@@ -1,12 +1,11 @@
 -- What came of a script where a fault came.
-use Rattle.std.proofs.Common.{◌≡◌, ℕ, Option, Some, None, OnOk, Result, Ok, Err, inl, inr, refl, sym, subst}
-use Rattle.std.specs.Prelude.{IfErr}
+use Rattle.std.proofs.Common.{◌≡◌, ℕ, Option, Some, None, Ok, Err, inl, inr, refl, subst}
 use Rattle.irp_script.specs.declared.stop.Stop.{Stop}
 use Rattle.irp_script_reader.specs.declared.script.Script.{Script}
 use Rattle.irp_transcript.specs.Transcripts.{TranscriptValue}
 use Rattle.irp_types.specs.State.{Tables}
-use Rattle.irpx.specs.Running.{AfterRun, AfterScript, IsRanBy, IsUnrun, text_with}
-use Rattle.irpx.specs.Streams.{IsQuiet, Output, Streams}
+use Rattle.irpx.specs.Running.{AfterScript, IsRanBy, IsUnrun, text_with}
+use Rattle.irpx.specs.Streams.{Output}
 use Rattle.irpx.specs.Writing.{BreaksOff, Written}
 use Rattle.irpx.specs.declared.fault.Fault.{Fault}
 use Rattle.irpx.specs.declared.fault.Fault.TheVariants.{NoMemory, Stopped}

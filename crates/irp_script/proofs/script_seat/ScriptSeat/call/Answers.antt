@@ -1,6 +1,6 @@
 use Rattle.std.proofs.Common.{ap, sym, subst, Err}
 use Rattle.irp_script.specs.Stops.{IsUnrecorded}
-use Rattle.irp_script.proofs.StepCalls.{makes_one, tokenless}
+use Rattle.irp_script.proofs.StepCalls.{tokenless}
 use Rattle.irp_script.proofs.Stopping.{unrecorded_so}
 use Rattle.irp_script.proofs.script_seat.ScriptSeat.call.Goals as goal
 

@@ -1,4 +1,4 @@
-use Rattle.std.proofs.Common.{◌≡◌, ℕ, List, refl, map, subst, sym, rules}
+use Rattle.std.proofs.Common.{refl, map, subst, sym, rules}
 use Rattle.std.proofs.lemmas.Result.{err_from_is_err_and}
 use Rattle.irp_script.specs.Seats.{number_of, seat_at_work, seats_at_work}
 use Rattle.irp_script.specs.Working.{HandStops, working}
