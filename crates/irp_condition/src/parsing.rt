@@ -1,5 +1,8 @@
 //! Reading a condition from its text. Source: this project's own rules.
 
+ghost use Rattle.std.specs.Prelude.{◌<◌, length, IfOk, IfSome};
+ghost use Rattle.irp_condition.specs.Naming.{IsConditionOf, IsFactOf};
+
 use crate::condition::{Comparison, Condition, Fact, Term};
 use crate::fault::{Expected, Fault, Unread};
 use crate::scope::Scope;
@@ -11,6 +14,9 @@ use std::alloc::Global;
 
 /// So many parentheses and nots may stand within each other.
 const MOST_DEPTH: u32 = 32;
+
+/// A script has at most so many labels.
+const MOST_LABELS: usize = 4096;
 
 /// There are at most so many devices.
 const MOST_DEVICES: u32 = 64;
@@ -68,15 +74,14 @@ fn owner_value(word: &[u8]) -> Option<Value> {
 
 /// The tokens of a text, and how many were taken.
 #[derive(Drop)]
-struct Cursor<'a> {
+struct Cursor {
     tokens: Vec<Token>,
     at: usize,
     /// The column behind the text's end.
     end: usize,
-    scope: Scope<'a>,
 }
 
-impl<'a> Cursor<'a> {
+impl Cursor {
     /// The kind and the text of the next token.
     fn next(&self) -> Option<(Kind, &[u8])> {
         match self.tokens.get(self.at) {
@@ -133,7 +138,9 @@ impl<'a> Cursor<'a> {
     }
 
     /// Takes a number below a bound, with a noun before it or without.
-    fn number_below(&mut self, noun: &[u8], bound: u32, expected: Expected) -> Result<u32, Unread> {
+    fn number_below(&mut self, noun: &[u8], bound: u32, expected: Expected) -> Result<u32, Unread>
+        ensures { IfOk result (λ number. number < bound) }
+    {
         self.passes(noun);
         let given = match self.word() {
             Some(word) => number_of(word),
@@ -148,9 +155,11 @@ impl<'a> Cursor<'a> {
     }
 
     /// Takes a label of the script: its place.
-    fn label(&mut self) -> Result<u32, Unread> {
+    fn label(&mut self, labels: &[String]) -> Result<u32, Unread>
+        ensures { IfOk result (λ place. place < length labels.now) }
+    {
         let place = match self.word() {
-            Some(word) => place_of(self.scope.labels, word),
+            Some(word) => place_of(labels, word),
             None => None,
         };
         let Some(place) = place else {
@@ -162,24 +171,34 @@ impl<'a> Cursor<'a> {
 }
 
 /// The place of a label.
-fn place_of(labels: &[String], word: &[u8]) -> Option<u32> {
+fn place_of(labels: &[String], word: &[u8]) -> Option<u32>
+    ensures { IfSome result (λ place. place < length labels.now) }
+{
     for (place, label) in labels.iter().enumerate() {
-        if label.as_bytes() == word {
-            return u32::try_from(place).ok();
+        if label.as_bytes() == word && place < MOST_LABELS {
+            return Some(place as u32);
         }
     }
     None
 }
 
 /// Takes what stands between a fact's parentheses: the fact of this name.
-fn take_argument(cursor: &mut Cursor<'_>, name: Name) -> Result<Fact, Unread> {
-    let Scope { steps, locks, .. } = cursor.scope;
+fn take_argument(cursor: &mut Cursor, name: Name, scope: Scope<'_>) -> Result<Fact, Unread>
+    ensures { IfOk result
+        (IsFactOf (length scope.entry.labels.now) scope.entry.steps scope.entry.locks) }
+{
+    let Scope {
+        labels,
+        steps,
+        locks,
+        ..
+    } = scope;
     Ok(match name {
         Name::Reply => Fact::Reply(cursor.number_below(b"step", steps, Expected::Step)?),
-        Name::Owner => Fact::Owner(cursor.label()?),
-        Name::Status => Fact::Status(cursor.label()?),
-        Name::Current => Fact::Current(cursor.label()?),
-        Name::Live => Fact::Live(cursor.label()?),
+        Name::Owner => Fact::Owner(cursor.label(labels)?),
+        Name::Status => Fact::Status(cursor.label(labels)?),
+        Name::Current => Fact::Current(cursor.label(labels)?),
+        Name::Live => Fact::Live(cursor.label(labels)?),
         Name::Deleted => {
             Fact::Deleted(cursor.number_below(b"device", MOST_DEVICES, Expected::Device)?)
         }
@@ -189,7 +208,10 @@ fn take_argument(cursor: &mut Cursor<'_>, name: Name) -> Result<Fact, Unread> {
 }
 
 /// Takes a fact, as `owner(a)`, and tells its name.
-fn take_fact(cursor: &mut Cursor<'_>) -> Result<(Name, Fact), Unread> {
+fn take_fact(cursor: &mut Cursor, scope: Scope<'_>) -> Result<(Name, Fact), Unread>
+    ensures { IfOk result (λ taken.
+        IsFactOf (length scope.entry.labels.now) scope.entry.steps scope.entry.locks taken.1) }
+{
     let name = match cursor.word() {
         Some(word) => name_of(word),
         None => None,
@@ -197,12 +219,12 @@ fn take_fact(cursor: &mut Cursor<'_>) -> Result<(Name, Fact), Unread> {
     let Some(name) = name else {
         return Err(cursor.fault(Expected::Condition));
     };
-    if matches!(name, Name::Reply | Name::Deleted) && !cursor.scope.knows_replies {
+    if matches!(name, Name::Reply | Name::Deleted) && !scope.knows_replies {
         return Err(cursor.fault(Expected::End));
     }
     cursor.pass();
     cursor.take(Kind::Open, Expected::Open)?;
-    let fact = take_argument(cursor, name)?;
+    let fact = take_argument(cursor, name, scope)?;
     cursor.take(Kind::Close, Expected::Close)?;
     Ok((name, fact))
 }
@@ -231,7 +253,7 @@ fn value_named(name: Name, word: &[u8]) -> Option<Value> {
 }
 
 /// Takes a value that a fact of this name can have.
-fn take_value(cursor: &mut Cursor<'_>, name: Name) -> Result<Value, Unread> {
+fn take_value(cursor: &mut Cursor, name: Name) -> Result<Value, Unread> {
     let expected = expected_of(name);
     if matches!(name, Name::Owner | Name::Reply) && cursor.passes(b"device") {
         let device = cursor.number_below(b"", MOST_DEVICES, Expected::Device)?;
@@ -249,7 +271,7 @@ fn take_value(cursor: &mut Cursor<'_>, name: Name) -> Result<Value, Unread> {
 }
 
 /// Takes the sign of a comparison; none where another token is next.
-fn take_comparison(cursor: &mut Cursor<'_>) -> Option<Comparison> {
+fn take_comparison(cursor: &mut Cursor) -> Option<Comparison> {
     let found = match cursor.next() {
         Some((Kind::Sign, sign)) => comparison_of(sign),
         _ => None,
@@ -261,8 +283,11 @@ fn take_comparison(cursor: &mut Cursor<'_>) -> Option<Comparison> {
 }
 
 /// Takes a fact that is true or false alone, or one with what it is compared with.
-fn take_comparing(cursor: &mut Cursor<'_>) -> Result<Condition, Unread> {
-    let (name, fact) = take_fact(cursor)?;
+fn take_comparing(cursor: &mut Cursor, scope: Scope<'_>) -> Result<Condition, Unread>
+    ensures { IfOk result
+        (IsConditionOf (length scope.entry.labels.now) scope.entry.steps scope.entry.locks) }
+{
+    let (name, fact) = take_fact(cursor, scope)?;
     match take_comparison(cursor) {
         Some(by) => {
             let right = Term::Constant(take_value(cursor, name)?);
@@ -276,34 +301,50 @@ fn take_comparing(cursor: &mut Cursor<'_>) -> Result<Condition, Unread> {
 /// Takes a condition that no `and` and no `or` joins to another: a comparison, `not` and a condition, or one in
 /// parentheses. So many more may stand within each other.
 #[cycle(conditions)]
-fn take_single(cursor: &mut Cursor<'_>, alloc: Global, depth: u32) -> Result<Condition, Unread> {
+fn take_single(
+    cursor: &mut Cursor,
+    alloc: Global,
+    scope: Scope<'_>,
+    depth: u32,
+) -> Result<Condition, Unread>
+    ensures { IfOk result
+        (IsConditionOf (length scope.entry.labels.now) scope.entry.steps scope.entry.locks) }
+{
     let is_open = matches!(cursor.next(), Some((Kind::Open, _)));
     let is_not = cursor.passes(b"not");
     if !is_open && !is_not {
-        return take_comparing(cursor);
+        return take_comparing(cursor, scope);
     }
     if depth == 0 {
         return Err(cursor.fault(Expected::Shallower));
     }
     if is_not {
-        let inner = take_single(cursor, alloc, depth - 1)?;
+        let inner = take_single(cursor, alloc, scope, depth - 1)?;
         return Ok(Condition::Not(Box::new(alloc, inner)?));
     }
     cursor.pass();
-    let inner = take_any(cursor, alloc, depth - 1)?;
+    let inner = take_any(cursor, alloc, scope, depth - 1)?;
     cursor.take(Kind::Close, Expected::Close)?;
     Ok(inner)
 }
 
 /// Takes conditions that `and` joins.
 #[cycle(conditions)]
-fn take_all(cursor: &mut Cursor<'_>, alloc: Global, depth: u32) -> Result<Condition, Unread> {
-    let mut all = take_single(cursor, alloc, depth)?;
+fn take_all(
+    cursor: &mut Cursor,
+    alloc: Global,
+    scope: Scope<'_>,
+    depth: u32,
+) -> Result<Condition, Unread>
+    ensures { IfOk result
+        (IsConditionOf (length scope.entry.labels.now) scope.entry.steps scope.entry.locks) }
+{
+    let mut all = take_single(cursor, alloc, scope, depth)?;
     for _ in 0..cursor.tokens.len() {
         if !cursor.passes(b"and") {
             return Ok(all);
         }
-        let next = take_single(cursor, alloc, depth)?;
+        let next = take_single(cursor, alloc, scope, depth)?;
         all = Condition::And(Box::new(alloc, all)?, Box::new(alloc, next)?);
     }
     Ok(all)
@@ -311,34 +352,41 @@ fn take_all(cursor: &mut Cursor<'_>, alloc: Global, depth: u32) -> Result<Condit
 
 /// Takes conditions that `or` joins; `and` binds closer.
 #[cycle(conditions)]
-fn take_any(cursor: &mut Cursor<'_>, alloc: Global, depth: u32) -> Result<Condition, Unread> {
-    let mut any = take_all(cursor, alloc, depth)?;
+fn take_any(
+    cursor: &mut Cursor,
+    alloc: Global,
+    scope: Scope<'_>,
+    depth: u32,
+) -> Result<Condition, Unread>
+    ensures { IfOk result
+        (IsConditionOf (length scope.entry.labels.now) scope.entry.steps scope.entry.locks) }
+{
+    let mut any = take_all(cursor, alloc, scope, depth)?;
     for _ in 0..cursor.tokens.len() {
         if !cursor.passes(b"or") {
             return Ok(any);
         }
-        let next = take_all(cursor, alloc, depth)?;
+        let next = take_all(cursor, alloc, scope, depth)?;
         any = Condition::Or(Box::new(alloc, any)?, Box::new(alloc, next)?);
     }
     Ok(any)
 }
 
-/// Reads the condition that a text is, with the labels, steps and locks of a script (this project's own rule).
+/// Reads the condition that a text is, with the labels, steps and locks of a script: it names no others (this project's
+/// own rule).
 ///
 /// # Errors
 ///
 /// `Fault` with the column, from 1, of the first token that can't stand there, and what was expected; `NoMemory` where
 /// memory runs out.
-pub fn read_condition(alloc: Global, text: &str, scope: Scope<'_>) -> Result<Condition, Unread> {
+pub fn read_condition(alloc: Global, text: &str, scope: Scope<'_>) -> Result<Condition, Unread>
+    ensures { IfOk result
+        (IsConditionOf (length scope.entry.labels.now) scope.entry.steps scope.entry.locks) }
+{
     let tokens = tokens_of(alloc, text.as_bytes())?;
     let end = text.len().saturating_add(1);
-    let mut cursor = Cursor {
-        tokens,
-        at: 0,
-        end,
-        scope,
-    };
-    let condition = take_any(&mut cursor, alloc, MOST_DEPTH)?;
+    let mut cursor = Cursor { tokens, at: 0, end };
+    let condition = take_any(&mut cursor, alloc, scope, MOST_DEPTH)?;
     if cursor.at < cursor.tokens.len() {
         return Err(cursor.fault(Expected::Joint));
     }

@@ -1,13 +1,31 @@
-//! Scripts at work: the workers that run a script, and, as a door to `irp_judge`, the judge of what they recorded.
+//! Scripts at work: what their closures answer, what their seats have at the cancel slots, the workers that run their
+//! steps, and hands between these; and, as a door to `irp_judge`, the judge of what they recorded.
 #![tactic(auto)]
 
+mod behaviours;
 mod between;
+mod gate;
+mod labels;
+mod meeting;
+mod run;
+mod run_context;
+mod script_seat;
+mod seat_steps;
+mod slot_parties;
+mod slot_replies;
+mod step_call;
+mod step_kind;
+mod stop;
+mod taken;
+mod words;
+mod worker;
+mod worker_steps;
 
+pub use behaviours::{cancel_rule, table_answer, table_cancel, table_plan};
 pub use between::hand_between;
+pub use gate::{AlwaysOpen, Gate};
 /// Whether a history is legal: `irp_judge` judges it.
 pub use irp_judge::{Verdict, check};
-/// The workers of a script, what its closures answer, and its seats: `irp_workers` runs them.
-pub use irp_workers::{
-    AlwaysOpen, Gate, ScriptSeat, Worked, cancel_rule, run_workers, script_seats, table_answer,
-    table_cancel, table_plan,
-};
+pub use run::{Worked, run_workers, script_seats};
+pub use script_seat::ScriptSeat;
+pub use stop::{Stop, StopReason};

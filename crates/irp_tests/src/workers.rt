@@ -7,7 +7,7 @@ ghost use Rattle.irp_types.specs.declared.limit.Limit.TheVariants.{ThirtyTwo};
 ghost use Rattle.irp_shared.specs.Answered.{AnswersSo};
 
 use irp_routines::{AnswerTable, Ask};
-use irp_script::{Gate, ScriptSeat, Worked, run_workers, script_seats};
+use irp_script::{Gate, ScriptSeat, Stop, Worked, run_workers, script_seats};
 use irp_script_reader::{Named, ScriptForm, ScriptParts, Step, StepAct};
 use irp_shared::{Session, WordLine, open};
 use irp_types::{Call, DriverId, LockNo, Row};
@@ -68,7 +68,7 @@ struct Made {
     /// How many entries the seats kept.
     entries: usize,
     words: Vec<WordLine>,
-    stopped: bool,
+    stop: Option<Stop>,
 }
 
 /// How many entries these seats kept.
@@ -106,17 +106,13 @@ fn session<
     let (locks, removes) = irp_remove::open(alloc, script.locks, script.seats)?;
     let (slots, owners, cancellers) = irp_slots::open(alloc, 0, script.seats)?;
     let pairs = script_seats(alloc, &locks, &slots, seats, removes, cancellers, owners)?;
-    let Worked {
-        seats,
-        words,
-        stopped,
-    } = run_workers(
+    let Worked { seats, words, stop } = run_workers(
         rt, alloc, &shared, &locks, &slots, pairs, script, gate, workers,
     )?;
     Ok(Made {
         entries: count_of(seats),
         words,
-        stopped,
+        stop,
     })
 }
 

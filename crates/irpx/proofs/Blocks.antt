@@ -1,5 +1,5 @@
 -- A text that is judged block after block.
-use Rattle.std.proofs.Common.{◌≡◌, ℕ, ◌+◌, ◌-◌, ◌<◌, ◌≤◌, ◌^◌, List, [], ◌++◌, length, take, drop, Option, Some, None, IfSome, Result, Ok, Err, refl, sym, subst, ap, ◌∙◌, append_assoc, append-nil, arith, length-append}
+use Rattle.std.proofs.Common.{◌≡◌, ℕ, ◌+◌, ◌-◌, ◌<◌, ◌≤◌, ◌^◌, List, [], ◌++◌, length, take, drop, Option, Some, None, IfSome, Result, Ok, Err, inl, inr, refl, sym, subst, ap, ◌∙◌, append_assoc, append-nil, arith, length-append}
 use Rattle.std.proofs.lemmas.List.{drop-take, take-append-drop}
 use Rattle.std.proofs.lemmas.Option.{none-some}
 use Rattle.std.specs.Io.KnownBytes.{Consumes, IsAtEnd}
@@ -19,9 +19,8 @@ use Rattle.irp_text.specs.declared.reader.Reader.{Reader}
 use Rattle.irp_judge.specs.declared.verdict.Verdict.TheVariants.{Legal}
 use Rattle.irpx.specs.Checking.{IsInput, Judges, Unjudgeable, most_bytes, most_taken}
 use Rattle.irpx.specs.Judging.{AreJudged, Concludes, Ends, Fails, IsHopeless, IsSoFar, piece_of, refusal_of}
-use Rattle.irpx.specs.declared.checking.Unjudged.{Unjudged}
-use Rattle.irpx.specs.declared.checking.Unjudged.TheVariants.{Input, RefusedLine, NoMemory as OutOfMemory}
-use Rattle.irpx.specs.Streams.{Bytes, TakesAtMost}
+use Rattle.irpx.specs.declared.fault.Fault.{Fault}
+use Rattle.irpx.specs.Streams.{Bytes, IsUnhad, TakesAtMost}
 use Rattle.irpx.proofs.Pieces.{reads_on}
 
 -- a line behind the header leaves the header
@@ -164,21 +163,21 @@ judges reader judge text verdict judged read is = record {
 -- ---- endings
 
 pub concludes_fault : (fault : ReadFault) (text : List ℕ) → ReadsFrom no_lines 0 (Err fault) (cut text) → Unjudgeable text (refusal_of fault)
-concludes_fault (LineFault line) text reads = reads
-concludes_fault NoMemory text reads = tt
+concludes_fault (LineFault line) text reads = inr (line, refl, reads)
+concludes_fault NoMemory text reads = inl refl
 
 -- the input is at its end, and its text is refused
 pub ended_fails : (fault : ReadFault) (old now : Bytes) (left : ℕ) (text : List ℕ) → IsSoFar old now left text → IsAtEnd now → ReadsFrom no_lines 0 (Err fault) (cut text)
     → Fails old now (refusal_of fault)
-ended_fails (LineFault line) old now left text so_far end reads = ((text, is_input old now left text so_far end, reads), takes_so_far old now left text so_far)
-ended_fails NoMemory old now left text so_far end reads = (tt, takes_so_far old now left text so_far)
+ended_fails (LineFault line) old now left text so_far end reads = (inr (line, text, refl, is_input old now left text so_far end, reads), takes_so_far old now left text so_far)
+ended_fails NoMemory old now left text so_far end reads = (inl tt, takes_so_far old now left text so_far)
 
 -- it is at its end, and a beginning of its text is refused
 pub refused_fails : (fault : ReadFault) (old now : Bytes) (left : ℕ) (text more : List ℕ) → IsSoFar old now left (text ++ more) → IsAtEnd now → IsHopeless fault text
     → Fails old now (refusal_of fault)
 refused_fails (LineFault line) old now left text more so_far end hopeless =
-    ((text ++ more, is_input old now left (text ++ more) so_far end, hopeless more), takes_so_far old now left (text ++ more) so_far)
-refused_fails NoMemory old now left text more so_far end hopeless = (tt, takes_so_far old now left (text ++ more) so_far)
+    (inr (line, text ++ more, refl, is_input old now left (text ++ more) so_far end, hopeless more), takes_so_far old now left (text ++ more) so_far)
+refused_fails NoMemory old now left text more so_far end hopeless = (inl tt, takes_so_far old now left (text ++ more) so_far)
 
 -- a first line that is refused
 pub hopeless_block : (fault : ReadFault) (after : Reader) (text : List ℕ) (before : TranscriptValue) (block : List ℕ) → Gives (Err fault) after text before block
@@ -188,12 +187,11 @@ hopeless_block (LineFault line) after text before block gives = λ more.
 hopeless_block NoMemory after text before block gives = tt
 
 -- what is concluded of the text of an input at its end
-ends_fault : (fault : Unjudged) (old now : Bytes) (text : List ℕ) → IsInput old now text → TakesAtMost most_taken old now → Unjudgeable text fault → Fails old now fault
-ends_fault (RefusedLine line) old now text input takes refused = ((text, input, refused), takes)
-ends_fault (Input cause) old now text input takes refused = absurd refused
-ends_fault OutOfMemory old now text input takes refused = (tt, takes)
+ends_fault : (fault : Fault) (old now : Bytes) (text : List ℕ) → IsInput old now text → TakesAtMost most_taken old now → Unjudgeable text fault → Fails old now fault
+ends_fault fault old now text input takes (inl none) = (inl (subst IsUnhad (sym none) tt), takes)
+ends_fault fault old now text input takes (inr (line, is, refused)) = (inr (line, text, is, input, refused), takes)
 
-pub ends : (result : Result Verdict Unjudged) (old now : Bytes) (left : ℕ) (text : List ℕ) → IsSoFar old now left text → IsAtEnd now → Concludes result text → Ends old now result
+pub ends : (result : Result Verdict Fault) (old now : Bytes) (left : ℕ) (text : List ℕ) → IsSoFar old now left text → IsAtEnd now → Concludes result text → Ends old now result
 ends (Ok verdict) old now left text so_far end judges = (text, is_input old now left text so_far end, judges)
 ends (Err fault) old now left text so_far end refused = ends_fault fault old now text (is_input old now left text so_far end) (takes_so_far old now left text so_far) refused
 

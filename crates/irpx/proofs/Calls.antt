@@ -18,12 +18,12 @@ use Rattle.irp_manager.specs.Seats.{Seated}
 use Rattle.irp_remove.specs.Seats.{Holder}
 use Rattle.irp_shared.specs.Closing.{AllHere, IsKept}
 use Rattle.irp_shared.specs.Opening.{AreNew}
-use Rattle.irp_workers.specs.Made.{SeatCalls, NoneTwice, calls_in, calls_of, once_made, seat_calls}
-use Rattle.irp_workers.specs.Numbers.{EachAsOften}
-use Rattle.irp_workers.specs.Outcomes.{Outcome}
-use Rattle.irp_workers.specs.Pairs.{Pair, pair_of}
-use Rattle.irp_workers.proofs.Carried.{carried}
-use Rattle.irp_workers.proofs.Numbers.{count_map}
+use Rattle.irp_script.specs.Made.{SeatCalls, NoneTwice, calls_in, calls_of, once_made, seat_calls}
+use Rattle.irp_script.specs.Numbers.{EachAsOften}
+use Rattle.irp_script.specs.Outcomes.{Outcome}
+use Rattle.irp_script.specs.Pairs.{Pair, pair_of}
+use Rattle.irp_script.proofs.Carried.{carried}
+use Rattle.irp_script.proofs.Numbers.{count_map}
 
 abbrev same_calls : List Call → List Call → Bool
 same_calls one other = pointwise same_call one other

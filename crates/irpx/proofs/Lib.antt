@@ -3,6 +3,7 @@ pub mod AtSlots
 pub mod Blocks
 pub mod Calls
 pub mod CommandLine
+pub mod Faults
 pub mod OneSeat
 pub mod Pieces
 pub mod Ran

@@ -3,7 +3,7 @@ use Rattle.std.proofs.Common.{◌≡◌, ℕ, ◌≤◌, List, [], ◌++◌, ◌
 use Rattle.std.proofs.lemmas.Grind.{common_steps}
 use Rattle.std.proofs.lemmas.List.{length-take-le, take_at}
 use Rattle.std.specs.Io.KnownBytes.{Consumes, IsAtEnd, Keeps}
-use Rattle.irpx.specs.Streams.{TakesAtMost}
+use Rattle.irpx.specs.Streams.{IsQuiet, Output, TakesAtMost}
 
 pub reads_none : (old : Option (List ℕ)) → Consumes old old []
 reads_none None = tt
@@ -59,3 +59,11 @@ pub takes_piece : (t buffer : List ℕ) (n limit : ℕ) (old mid new : Option (L
 takes_piece t buffer n limit old mid new within few first second =
     let whole : length (take n buffer) ≡ n = length-take-le n buffer within in
     takes_both t (take n buffer) limit old mid new (omega (arith, few, whole)) first second
+
+-- where nothing goes out what went out stays
+pub keeps_itself : (bytes : Option (List ℕ)) → Keeps bytes bytes
+keeps_itself None = tt
+keeps_itself (Some bytes) = refl
+
+pub quiet_itself : (output : Output) → IsQuiet output output
+quiet_itself output = (keeps_itself output.gone, refl)

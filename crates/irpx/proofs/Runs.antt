@@ -13,10 +13,10 @@ use Rattle.irp_transcript.specs.Transcripts.{TranscriptValue}
 use Rattle.irp_transcript.specs.declared.word_line.WordLine.{WordLine}
 use Rattle.irp_script_reader.specs.declared.script.Script.{Script}
 use Rattle.irp_script_reader.specs.declared.script.ScriptForm.{ScriptForm}
-use Rattle.irp_workers.specs.Numbers.{NoneMoreOften}
-use Rattle.irp_workers.specs.Outcomes.{Test, outcomes}
-use Rattle.irp_workers.specs.Told.{IsTold}
-use Rattle.irp_workers.specs.Words.{AreInOrder, told_by, word_steps}
+use Rattle.irp_script.specs.Numbers.{NoneMoreOften}
+use Rattle.irp_script.specs.Outcomes.{Test, outcomes}
+use Rattle.irp_script.specs.Told.{IsTold}
+use Rattle.irp_script.specs.Words.{AreInOrder, told_by, word_steps}
 use Rattle.irpx.specs.Running.{IsRun, run_transcript, fixed_for, form_of}
 
 -- the form of the transcript, once it is put in, has the limit that is fixed

@@ -3,6 +3,7 @@ use Rattle.std.specs.Prelude.{
   ℕ,
   ◌≡◌,
   ◌≤◌,
+  ◌⊎◌,
   List,
   ◌∷◌,
   [],
@@ -23,14 +24,11 @@ use Rattle.irp_transcript_reader.specs.declared.read_fault.ReadFault.TheVariants
 use Rattle.irp_judge.specs.Checked.{IsVerdictOn}
 use Rattle.irp_judge.specs.declared.verdict.Verdict.{Verdict}
 use Rattle.irp_judge.specs.declared.verdict.Verdict.TheVariants as verdict
-use Rattle.irpx.specs.Streams.{Bytes, IsQuiet, Output, Streams}
+use Rattle.irpx.specs.Streams.{Bytes, IsQuiet, IsUnhad, Output, Streams}
 use Rattle.irpx.specs.Writing.{Begins, Written}
-use Rattle.irpx.specs.declared.checking.CheckFault.{CheckFault}
-use Rattle.irpx.specs.declared.checking.CheckFault.TheVariants as unchecked
-use Rattle.irpx.specs.declared.checking.Unjudged.{Unjudged}
-use Rattle.irpx.specs.declared.checking.Unjudged.TheVariants.{Input, RefusedLine, NoMemory}
-use Rattle.irpx.specs.declared.input.StreamFault.{StreamFault}
-use Rattle.irpx.specs.declared.input.StreamFault.TheVariants as stream
+use Rattle.irpx.specs.declared.fault.Fault.{Fault}
+use Rattle.irpx.specs.declared.fault.Fault.TheVariants.{NoMemory, Output as Failed, RefusedLine}
+use Rattle.irpx.specs.declared.fault.Phase.TheVariants.{Reading, Writing}
 
 -- as many bytes as the text of a transcript may have that is checked
 abbrev pub most_bytes : ℕ
@@ -66,35 +64,33 @@ abbrev pub IsRefused : List ℕ → ℕ → Type 0
 IsRefused text line = ReadsFrom no_lines 0 (Err (fault.Line line)) (cut text)
 
 -- why a text has no verdict: its first line that is refused, or want of memory
-abbrev pub Unjudgeable : List ℕ → Unjudged → Type 0
-Unjudgeable text (RefusedLine line) = IsRefused text line
-Unjudgeable text (Input fault) = ⊥
-Unjudgeable text NoMemory = Unit {0}
+abbrev pub Unjudgeable : List ℕ → Fault → Type 0
+Unjudgeable text fault =
+    (fault ≡ NoMemory Reading) ⊎ ((line : ℕ) × (fault ≡ RefusedLine line) × IsRefused text line)
 
--- why the input has no verdict: the first line that is refused of the text that it holds; or it wasn't read, or want of
--- memory
-abbrev pub NotRead : Bytes → Bytes → Unjudged → Type 0
-NotRead old new (RefusedLine line) = (text : List ℕ) × IsInput old new text × IsRefused text line
-NotRead old new (Input fault) = Unit {0}
-NotRead old new NoMemory = Unit {0}
+-- why the input has no verdict: it isn't had; or the first line that is refused of the text that it holds
+abbrev pub NotRead : Bytes → Bytes → Fault → Type 0
+NotRead old new fault =
+    IsUnhad fault
+    ⊎ ((line : ℕ) × (text : List ℕ) × (fault ≡ RefusedLine line) × IsInput old new text × IsRefused text line)
 
 -- what goes out and the count of failures where a verdict is written: its line
 abbrev pub Told : Verdict → Output → Output → Type 0
 Told verdict before after = Written (verdict_line verdict) before after
 
--- the same where it isn't: a beginning of its line where the output failed, else nothing
-abbrev pub Untold : Verdict → Output → Output → StreamFault → Type 0
-Untold verdict before after stream.Failed =
+-- the same where it isn't: a beginning of its line where the output failed; nothing where there was no memory for it
+abbrev pub Untold : Verdict → Output → Output → Fault → Type 0
+Untold verdict before after Failed =
     Begins (verdict_line verdict) before.gone after.gone × (after.failures ≡ risen before.failures)
-Untold verdict before after stream.NoMemory = IsQuiet before after
+Untold verdict before after (NoMemory Writing) = IsQuiet before after
+Untold verdict before after other = ⊥
 
 -- what `check` did: the input holds a transcript, whose verdict was written. Where there is no verdict nothing went
 -- out. Else the verdict wasn't written
-abbrev pub Checks : Streams → Streams → Result Verdict CheckFault → Type 0
+abbrev pub Checks : Streams → Streams → Result Verdict Fault → Type 0
 Checks before after (Ok verdict) =
     HasVerdict before.left after.left verdict × Told verdict before.output after.output
-Checks before after (Err (unchecked.Unjudged fault)) =
-    NotRead before.left after.left fault × IsQuiet before.output after.output
-Checks before after (Err (unchecked.Untold fault)) =
-    (verdict : Verdict) × HasVerdict before.left after.left verdict
-    × Untold verdict before.output after.output fault
+Checks before after (Err fault) =
+    (NotRead before.left after.left fault × IsQuiet before.output after.output)
+    ⊎ ((verdict : Verdict) × HasVerdict before.left after.left verdict
+    × Untold verdict before.output after.output fault)

@@ -28,8 +28,9 @@ use Rattle.clap.specs.Simple.{App, new_app, on_top, with_rule, with_subcommand}
 use Rattle.clap.specs.declared.builder.ArgAction.TheVariants.{Set}
 use Rattle.irpx.specs.declared.orders.Order.{Order}
 use Rattle.irpx.specs.declared.orders.Order.TheVariants.{Demo, Run, Check}
-use Rattle.irpx.specs.declared.orders.Unread.{Unread}
-use Rattle.irpx.specs.declared.orders.Unread.TheVariants.{Usage, NoMemory}
+use Rattle.irpx.specs.declared.fault.Fault.{Fault}
+use Rattle.irpx.specs.declared.fault.Fault.TheVariants.{Usage, NoMemory}
+use Rattle.irpx.specs.declared.fault.Phase.TheVariants.{Starting}
 
 -- the option `--workers`, which takes a text
 abbrev pub workers_option : Rule
@@ -71,18 +72,24 @@ workers_in (ten ∷ one ∷ []) =
 workers_in text = None
 
 -- the order to run a script with so many workers, where there may be so many
-abbrev pub run_with : Option ℕ → Result Order Unread
+abbrev pub run_with : Option ℕ → Result Order Fault
 run_with None = Err Usage
 run_with (Some workers) = Ok (Run workers)
 
 -- the order to run a script with the workers that a text names, or with one where there is no text
-abbrev pub run_in : Option (List ℕ) → Result Order Unread
+abbrev pub run_in : Option (List ℕ) → Result Order Fault
 run_in None = Ok (Run 1)
 run_in (Some text) = run_with (workers_in text)
 
 -- this order comes of the words, if memory doesn't run out
-abbrev pub IsOrderOrMemory : Order → Result Order Unread → Type 0
-IsOrderOrMemory order given = MatchResult given (λ it. it ≡ order) (λ unread. unread ≡ NoMemory)
+abbrev pub IsOrderOrMemory : Order → Result Order Fault → Type 0
+IsOrderOrMemory order given = MatchResult given (λ it. it ≡ order) (λ fault. fault ≡ NoMemory Starting)
+
+-- why no order comes of words: they are none that the program takes, or memory ran out
+abbrev pub IsUnread : Fault → Type 0
+IsUnread Usage = Unit {0}
+IsUnread (NoMemory Starting) = Unit {0}
+IsUnread other = ⊥
 
 -- a run has 1 to 64 workers
 abbrev pub IsOrder : Order → Type 0

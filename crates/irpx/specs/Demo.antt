@@ -19,9 +19,11 @@ use Rattle.irp_transcript.specs.Headers.{fixed_of, IsHeader}
 use Rattle.irp_transcript.specs.Transcripts.{TranscriptValue}
 use Rattle.irp_transcript.specs.declared.header.Header.{Header}
 use Rattle.irp_transcript_writer.specs.Lines.{lines, text_of}
-use Rattle.irpx.specs.Streams.{Output}
-use Rattle.irpx.specs.Writing.{Begins, Written, count_after}
-use Rattle.irpx.specs.declared.input.StreamFault.{StreamFault}
+use Rattle.irpx.specs.Streams.{IsQuiet, Output}
+use Rattle.irpx.specs.Writing.{BreaksOff, Written}
+use Rattle.irpx.specs.declared.fault.Fault.{Fault}
+use Rattle.irpx.specs.declared.fault.Fault.TheVariants.{NoMemory}
+use Rattle.irpx.specs.declared.fault.Phase.TheVariants.{Running}
 
 -- the calls of a history, in order, each with the seat that made it and with its reply
 abbrev pub calls_of : List Entry → List (ℕ × Call × Reply)
@@ -44,13 +46,13 @@ pub record IsDemoTranscript (transcript : TranscriptValue) : Type 0 where
   pub legal : IsLegal (fixed_of header) transcript.entries
   pub calls : AreDemoCalls (calls_of transcript.entries)
 
--- what the demonstration leaves: the text of such a transcript went out, and nothing failed; or a fault came, and
--- nothing went out, or a beginning of such a text
-abbrev pub AfterDemo : {T : Type 0} → Output → Output → Result T StreamFault → Type 0
+-- what the demonstration leaves: the text of such a transcript went out, and nothing failed; or memory ran out, and
+-- nothing went out; or the writing broke off
+abbrev pub AfterDemo : {T : Type 0} → Output → Output → Result T Fault → Type 0
 AfterDemo before after (Ok done) =
     (transcript : TranscriptValue) × IsDemoTranscript transcript
     × Written (text_of (lines transcript)) before after
 AfterDemo before after (Err fault) =
-    ((after.gone ≡ before.gone) ⊎ ((transcript : TranscriptValue) × IsDemoTranscript transcript
-    × Begins (text_of (lines transcript)) before.gone after.gone))
-    × (after.failures ≡ count_after fault before.failures)
+    ((fault ≡ NoMemory Running) × IsQuiet before after)
+    ⊎ ((transcript : TranscriptValue) × IsDemoTranscript transcript
+    × BreaksOff (text_of (lines transcript)) before after fault)

@@ -2,11 +2,9 @@
 use Rattle.std.specs.Prelude.{
   ℕ,
   ◌≡◌,
+  ◌⊎◌,
   ◌<◌,
   ◌+◌,
-  Bool,
-  true,
-  false,
   List,
   ◌++◌,
   length,
@@ -39,32 +37,33 @@ use Rattle.irp_transcript.specs.declared.header.Header.{Header}
 use Rattle.irp_transcript.specs.declared.word_line.WordLine.{WordLine}
 use Rattle.irp_script_reader.specs.Scripts.{ReadsScript}
 use Rattle.irp_script_reader.specs.Sound.{with_all}
-use Rattle.irp_script_reader.specs.declared.refusal.ScriptFault.TheVariants as fault
+use Rattle.irp_script_reader.specs.declared.refusal.ScriptFault.TheVariants as script_fault
+use Rattle.irp_script_reader.specs.declared.refusal.ScriptRefusal.{ScriptRefusal}
 use Rattle.irp_script_reader.specs.declared.script.CompletionRoutine.{CompletionRoutine}
 use Rattle.irp_script_reader.specs.declared.script.Script.{Script}
 use Rattle.irp_script_reader.specs.declared.script.ScriptForm.{ScriptForm}
 use Rattle.irp_script_reader.specs.declared.script.ScriptForm.TheVariants as script_form
 use Rattle.irp_script.specs.Between.{hands_between}
-use Rattle.irp_workers.specs.Behaviours.{cancel_rule_of}
-use Rattle.irp_workers.specs.Made.{calls_in, calls_of}
-use Rattle.irp_workers.specs.Numbers.{EachAsOften, NoneMoreOften}
-use Rattle.irp_workers.specs.Outcomes.{Outcome, Test, outcomes}
-use Rattle.irp_workers.specs.Told.{IsTold}
-use Rattle.irp_workers.specs.Words.{AreInOrder, told_by, word_steps}
+use Rattle.irp_script.specs.Behaviours.{cancel_rule_of}
+use Rattle.irp_script.specs.Made.{calls_in, calls_of}
+use Rattle.irp_script.specs.Numbers.{EachAsOften, NoneMoreOften}
+use Rattle.irp_script.specs.Outcomes.{Outcome, Test, outcomes}
+use Rattle.irp_script.specs.Told.{IsTold}
+use Rattle.irp_script.specs.Words.{AreInOrder, told_by, word_steps}
 use Rattle.irp_transcript_writer.specs.Lines.{lines, text_of}
-use Rattle.irp_workers.specs.Ran.{Ran}
-use Rattle.irpx.specs.Streams.{Bytes, IsQuiet, Output, Streams}
+use Rattle.irp_script.specs.Ran.{Ran}
+use Rattle.irp_script.specs.declared.stop.Stop.{Stop}
+use Rattle.irpx.specs.Streams.{Bytes, IsQuiet, IsUnhad, Output, Streams}
 use Rattle.irpx.specs.Writing.{BreaksOff, Written}
-use Rattle.irpx.specs.declared.running.RunFault.{RunFault}
-use Rattle.irpx.specs.declared.running.RunFault.TheVariants.{
-  Unread,
+use Rattle.irpx.specs.declared.fault.Fault.{Fault}
+use Rattle.irpx.specs.declared.fault.Fault.TheVariants.{
   HandsBetween,
-  NoTranscript,
+  NoMemory,
+  ReceiptsDiffer,
+  RefusedScript,
   Stopped,
-  Unwritten,
 }
-use Rattle.irpx.specs.declared.running.Unscripted.{Unscripted}
-use Rattle.irpx.specs.declared.running.Unscripted.TheVariants.{Input, Refused, NoMemory}
+use Rattle.irpx.specs.declared.fault.Phase.TheVariants.{Running}
 
 -- ---- the input
 
@@ -82,12 +81,12 @@ pub record IsRead (old new : Bytes) (text : List ℕ) : Type 0 where
 abbrev pub HoldsScript : Bytes → Bytes → Script → Type 0
 HoldsScript old new script = (text : List ℕ) × IsRead old new text × ReadsScript (Ok script) text
 
--- why there is no script: what is read of the input is refused, so; or the input wasn't read, or want of memory
-abbrev pub NoScript : Bytes → Bytes → Unscripted → Type 0
-NoScript old new (Refused refusal) =
-    (text : List ℕ) × IsRead old new text × ReadsScript (Err (fault.Refused refusal)) text
-NoScript old new (Input fault) = Unit {0}
-NoScript old new NoMemory = Unit {0}
+-- why there is no script: the text isn't had; or what is read of the input is refused, so
+abbrev pub NoScript : Bytes → Bytes → Fault → Type 0
+NoScript old new fault =
+    IsUnhad fault
+    ⊎ ((refusal : ScriptRefusal) × (text : List ℕ) × (fault ≡ RefusedScript refusal)
+    × IsRead old new text × ReadsScript (Err (script_fault.Refused refusal)) text)
 
 -- ---- who is asked
 
@@ -179,24 +178,32 @@ run_transcript form words transcript = record transcript {
 abbrev pub text_with : TranscriptValue → List ℕ
 text_with transcript = text_of (lines transcript)
 
--- what came of a script with these tables that so many workers were to run. To its end: the transcript of a run was
--- written, which shows each step, and comes of what ran. Else there is no transcript, and nothing went out; or the
--- transcript of a run was written, which comes of what ran, and steps may be missing in it; or a beginning of such a
--- one went out
-abbrev pub AfterScript : {T : Type 0} → ℕ → Script → Tables → Output → Output
-    → Result T RunFault → Type 0
+-- why there is no transcript of a script that was run: memory ran out, or the seats kept other entries
+abbrev pub IsUnrun : Fault → Type 0
+IsUnrun (NoMemory Running) = Unit {0}
+IsUnrun ReceiptsDiffer = Unit {0}
+IsUnrun other = ⊥
+
+-- a transcript of the run of a script with these tables, which comes of what so many workers ran
+pub record IsRanBy (workers : ℕ) (script : Script) (tables : Tables) (transcript : TranscriptValue) (stop : Option Stop)
+    : Type 0 where
+  pub run : IsRun script tables transcript
+  pub shows : stop ≡ None → ShowsEach script transcript
+  pub ran : Ran workers script transcript stop
+
+-- what came of a script with these tables that so many workers were to run. To its end: the transcript of such a run
+-- without a stop was written. Else there is no transcript, and nothing went out; or the transcript of one with this
+-- stop was written; or a beginning of the transcript of one went out
+abbrev pub AfterScript : {T : Type 0} → ℕ → Script → Tables → Output → Output → Result T Fault → Type 0
 AfterScript workers script tables before after (Ok done) =
-    (transcript : TranscriptValue) × IsRun script tables transcript × ShowsEach script transcript
-    × Ran workers script transcript false × Written (text_with transcript) before after
-AfterScript workers script tables before after (Err (NoTranscript fault)) = IsQuiet before after
-AfterScript workers script tables before after (Err Stopped) =
-    (transcript : TranscriptValue) × IsRun script tables transcript
-    × Ran workers script transcript true × Written (text_with transcript) before after
-AfterScript workers script tables before after (Err (Unwritten fault)) =
-    (transcript : TranscriptValue) × IsRun script tables transcript
-    × ((stopped : Bool) × Ran workers script transcript stopped)
-    × BreaksOff (text_with transcript) before after fault
-AfterScript workers script tables before after (Err other) = ⊥
+    (transcript : TranscriptValue) × IsRanBy workers script tables transcript None
+    × Written (text_with transcript) before after
+AfterScript workers script tables before after (Err fault) =
+    (IsUnrun fault × IsQuiet before after)
+    ⊎ ((stop : Stop) × (transcript : TranscriptValue) × (fault ≡ Stopped stop)
+    × IsRanBy workers script tables transcript (Some stop) × Written (text_with transcript) before after)
+    ⊎ ((stop : Option Stop) × (transcript : TranscriptValue) × IsRanBy workers script tables transcript stop
+    × BreaksOff (text_with transcript) before after fault)
 
 -- the first step that hands a reference between seats that fall to different of so many workers is this one, or there
 -- is none; and the input holds the script
@@ -205,14 +212,18 @@ HandsFirst workers place before after script =
     HoldsScript before.left after.left script
     × (position (hands_between workers) script.steps ≡ place)
 
+-- the input holds a script that hands nothing between so many workers, and this came of it
+abbrev pub RunsWhole : {T : Type 0} → ℕ → Streams → Streams → Result T Fault → Type 0
+RunsWhole workers before after result =
+    (script : Script) × HandsFirst workers None before after script
+    × AfterScript workers script (tables_of script) before.output after.output result
+
 -- what `run` did with so many workers: there is no script, or one that hands a reference between workers, and nothing
 -- went out; or the input holds one that hands nothing between them, which was run to its end or not
-abbrev pub AfterRun : {T : Type 0} → ℕ → Streams → Streams → Result T RunFault → Type 0
-AfterRun workers before after (Err (Unread fault)) =
-    NoScript before.left after.left fault × IsQuiet before.output after.output
-AfterRun workers before after (Err (HandsBetween step)) =
-    (script : Script) × HandsFirst workers (Some step) before after script
-    × IsQuiet before.output after.output
-AfterRun workers before after other =
-    (script : Script) × HandsFirst workers None before after script
-    × AfterScript workers script (tables_of script) before.output after.output other
+abbrev pub AfterRun : {T : Type 0} → ℕ → Streams → Streams → Result T Fault → Type 0
+AfterRun {T = T} workers before after (Ok done) = RunsWhole {T = T} workers before after (Ok done)
+AfterRun {T = T} workers before after (Err fault) =
+    (NoScript before.left after.left fault × IsQuiet before.output after.output)
+    ⊎ ((step : ℕ) × (script : Script) × (fault ≡ HandsBetween step)
+    × HandsFirst workers (Some step) before after script × IsQuiet before.output after.output)
+    ⊎ RunsWhole {T = T} workers before after (Err fault)

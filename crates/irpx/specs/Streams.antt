@@ -1,6 +1,9 @@
 -- The streams of the program: its input and its output, before and after some work.
 use Rattle.std.specs.Prelude.{ℕ, ◌≡◌, ◌≤◌, List, length, Option}
 use Rattle.std.specs.Io.KnownBytes.{Consumes, Keeps}
+use Rattle.irpx.specs.declared.fault.Fault.{Fault}
+use Rattle.irpx.specs.declared.fault.Fault.TheVariants.{Input, NoMemory}
+use Rattle.irpx.specs.declared.fault.Phase.TheVariants.{Reading}
 
 -- what is left of an input, or what went out, where that is known
 abbrev pub Bytes : Type 0
@@ -29,3 +32,9 @@ TakesAtMost limit old new = (taken : List ℕ) × (length taken ≤ limit) × Co
 -- nothing went out, and nothing failed
 abbrev pub IsQuiet : Output → Output → Type 0
 IsQuiet before after = Keeps before.gone after.gone × (after.failures ≡ before.failures)
+
+-- why a text isn't had from the input: it failed, or memory ran out
+abbrev pub IsUnhad : Fault → Type 0
+IsUnhad Input = Unit {0}
+IsUnhad (NoMemory Reading) = Unit {0}
+IsUnhad other = ⊥

@@ -3,8 +3,9 @@ use Rattle.std.specs.Prelude.{ℕ, ◌≡◌, ◌<◌, List, ◌++◌, length}
 use Rattle.std.specs.Io.KnownBytes.{Appends}
 use Rattle.irp_transcript_writer.specs.Out.{risen}
 use Rattle.irpx.specs.Streams.{Bytes, Output}
-use Rattle.irpx.specs.declared.input.StreamFault.{StreamFault}
-use Rattle.irpx.specs.declared.input.StreamFault.TheVariants.{Failed, NoMemory}
+use Rattle.irpx.specs.declared.fault.Fault.{Fault}
+use Rattle.irpx.specs.declared.fault.Fault.TheVariants as fault
+use Rattle.irpx.specs.declared.fault.Phase.TheVariants.{Writing}
 
 -- a beginning of the text went out, which isn't the whole text
 pub record Begins (text : List ℕ) (old new : Bytes) : Type 0 where
@@ -14,16 +15,16 @@ pub record Begins (text : List ℕ) (old new : Bytes) : Type 0 where
   pub short : 0 < length rest
   pub gone : Appends old new front
 
--- the count of failures after a fault: it rises for the output's, and stays for the memory's
-abbrev pub count_after : StreamFault → ℕ → ℕ
-count_after Failed count = risen count
-count_after NoMemory count = count
-
 -- all of the text went out, and nothing failed
 abbrev pub Written : List ℕ → Output → Output → Type 0
 Written text before after = Appends before.gone after.gone text × (after.failures ≡ before.failures)
 
+-- this fault came while something was written: the output's, and its count of failures rose, or want of memory
+abbrev pub IsUnwritten : Output → Output → Fault → Type 0
+IsUnwritten before after fault.Output = after.failures ≡ risen before.failures
+IsUnwritten before after (fault.NoMemory Writing) = after.failures ≡ before.failures
+IsUnwritten before after other = ⊥
+
 -- a beginning of the text went out, before this fault
-abbrev pub BreaksOff : List ℕ → Output → Output → StreamFault → Type 0
-BreaksOff text before after fault =
-    Begins text before.gone after.gone × (after.failures ≡ count_after fault before.failures)
+abbrev pub BreaksOff : List ℕ → Output → Output → Fault → Type 0
+BreaksOff text before after told = Begins text before.gone after.gone × IsUnwritten before after told

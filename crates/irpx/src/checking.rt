@@ -5,7 +5,8 @@ ghost use Rattle.irpx.specs.Checking.{Checks, Told, Untold, most_taken, verdict_
 ghost use Rattle.irpx.specs.Judging.{Ends};
 ghost use Rattle.irpx.specs.Streams.{TakesAtMost, output_of, streams_of};
 
-use crate::input::{PIECE, StreamFault};
+use crate::fault::{Fault, Phase};
+use crate::input::PIECE;
 use crate::judging::{judge_rest, read_header};
 use irp_judge::Verdict;
 use irp_text::Reader;
@@ -16,58 +17,8 @@ use std::io::Read;
 /// As many bytes as the text of a transcript may have that is checked.
 pub const MOST_BYTES: usize = 1_073_741_824;
 
-/// Why there is no verdict on a transcript.
-#[derive(Clone, Copy)]
-pub enum Unjudged {
-    /// The input wasn't read. One that is too long counts as failed.
-    Input(StreamFault),
-    /// The text isn't a transcript's: this line, from 1, is the first that is refused.
-    RefusedLine { line: u64 },
-    /// Memory ran out for the transcript or its verdict.
-    NoMemory,
-}
-
-impl From<StreamFault> for Unjudged {
-    ghost use Rattle.irpx.specs.declared.checking.Unjudged.TheVariants.{Input};
-
-    ghost from_gives = { λ fault unjudged. unjudged ≡ Input fault };
-
-    fn from(fault: StreamFault) -> Unjudged {
-        Unjudged::Input(fault)
-    }
-}
-
-/// Why a transcript wasn't checked.
-#[derive(Clone, Copy)]
-pub enum CheckFault {
-    /// There is no verdict.
-    Unjudged(Unjudged),
-    /// The verdict wasn't written.
-    Untold(StreamFault),
-}
-
-impl From<Unjudged> for CheckFault {
-    ghost use Rattle.irpx.specs.declared.checking.CheckFault.TheVariants.{Unjudged as NotJudged};
-
-    ghost from_gives = { λ fault unchecked. unchecked ≡ NotJudged fault };
-
-    fn from(fault: Unjudged) -> CheckFault {
-        CheckFault::Unjudged(fault)
-    }
-}
-
-impl From<StreamFault> for CheckFault {
-    ghost use Rattle.irpx.specs.declared.checking.CheckFault.TheVariants.{Untold as NotTold};
-
-    ghost from_gives = { λ fault unchecked. unchecked ≡ NotTold fault };
-
-    fn from(fault: StreamFault) -> CheckFault {
-        CheckFault::Untold(fault)
-    }
-}
-
 /// The verdict on the transcript that the input holds. The fault where there is none.
-fn judged<R: Read>(alloc: Global, input: &mut R) -> Result<Verdict, Unjudged>
+fn judged<R: Read>(alloc: Global, input: &mut R) -> Result<Verdict, Fault>
     ensures { Ends (R.remaining input.old) (R.remaining input.new) result }
 {
     let mut buffer = [0u8; PIECE];
@@ -89,18 +40,18 @@ fn line_of(alloc: Global, verdict: Verdict) -> Result<String, AllocError>
 }
 
 /// Tells the output a verdict.
-fn tell<O: Out>(alloc: Global, output: &mut O, verdict: Verdict) -> Result<(), StreamFault>
+fn tell<O: Out>(alloc: Global, output: &mut O, verdict: Verdict) -> Result<(), Fault>
     ensures ok { OnOk result (Told verdict (output_of (O.gone output.old) (O.failures output.old))
         (output_of (O.gone output.new) (O.failures output.new))) }
     ensures err { IfErr result (Untold verdict (output_of (O.gone output.old) (O.failures output.old))
         (output_of (O.gone output.new) (O.failures output.new))) }
 {
     let Ok(line) = line_of(alloc, verdict) else {
-        return Err(StreamFault::NoMemory);
+        return Err(Fault::NoMemory(Phase::Writing));
     };
     match put_all(output, line.as_bytes()) {
         Ok(()) => Ok(()),
-        Err(_) => Err(StreamFault::Failed),
+        Err(_) => Err(Fault::Output),
     }
 }
 
@@ -113,16 +64,16 @@ fn tell<O: Out>(alloc: Global, output: &mut O, verdict: Verdict) -> Result<(), S
 ///
 /// # Errors
 ///
-/// `Unjudged` where there is no verdict, and then nothing goes out: `RefusedLine` with the number of the first line
-/// that is refused, where the input isn't the text of a transcript; `Input` where the input failed, or has more than
-/// 1,073,741,824 bytes; `NoMemory` where memory ran out before that line. `Untold` where there is one: `Failed` where
-/// the output failed, which its count of failures tells, after a beginning of the line; `NoMemory` before anything goes
-/// out.
+/// Where there is no verdict, and then nothing goes out: `RefusedLine` with the number of the first line that is
+/// refused, where the input isn't the text of a transcript; `Input` where the input failed, or has more than
+/// 1,073,741,824 bytes; `NoMemory` of `Reading` where memory ran out before that line. Where there is one: `Output`
+/// where the output failed, which its count of failures tells, after a beginning of the line; `NoMemory` of `Writing`
+/// before anything goes out.
 pub fn check<R: Read, O: Out>(
     alloc: Global,
     input: &mut R,
     output: &mut O,
-) -> Result<Verdict, CheckFault>
+) -> Result<Verdict, Fault>
     ensures checks { Checks (streams_of (R.remaining input.old) (O.gone output.old) (O.failures output.old))
         (streams_of (R.remaining input.new) (O.gone output.new) (O.failures output.new)) result }
     ensures took { TakesAtMost most_taken (R.remaining input.old) (R.remaining input.new) }

@@ -1,41 +1,30 @@
 //! Reading an input up to a limit.
 
-ghost use Rattle.std.specs.Prelude.{◌≡◌, ◌+◌, ◌≤◌, ◌<◌, ◌^◌, length, take, vec_len, IfOk, IfSome};
+ghost use Rattle.std.specs.Prelude.{◌≡◌, ◌+◌, ◌≤◌, ◌<◌, ◌^◌, length, take, vec_len, IfErr, IfOk, IfSome};
 ghost use Rattle.std.specs.Io.KnownBytes.{Consumes, IsAtEnd};
-ghost use Rattle.irpx.specs.Streams.{TakesAtMost};
+ghost use Rattle.irpx.specs.Streams.{IsUnhad, TakesAtMost};
 
+use crate::fault::{Fault, Phase};
 use std::alloc::Global;
 use std::io::Read;
 
 /// How many bytes are asked for in one turn, at most.
 pub const PIECE: usize = 65_536;
 
-/// Why an input was not read, or an output not written whole.
-#[derive(Clone, Copy)]
-pub enum StreamFault {
-    /// The input or the output failed; an interrupted read is a failed one.
-    Failed,
-    /// Memory ran out.
-    NoMemory,
-}
-
 /// The first bytes of the input, at most so many; no more are taken from it. Each turn takes a byte or is the last, and
 /// an interrupted read is a failed one (this project's own rule).
 ///
 /// # Errors
 ///
-/// `Failed` where a read failed, and `NoMemory` where memory ran out. Then too at most so many bytes are taken from it.
-pub fn read_up_to<R: Read>(
-    alloc: Global,
-    reader: &mut R,
-    limit: usize,
-) -> Result<Vec<u8>, StreamFault>
+/// `Input` where a read failed, and `NoMemory` where memory ran out. Then too at most so many bytes are taken from it.
+pub fn read_up_to<R: Read>(alloc: Global, reader: &mut R, limit: usize) -> Result<Vec<u8>, Fault>
     ensures bound { IfOk result (λ read. vec_len read ≤ limit) }
     ensures bytes { IfOk result (λ read.
         IfSome (R.remaining reader.old) (λ input. read.items ≡ take limit input)) }
     ensures took { IfOk result (λ read.
         Consumes (R.remaining reader.old) (R.remaining reader.new) read.items) }
     ensures within { TakesAtMost limit (R.remaining reader.old) (R.remaining reader.new) }
+    ensures err { IfErr result IsUnhad }
 {
     let mut bytes = Vec::new(alloc);
     let mut buffer = [0u8; PIECE];
@@ -43,13 +32,13 @@ pub fn read_up_to<R: Read>(
         let wanted = PIECE.min(limit - bytes.len());
         let piece = &mut buffer[..wanted];
         let Ok(taken) = reader.read(piece) else {
-            return Err(StreamFault::Failed);
+            return Err(Fault::Input);
         };
         if taken == 0 {
             return Ok(bytes);
         }
         if bytes.extend_from_slice(&piece[..taken]).is_err() {
-            return Err(StreamFault::NoMemory);
+            return Err(Fault::NoMemory(Phase::Reading));
         }
     }
     Ok(bytes)
@@ -60,13 +49,9 @@ pub fn read_up_to<R: Read>(
 ///
 /// # Errors
 ///
-/// `Failed` where the read failed; an interrupted read is a failed one. Also where the input has more than `left`
+/// `Input` where the read failed; an interrupted read is a failed one. Also where the input has more than `left`
 /// bytes: then at most one more was taken from it.
-pub fn take_block<R: Read>(
-    reader: &mut R,
-    buffer: &mut [u8],
-    left: usize,
-) -> Result<usize, StreamFault>
+pub fn take_block<R: Read>(reader: &mut R, buffer: &mut [u8], left: usize) -> Result<usize, Fault>
     requires room { 0 < length buffer.old }
     requires bound { left + 1 < 2 ^ 64 }
     ensures room { length buffer.new ≡ length buffer.old }
@@ -75,10 +60,11 @@ pub fn take_block<R: Read>(
         Consumes (R.remaining reader.old) (R.remaining reader.new) (take count buffer.new)) }
     ensures end { IfOk result (λ count. count ≡ 0 → IsAtEnd (R.remaining reader.new)) }
     ensures within { TakesAtMost (left + 1) (R.remaining reader.old) (R.remaining reader.new) }
+    ensures err { IfErr result (λ fault. fault ≡ Fault.Input) }
 {
     let wanted = buffer.len().min(left + 1);
     match reader.read(&mut buffer[..wanted]) {
         Ok(count) if count <= left => Ok(count),
-        _ => Err(StreamFault::Failed),
+        _ => Err(Fault::Input),
     }
 }

@@ -21,7 +21,8 @@ ghost use Rattle.irpx.specs.Judging.{
 };
 ghost use Rattle.irpx.specs.Streams.{Bytes};
 
-use crate::checking::{MOST_BYTES, Unjudged};
+use crate::checking::MOST_BYTES;
+use crate::fault::{Fault, Phase};
 use crate::input::take_block;
 use irp_judge::{Judge, Verdict};
 use irp_text::{Line, Reader};
@@ -72,18 +73,18 @@ fn judge_block(
 }
 
 /// Why a text that isn't read to its end has no verdict.
-fn refusal(fault: ReadFault) -> Unjudged
+fn refusal(fault: ReadFault) -> Fault
     ensures { result ≡ refusal_of fault }
 {
     match fault {
-        ReadFault::Line(line) => Unjudged::RefusedLine { line },
-        ReadFault::NoMemory => Unjudged::NoMemory,
+        ReadFault::Line(line) => Fault::RefusedLine { line },
+        ReadFault::NoMemory => Fault::NoMemory(Phase::Reading),
     }
 }
 
 /// Takes the rest of an input whose text isn't read to its end, and tells why there is no verdict: where the rest can't
 /// be taken, or is too long, since the input failed.
-fn refuse<R: Read>(input: &mut R, buffer: &mut [u8], left: usize, fault: ReadFault) -> Unjudged
+fn refuse<R: Read>(input: &mut R, buffer: &mut [u8], left: usize, fault: ReadFault) -> Fault
     requires few { left ≤ most_bytes }
     requires room { 0 < length buffer.old }
     ensures { (old : Bytes) (text : List ℕ) → IsSoFar old (R.remaining input.old) left text
@@ -93,7 +94,7 @@ fn refuse<R: Read>(input: &mut R, buffer: &mut [u8], left: usize, fault: ReadFau
     loop {
         let count = match take_block(input, buffer, left) {
             Ok(count) => count,
-            Err(failed) => return Unjudged::Input(failed),
+            Err(failed) => return failed,
         };
         if count == 0 {
             return refusal(fault);
@@ -121,7 +122,7 @@ pub fn read_header<R: Read>(
     input: &mut R,
     buffer: &mut [u8],
     reader: &mut Reader,
-) -> Result<Option<Start>, Unjudged>
+) -> Result<Option<Start>, Fault>
     requires room { 0 < length buffer.old }
     requires fresh { HasRead reader.old [] no_lines }
     ensures start { IsStart (R.remaining input.old) (R.remaining input.new) result reader.new
@@ -132,7 +133,7 @@ pub fn read_header<R: Read>(
     loop {
         let to = match take_block(input, buffer, left) {
             Ok(to) => to,
-            Err(failed) => return Err(Unjudged::Input(failed)),
+            Err(failed) => return Err(failed),
         };
         if to == 0 {
             return match reader.finish() {
@@ -162,7 +163,7 @@ pub fn read_header<R: Read>(
 }
 
 /// The verdict on a text that was read to its end.
-fn verdict_of(reader: &Reader, judge: &Judge) -> Result<Verdict, Unjudged>
+fn verdict_of(reader: &Reader, judge: &Judge) -> Result<Verdict, Fault>
     ensures { (text : List ℕ) → AreJudged reader.now (seen judge.now) text
         → length text ≤ most_bytes → Concludes result text }
 {
@@ -179,7 +180,7 @@ pub fn judge_rest<R: Read>(
     buffer: &mut [u8],
     reader: &mut Reader,
     start: &Start,
-) -> Result<Verdict, Unjudged>
+) -> Result<Verdict, Fault>
     requires room { 0 < length buffer.old }
     requires header { IsHeader start.now.header }
     requires order { start.now.from ≤ start.now.to }
@@ -197,7 +198,7 @@ pub fn judge_rest<R: Read>(
         from = 0;
         to = match take_block(input, buffer, left) {
             Ok(count) => count,
-            Err(failed) => return Err(Unjudged::Input(failed)),
+            Err(failed) => return Err(failed),
         };
         if to == 0 {
             return verdict_of(reader, &judge);

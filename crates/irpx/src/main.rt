@@ -4,6 +4,7 @@
 mod checking;
 mod demo;
 mod ending;
+mod fault;
 mod input;
 mod judging;
 mod orders;
@@ -13,13 +14,14 @@ mod told;
 mod words;
 mod writing;
 
-ghost use Rattle.std.specs.Prelude.{IfOk};
-ghost use Rattle.irpx.specs.CommandLine.{IsOrder};
+ghost use Rattle.std.specs.Prelude.{IfErr, IfOk};
+ghost use Rattle.irpx.specs.CommandLine.{IsOrder, IsUnread};
 ghost use Rattle.irpx.specs.Program.{Obeys, ReadsFor};
 ghost use Rattle.irpx.specs.Streams.{streams_of};
 
 use crate::ending::Ending;
-use crate::orders::{Order, Unread};
+use crate::fault::{Fault, Phase};
+use crate::orders::Order;
 use irp_transcript_writer::{Out, WriterOut};
 use std::alloc::Global;
 use std::env;
@@ -30,18 +32,26 @@ use std::thread::Threads;
 
 /// The words that the program was given. `Usage` where they can't be had, and `NoMemory` where memory was missing for
 /// them.
-fn words_of(rt: &HostRuntime) -> Result<Vec<String>, Unread> {
+fn words_of(rt: &HostRuntime) -> Result<Vec<String>, Fault>
+    ensures { IfErr result IsUnread }
+{
     let words = match env::args(rt) {
         Ok(words) => words,
-        Err(error) if error.kind() == io::ErrorKind::OutOfMemory => return Err(Unread::NoMemory),
-        Err(_) => return Err(Unread::Usage),
+        Err(error) if error.kind() == io::ErrorKind::OutOfMemory => {
+            return Err(Fault::NoMemory(Phase::Starting));
+        }
+        Err(_) => return Err(Fault::Usage),
     };
-    Ok(words.collect(rt.alloc())?)
+    match words.collect(rt.alloc()) {
+        Ok(words) => Ok(words),
+        Err(_) => Err(Fault::NoMemory(Phase::Starting)),
+    }
 }
 
 /// What the words ask for.
-fn order(rt: &HostRuntime) -> Result<Order, Unread>
-    ensures { IfOk result IsOrder }
+fn order(rt: &HostRuntime) -> Result<Order, Fault>
+    ensures order { IfOk result IsOrder }
+    ensures unread { IfErr result IsUnread }
 {
     let words = words_of(rt)?;
     words::order(rt.alloc(), words.as_slice())
@@ -53,7 +63,7 @@ fn run<R: Read, O: Out, T: Threads + Wait + Sync>(
     alloc: Global,
     input: &mut R,
     output: &mut O,
-    order: Result<Order, Unread>,
+    order: Result<Order, Fault>,
 ) -> Ending
     requires { IfOk order IsOrder }
     ensures read { ReadsFor order
@@ -64,19 +74,12 @@ fn run<R: Read, O: Out, T: Threads + Wait + Sync>(
         (streams_of (R.remaining input.new) (O.gone output.new) (O.failures output.new)) result }
 {
     match order {
-        Ok(Order::Demo) => match demo::demo(rt, alloc, output) {
-            Ok(()) => Ending::Done,
-            Err(fault) => Ending::from(fault),
-        },
-        Ok(Order::Run { workers }) => match running::run(rt, alloc, input, output, workers) {
-            Ok(()) => Ending::Done,
-            Err(fault) => Ending::from(fault),
-        },
-        Ok(Order::Check) => match checking::check(alloc, input, output) {
-            Ok(verdict) => Ending::from(verdict),
-            Err(fault) => Ending::from(fault),
-        },
-        Err(unread) => Ending::from(unread),
+        Ok(Order::Demo) => Ending::of(demo::demo(rt, alloc, output)),
+        Ok(Order::Run { workers }) => {
+            Ending::of(running::run(rt, alloc, input, output, workers))
+        }
+        Ok(Order::Check) => Ending::of_check(checking::check(alloc, input, output)),
+        Err(fault) => Ending::Faulty(fault),
     }
 }
 
@@ -84,8 +87,10 @@ fn main(rt: HostRuntime) -> ExitCode {
     let mut output = WriterOut::new(io::writer(&rt));
     let mut input = rt.stdin();
     let mut ending = run(&rt, rt.alloc(), &mut input, &mut output, order(&rt));
-    if ending.has_line() && writeln!(rt.stderr(), "{ending}").is_err() {
-        ending = Ending::Failed;
+    if let Ending::Faulty(fault) = ending {
+        if writeln!(rt.stderr(), "{fault}").is_err() {
+            ending = Ending::Faulty(Fault::Output);
+        }
     }
     ending.code()
 }

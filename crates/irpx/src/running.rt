@@ -1,6 +1,6 @@
 //! The word `run`: a script is read and run by workers, and the transcript is written.
 
-ghost use Rattle.std.specs.Prelude.{IfErr, IfOk, ℕ, List, ◌≡◌, ◌≤◌, ◌<◌, false, position};
+ghost use Rattle.std.specs.Prelude.{IfErr, IfOk, ℕ, List, ◌≡◌, ◌≤◌, ◌<◌, None, position};
 ghost use Rattle.irp_types.specs.Limits.{most_slots};
 ghost use Rattle.irp_types.specs.State.{Tables};
 ghost use Rattle.irp_types.specs.declared.asked.Asked.{Asked};
@@ -10,15 +10,17 @@ ghost use Rattle.irp_shared.specs.Closing.{Closes};
 ghost use Rattle.irp_transcript.specs.Headers.{slots_of};
 ghost use Rattle.irp_transcript.specs.Transcripts.{IsTranscript, TranscriptValue};
 ghost use Rattle.irp_script.specs.Between.{hands_between};
-ghost use Rattle.irp_workers.specs.Numbers.{EachAsOften};
-ghost use Rattle.irp_workers.specs.Seats.{seats_of};
-ghost use Rattle.irp_workers.specs.Told.{AnswersAll, IsTold};
-ghost use Rattle.irp_workers.specs.Ran.{Ran};
+ghost use Rattle.irp_script.specs.Numbers.{EachAsOften};
+ghost use Rattle.irp_script.specs.Seats.{seats_of};
+ghost use Rattle.irp_script.specs.Told.{AnswersAll, IsTold};
+ghost use Rattle.irp_script.specs.Ran.{Ran};
 ghost use Rattle.irpx.specs.Running.{
   AfterRun,
   AfterScript,
   HoldsScript,
+  IsRanBy,
   IsRun,
+  IsUnrun,
   NoScript,
   ShowsEach,
   and_drivers,
@@ -30,22 +32,23 @@ ghost use Rattle.irpx.specs.Running.{
 };
 ghost use Rattle.irpx.specs.Streams.{Bytes, TakesAtMost, output_of, streams_of};
 
-use crate::input::{StreamFault, read_up_to};
+use crate::fault::{Fault, Phase};
+use crate::input::read_up_to;
 use crate::planned::Planned;
 use crate::told::{cancel_told, dispatch_told, routine_told};
 use crate::writing::write;
 use irp_routines::{Ask, Store};
-use irp_script::hand_between;
-use irp_script_reader::{Script, ScriptFault, ScriptForm, ScriptParts, ScriptRefusal, read_script};
+use irp_script::{
+    AlwaysOpen, ScriptSeat, Stop, Worked, hand_between, run_workers, script_seats, table_answer,
+    table_cancel,
+};
+use irp_script_reader::{Script, ScriptFault, ScriptForm, ScriptParts, read_script};
 use irp_shared::{
     Form, Seat, Session, Shared, Transcript, TranscriptParts, WordLine, open_with_limit,
 };
 use irp_transcript_writer::Out;
 use irp_types::{Row, Shown};
-use irp_workers::{
-    AlwaysOpen, ScriptSeat, Worked, run_workers, script_seats, table_answer, table_cancel,
-};
-use std::alloc::{AllocError, AllocFailed, Global};
+use std::alloc::{AllocError, Global};
 use std::io::Read;
 use std::marker::Brand;
 use std::sync::Wait;
@@ -55,101 +58,8 @@ use std::thread::Threads;
 /// One byte more than the text of a script may have.
 const TOO_MANY_BYTES: usize = 1_048_577;
 
-/// Why no script was read.
-#[derive(Clone, Copy)]
-pub enum Unscripted {
-    /// The input wasn't read.
-    Input(StreamFault),
-    /// The text is refused.
-    Refused { refusal: ScriptRefusal },
-    /// Memory ran out for the script.
-    NoMemory,
-}
-
-impl From<StreamFault> for Unscripted {
-    ghost use Rattle.irpx.specs.declared.running.Unscripted.TheVariants.{Input};
-
-    ghost from_gives = { λ fault unscripted. unscripted ≡ Input fault };
-
-    fn from(fault: StreamFault) -> Unscripted {
-        Unscripted::Input(fault)
-    }
-}
-
-/// Why a script that was read left no transcript.
-#[derive(Clone, Copy)]
-pub enum Unrun {
-    /// The seats kept other entries than the history has.
-    ReceiptsDiffer,
-    /// Memory ran out.
-    NoMemory,
-}
-
-impl From<AllocError> for Unrun {
-    ghost use Rattle.irpx.specs.declared.running.Unrun.TheVariants.{NoMemory};
-
-    ghost from_gives = { λ _ unrun. unrun ≡ NoMemory };
-
-    fn from(_error: AllocError) -> Unrun {
-        Unrun::NoMemory
-    }
-}
-
-/// Why a script wasn't run, or not to its end (this project's own command line, README.md).
-#[derive(Clone, Copy)]
-pub enum RunFault {
-    /// There is no script.
-    Unread(Unscripted),
-    /// There is one, and this is the first of its steps that hands a reference between seats of different workers.
-    HandsBetween { step: usize },
-    /// There is one, and no transcript of it.
-    NoTranscript(Unrun),
-    /// A step found no memory or wasn't recorded. The transcript of what was recorded is written.
-    Stopped,
-    /// The transcript wasn't written whole.
-    Unwritten(StreamFault),
-}
-
-impl From<Unscripted> for RunFault {
-    ghost use Rattle.irpx.specs.declared.running.RunFault.TheVariants.{Unread};
-
-    ghost from_gives = { λ fault unrun. unrun ≡ Unread fault };
-
-    fn from(fault: Unscripted) -> RunFault {
-        RunFault::Unread(fault)
-    }
-}
-
-impl From<Unrun> for RunFault {
-    ghost use Rattle.irpx.specs.declared.running.RunFault.TheVariants.{NoTranscript};
-
-    ghost from_gives = { λ fault unrun. unrun ≡ NoTranscript fault };
-
-    fn from(fault: Unrun) -> RunFault {
-        RunFault::NoTranscript(fault)
-    }
-}
-
-impl<T: Drop> From<AllocFailed<T>> for RunFault {
-    ghost use Rattle.irpx.specs.declared.running.RunFault.TheVariants.{NoTranscript};
-    ghost use Rattle.irpx.specs.declared.running.Unrun.TheVariants.{NoMemory};
-
-    ghost from_gives = { λ _ unrun. unrun ≡ NoTranscript NoMemory };
-
-    fn from(_error: AllocFailed<T>) -> RunFault {
-        RunFault::NoTranscript(Unrun::NoMemory)
-    }
-}
-
-impl From<StreamFault> for RunFault {
-    ghost use Rattle.irpx.specs.declared.running.RunFault.TheVariants.{Unwritten as NotWritten};
-
-    ghost from_gives = { λ fault unrun. unrun ≡ NotWritten fault };
-
-    fn from(fault: StreamFault) -> RunFault {
-        RunFault::Unwritten(fault)
-    }
-}
+/// Memory ran out while the script was run.
+const NO_MEMORY: Fault = Fault::NoMemory(Phase::Running);
 
 /// How many workers run a script, at least one.
 #[derive(Clone, Copy)]
@@ -158,15 +68,15 @@ struct Workers {
     ghost some: { 0 < number },
 }
 
-/// What a run left: the transcript, and whether a step found no memory or wasn't recorded.
+/// What a run left: the transcript, and where a worker stopped, if one did.
 #[derive(Drop)]
 struct Finished {
     transcript: Transcript,
-    stopped: bool,
+    stop: Option<Stop>,
 }
 
 /// The script of the input. The fault where the input can't be read, or is no script.
-fn script_of<R: Read>(alloc: Global, input: &mut R) -> Result<Script, Unscripted>
+fn script_of<R: Read>(alloc: Global, input: &mut R) -> Result<Script, Fault>
     ensures ok { IfOk result (HoldsScript (R.remaining input.old) (R.remaining input.new)) }
     ensures err { IfErr result (NoScript (R.remaining input.old) (R.remaining input.new)) }
     ensures took { TakesAtMost most_taken (R.remaining input.old) (R.remaining input.new) }
@@ -174,8 +84,8 @@ fn script_of<R: Read>(alloc: Global, input: &mut R) -> Result<Script, Unscripted
     let text = read_up_to(alloc, input, TOO_MANY_BYTES)?;
     match read_script(alloc, text.as_slice()) {
         Ok(script) => Ok(script),
-        Err(ScriptFault::Refused(refusal)) => Err(Unscripted::Refused { refusal }),
-        Err(ScriptFault::NoMemory) => Err(Unscripted::NoMemory),
+        Err(ScriptFault::Refused(refusal)) => Err(Fault::RefusedScript { refusal }),
+        Err(ScriptFault::NoMemory) => Err(Fault::NoMemory(Phase::Reading)),
     }
 }
 
@@ -211,10 +121,11 @@ fn run_transcript(
     transcript: Transcript,
     form: ScriptForm,
     words: Vec<WordLine>,
-) -> Result<Transcript, Unrun>
+) -> Result<Transcript, Fault>
     requires few { slots_of (form_of form) ≤ most_slots }
     ensures made { IfOk result (λ made. made ≡ run_transcript form words.items transcript) }
     ensures accepted { IfOk result IsTranscript }
+    ensures err { IfErr result IsUnrun }
 {
     transcript.is_one();
     let TranscriptParts {
@@ -223,7 +134,7 @@ fn run_transcript(
         ..
     } = transcript.into_parts();
     let Some(mut header) = header else {
-        return Err(Unrun::ReceiptsDiffer);
+        return Err(Fault::ReceiptsDiffer);
     };
     header.form = form_of(form);
     let transcript = Transcript::new(header, entries, Row::from_vec(words));
@@ -238,27 +149,27 @@ fn finish<A: Ask + Drop, L: Session>(
     shared: Shared<A, L>,
     worked: Worked<'_, L>,
     form: ScriptForm,
-) -> Result<Finished, Unrun>
+) -> Result<Finished, Fault>
     requires seats { L.seats ≡ L.parts }
     requires few { slots_of (form_of form) ≤ most_slots }
-    ensures { IfOk result (λ run.
+    ensures err { IfErr result IsUnrun }
+    ensures ok { IfOk result (λ run.
         (seats : List Seated) × EachAsOften (seats_of worked.entry.seats.items) seats
         × (closed : TranscriptValue) × Closes L.fixed L.seats seats closed
         × (run.transcript ≡ run_transcript form worked.entry.words.items closed)
-        × IsTranscript run.transcript × (run.stopped ≡ worked.entry.stopped)
+        × IsTranscript run.transcript × (run.stop ≡ worked.entry.stop)
         × EachAnswered L.may closed.entries) }
 {
-    let stopped = worked.stopped;
+    let stop = worked.stop;
     let words = worked.words;
-    let seats = seats_of(alloc, worked.seats)?;
+    let Ok(seats) = seats_of(alloc, worked.seats) else {
+        return Err(NO_MEMORY);
+    };
     let Ok(transcript) = shared.close(seats) else {
-        return Err(Unrun::ReceiptsDiffer);
+        return Err(Fault::ReceiptsDiffer);
     };
     let transcript = run_transcript(transcript, form, words)?;
-    Ok(Finished {
-        transcript,
-        stopped,
-    })
+    Ok(Finished { transcript, stop })
 }
 
 /// So many workers run the script in a session of its locks, seats and cancel slots. Whoever is asked answers as
@@ -270,7 +181,7 @@ fn session<A: Ask + Send + Drop, L: Session + Send + Sync, T: Threads + Wait + S
     ask: A,
     script: &ScriptParts,
     workers: u32,
-) -> Result<Finished, Unrun>
+) -> Result<Finished, Fault>
     requires workers { 0 < workers }
     requires blank { (blank.name ≡ L.name) × (blank.parts ≡ L.parts) }
     requires seats { (L.parts ≡ script.now.seats) × (L.seats ≡ script.now.seats) }
@@ -278,8 +189,9 @@ fn session<A: Ask + Send + Drop, L: Session + Send + Sync, T: Threads + Wait + S
     requires may { AnswersSo (A.may_plan ask) (A.may_answer ask) (A.may_cancel ask) L.may }
     requires told { (asked : Asked) → ∥ L.may asked ∥₁ → ∥ IsTold script.now asked ∥₁ }
     ensures run { IfOk result (λ run. IsRun script.now (A.tables ask) run.transcript) }
-    ensures shows { IfOk result (λ run. run.stopped ≡ false → ShowsEach script.now run.transcript) }
-    ensures ran { IfOk result (λ run. Ran workers script.now run.transcript run.stopped) }
+    ensures shows { IfOk result (λ run. run.stop ≡ None → ShowsEach script.now run.transcript) }
+    ensures ran { IfOk result (λ run. Ran workers script.now run.transcript run.stop) }
+    ensures err { IfErr result IsUnrun }
 {
     let form = form_of(script.form);
     let Ok((shared, seats)) = open_with_limit::<A, L>(
@@ -290,36 +202,38 @@ fn session<A: Ask + Send + Drop, L: Session + Send + Sync, T: Threads + Wait + S
         script.seats,
         form.limit(),
     ) else {
-        return Err(Unrun::NoMemory);
+        return Err(NO_MEMORY);
     };
     let Ok((locks, removes)) = irp_remove::open(alloc, script.locks, script.seats) else {
-        return Err(Unrun::NoMemory);
+        return Err(NO_MEMORY);
     };
     let Ok((slots, owners, cancellers)) = irp_slots::open(alloc, form.slots(), script.seats) else {
-        return Err(Unrun::NoMemory);
+        return Err(NO_MEMORY);
     };
-    let pairs = script_seats(alloc, &locks, &slots, seats, removes, cancellers, owners)?;
+    let Ok(pairs) = script_seats(alloc, &locks, &slots, seats, removes, cancellers, owners) else {
+        return Err(NO_MEMORY);
+    };
     let gate = AlwaysOpen;
-    let worked = run_workers(
+    let Ok(worked) = run_workers(
         rt, alloc, &shared, &locks, &slots, pairs, script, &gate, workers,
-    )?;
+    ) else {
+        return Err(NO_MEMORY);
+    };
     finish(alloc, shared, worked, script.form)
 }
 
-/// Writes the transcript that a run left. `Stopped` where it is written, but a step found no memory or wasn't recorded.
-fn write_finished<O: Out>(alloc: Global, output: &mut O, run: &Finished) -> Result<(), RunFault>
+/// Writes the transcript that a run left. `Stopped` where it is written, but a worker stopped.
+fn write_finished<O: Out>(alloc: Global, output: &mut O, run: &Finished) -> Result<(), Fault>
     ensures { (workers : ℕ) → (script : Script) → (tables : Tables)
-        → IsRun script tables run.now.transcript
-        → (run.now.stopped ≡ false → ShowsEach script run.now.transcript)
-        → Ran workers script run.now.transcript run.now.stopped
+        → IsRanBy workers script tables run.now.transcript run.now.stop
         → AfterScript workers script tables (output_of (O.gone output.old) (O.failures output.old))
         (output_of (O.gone output.new) (O.failures output.new)) result }
 {
     write(alloc, output, &run.transcript)?;
-    if run.stopped {
-        return Err(RunFault::Stopped);
+    match run.stop {
+        Some(stop) => Err(Fault::Stopped { stop }),
+        None => Ok(()),
     }
-    Ok(())
 }
 
 /// Adds the script's drivers to a store that has all closures of the script, which answer as it tells, has so many
@@ -331,7 +245,7 @@ fn with_dispatches<O: Out, T: Threads + Wait + Sync>(
     script: &ScriptParts,
     workers: Workers,
     mut store: Store,
-) -> Result<(), RunFault>
+) -> Result<(), Fault>
     requires { AnswersAll store script.now }
     ensures { AfterScript workers.number script.now (and_drivers script.now.drivers store.tables)
         (output_of (O.gone output.old) (O.failures output.old))
@@ -340,10 +254,10 @@ fn with_dispatches<O: Out, T: Threads + Wait + Sync>(
     let drivers = script.drivers.as_slice();
     for driver in drivers {
         let Ok(handlers) = driver.as_slice().to_vec(alloc) else {
-            return Err(RunFault::NoTranscript(Unrun::NoMemory));
+            return Err(NO_MEMORY);
         };
         let Ok(_driver) = store.add_driver(handlers) else {
-            return Err(RunFault::NoTranscript(Unrun::NoMemory));
+            return Err(NO_MEMORY);
         };
     }
     let blank = Blank::new(u64::from(script.seats));
@@ -359,7 +273,7 @@ fn run_script<O: Out, T: Threads + Wait + Sync>(
     output: &mut O,
     script: &Script,
     workers: Workers,
-) -> Result<(), RunFault>
+) -> Result<(), Fault>
     ensures { AfterScript workers.number script.now (tables_of script.now)
         (output_of (O.gone output.old) (O.failures output.old))
         (output_of (O.gone output.new) (O.failures output.new)) result }
@@ -369,17 +283,21 @@ fn run_script<O: Out, T: Threads + Wait + Sync>(
     let routines = parts.completions.as_slice();
     for routine in routines {
         let routine = *routine;
-        let answer = Box::new(alloc, move |shown: Shown| table_answer(routine, shown))?;
+        let Ok(answer) = Box::new(alloc, move |shown: Shown| table_answer(routine, shown)) else {
+            return Err(NO_MEMORY);
+        };
         let Ok(_routine) = store.add(routine_told(routine, answer)) else {
-            return Err(RunFault::NoTranscript(Unrun::NoMemory));
+            return Err(NO_MEMORY);
         };
     }
     let answers = parts.cancels.as_slice();
     for answer in answers {
         let answer = *answer;
-        let answered = Box::new(alloc, move |shown: Shown| table_cancel(answer, shown))?;
+        let Ok(answered) = Box::new(alloc, move |shown: Shown| table_cancel(answer, shown)) else {
+            return Err(NO_MEMORY);
+        };
         let Ok(_cancel) = store.add_cancel(cancel_told(answer, answered)) else {
-            return Err(RunFault::NoTranscript(Unrun::NoMemory));
+            return Err(NO_MEMORY);
         };
     }
     let known = store.tables().counts();
@@ -387,9 +305,11 @@ fn run_script<O: Out, T: Threads + Wait + Sync>(
     for plan in plans {
         let plan = *plan;
         let planned = Planned { known, plan };
-        let answer = Box::new(alloc, move |shown: Shown| planned.answer(shown))?;
+        let Ok(answer) = Box::new(alloc, move |shown: Shown| planned.answer(shown)) else {
+            return Err(NO_MEMORY);
+        };
         let Ok(_dispatch) = store.add_dispatch(dispatch_told(known, plan, answer)) else {
-            return Err(RunFault::NoTranscript(Unrun::NoMemory));
+            return Err(NO_MEMORY);
         };
     }
     with_dispatches(rt, alloc, output, parts, workers, store)
@@ -410,7 +330,7 @@ fn run_read<O: Out, T: Threads + Wait + Sync>(
     output: &mut O,
     script: &Script,
     workers: u32,
-) -> Result<(), RunFault>
+) -> Result<(), Fault>
     requires { 0 < workers }
     // What is said of the script is so of every input that holds it.
     ensures { (input left : Bytes) → HoldsScript input left script.now
@@ -419,7 +339,7 @@ fn run_read<O: Out, T: Threads + Wait + Sync>(
         (streams_of left (O.gone output.new) (O.failures output.new)) result }
 {
     if let Some(step) = first_hand(script, workers) {
-        return Err(RunFault::HandsBetween { step });
+        return Err(Fault::HandsBetween { step });
     }
     run_script(rt, alloc, output, script, Workers { number: workers })
 }
@@ -433,20 +353,19 @@ fn run_read<O: Out, T: Threads + Wait + Sync>(
 ///
 /// # Errors
 ///
-/// `Unread` where there is no script, and then nothing goes out: `Input` where the input failed or memory ran out for
-/// it, `Refused` where its text is no script, `NoMemory` where memory ran out later. `HandsBetween` where there is one
-/// that hands a reference between seats of different workers: the first such step, and nothing goes out.
-/// `NoTranscript` where memory ran out, or the seats kept other entries than the history has, and then
-/// nothing goes out; `Stopped` where a step found no memory or wasn't recorded, and then what was recorded is written;
-/// `Unwritten` where the output failed, which its count of failures tells, or memory ran out, after a beginning of the
-/// transcript.
+/// Where there is no script: `Input` where the input failed, `RefusedScript` where its text is none, `NoMemory` of
+/// `Reading`. `HandsBetween` where there is one that hands a reference between seats of different workers: the first
+/// such step. Where there is no transcript: `NoMemory` of `Running`, or `ReceiptsDiffer` where the seats kept other
+/// entries than the history has. After any of these nothing goes out. `Stopped` where a worker stopped, with where and
+/// why, and then what was recorded is written. After a beginning of the transcript: `Output` where the output failed,
+/// which its count of failures tells; `NoMemory` of `Writing`.
 pub fn run<R: Read, O: Out, T: Threads + Wait + Sync>(
     rt: &T,
     alloc: Global,
     input: &mut R,
     output: &mut O,
     workers: u32,
-) -> Result<(), RunFault>
+) -> Result<(), Fault>
     requires { 0 < workers }
     ensures after { AfterRun workers (streams_of (R.remaining input.old) (O.gone output.old) (O.failures output.old))
         (streams_of (R.remaining input.new) (O.gone output.new) (O.failures output.new)) result }

@@ -4,15 +4,15 @@ ghost use Rattle.std.specs.Prelude.{◌≡◌, true};
 ghost use Rattle.irp_types.specs.Rules.{CanShow, is_allowed, is_plan_allowed};
 ghost use Rattle.irp_types.specs.declared.answer.{Answer.Answer, CancelAnswer.CancelAnswer, Plan.Plan};
 ghost use Rattle.irp_types.specs.declared.shown.Shown.{Shown};
-ghost use Rattle.irp_workers.specs.Behaviours.{answer_of, cancel_rule_of, plan_of};
-ghost use Rattle.irp_workers.specs.Told.{AnswersAs, CancelsAs, PlansAs};
+ghost use Rattle.irp_script.specs.Behaviours.{answer_of, cancel_rule_of, plan_of};
+ghost use Rattle.irp_script.specs.Told.{AnswersAs, CancelsAs, PlansAs};
 
 use irp_routines::{
     CancelClosure, CancelRoutine, CompletionClosure, Dispatch, DispatchClosure, Routine,
 };
+use irp_script::cancel_rule;
 use irp_script_reader::CompletionRoutine;
 use irp_types::{CancelAnswer, Known, Plan};
-use irp_workers::cancel_rule;
 
 /// A completion routine with this code, on condition that the code may be called on everything that can be shown,
 /// answers nothing but what the script tells of the routine, and keeps its rule.

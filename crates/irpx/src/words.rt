@@ -11,6 +11,7 @@ ghost use Rattle.std.specs.Prelude.{
   codes,
   map,
   option_map,
+  IfErr,
   IfOk,
   MatchResult,
   OnOk,
@@ -20,7 +21,7 @@ ghost use Rattle.clap.specs.Values.{kind_of};
 ghost use Rattle.clap.specs.Words.{
   Row,
   app_of,
-  fault_of,
+  fault_of as clap_fault_of,
   first_of,
   rows_of,
   subcommand_of,
@@ -31,12 +32,14 @@ ghost use Rattle.irpx.specs.CommandLine.{
   IsOneWord,
   IsOrder,
   IsOrderOrMemory,
+  IsUnread,
   command_line,
   run_in,
   workers_in,
 };
 
-use crate::orders::{Order, Unread};
+use crate::fault::{Fault, Phase};
+use crate::orders::Order;
 use clap::error::ErrorKind;
 use clap::{Arg, ArgAction, ArgMatches, Command, Error};
 use std::alloc::{AllocError, Global};
@@ -75,23 +78,23 @@ fn workers_in(text: &[u8]) -> Option<u32>
 }
 
 /// The order to run a script with the workers that the subcommand's matches name, or with one.
-fn run_of(matches: &ArgMatches<'_>) -> Result<Order, Unread>
+fn run_of(matches: &ArgMatches<'_>) -> Result<Order, Fault>
     ensures run { result ≡ run_in (first_of (codes "workers") (rows_of (found_of matches.now))) }
     ensures range { MatchResult result
         (λ order. (workers : ℕ) × (order ≡ Order.Run workers) × (1 ≤ workers) × (workers ≤ 64))
-        (λ unread. unread ≡ Unread.Usage) }
+        (λ fault. fault ≡ Fault.Usage) }
 {
     let Some(text) = matches.get_str("workers") else {
         return Ok(Order::Run { workers: 1 });
     };
     match workers_in(text.as_bytes()) {
         Some(workers) => Ok(Order::Run { workers }),
-        None => Err(Unread::Usage),
+        None => Err(Fault::Usage),
     }
 }
 
 /// What clap's matches ask for.
-fn order_of(matches: &ArgMatches<'_>) -> Result<Order, Unread>
+fn order_of(matches: &ArgMatches<'_>) -> Result<Order, Fault>
     ensures demo { (result ≡ Ok Order.Demo)
         ↔ (subcommand_name_of matches.now ≡ Some (codes "demo")) }
     ensures check { (result ≡ Ok Order.Check)
@@ -100,26 +103,29 @@ fn order_of(matches: &ArgMatches<'_>) -> Result<Order, Unread>
         → option_map (λ found. found.1) (subcommand_rows_of matches.now) ≡ Some rows
         → result ≡ run_in (first_of (codes "workers") rows) }
     ensures order { IfOk result IsOrder }
+    ensures usage { IfErr result (λ fault. fault ≡ Fault.Usage) }
 {
     let Some((name, inner)) = matches.subcommand() else {
-        return Err(Unread::Usage);
+        return Err(Fault::Usage);
     };
     match name {
         "demo" => Ok(Order::Demo),
         "run" => run_of(inner),
         "check" => Ok(Order::Check),
-        _ => Err(Unread::Usage),
+        _ => Err(Fault::Usage),
     }
 }
 
 /// Why clap refused the words.
-fn unread_of(error: &Error) -> Unread
-    ensures { (result ≡ Unread.NoMemory) ↔ (kind_of error.now ≡ ErrorKind.OutOfMemory) }
+fn fault_of(error: &Error) -> Fault
+    ensures memory { (result ≡ Fault.NoMemory Phase.Starting)
+        ↔ (kind_of error.now ≡ ErrorKind.OutOfMemory) }
+    ensures usage { IsUnread result }
 {
     if error.kind() == ErrorKind::OutOfMemory {
-        Unread::NoMemory
+        Fault::NoMemory(Phase::Starting)
     } else {
-        Unread::Usage
+        Fault::Usage
     }
 }
 
@@ -128,10 +134,11 @@ fn unread_of(error: &Error) -> Unread
 /// # Errors
 ///
 /// `Usage` for words that the program doesn't take, and for a request for help; `NoMemory` where memory ran out.
-pub fn order<'a, S: AsStr>(alloc: Global, words: &'a [S]) -> Result<Order, Unread>
+pub fn order<'a, S: AsStr>(alloc: Global, words: &'a [S]) -> Result<Order, Fault>
     // No order comes of words in which clap finds a fault.
-    ensures ok { OnOk result (fault_of command_line (map S.text words.entry.now) ≡ []) }
+    ensures ok { OnOk result (clap_fault_of command_line (map S.text words.entry.now) ≡ []) }
     ensures order { IfOk result IsOrder }
+    ensures unread { IfErr result IsUnread }
     ensures demo { IsOneWord (codes "demo") (map S.text words.entry.now)
         → IsOrderOrMemory Order.Demo result }
     ensures check { IsOneWord (codes "check") (map S.text words.entry.now)
@@ -148,9 +155,11 @@ pub fn order<'a, S: AsStr>(alloc: Global, words: &'a [S]) -> Result<Order, Unrea
         → subcommand_of command_line (map S.text words.entry.now) ≡ Some (codes "run", rows)
         → IfOk result (λ order. run_in (first_of (codes "workers") rows) ≡ Ok order) }
 {
-    let command = command(alloc)?;
+    let Ok(command) = command(alloc) else {
+        return Err(Fault::NoMemory(Phase::Starting));
+    };
     match command.try_get_matches_from(words) {
         Ok(matches) => order_of(&matches),
-        Err(error) => Err(unread_of(&error)),
+        Err(error) => Err(fault_of(&error)),
     }
 }

@@ -5,7 +5,7 @@ ghost use Rattle.irp_transcript_writer.specs.Lines.{lines, text_of};
 ghost use Rattle.irpx.specs.Streams.{output_of};
 ghost use Rattle.irpx.specs.Writing.{BreaksOff, Written};
 
-use crate::input::StreamFault;
+use crate::fault::{Fault, Phase};
 use irp_shared::Transcript;
 use irp_transcript_writer::{Cause, Out, write_transcript};
 use std::alloc::Global;
@@ -14,13 +14,9 @@ use std::alloc::Global;
 ///
 /// # Errors
 ///
-/// `Failed` where the output failed, and exactly then its count of failures rose; `NoMemory` where memory ran out.
+/// `Output` where the output failed, and exactly then its count of failures rose; `NoMemory` where memory ran out.
 /// After either, a beginning of the text went out, and not the whole.
-pub fn write<O: Out>(
-    alloc: Global,
-    output: &mut O,
-    transcript: &Transcript,
-) -> Result<(), StreamFault>
+pub fn write<O: Out>(alloc: Global, output: &mut O, transcript: &Transcript) -> Result<(), Fault>
     ensures ok { OnOk result (Written (text_of (lines transcript.now))
         (output_of (O.gone output.old) (O.failures output.old))
         (output_of (O.gone output.new) (O.failures output.new))) }
@@ -31,8 +27,8 @@ pub fn write<O: Out>(
     match write_transcript(alloc, output, transcript) {
         Ok(()) => Ok(()),
         Err(fault) => match fault.cause {
-            Cause::Io => Err(StreamFault::Failed),
-            Cause::Memory => Err(StreamFault::NoMemory),
+            Cause::Io => Err(Fault::Output),
+            Cause::Memory => Err(Fault::NoMemory(Phase::Writing)),
         },
     }
 }

@@ -62,6 +62,6 @@ fn two_calls_at_once(rt: HostRuntime) -> Result<(), Fail> {
         !gate.late.load(Ordering::SeqCst),
         "each waited for the other in time"
     );
-    assert!(rt; made.entries == 21 && !made.stopped);
+    assert!(rt; made.entries == 21 && made.stop.is_none());
     Ok(())
 }

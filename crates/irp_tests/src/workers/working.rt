@@ -1,7 +1,7 @@
 //! Which steps workers run, when one stops, and which calls the gate gets.
 
 use super::{ALLOCATE, CREATE, LOCK, LOOK, by, worked};
-use irp_script::{AlwaysOpen, Gate};
+use irp_script::{AlwaysOpen, Gate, Stop, StopReason};
 use irp_script_reader::StepAct;
 use irp_shared::{WordLine, WordReply};
 use irp_types::LockAct;
@@ -23,7 +23,12 @@ fn a_seat_that_is_not_there_stops_its_worker_alone(rt: HostRuntime) -> Result<()
     ];
     let made = worked(&rt, rt.alloc(), 2, &[], &steps, &AlwaysOpen, 2)?;
     assert!(rt; are_lines(made.words.as_slice(), &[(0, 0), (1, 3)]));
-    assert!(rt; made.entries == 0 && made.stopped);
+    assert!(rt; made.entries == 0);
+    let stop = Stop {
+        seat: 2,
+        reason: StopReason::NoSeat,
+    };
+    assert!(rt; made.stop == Some(stop));
     Ok(())
 }
 
@@ -41,7 +46,12 @@ fn are_lines(words: &[WordLine], expected: &[(u32, u32)]) -> bool {
 fn a_stop_in_the_setup_stops_all(rt: HostRuntime) -> Result<(), Fail> {
     let setup = [by(0, CREATE), by(1, LOOK), by(0, CREATE)];
     let made = worked(&rt, rt.alloc(), 1, &setup, &[by(0, CREATE)], &AlwaysOpen, 1)?;
-    assert!(rt; made.entries == 1 && made.words.is_empty() && made.stopped);
+    assert!(rt; made.entries == 1 && made.words.is_empty());
+    let stop = Stop {
+        seat: 1,
+        reason: StopReason::NoSeat,
+    };
+    assert!(rt; made.stop == Some(stop));
     Ok(())
 }
 
@@ -94,6 +104,6 @@ fn the_gate_is_called_before_and_after_each_step(rt: HostRuntime) -> Result<(), 
     };
     let made = worked(&rt, rt.alloc(), 3, &[by(0, CREATE)], &steps, &gate, 1)?;
     let answered = gate.answered.load(Ordering::SeqCst);
-    assert!(rt; answered == 3 && !gate.astray.load(Ordering::SeqCst) && !made.stopped);
+    assert!(rt; answered == 3 && !gate.astray.load(Ordering::SeqCst) && made.stop.is_none());
     Ok(())
 }

@@ -6,20 +6,21 @@ use Rattle.irp_transcript_writer.specs.Lines.{lines, text_of}
 use Rattle.irpx.specs.Demo.{AfterDemo, IsDemoTranscript}
 use Rattle.irpx.specs.Streams.{Output}
 use Rattle.irpx.specs.Writing.{BreaksOff, Written}
-use Rattle.irpx.specs.declared.input.StreamFault.{StreamFault}
+use Rattle.irpx.specs.declared.fault.Fault.{Fault}
+use Rattle.irpx.proofs.Pieces.{keeps_itself}
 use Rattle.irpx.proofs.demo.demo.Goals as goal
 
-written_demo : {T : Type 0} (result : Result T StreamFault) (transcript : TranscriptValue) (before after : Output) → IsDemoTranscript transcript
+written_demo : {T : Type 0} (result : Result T Fault) (transcript : TranscriptValue) (before after : Output) → IsDemoTranscript transcript
     → OnOk result (Written (text_of (lines transcript)) before after) → IfErr result (BreaksOff (text_of (lines transcript)) before after)
     → AfterDemo before after result
 written_demo (Ok done) transcript before after is written broke = (transcript, is, written)
-written_demo (Err fault) transcript before after is written broke = (inr (transcript, is, broke.0), broke.1)
+written_demo (Err fault) transcript before after is written broke = inr (transcript, is, broke)
 
 pub returns-in_default : goal.returns-in_default
-returns-in_default g c = (inl refl, refl)
+returns-in_default g c = inl (refl, (keeps_itself _, refl))
 
 pub returns-in_default-transcript : goal.returns-in_default-transcript
-returns-in_default-transcript g c = (inl refl, refl)
+returns-in_default-transcript g c = inl (refl, (keeps_itself _, refl))
 
 pub returns : goal.returns
 returns g c = written_demo c.write.result c.in-Some.transcript _ _ c.in-Some.ensures c.write.ensures.ok c.write.ensures.err

@@ -1,29 +1,20 @@
 -- A script that hands a reference between workers is refused, and nothing went out. Another is run.
-use Rattle.std.proofs.Common.{ℕ, List, Option, Some, None, Result, Ok, Err, refl, sym, rules, ◌∙◌}
-use Rattle.std.specs.Io.KnownBytes.{Keeps}
+use Rattle.std.proofs.Common.{ℕ, None, Result, Ok, Err, inl, inr, refl, sym, rules, ◌∙◌}
 use Rattle.irp_script_reader.specs.declared.script.Script.{Script}
 use Rattle.irpx.specs.Running.{AfterRun, AfterScript, HandsFirst, tables_of}
 use Rattle.irpx.specs.Streams.{Streams, streams_of}
-use Rattle.irpx.specs.declared.running.RunFault.{RunFault}
-use Rattle.irpx.specs.declared.running.RunFault.TheVariants.{HandsBetween, NoTranscript, Stopped, Unread, Unwritten}
+use Rattle.irpx.specs.declared.fault.Fault.{Fault}
+use Rattle.irpx.proofs.Pieces.{keeps_itself}
 use Rattle.irpx.proofs.running.run_read.Goals as goal
 
-keeps_itself : (bytes : Option (List ℕ)) → Keeps bytes bytes
-keeps_itself None = tt
-keeps_itself (Some bytes) = refl
-
-was_run : {T : Type 0} (result : Result T RunFault) (workers : ℕ) (before after : Streams) (script : Script) → HandsFirst workers None before after script
+was_run : {T : Type 0} (result : Result T Fault) (workers : ℕ) (before after : Streams) (script : Script) → HandsFirst workers None before after script
     → AfterScript workers script (tables_of script) before.output after.output result → AfterRun workers before after result
 was_run (Ok done) workers before after script none ran = (script, none, ran)
-was_run (Err (NoTranscript fault)) workers before after script none ran = (script, none, ran)
-was_run (Err Stopped) workers before after script none ran = (script, none, ran)
-was_run (Err (Unwritten fault)) workers before after script none ran = (script, none, ran)
-was_run (Err (Unread fault)) workers before after script none ran = absurd ran
-was_run (Err (HandsBetween step)) workers before after script none ran = absurd ran
+was_run (Err fault) workers before after script none ran = inr (inr (script, none, ran))
 
 pub returns-in-Some : goal.returns-in-Some
 returns-in-Some g c = λ input left holds.
-    (c.args.script.now, (holds, sym c.first_hand.ensures ∙ c.in-Some.is), (keeps_itself (g.O.Out.gone c.args.output.now), refl))
+    inr (inl (c.in-Some.step, c.args.script.now, refl, (holds, sym c.first_hand.ensures ∙ c.in-Some.is), (keeps_itself (g.O.Out.gone c.args.output.now), refl)))
 
 pub returns : goal.returns
 returns g c = λ input left holds.

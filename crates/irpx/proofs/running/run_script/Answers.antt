@@ -12,9 +12,9 @@ use Rattle.irp_script_reader.specs.Plans.{names_known}
 use Rattle.irp_script_reader.specs.Sound.{IsPlan, known_of}
 use Rattle.irp_script_reader.specs.declared.script.CompletionRoutine.{CompletionRoutine}
 use Rattle.irp_script_reader.specs.declared.script.ScriptParts.{ScriptParts}
-use Rattle.irp_workers.specs.Behaviours.{cancel_rule_of}
-use Rattle.irp_workers.specs.Told.{CancelsAnswer, CancelsAs, DispatchesPlan, PlansAs, RoutinesAnswer}
-use Rattle.irp_workers.proofs.Told.{cancels_more, dispatches_more, nothing_told, routines_kept, routines_more}
+use Rattle.irp_script.specs.Behaviours.{cancel_rule_of}
+use Rattle.irp_script.specs.Told.{CancelsAnswer, CancelsAs, DispatchesPlan, PlansAs, RoutinesAnswer}
+use Rattle.irp_script.proofs.Told.{cancels_more, dispatches_more, nothing_told, routines_kept, routines_more}
 use Rattle.irpx.specs.Running.{AfterScript, and_cancels, and_dispatches, and_drivers, and_routines}
 use Rattle.irpx.specs.Streams.{output_of}
 use Rattle.irpx.proofs.Adding.{added, all_of, cancels_grow, counts_known, dispatches_grow, holds_at, routines_grow, whole}
@@ -25,10 +25,10 @@ loop-routine-preserved g c = (
   added (λ (routines : List CompletionRoutine). and_routines routines no_tables) (λ (routine : CompletionRoutine) (tables : Tables). with_routine tables routine.rule)
       (routines_grow no_tables) c.as_slice-routines.result.now c.loop-routine.routine-index _ c.loop-routine-test.true
       c.loop-routine.store.tables c.add.new.self.tables c.loop-routine.invariant.0
-      (c.in-Ok.ensures.added.1 ∙ ap (with_routine c.loop-routine.store.tables) c.routine_told.ensures.rule),
+      (c.in-Ok-add.ensures.added.1 ∙ ap (with_routine c.loop-routine.store.tables) c.routine_told.ensures.rule),
   (λ before.
       routines_more c.loop-routine.store c.add.new.self c.routine_told.result c.as_slice-routines.result.now c.loop-routine.routine-index _ c.loop-routine-test.true
-      c.routine_told.ensures.rule c.routine_told.ensures.told c.in-Ok.ensures.shelves (c.loop-routine.invariant.1 before)),
+      c.routine_told.ensures.rule c.routine_told.ensures.told c.in-Ok-add.ensures.shelves (c.loop-routine.invariant.1 before)),
   (λ before. subst (λ given. AllZip CancelsAs given []) (sym c.add.ensures.others.0) (c.loop-routine.invariant.2 before)),
   (λ before. subst (λ given. AllZip PlansAs given []) (sym c.add.ensures.others.1) (c.loop-routine.invariant.3 before)),
 )

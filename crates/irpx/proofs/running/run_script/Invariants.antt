@@ -4,7 +4,7 @@ use Rattle.std.proofs.Common.{◌≡◌, List, [], take}
 use Rattle.irp_types.specs.declared.answer.CancelAnswer.{CancelAnswer}
 use Rattle.irp_routines.specs.Tables.{no_tables}
 use Rattle.irp_script_reader.specs.declared.script.CompletionRoutine.{CompletionRoutine}
-use Rattle.irp_workers.specs.Told.{CancelsAnswer, DispatchesPlan, RoutinesAnswer}
+use Rattle.irp_script.specs.Told.{CancelsAnswer, DispatchesPlan, RoutinesAnswer}
 use Rattle.irpx.specs.Running.{and_cancels, and_dispatches, and_routines}
 use Rattle.irpx.proofs.running.run_script.Given as goal
 

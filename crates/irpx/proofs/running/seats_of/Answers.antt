@@ -2,7 +2,7 @@
 use Rattle.std.proofs.Common.{◌≡◌, ◌+◌, ◌++◌, ◌∷◌, [], ap, ◌∙◌, arith}
 use Rattle.std.proofs.lemmas.List.Sums.{sum_by-append}
 use Rattle.std.specs.List.{count_by}
-use Rattle.irp_workers.proofs.Numbers.{count_push}
+use Rattle.irp_script.proofs.Numbers.{count_push}
 use Rattle.irpx.proofs.running.seats_of.Goals as goal
 
 pub loop-pair-preserved : goal.loop-pair-preserved

@@ -1,7 +1,7 @@
 use Rattle.std.proofs.Common.{◌≡◌, ◌+◌, Bool, vec_len}
 use Rattle.std.specs.List.{count_by}
 use Rattle.irp_manager.specs.Seats.{Seated}
-use Rattle.irp_workers.specs.Seats.{seats_of}
+use Rattle.irp_script.specs.Seats.{seats_of}
 use Rattle.irpx.proofs.running.seats_of.Given as goal
 
 -- the seats of those left and those taken are the seats of all

@@ -1,5 +1,5 @@
 -- The transcript that was closed, with the script's form and the word lines put in.
-use Rattle.std.proofs.Common.{rules, ◌≡◌, ◌<◌, ◌++◌, Bool, List, false, IfSome, map, sym, subst, ap, ◌∙◌}
+use Rattle.std.proofs.Common.{rules, ◌≡◌, ◌<◌, ◌++◌, List, None, Option, IfSome, map, sym, subst, ap, ◌∙◌}
 use Rattle.std.specs.List.{All, count_by}
 use Rattle.std.specs.Vec.{vec_len}
 use Rattle.std.proofs.lemmas.Result.{IfOk-weaker}
@@ -13,15 +13,16 @@ use Rattle.irp_shared.specs.Closing.{AllHere, Closes}
 use Rattle.irp_transcript.specs.Headers.{IsHeader, slots_of as slots_in}
 use Rattle.irp_shared.specs.Answered.{EachAnswered}
 use Rattle.irp_transcript.specs.Transcripts.{TranscriptValue}
-use Rattle.irp_workers.specs.Accounts.{calls_at, pair_at}
-use Rattle.irp_workers.specs.Made.{NoneTwice, once_made, seat_calls}
-use Rattle.irp_workers.specs.Numbers.{EachAsOften}
-use Rattle.irp_workers.specs.Outcomes.{Outcome, outcomes}
-use Rattle.irp_workers.specs.Ran.{AreOpened, Ran}
-use Rattle.irp_workers.specs.Seats.{pairs_of, seat_at_work, seats_at_work}
-use Rattle.irp_workers.specs.Told.{IsTold}
-use Rattle.irp_workers.specs.Working.{RunsScript}
-use Rattle.irp_workers.proofs.Ran.{all_opened, closed_ran}
+use Rattle.irp_script.specs.Accounts.{calls_at, pair_at}
+use Rattle.irp_script.specs.Made.{NoneTwice, once_made, seat_calls}
+use Rattle.irp_script.specs.Numbers.{EachAsOften}
+use Rattle.irp_script.specs.Outcomes.{Outcome, outcomes}
+use Rattle.irp_script.specs.Ran.{AreOpened, Ran}
+use Rattle.irp_script.specs.Seats.{pairs_of, seat_at_work, seats_at_work}
+use Rattle.irp_script.specs.Told.{IsTold}
+use Rattle.irp_script.specs.Working.{RunsScript}
+use Rattle.irp_script.specs.declared.stop.Stop.{Stop}
+use Rattle.irp_script.proofs.Ran.{all_opened, closed_ran}
 use Rattle.irpx.specs.Running.{IsRun, MakesCalls, ShowsEach, run_transcript}
 use Rattle.irpx.specs.declared.running.Finished.{Finished}
 use Rattle.irpx.proofs.Calls.{each_made}
@@ -37,29 +38,29 @@ told_each may other tells history each =
 
 pub returns-clause-run : goal.returns-clause-run
 returns-clause-run g c =
-    let accounts = c.in_ok-worked.ensures.accounts in
+    let accounts = c.in-Ok-run_workers.ensures.accounts in
     IfOk-weaker c.finish.result _ (λ (run : Finished). IsRun c.args.script.now (g.A.Ask.tables c.args.ask) run.transcript)
     (λ run ends.
     subst (IsRun c.args.script.now (g.A.Ask.tables c.args.ask)) (sym ends.4)
-    (closed_is_run c.args.script.now (g.A.Ask.tables c.args.ask) g.L.Session.fixed g.L.Session.seats ends.0 ends.2 c.in_ok-worked.worked.words.items
+    (closed_is_run c.args.script.now (g.A.Ask.tables c.args.ask) g.L.Session.fixed g.L.Session.seats ends.0 ends.2 c.in-Ok-run_workers.worked.words.items
     ends.3 c.requires.fixed c.requires.seats.1
     (subst (λ (this : TranscriptValue). IfSome this.header IsHeader) ends.4 ends.5.accepted)
     (told_each g.L.Session.may (IsTold c.args.script.now) c.requires.told ends.2.entries ends.7)
-    c.in_ok-worked.ensures.words accounts.tokenless accounts.told))
-    c.finish.ensures
+    c.in-Ok-run_workers.ensures.words accounts.tokenless accounts.told))
+    c.finish.ensures.ok
 
 pub returns-clause-shows : goal.returns-clause-shows
 returns-clause-shows g c =
-    let accounts = c.in_ok-worked.ensures.accounts in
+    let accounts = c.in-Ok-run_workers.ensures.accounts in
     let outs : List Outcome = outcomes accounts.tokenless_first c.args.script.now.setup ++ outcomes accounts.tokenless c.args.script.now.steps in
-    let pairs = c.in_ok-pairs.pairs.items in
-    let worked = c.in_ok-worked.worked.seats.items in
-    IfOk-weaker c.finish.result _ (λ (run : Finished). run.stopped ≡ false → ShowsEach c.args.script.now run.transcript)
+    let pairs = c.in-Ok-script_seats.pairs.items in
+    let worked = c.in-Ok-run_workers.worked.seats.items in
+    IfOk-weaker c.finish.result _ (λ (run : Finished). run.stop ≡ None → ShowsEach c.args.script.now run.transcript)
     (λ run ends still.
     let seats : List Seated = ends.0 in
     let closed : TranscriptValue = ends.2 in
     let closes : Closes g.L.Session.fixed g.L.Session.seats seats closed = ends.3 in
-    let going : c.in_ok-worked.worked.stopped ≡ false = sym ends.6 ∙ still in
+    let going : c.in-Ok-run_workers.worked.stop ≡ None = sym ends.6 ∙ still in
     let called : NoneTwice (pairs_of pairs) → EachAsOften (map (λ own. once_made outs (seat_calls own.seat own.remove)) pairs) (map (λ own. seat_calls own.seat own.remove) worked) =
     (λ once.
     subst (λ before. EachAsOften before (map (λ own. calls_at (seat_at_work own)) worked)) (map-map (λ own. once_made outs (calls_at own)) seat_at_work pairs)
@@ -69,7 +70,7 @@ returns-clause-shows g c =
     (λ number lt.
     each_made (λ own. own.seat) (λ own. own.remove) outs c.args.script.now.seats c.in-Ok.seats.items seats
     pairs worked closed.entries
-    c.in-Ok.ensures.seats (λ test. ap (count_by test) c.in_ok-pairs.ensures.seats) called ends.1
+    c.in-Ok.ensures.seats (λ test. ap (count_by test) c.in-Ok-script_seats.ensures.seats) called ends.1
     (subst (AllHere seats) c.requires.seats.1 closes.all_here) closes.own number lt) in
     subst (ShowsEach c.args.script.now) (sym ends.4) (record {
       tokenless_first = accounts.tokenless_first;
@@ -77,14 +78,14 @@ returns-clause-shows g c =
       told = accounts.all_told going;
       made = made;
     }))
-    c.finish.ensures
+    c.finish.ensures.ok
 
 pub returns-clause-ran : goal.returns-clause-ran
 returns-clause-ran g c =
     let script = c.args.script.now in
-    let pairs = c.in_ok-pairs.pairs.items in
-    let made = c.in_ok-pairs.ensures in
-    let worked = c.in_ok-worked.worked in
+    let pairs = c.in-Ok-script_seats.pairs.items in
+    let made = c.in-Ok-script_seats.ensures in
+    let worked = c.in-Ok-run_workers.worked in
     let many : vec_len c.in-Ok.seats ≡ script.seats = search rules in
     let some : 0 < vec_len c.in-Ok.seats = subst (λ count. 0 < count) (sym many) c.in-Ok-open.ensures.counts.2 in
     let opened : AreOpened script (seats_at_work pairs) =
@@ -94,13 +95,13 @@ returns-clause-ran g c =
     (c.slots.ensures ∙ ap slots_in c.form_of-form.ensures ∙ slots_same script.form)
     (λ k d lt. made.counted k d lt ∙ ap (λ key. key.slots) c.in-Ok-open-2.ensures.parties)
     c.in-Ok-open-2.ensures.owners (made.all_owners some) many made.owners made.taken in
-    let chains : RunsScript script.locks c.args.workers script.setup script.steps (seats_at_work pairs) (seats_at_work worked.seats.items) worked.words.items worked.stopped =
-    subst (λ locks. RunsScript locks c.args.workers script.setup script.steps (seats_at_work pairs) (seats_at_work worked.seats.items) worked.words.items worked.stopped)
-    (ap (λ (fixed : Fixed). fixed.locks) c.requires.fixed) c.in_ok-worked.ensures.ran in
-    IfOk-weaker c.finish.result _ (λ (run : Finished). Ran c.args.workers script run.transcript run.stopped)
+    let chains : RunsScript script.locks c.args.workers script.setup script.steps (seats_at_work pairs) (seats_at_work worked.seats.items) worked.words.items worked.stop =
+    subst (λ locks. RunsScript locks c.args.workers script.setup script.steps (seats_at_work pairs) (seats_at_work worked.seats.items) worked.words.items worked.stop)
+    (ap (λ (fixed : Fixed). fixed.locks) c.requires.fixed) c.in-Ok-run_workers.ensures.ran in
+    IfOk-weaker c.finish.result _ (λ (run : Finished). Ran c.args.workers script run.transcript run.stop)
     (λ run ends.
     let closed : TranscriptValue = run_transcript script.form worked.words.items ends.2 in
-    subst (λ (transcript : TranscriptValue). Ran c.args.workers script transcript run.stopped) (sym ends.4)
-    (subst (λ (stopped : Bool). Ran c.args.workers script closed stopped) (sym ends.6)
-    (closed_ran c.args.workers script pairs worked.seats.items ends.0 closed worked.stopped opened chains ends.1 ends.3.own)))
-    c.finish.ensures
+    subst (λ (transcript : TranscriptValue). Ran c.args.workers script transcript run.stop) (sym ends.4)
+    (subst (λ (stop : Option Stop). Ran c.args.workers script closed stop) (sym ends.6)
+    (closed_ran c.args.workers script pairs worked.seats.items ends.0 closed worked.stop opened chains ends.1 ends.3.own)))
+    c.finish.ensures.ok

@@ -1,7 +1,7 @@
 -- The drivers so far are added to the store, whose closures answer as before.
 use Rattle.std.proofs.Common.{◌≡◌, take}
 use Rattle.irp_script_reader.specs.declared.script.ScriptParts.{ScriptParts}
-use Rattle.irp_workers.specs.Told.{AnswersAll, IsTold}
+use Rattle.irp_script.specs.Told.{AnswersAll, IsTold}
 use Rattle.irpx.specs.Running.{and_drivers, fixed_for}
 use Rattle.irpx.proofs.running.with_dispatches.Given as goal
 

@@ -1,0 +1,173 @@
+-- Why steps aren't made.
+use Rattle.std.proofs.Common.{◌≡◌, ◌<◌, ◌≤◌, ℕ, zero, suc, OnOk, take, ◌++◌, true, false, get_or, arith, Option, Some, None, List, [], ◌∷◌, Contains, length, map, refl, sym, subst, ap, ◌∙◌, inr}
+use mathlib.Core.Bool.{true≢false}
+use Rattle.std.specs.Prelude.{IfNone, MatchResult, Ok, Err, Result, slice_get, is_some}
+use Rattle.std.specs.Option.{option_or, unwrap_or}
+use Rattle.std.proofs.lemmas.List.{take_all}
+use Rattle.std.proofs.lemmas.Option.{get_or_from_slice_get, none-some, same_Some, slice_get-get_or, slice_get_within}
+use Rattle.std.proofs.lemmas.Simd.{map-map}
+use Rattle.irp_manager.specs.declared.not_recorded.NotRecorded.{NotRecorded}
+use Rattle.irp_manager.specs.declared.not_recorded.NotRecorded.TheVariants as not_recorded
+use Rattle.irp_types.specs.declared.seat_act.Hand.{Hand}
+use Rattle.irp_script_reader.specs.declared.act.Step.{Step}
+use Rattle.irp_script.specs.Outcomes.{own_placed}
+use Rattle.irp_script.specs.StepKinds.{kind_of}
+use Rattle.irp_script.specs.Stops.{IsAlone, IsUnmade, IsUnrecorded, unrecorded}
+use Rattle.irp_script.specs.Working.{AloneStops, AtWork, HandStops, HasSeat, IsStopAt, MakesBy, MakesEach, MakesHand, MakesOwn, StopsAt, StopsBy, Working, first_stop}
+use Rattle.irp_script.specs.declared.step_kind.StepKind.{StepKind}
+use Rattle.irp_script.specs.declared.step_kind.StepKind.TheVariants.{Calls, OnLock, Hands, OnSlot, Finishes}
+use Rattle.irp_script.specs.declared.stop.Stop.{Stop}
+use Rattle.irp_script.specs.declared.stop.StopReason.{StopReason}
+
+-- ---- of a seat
+
+-- a call that isn't recorded, of a seat that has seen so many entries
+pub unrecorded_so : (error : NotRecorded) (seen : ℕ) → ((told : ℕ) → error ≡ not_recorded.Behind told → told < seen) → IsUnrecorded seen (unrecorded error)
+unrecorded_so not_recorded.Memory seen behind = tt
+unrecorded_so (not_recorded.Behind told) seen behind = behind told refl
+unrecorded_so not_recorded.HistoryFull seen behind = tt
+
+-- ---- of a worker
+
+numbers_in : {S : Type 0} (f : S → AtWork) (seats : List S) → map (λ (own : AtWork). own.seat.number) (map f seats) ≡ map (λ s. (f s).seat.number) seats
+numbers_in f seats = map-map (λ (own : AtWork). own.seat.number) f seats
+
+-- no seat, or one, has the number
+pub no_seat : {S : Type 0} (f : S → AtWork) (seats : List S) (number : ℕ) → ¬ Contains (map (λ s. (f s).seat.number) seats) number → ¬ HasSeat (map f seats) number
+no_seat f seats number none there = none (subst (λ all. Contains all number) (numbers_in f seats) there)
+
+contained : (xs : List ℕ) (k x : ℕ) → slice_get xs k ≡ Some x → Contains xs x
+contained xs k x is = (k, slice_get_within xs k x is, get_or_from_slice_get xs k x x is)
+
+pub has_seat : {S : Type 0} (f : S → AtWork) (seats : List S) (at number : ℕ) → slice_get (map (λ s. (f s).seat.number) seats) at ≡ Some number → HasSeat (map f seats) number
+has_seat f seats at number is = subst (λ all. Contains all number) (sym (numbers_in f seats)) (contained (map (λ s. (f s).seat.number) seats) at number is)
+
+pub none_of_them : {A P : Type 0} (found : Option A) → found ≡ None → IfNone found P → P
+none_of_them None is none = none
+none_of_them (Some one) is none = absurd (none-some one (sym is))
+
+-- what stands at one place is one number
+pub one_number : (xs : List ℕ) (a b m n : ℕ) → slice_get xs a ≡ Some m → slice_get xs b ≡ Some n → a ≡ b → n ≡ m
+one_number xs a b m n here there same = ap (λ found. unwrap_or found n) (sym there ∙ ap (slice_get xs) (sym same) ∙ here)
+
+-- a step that isn't a hand is one that stops as such
+pub by_alone : (step : Step) (kind : StepKind) (seats : List AtWork) (reason : StopReason) → ((hand : _) → kind ≡ Hands hand → ⊥) → AloneStops kind step seats reason → StopsBy kind step seats reason
+by_alone step (Hands hand) seats reason other stops = absurd (other hand refl)
+by_alone step Calls seats reason other stops = stops
+by_alone step (OnLock on) seats reason other stops = stops
+by_alone step (OnSlot on) seats reason other stops = stops
+by_alone step (Finishes slot status information) seats reason other stops = stops
+
+-- a step that isn't a hand is made by one seat alone
+pub alone_so : (kind : StepKind) → ((hand : _) → kind ≡ Hands hand → ⊥) → IsAlone kind
+alone_so (Hands hand) other = other hand refl
+alone_so Calls other = tt
+alone_so (OnLock on) other = tt
+alone_so (OnSlot on) other = tt
+alone_so (Finishes slot status information) other = tt
+
+-- what becomes of a hand becomes of a step that is one
+pub by_hand : {T : Type 0} (result : Result T StopReason) (count place : ℕ) (step : Step) (kind : StepKind) (hand : Hand) (before after : Working) (seats : List AtWork) → kind ≡ Hands hand
+    → MatchResult result (λ _. MakesHand count place step hand before after) (λ why. (after ≡ before) × HandStops step hand seats why)
+    → MatchResult result (λ _. MakesBy count place step kind before after) (λ why. (after ≡ before) × StopsBy kind step seats why)
+by_hand result count place step kind hand before after seats is made =
+    subst (λ k. MatchResult result (λ _. MakesBy count place step k before after) (λ why. (after ≡ before) × StopsBy k step seats why)) (sym is) made
+
+pub by_unmade : (step : Step) (kind : StepKind) (seats : List AtWork) (reason : StopReason) (at : ℕ) (own : AtWork) → slice_get seats at ≡ Some own → own.seat.number ≡ step.seat
+    → IsUnmade kind own.seat.seen own.parties reason → StopsBy kind step seats reason
+by_unmade step (Hands hand) seats reason at own there named unmade = absurd unmade
+by_unmade step Calls seats reason at own there named unmade = inr (at, own, there, named, unmade)
+by_unmade step (OnLock on) seats reason at own there named unmade = inr (at, own, there, named, unmade)
+by_unmade step (OnSlot on) seats reason at own there named unmade = inr (at, own, there, named, unmade)
+by_unmade step (Finishes slot status information) seats reason at own there named unmade = inr (at, own, there, named, unmade)
+
+-- a step at a place
+pub at_place : {T : Type 0} (P A : Type 0) (result : Result T StopReason) (place : ℕ) (step : Step) (seats : List AtWork)
+    → MatchResult result (λ _. P) (λ why. A × StopsBy (kind_of step.act) step seats why)
+    → MatchResult result (λ _. P) (λ why. A × StopsAt place step seats why)
+at_place P A (Ok done) place step seats made = made
+at_place P A (Err why) place step seats made = (made.0, inr made.1)
+
+-- what is so of an answer that is no fault
+pub when_ok : {T E : Type 0} (P : Type 0) (result : Result T E) → ((fault : E) → result ≡ Err fault → ⊥) → OnOk result P → P
+when_ok P (Ok done) other holds = holds
+when_ok P (Err fault) other holds = absurd (other fault refl)
+
+-- it stopped in front of a step
+pub stops_own : (count number workers : ℕ) (steps : List Step) (i : ℕ) (d : Step) (before old new : Working) (n w : ℕ) (stop : Stop) (given : Option Stop) → i < length steps
+    → MakesEach count (own_placed number workers (take i steps)) before old → n ≡ number → w ≡ workers → new ≡ old
+    → IsStopAt n w i (get_or steps i d) old.seats stop → given ≡ Some stop → MakesOwn count number workers steps before new given
+stops_own count number workers steps i d before old new n w stop given lt made same_number same_workers stays here is = record {
+  reached = i;
+  within = omega (arith, lt);
+  each = subst (MakesEach count (own_placed number workers (take i steps)) before) (sym stays) made;
+  all = λ none. absurd (none-some stop (sym none ∙ is));
+  next = λ told is_told. (
+    get_or steps i d,
+    slice_get-get_or steps i d lt,
+    subst (IsStopAt number workers i (get_or steps i d) new.seats) (same_Some stop told (sym is ∙ is_told))
+        (subst (λ (work : Working). IsStopAt number workers i (get_or steps i d) work.seats stop) (sym stays)
+        (subst (λ k. IsStopAt number k i (get_or steps i d) old.seats stop) same_workers
+        (subst (λ k. IsStopAt k w i (get_or steps i d) old.seats stop) same_number here))),
+  );
+}
+
+-- it made all of its own
+pub all_own : (count number workers : ℕ) (steps : List Step) (i : ℕ) (before new : Working) (given : Option Stop) → length steps ≤ i
+    → MakesEach count (own_placed number workers (take i steps)) before new → given ≡ None → MakesOwn count number workers steps before new given
+all_own count number workers steps i before new given over made is = record {
+  reached = length steps;
+  within = omega arith;
+  each = subst (λ some. MakesEach count (own_placed number workers some) before new) (take_all i steps over ∙ sym (take_all (length steps) steps (omega arith))) made;
+  all = λ none. refl;
+  next = λ told is_told. absurd (none-some told (sym is ∙ is_told));
+}
+
+-- ---- of all workers
+
+or_none : (stop : Option Stop) → option_or stop None ≡ stop
+or_none None = refl
+or_none (Some stop) = refl
+
+or_apart : (a b c : Option Stop) → option_or (option_or a b) c ≡ option_or a (option_or b c)
+or_apart None b c = refl
+or_apart (Some a) b c = refl
+
+pub none_yet : {W : Type 0} (told_by : W → Option Stop) (ws : List W) → option_or (first_stop told_by ws) None ≡ first_stop told_by ws
+none_yet told_by ws = or_none (first_stop told_by ws)
+
+-- the first stop of those in front, or else of one behind them
+pub first_last : {W : Type 0} (told_by : W → Option Stop) (front : List W) (last : W) (so_far : Option Stop)
+    → option_or (first_stop told_by (front ++ last ∷ [])) so_far ≡ option_or (first_stop told_by front) (option_or (told_by last) so_far)
+first_last told_by [] last so_far = ap (λ one. option_or one so_far) (or_none (told_by last))
+first_last told_by (w ∷ ws) last so_far =
+    or_apart (told_by w) (first_stop told_by (ws ++ last ∷ [])) so_far
+    ∙ ap (option_or (told_by w)) (first_last told_by ws last so_far)
+    ∙ sym (or_apart (told_by w) (first_stop told_by ws) (option_or (told_by last) so_far))
+
+pub first_map : {W P : Type 0} (told_by : P → Option Stop) (h : W → P) (ws : List W) → first_stop told_by (map h ws) ≡ first_stop (λ w. told_by (h w)) ws
+first_map told_by h [] = refl
+first_map told_by h (w ∷ ws) = ap (option_or (told_by (h w))) (first_map told_by h ws)
+
+-- whether there is a stop
+pub not_some : (stop : Option Stop) → is_some stop ≡ false → stop ≡ None
+not_some None is = refl
+not_some (Some told) is = absurd (true≢false is)
+
+pub some_stop : (stop : Option Stop) → is_some stop ≡ true → (told : Stop) × (stop ≡ Some told)
+some_stop None is = absurd (true≢false (sym is))
+some_stop (Some told) is = (told, refl)
+
+left_none : (a b : Option Stop) → option_or a b ≡ None → a ≡ None
+left_none None b none = refl
+left_none (Some stop) b none = absurd (none-some stop (sym none))
+
+right_none : (a b : Option Stop) → option_or a b ≡ None → b ≡ None
+right_none None b none = none
+right_none (Some stop) b none = absurd (none-some stop (sym none))
+
+-- where none stopped, each didn't
+pub none_stopped : {W : Type 0} (told_by : W → Option Stop) (ws : List W) → first_stop told_by ws ≡ None → (k : ℕ) (d : W) → k < length ws → told_by (get_or ws k d) ≡ None
+none_stopped told_by [] none k d lt = absurd (omega arith)
+none_stopped told_by (w ∷ ws) none zero d lt = left_none (told_by w) (first_stop told_by ws) none
+none_stopped told_by (w ∷ ws) none (suc k) d lt = none_stopped told_by ws (right_none (told_by w) (first_stop told_by ws) none) k d (omega arith)

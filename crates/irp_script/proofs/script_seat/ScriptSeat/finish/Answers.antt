@@ -1,0 +1,21 @@
+use Rattle.std.proofs.Common.{refl, ap, sym, subst, Some, Err, inl}
+use Rattle.irp_script.specs.Stops.{IsUnrecorded}
+use Rattle.irp_script.proofs.Stopping.{unrecorded_so}
+use Rattle.irp_script.proofs.Working.{finish_made, finish_stays}
+use Rattle.irp_script.proofs.script_seat.ScriptSeat.finish.Goals as goal
+
+pub returns-in-Ok : goal.returns-in-Ok
+returns-in-Ok g c =
+    inl (finish_made c.args.step c.args.slot c.args.status c.args.information c.args.self.now.seat _ c.args.self.now.remove _ c.args.self.now.parties c.take.new.self _ _ _
+    c.in-Some.at c.in-Some.token c.packet_of-irp.result _ _ c.in-Some.ensures.found c.packet_of-irp.ensures c.in-Ok.ensures.called c.in-Ok.ensures.spent refl c.in-Some.ensures.rest c.put_back.ensures refl)
+
+pub returns-in-Err : goal.returns-in-Err
+returns-in-Err g c = (
+  (
+    finish_stays c.args.slot c.args.self.now.seat _ c.args.self.now.remove _ c.args.self.now.parties c.take.new.self _ c.in-Some.at c.in-Some.token _
+        c.in-Some.ensures.found c.in-Err.ensures.err.0 (ap Some c.in-Err.ensures.err.1) refl c.in-Some.ensures.rest c.put_back-in-Err.ensures,
+    refl,
+  ),
+  subst (IsUnrecorded c.args.self.now.seat.seen) (sym c.from.ensures)
+      (unrecorded_so c.in-Err.error c.args.self.now.seat.seen (λ told is. c.in-Err.ensures.behind told c.in-Err.token (ap (λ error. Err (error, c.in-Err.token)) is))),
+)

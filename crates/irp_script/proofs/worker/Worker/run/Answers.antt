@@ -1,0 +1,16 @@
+use Rattle.std.proofs.Common.{refl, ◌∙◌, rules}
+use Rattle.irp_script.proofs.Stopping.{when_ok}
+use Rattle.irp_script.proofs.Working.{makes_more}
+use Rattle.irp_script.proofs.worker.Worker.run.Goals as goal
+
+pub loop-index-init : goal.loop-index-init
+loop-index-init g c = record { number = refl; workers = refl; stop = refl; locks = refl; made = refl }
+
+pub loop-index-preserved : goal.loop-index-preserved
+loop-index-preserved g c = record {
+  number = c.turn.ensures.same.0 ∙ c.loop-index.invariant.number;
+  workers = c.turn.ensures.same.1 ∙ c.loop-index.invariant.workers;
+  stop = c.turn.ensures.same.2 ∙ c.loop-index.invariant.stop;
+  locks = c.turn.ensures.same.3 ∙ c.loop-index.invariant.locks;
+  made = makes_more _ _ _ c.args.steps.now c.loop-index.index _ _ _ _ _ _ (search rules) c.loop-index.invariant.made c.loop-index.invariant.number c.loop-index.invariant.workers (when_ok _ c.turn.result c.in_default.not-Err c.turn.ensures.turned);
+}

@@ -1,0 +1,30 @@
+-- The calls of the manager that steps make.
+use Rattle.std.specs.Prelude.{◌≡◌, Bool, Some}
+use Rattle.irp_types.specs.declared.names.IrpRef.{IrpRef}
+use Rattle.irp_types.specs.declared.names.LockNo.{LockNo}
+use Rattle.irp_types.specs.Calls.{Call}
+use Rattle.irp_manager.specs.Booked.{Receipted}
+use Rattle.irp_manager.specs.Seats.{Seated}
+use Rattle.irp_remove.specs.Core.{flag}
+use Rattle.irp_remove.specs.Seats.{Holder}
+use Rattle.irp_script_reader.specs.declared.act.StepAct.{StepAct}
+use Rattle.irp_shared.specs.Sharing.{Called}
+use Rattle.irp_script.specs.StepKinds.{IsNamed, call_of}
+
+-- which locks a remove seat found drained
+abbrev pub found_drained : Holder → LockNo → Bool
+found_drained remove lock = flag remove.watch.drained lock.0
+
+-- a call is the one that an act makes, of some packet, which is the one that the act names where it names it by a
+-- reference
+pub record Makes (act : StepAct) (call : Call) : Type 0 where
+  pub irp : IrpRef
+  pub referred : IsNamed act irp
+  pub made : call_of act irp ≡ Some call
+
+-- a seat made the call of an act, that one alone, with what a remove seat knows, and keeps its entry
+pub record CallsFor (act : StepAct) (remove : Holder) (before after : Seated) : Type 0 where
+  pub call : Call
+  pub receipt : Receipted
+  pub of_act : Makes act call
+  pub recorded : Called before call (found_drained remove) receipt after

@@ -1,0 +1,49 @@
+-- What clauses read of workers.
+use Rattle.std.specs.Prelude.{ℕ, ◌≡◌, ◌%◌, All, Bool, List, [], None, sum_by}
+use Rattle.std.specs.List.{count_by}
+use Rattle.irp_remove.specs.declared.table.Locks.{Locks}
+use Rattle.irp_transcript.specs.declared.word_line.WordLine.{WordLine}
+use Rattle.irp_script_reader.specs.declared.act.Step.{Step}
+use Rattle.irp_script.specs.declared.script_seat.ScriptSeat.{ScriptSeat}
+use Rattle.irp_script.specs.declared.worker.Worker.{Worker}
+use Rattle.irp_script.specs.Seats.{number_of, seats_at_work}
+use Rattle.irp_script.specs.Working.{MakesOwn, Working, working}
+
+-- its seats as they are at work, and its word lines
+abbrev pub work_of : {L : _} {session : _} → Worker L session → Working
+work_of worker = working (seats_at_work worker.seats.items) worker.words.items
+
+-- it has the same number among as many workers, at the same locks, and goes on as it did
+abbrev pub IsSameWorker : {L : _} {session : _}
+    → Worker L session → Worker L session → Type 0
+IsSameWorker before after =
+    (after.number ≡ before.number) × (after.workers ≡ before.workers)
+    × (after.stop ≡ before.stop) × (after.locks.now ≡ before.locks.now)
+
+-- it has this number among so many workers, has run nothing, and has no seat, at these locks
+abbrev pub IsIdle : {L : _} {session : _}
+    → ℕ → Locks → ℕ → Worker L session → Type 0
+IsIdle workers locks number worker =
+    (worker.number ≡ number) × (worker.workers ≡ workers) × (worker.words.items ≡ [])
+    × (worker.stop ≡ None) × (worker.seats.items ≡ []) × (worker.locks.now ≡ locks)
+
+-- it has this number among so many workers, has run nothing, and has seats of its own alone
+abbrev pub IsReady : {L : _} {session : _} → ℕ → ℕ → Worker L session → Type 0
+IsReady workers number worker =
+    (worker.number ≡ number) × (worker.workers ≡ workers) × (worker.words.items ≡ [])
+    × (worker.stop ≡ None) × All (λ own. number_of own % workers ≡ number) worker.seats.items
+
+-- with so many locks it ran its own among the steps, up to the first that wasn't made
+abbrev pub RunsOwn : {L : _} {session : _}
+    → ℕ → List Step → Worker L session → Worker L session → Type 0
+RunsOwn count steps before after =
+    MakesOwn count before.number before.workers steps (work_of before) (work_of after) after.stop
+
+-- how many of the workers' seats pass a test, and how many of their word lines
+abbrev pub count_seats : {L : _} {session : _}
+    → (ScriptSeat L session → Bool) → List (Worker L session) → ℕ
+count_seats test workers = sum_by (λ worker. count_by test worker.seats.items) workers
+
+abbrev pub count_lines : {L : _} {session : _}
+    → (WordLine → Bool) → List (Worker L session) → ℕ
+count_lines test workers = sum_by (λ worker. count_by test worker.words.items) workers

@@ -1,0 +1,55 @@
+//! Workers.
+
+ghost use Rattle.std.specs.Prelude.{◌≡◌, ◌<◌, [], All, None};
+ghost use Rattle.irp_script.specs.Seats.{IsAtLocks};
+
+use crate::script_seat::ScriptSeat;
+use crate::stop::Stop;
+use irp_remove::Locks;
+use irp_shared::{Session, WordLine};
+use std::alloc::Global;
+
+/// One of so many workers: it has the seats whose numbers leave its own number when divided by how many workers there
+/// are, and runs their steps. Their remove seats were opened with its locks. It stops in front of a step that isn't
+/// made, and says why.
+#[derive(Drop)]
+pub struct Worker<'a, L: Session> {
+    pub(crate) number: u32,
+    pub(crate) workers: u32,
+    pub(crate) locks: &'a Locks,
+    pub seats: Vec<ScriptSeat<'a, L>>,
+    pub words: Vec<WordLine>,
+    pub stop: Option<Stop>,
+    ghost some: { 0 < workers },
+    ghost fits: { All (IsAtLocks locks.now) seats.items },
+}
+
+impl<'a, L: Session> Worker<'a, L> {
+    /// A worker of this number that has these seats, whose remove seats were opened with these locks, and has run
+    /// nothing.
+    pub fn new(
+        alloc: Global,
+        number: u32,
+        workers: u32,
+        locks: &'a Locks,
+        seats: Vec<ScriptSeat<'a, L>>,
+    ) -> Worker<'a, L>
+        requires some { 0 < workers }
+        requires fits { All (IsAtLocks locks.now) seats.items }
+        ensures seats { result.seats ≡ seats.entry }
+        ensures number { result.number ≡ number }
+        ensures workers { result.workers ≡ workers }
+        ensures locks { result.locks.now ≡ locks.now }
+        ensures words { result.words.items ≡ [] }
+        ensures stop { result.stop ≡ None }
+    {
+        Worker {
+            number,
+            workers,
+            locks,
+            seats,
+            words: Vec::new(alloc),
+            stop: None,
+        }
+    }
+}

@@ -1,7 +1,0 @@
-use Rattle.std.proofs.Common.{rules}
-use Rattle.irp_workers.specs.Seats.{number_of}
-use Rattle.irp_workers.proofs.Places.{none_there}
-use Rattle.irp_workers.proofs.worker.Worker.place_of.Goals as goal
-
-pub returns-clause-none : goal.returns-clause-none
-returns-clause-none g c = none_there number_of c.args.self.now.seats.items c.args.number (λ k one less. c.loop-place.invariant k one (search rules))

@@ -1,6 +1,0 @@
-use Rattle.std.proofs.Common.{rules}
-use Rattle.irp_workers.proofs.Working.{turn_skips}
-use Rattle.irp_workers.proofs.worker.Worker.turn.Goals as goal
-
-pub returns-then-not-has-clause-turned : goal.returns-then-not-has-clause-turned
-returns-then-not-has-clause-turned g c = λ is. turn_skips _ _ _ _ _ _ (search rules)
