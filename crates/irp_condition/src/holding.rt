@@ -1,6 +1,6 @@
 //! Whether a condition holds.
 
-ghost use Rattle.std.specs.Prelude.{◌≡◌, ◌↔◌, IsTrue, Some, true, slice_get};
+ghost use Rattle.std.specs.Prelude.{◌≡◌, ◌↔◌, IsTrue, slice_get};
 ghost use Rattle.irp_condition.specs.Holding.{
   Compares,
   Holds,

@@ -1,4 +1,4 @@
-use Rattle.std.proofs.Common.{ℕ, ◌+◌, ◌*◌, length}
+use Rattle.std.proofs.Common.{◌+◌, ◌*◌, length}
 use Rattle.irp_condition.specs.Naming.{IsConditionOf}
 use Rattle.irp_condition.proofs.parsing.+conditions.Given as goal
 
