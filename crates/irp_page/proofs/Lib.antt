@@ -1,1 +1,3 @@
+pub mod Building
 pub mod Placing
+pub mod Plain

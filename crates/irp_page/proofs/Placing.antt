@@ -1,9 +1,13 @@
 -- The places of chosen entries.
-use Rattle.std.proofs.Common.{◌≡◌, ◌+◌, ◌≤◌, ◌<◌, ℕ, List, [], ◌∷◌, ◌++◌, take, length, refl, sym, ap, subst, ◌∙◌, arith, ◌⊎◌, inl, inr}
+use Rattle.std.proofs.Common.{◌≡◌, ◌+◌, ◌≤◌, ◌<◌, ℕ, zero, suc, List, [], ◌∷◌, ◌++◌, take, length, refl, sym, ap, subst, ◌∙◌, arith, ◌⊎◌, inl, inr}
 use Rattle.std.proofs.lemmas.Grind.{common_steps}
+use Rattle.std.proofs.lemmas.List.{length-map}
 use Rattle.irp_types.specs.declared.entry.Entry.{Entry}
 use Rattle.irp_page.specs.declared.choosing.Choice.{Choice}
-use Rattle.irp_page.specs.Choosing.{AddsPlace, ArePlaces, IsDrawn}
+use Rattle.irp_page.specs.Choosing.{ArePlaces, IsDrawn, most_entries}
+use Rattle.irp_page.specs.Drafting.{HasDrafted, places_in}
+use Rattle.irp_page.specs.declared.draft.Draft.{Draft}
+use Rattle.irp_page.specs.declared.draft.Picked.{Picked}
 
 -- one more entry, which is chosen
 one_chosen : (choice : Choice) (place : ℕ) (entries : List Entry) (entry : Entry) (places : List ℕ) (at : ℕ) → at ≡ place + length entries → ArePlaces choice place entries places → IsDrawn choice at entry → ArePlaces choice place (entries ++ entry ∷ []) (places ++ at ∷ [])
@@ -29,15 +33,37 @@ one_passed choice place (first ∷ entries) entry places at stands (inr is) pass
     let further : at ≡ (place + 1) + length entries = omega arith in
     inr (is.0, one_passed choice (place + 1) entries entry places at further is.1 passed)
 
--- one more entry
-pub next_place : (choice : Choice) (entries : List Entry) (entry : Entry) (before after : List ℕ) (at : ℕ) → at ≡ length entries → ArePlaces choice 0 entries before → AddsPlace choice at entry before after → ArePlaces choice 0 (entries ++ entry ∷ []) after
-next_place choice entries entry before after at stands are (inl is) =
-    let same : at ≡ 0 + length entries = omega arith in
-    subst (λ given. ArePlaces choice 0 (entries ++ entry ∷ []) given) (sym is.1) (one_chosen choice 0 entries entry before at same are is.0)
-next_place choice entries entry before after at stands are (inr is) =
-    let same : at ≡ 0 + length entries = omega arith in
-    subst (λ given. ArePlaces choice 0 (entries ++ entry ∷ []) given) (sym is.1) (one_passed choice 0 entries entry before at same are is.0)
+-- the first of what was kept and one more
+pub taken_twice : (count : ℕ) (places more : List ℕ) → take count (take count places ++ more) ≡ take count (places ++ more)
+taken_twice zero places more = refl
+taken_twice (suc count) [] more = refl
+taken_twice (suc count) (place ∷ places) more = ap (λ given. place ∷ given) (taken_twice count places more)
 
--- as many are taken as there are, at most
-pub taken : (count : ℕ) (entries : List Entry) → count ≤ length entries → count ≡ length (take count entries)
-taken count entries few = grind (arith, common_steps)
+-- no more are kept than that
+pub few_kept : (count : ℕ) (cards : List Picked) (chosen : List ℕ) → places_in cards ≡ take count chosen → length cards ≤ count
+few_kept count cards chosen kept =
+    let size : length (places_in cards) ≡ length cards = length-map cards (λ picked. picked.place) in
+    let short : length (take count chosen) ≤ count = grind (arith, common_steps) in
+    omega (arith, size, short, ap length kept)
+
+-- the draft has one entry more
+pub drafts_chosen : (before after : Draft) (entries : List Entry) (entry : Entry) → HasDrafted before entries → after.choice ≡ before.choice → after.entries ≡ length (entries ++ entry ∷ [])
+    → IsDrawn before.choice before.entries entry → places_in after.cards.items ≡ take most_entries (places_in before.cards.items ++ before.entries ∷ [])
+    → HasDrafted after (entries ++ entry ∷ [])
+drafts_chosen before after entries entry was choice counted drawn kept = record {
+  chosen = was.chosen ++ before.entries ∷ [];
+  are_chosen = subst (λ (given : Choice). ArePlaces given 0 (entries ++ entry ∷ []) (was.chosen ++ before.entries ∷ [])) (sym choice)
+      (one_chosen before.choice 0 entries entry was.chosen before.entries (omega (arith, was.counted)) was.are_chosen drawn);
+  kept = kept ∙ ap (λ (given : List ℕ). take most_entries (given ++ before.entries ∷ [])) was.kept ∙ taken_twice most_entries was.chosen (before.entries ∷ []);
+  counted = counted;
+}
+
+pub drafts_passed : (before after : Draft) (entries : List Entry) (entry : Entry) → HasDrafted before entries → after.choice ≡ before.choice → after.entries ≡ length (entries ++ entry ∷ [])
+    → (IsDrawn before.choice before.entries entry → ⊥) → places_in after.cards.items ≡ places_in before.cards.items → HasDrafted after (entries ++ entry ∷ [])
+drafts_passed before after entries entry was choice counted passed kept = record {
+  chosen = was.chosen;
+  are_chosen = subst (λ (given : Choice). ArePlaces given 0 (entries ++ entry ∷ []) was.chosen) (sym choice)
+      (one_passed before.choice 0 entries entry was.chosen before.entries (omega (arith, was.counted)) was.are_chosen passed);
+  kept = kept ∙ was.kept;
+  counted = counted;
+}

@@ -2,7 +2,7 @@
 use Rattle.std.specs.Prelude.{ℕ, ◌≡◌, ◌⊎◌, ◌+◌, ◌<◌, ◌≤◌, List, [], ◌∷◌, ◌++◌, take}
 use Rattle.irp_types.specs.declared.entry.Entry.{Entry}
 use Rattle.irp_listing.specs.Choosing.{IsChosen}
-use Rattle.irp_markup.specs.Pages.{IsPage}
+use Rattle.irp_page.specs.Pages.{IsPage}
 use Rattle.irp_page.specs.declared.choosing.Choice.{Choice}
 
 -- the entry at this place is chosen: the place is in the range, and the entry names the packet's use, where one is given
@@ -15,12 +15,6 @@ ArePlaces choice place [] places = places ≡ []
 ArePlaces choice place (entry ∷ entries) places =
     (IsDrawn choice place entry × ((rest : List ℕ) × ArePlaces choice (place + 1) entries rest × (places ≡ place ∷ rest)))
     ⊎ ((IsDrawn choice place entry → ⊥) × ArePlaces choice (place + 1) entries places)
-
--- the place of this entry is noted where it is chosen
-abbrev pub AddsPlace : Choice → ℕ → Entry → List ℕ → List ℕ → Type 0
-AddsPlace choice place entry before after =
-    (IsDrawn choice place entry × (after ≡ before ++ place ∷ []))
-    ⊎ ((IsDrawn choice place entry → ⊥) × (after ≡ before))
 
 -- as many entries as a page shows at most
 unfoldable pub most_entries : ℕ

@@ -1,8 +1,9 @@
 //! The boxes of a picture.
 
+use crate::attribute::{Attribute, count, pair, part, word};
+use crate::markup::Markup;
 use crate::places::{TALL, WIDE};
-use irp_markup::{Attribute, Markup, Tag, count, pair, part, word};
-use std::alloc::AllocError;
+use crate::tag::Tag;
 
 /// Whose picture it is: the entry at a place, or what the manager makes there.
 #[derive(Clone, Copy)]
@@ -44,15 +45,14 @@ pub struct Frame {
     pub link: Attribute,
 }
 
-/// Draws a line of words, squeezed into its room where it has more bytes than surely fit. The one error is want of
-/// memory.
+/// Draws a line of words, squeezed into its room where it has more bytes than surely fit.
 pub fn line(
     markup: &mut Markup,
     class: &'static str,
     (x, y): (u64, u64),
     (room, fits): (u64, usize),
     words: String,
-) -> Result<(), AllocError> {
+) {
     let plain = [word("class", class), count("x", x), count("y", y)];
     if words.as_str().len() > fits {
         markup.open(
@@ -64,16 +64,16 @@ pub fn line(
                 count("textLength", room),
                 word("lengthAdjust", "spacingAndGlyphs"),
             ],
-        )?;
+        );
     } else {
-        markup.open(Tag::Text, &plain)?;
+        markup.open(Tag::Text, &plain);
     }
-    markup.words(words)?;
-    markup.close()
+    markup.words(words);
+    markup.close();
 }
 
-/// Draws the number of a step. The one error is want of memory.
-fn number(markup: &mut Markup, frame: Frame) -> Result<(), AllocError> {
+/// Draws the number of a step.
+fn number(markup: &mut Markup, frame: Frame) {
     let (x, y) = (u64::from(frame.x) + 12, u64::from(frame.y));
     markup.whole(
         Tag::Circle,
@@ -83,7 +83,7 @@ fn number(markup: &mut Markup, frame: Frame) -> Result<(), AllocError> {
             count("cy", y + 13),
             count("r", 8),
         ],
-    )?;
+    );
     markup.open(
         Tag::Text,
         &[
@@ -92,34 +92,28 @@ fn number(markup: &mut Markup, frame: Frame) -> Result<(), AllocError> {
             count("y", y + 17),
             word("text-anchor", "middle"),
         ],
-    )?;
-    markup.show(frame.number)?;
-    markup.close()
+    );
+    markup.show(frame.number);
+    markup.close();
 }
 
-/// Draws the first line of a box, and its number. The one error is want of memory.
-fn first_line(markup: &mut Markup, frame: Frame, words: String) -> Result<(), AllocError> {
+/// Draws the first line of a box, and its number.
+fn first_line(markup: &mut Markup, frame: Frame, words: String) {
     let (x, y) = (u64::from(frame.x), u64::from(frame.y) + 17);
     if frame.number == 0 {
         return line(markup, "name", (x + 9, y), (133, 15), words);
     }
-    line(markup, "name", (x + 24, y), (118, 14), words)?;
-    number(markup, frame)
+    line(markup, "name", (x + 24, y), (118, 14), words);
+    number(markup, frame);
 }
 
 /// Draws a box with two lines, which links to its step. The title is told where a pointer rests on it, and to who hears
-/// the page. The one error is want of memory.
-pub fn draw_box(
-    markup: &mut Markup,
-    frame: Frame,
-    title: String,
-    first: String,
-    second: String,
-) -> Result<(), AllocError> {
-    markup.open(Tag::A, &[frame.link, word("class", frame.class)])?;
-    markup.open(Tag::Title, &[])?;
-    markup.words(title)?;
-    markup.close()?;
+/// the page.
+pub fn draw_box(markup: &mut Markup, frame: Frame, title: String, first: String, second: String) {
+    markup.open(Tag::A, &[frame.link, word("class", frame.class)]);
+    markup.open(Tag::Title, &[]);
+    markup.words(title);
+    markup.close();
     markup.whole(
         Tag::Rect,
         &[
@@ -130,12 +124,12 @@ pub fn draw_box(
             count("height", u64::from(TALL)),
             count("rx", 7),
         ],
-    )?;
-    first_line(markup, frame, first)?;
+    );
+    first_line(markup, frame, first);
     if !second.as_str().is_empty() {
         let class = if frame.error { "small err" } else { "small" };
         let at = (u64::from(frame.x) + 9, u64::from(frame.y) + 32);
-        line(markup, class, at, (133, 19), second)?;
+        line(markup, class, at, (133, 19), second);
     }
-    markup.close()
+    markup.close();
 }

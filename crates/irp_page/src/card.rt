@@ -1,13 +1,15 @@
 //! The card of an entry.
 
+use crate::attribute::{part, word};
 use crate::boxes::Scope;
 use crate::devices::{Made, rows_of};
-use crate::lives::Life;
+use crate::draft::Picked;
+use crate::markup::Markup;
 use crate::moves::put_moves;
 use crate::picture::Scene;
+use crate::tag::Tag;
 use crate::wrong::{put_wrong, wrong_step};
 use irp_judge::Wrong;
-use irp_markup::{Markup, Tag, part, word};
 use irp_names::{CallWords, PartyWords, ReplyWords, caller_of, refusal_meaning, windows_name};
 use irp_types::{Call, Entry, Refusal, Reply};
 use std::alloc::{AllocError, Global};
@@ -16,14 +18,13 @@ use std::alloc::{AllocError, Global};
 #[derive(Drop)]
 pub struct Deck<'a> {
     pub alloc: Global,
-    pub entries: &'a [Entry],
     pub made: &'a [Made],
     pub wrong: Option<&'a Wrong>,
     pub tells_seats: bool,
 }
 
-/// Draws the number of an entry, which links to it. The one error is want of memory.
-fn put_number(markup: &mut Markup, place: u64) -> Result<(), AllocError> {
+/// Draws the number of an entry, which links to it.
+fn put_number(markup: &mut Markup, place: u64) {
     markup.open(
         Tag::A,
         &[
@@ -31,81 +32,75 @@ fn put_number(markup: &mut Markup, place: u64) -> Result<(), AllocError> {
             part("href", "#e", place),
             part("aria-label", "entry ", place),
         ],
-    )?;
-    markup.show(place)?;
-    markup.close()
+    );
+    markup.show(place);
+    markup.close();
 }
 
-/// Draws who makes the call. The one error is want of memory.
-fn put_caller(markup: &mut Markup, entry: &Entry, tells_seat: bool) -> Result<(), AllocError> {
+/// Draws who makes the call.
+fn put_caller(markup: &mut Markup, entry: &Entry, tells_seat: bool) {
     if tells_seat {
-        markup.open(Tag::Span, &[word("class", "who")])?;
-        markup.fixed("seat ")?;
-        markup.show(entry.seat)?;
-        markup.close()?;
-        markup.fixed(" ")?;
+        markup.open(Tag::Span, &[word("class", "who")]);
+        markup.fixed("seat ");
+        markup.show(entry.seat);
+        markup.close();
+        markup.fixed(" ");
     }
     if let Some(party) = caller_of(entry.call) {
-        markup.open(Tag::Span, &[word("class", "who")])?;
-        markup.show(PartyWords(party))?;
-        markup.fixed(": ")?;
-        markup.close()?;
+        markup.open(Tag::Span, &[word("class", "who")]);
+        markup.show(PartyWords(party));
+        markup.fixed(": ");
+        markup.close();
     }
-    Ok(())
 }
 
-/// Draws the reply, where it is more than that the call was done. The one error is want of memory.
-fn put_reply(markup: &mut Markup, call: Call, reply: Reply) -> Result<(), AllocError> {
+/// Draws the reply, where it is more than that the call was done.
+fn put_reply(markup: &mut Markup, call: Call, reply: Reply) {
     if matches!(reply, Reply::Done) {
-        return Ok(());
+        return;
     }
     let class = if matches!(reply, Reply::Refused(_)) {
         "no"
     } else {
         "gives"
     };
-    markup.fixed(" ")?;
-    markup.open(Tag::Span, &[word("class", class)])?;
-    markup.fixed("\u{2192} ")?;
-    markup.show(ReplyWords { call, reply })?;
-    markup.close()
+    markup.fixed(" ");
+    markup.open(Tag::Span, &[word("class", class)]);
+    markup.fixed("\u{2192} ");
+    markup.show(ReplyWords { call, reply });
+    markup.close();
 }
 
-/// Draws why a call is refused. The one error is want of memory.
-fn put_refusal(markup: &mut Markup, call: Call, refusal: Refusal) -> Result<(), AllocError> {
-    markup.open(Tag::P, &[word("class", "because")])?;
-    markup.fixed("Refused: ")?;
-    markup.fixed(refusal_meaning(refusal))?;
+/// Draws why a call is refused.
+fn put_refusal(markup: &mut Markup, call: Call, refusal: Refusal) {
+    markup.open(Tag::P, &[word("class", "because")]);
+    markup.fixed("Refused: ");
+    markup.fixed(refusal_meaning(refusal));
     if let Some(name) = windows_name(call, refusal) {
-        markup.fixed(". In Windows: ")?;
-        markup.fixed(name)?;
+        markup.fixed(". In Windows: ");
+        markup.fixed(name);
     }
-    markup.fixed(".")?;
-    markup.close()
+    markup.fixed(".");
+    markup.close();
 }
 
-/// Draws the first line of a card. The one error is want of memory.
-fn put_head(
-    markup: &mut Markup,
-    place: u64,
-    entry: &Entry,
-    tells_seat: bool,
-) -> Result<(), AllocError> {
+/// Draws the first line of a card.
+fn put_head(markup: &mut Markup, place: u64, entry: &Entry, tells_seat: bool) {
     let Entry {
         call,
         reply,
         drained,
         ..
     } = *entry;
-    put_number(markup, place)?;
-    put_caller(markup, entry, tells_seat)?;
-    markup.open(Tag::Span, &[word("class", "call")])?;
-    markup.show(CallWords { call, drained })?;
-    markup.close()?;
-    put_reply(markup, call, reply)?;
+    put_number(markup, place);
+    put_caller(markup, entry, tells_seat);
+    markup.open(Tag::Span, &[word("class", "call")]);
+    markup.show(CallWords { call, drained });
+    markup.close();
+    put_reply(markup, call, reply);
     match reply {
         Reply::Refused(refusal) => put_refusal(markup, call, refusal),
-        _ => Ok(()),
+        _ => {}
     }
 }
 
@@ -117,15 +112,16 @@ fn wrong_at<'a>(deck: &Deck<'a>, place: u64) -> Option<&'a Wrong> {
     }
 }
 
-/// The card of the entry at this place: its call and reply, its steps and their picture, and what is wrong with it. The
-/// one error is want of memory.
-pub fn card(deck: &Deck, life: Life, place: u64, entry: &Entry) -> Result<Markup, AllocError> {
+/// The card of an entry: its call and reply, its steps and their picture, and what is wrong with it. The one error is
+/// want of memory.
+pub fn card(deck: &Deck, picked: &Picked) -> Result<Markup, AllocError> {
+    let Picked { place, life, entry } = picked;
+    let place = *place;
     let mut markup = Markup::new(deck.alloc);
-    put_head(&mut markup, place, entry, deck.tells_seats)?;
+    put_head(&mut markup, place, entry, deck.tells_seats);
     let wrong = wrong_at(deck, place);
-    let rows = rows_of(deck.alloc, deck.made, life, entry)?;
+    let rows = rows_of(deck.alloc, deck.made, *life, entry)?;
     let scene = Scene {
-        alloc: deck.alloc,
         entry,
         scope: Scope { place, made: false },
         wrong: match wrong {
@@ -135,10 +131,10 @@ pub fn card(deck: &Deck, life: Life, place: u64, entry: &Entry) -> Result<Markup
         rows: rows.as_slice(),
         owner: life.owner,
     };
-    put_moves(&mut markup, &scene)?;
+    put_moves(&mut markup, &scene);
     if let Some(wrong) = wrong {
-        put_wrong(deck.alloc, &mut markup, entry, wrong, deck.made, life)?;
+        put_wrong(deck, &mut markup, picked, wrong)?;
     }
-    markup.fixed("\n")?;
+    markup.fixed("\n");
     Ok(markup)
 }

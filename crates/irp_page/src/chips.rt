@@ -1,8 +1,11 @@
 //! What happened to each packet, in one line.
 
-use crate::choosing::use_of;
+use crate::attribute::{part, word};
+use crate::draft::Picked;
+use crate::lives::use_of;
+use crate::markup::Markup;
+use crate::tag::Tag;
 use irp_listing::{Outcome, moves, outcome_of};
-use irp_markup::{Markup, Tag, part, word};
 use irp_names::{DeviceWords, MajorWords, PacketWords, StatusWords, call_name, refusal_name};
 use irp_types::{Asked, Call, Entry, IrpRef, Party, Plan, Reply};
 use std::alloc::{AllocError, Global};
@@ -138,19 +141,11 @@ fn is_known(uses: &[IrpRef], irp: IrpRef) -> bool {
     false
 }
 
-/// The use that an entry at this place is about.
-fn use_at(entries: &[Entry], place: u64) -> Option<IrpRef> {
-    match entries.get(place as usize) {
-        Some(entry) => use_of(entry),
-        None => None,
-    }
-}
-
-/// The uses that the entries at these places are about, each once, in order. The one error is want of memory.
-fn uses_at(alloc: Global, entries: &[Entry], places: &[u64]) -> Result<Vec<IrpRef>, AllocError> {
+/// The uses that these entries are about, each once, in order. The one error is want of memory.
+fn uses_of(alloc: Global, cards: &[Picked]) -> Result<Vec<IrpRef>, AllocError> {
     let mut uses = Vec::new(alloc);
-    for place in places {
-        if let Some(irp) = use_at(entries, *place)
+    for picked in cards {
+        if let Some(irp) = use_of(&picked.entry)
             && !is_known(uses.as_slice(), irp)
         {
             uses.push(irp)?;
@@ -159,84 +154,66 @@ fn uses_at(alloc: Global, entries: &[Entry], places: &[u64]) -> Result<Vec<IrpRe
     Ok(uses)
 }
 
-/// Draws the chip of an entry, where it has one. The one error is want of memory.
-fn put_chip(markup: &mut Markup, place: u64, entry: &Entry) -> Result<(), AllocError> {
+/// Draws the chip of an entry, where it has one.
+fn put_chip(markup: &mut Markup, place: u64, entry: &Entry) {
     let Some(chip) = chip_of(entry) else {
-        return Ok(());
+        return;
     };
-    markup.open(Tag::Li, &[word("class", chip.class())])?;
+    markup.open(Tag::Li, &[word("class", chip.class())]);
     markup.open(
         Tag::A,
         &[
             part("href", "#e", place),
             part("aria-label", "entry ", place),
         ],
-    )?;
-    markup.show(place)?;
-    markup.close()?;
-    markup.fixed(" ")?;
-    markup.show(ChipWords(entry))?;
-    markup.close()
+    );
+    markup.show(place);
+    markup.close();
+    markup.fixed(" ");
+    markup.show(ChipWords(entry));
+    markup.close();
 }
 
-/// Draws the chips of one use. The one error is want of memory.
-fn put_use(
-    markup: &mut Markup,
-    entries: &[Entry],
-    places: &[u64],
-    irp: IrpRef,
-) -> Result<(), AllocError> {
-    markup.open(Tag::H3, &[])?;
-    markup.show(PacketWords(irp))?;
-    markup.close()?;
-    markup.open(Tag::Ol, &[word("class", "life")])?;
-    for place in places {
-        if let Some(entry) = entries.get(*place as usize)
-            && use_of(entry) == Some(irp)
-        {
-            put_chip(markup, *place, entry)?;
+/// Draws the chips of one use.
+fn put_use(markup: &mut Markup, cards: &[Picked], irp: IrpRef) {
+    markup.open(Tag::H3, &[]);
+    markup.show(PacketWords(irp));
+    markup.close();
+    markup.open(Tag::Ol, &[word("class", "life")]);
+    for picked in cards {
+        if use_of(&picked.entry) == Some(irp) {
+            put_chip(markup, picked.place, &picked.entry);
         }
     }
-    markup.close()?;
-    markup.fixed("\n")
+    markup.close();
+    markup.fixed("\n");
 }
 
-/// Draws the chips of these uses. The one error is want of memory.
-fn put_uses(
-    markup: &mut Markup,
-    entries: &[Entry],
-    places: &[u64],
-    uses: &[IrpRef],
-) -> Result<(), AllocError> {
+/// Draws the chips of these uses.
+fn put_uses(markup: &mut Markup, cards: &[Picked], uses: &[IrpRef]) {
     for irp in uses {
-        put_use(markup, entries, places, *irp)?;
+        put_use(markup, cards, *irp);
     }
-    Ok(())
 }
 
-/// Draws a line of chips for each use of a packet that the entries at these places are about, at most 200; nothing
-/// where there are none. The one error is want of memory.
-pub fn put_packets(
-    alloc: Global,
-    markup: &mut Markup,
-    entries: &[Entry],
-    places: &[u64],
-) -> Result<(), AllocError> {
-    let uses = uses_at(alloc, entries, places)?;
+/// Draws a line of chips for each use of a packet that these entries are about, at most 200; nothing where there are
+/// none. The one error is want of memory.
+pub fn put_packets(alloc: Global, markup: &mut Markup, cards: &[Picked]) -> Result<(), AllocError> {
+    let uses = uses_of(alloc, cards)?;
     if uses.is_empty() {
         return Ok(());
     }
-    markup.open(Tag::H2, &[])?;
-    markup.fixed("Packets")?;
-    markup.close()?;
+    markup.open(Tag::H2, &[]);
+    markup.fixed("Packets");
+    markup.close();
     let few = uses.len().min(MOST_PACKETS);
-    put_uses(markup, entries, places, &uses.as_slice()[..few])?;
-    if few == uses.len() {
-        return Ok(());
+    put_uses(markup, cards, &uses.as_slice()[..few]);
+    if few < uses.len() {
+        markup.open(Tag::P, &[word("class", "because")]);
+        markup.fixed("Only the first 200 uses of packets are listed, of ");
+        markup.show(uses.len());
+        markup.fixed(".");
+        markup.close();
     }
-    markup.open(Tag::P, &[word("class", "because")])?;
-    markup.fixed("Only the first 200 uses of packets are listed, of ")?;
-    markup.show(uses.len())?;
-    markup.fixed(".")?;
-    markup.close()
+    Ok(())
 }

@@ -1,11 +1,10 @@
 //! Which entries a page shows.
 
-ghost use Rattle.std.specs.Prelude.{◌≡◌, ◌↔◌, IfOk, OnOk, IsTrue, take};
-ghost use Rattle.irp_page.specs.Choosing.{AddsPlace, ArePlaces, IsDrawn, most_entries};
+ghost use Rattle.std.specs.Prelude.{◌≡◌, ◌↔◌, IsTrue};
+ghost use Rattle.irp_page.specs.Choosing.{IsDrawn, most_entries};
 
 use irp_listing::is_chosen;
-use irp_types::{Entry, IrpRef, Reply};
-use std::alloc::{AllocError, Global};
+use irp_types::{Entry, IrpRef};
 
 /// As many entries as a page shows at most.
 pub const MOST_ENTRIES: usize = 2_000;
@@ -31,7 +30,7 @@ impl Choice {
 }
 
 /// Whether the entry at this place is chosen.
-fn is_drawn(choice: Choice, place: u64, entry: &Entry) -> bool
+pub(crate) fn is_drawn(choice: Choice, place: u64, entry: &Entry) -> bool
     ensures { IsTrue result ↔ IsDrawn choice place entry.now }
 {
     if place < choice.from || choice.to <= place {
@@ -46,54 +45,9 @@ fn is_drawn(choice: Choice, place: u64, entry: &Entry) -> bool
     )
 }
 
-/// Notes the place of an entry that is chosen. The one error is want of memory.
-fn note(places: &mut Vec<u64>, choice: Choice, place: u64, entry: &Entry) -> Result<(), AllocError>
-    ensures { OnOk result (AddsPlace choice place entry.now places.old.items places.new.items) }
-{
-    if !is_drawn(choice, place, entry) {
-        return Ok(());
-    }
-    places.push(place)?;
-    Ok(())
-}
-
-/// The places of the entries that are chosen, in order. The one error is want of memory.
-pub(crate) fn places_of(
-    alloc: Global,
-    choice: Choice,
-    entries: &[Entry],
-) -> Result<Vec<u64>, AllocError>
-    ensures { IfOk result (λ places. ArePlaces choice 0 entries.now places.items) }
-{
-    let mut places = Vec::new(alloc);
-    for (place, entry) in entries.iter().enumerate() {
-        note(&mut places, choice, place as u64, entry)?;
-    }
-    Ok(places)
-}
-
 /// As many entries as a page shows at most.
-fn most() -> usize
+pub(crate) fn most() -> usize
     ensures { result ≡ most_entries }
 {
     MOST_ENTRIES
-}
-
-/// The first of these places, at most 2,000.
-pub(crate) fn first_of(places: &[u64]) -> &[u64]
-    ensures { result.now ≡ take most_entries places.now }
-{
-    let most = most();
-    if places.len() <= most {
-        return places;
-    }
-    &places[..most]
-}
-
-/// The use of a packet that an entry is about: the one that its reply gives, else the one that its call names.
-pub fn use_of(entry: &Entry) -> Option<IrpRef> {
-    match entry.reply {
-        Reply::Irp(irp) => Some(irp),
-        _ => entry.call.packet(),
-    }
 }

@@ -1,7 +1,9 @@
 //! The devices of a history: in which order they stand, and of which drivers they are.
 
+use crate::attribute::word;
 use crate::lives::{Life, sender_of, target_of};
-use irp_markup::{Markup, Tag, word};
+use crate::markup::Markup;
+use crate::tag::Tag;
 use irp_names::{MajorWords, shown_of};
 use irp_transcript::Header;
 use irp_types::{Call, DeviceId, DispatchId, DriverId, Entry, Reply};
@@ -60,33 +62,28 @@ fn with_above(
     Ok(next)
 }
 
-/// These, as they stand behind an entry. The one error is want of memory.
-fn after(alloc: Global, made: Vec<Made>, entry: &Entry) -> Result<Vec<Made>, AllocError> {
+/// These, as they stand behind an entry; none where they stay. The one error is want of memory.
+fn after(alloc: Global, made: &[Made], entry: &Entry) -> Result<Option<Vec<Made>>, AllocError> {
     match (entry.call, entry.reply) {
-        (Call::CreateDevice { driver, .. }, Reply::Device(device)) => {
-            if made.len() >= MOST_DEVICES || is_among(made.as_slice(), device) {
-                return Ok(made);
-            }
-            with_new(alloc, made.as_slice(), Made { device, driver })
+        (Call::CreateDevice { driver, .. }, Reply::Device(device))
+            if made.len() < MOST_DEVICES && !is_among(made, device) => {
+            Ok(Some(with_new(alloc, made, Made { device, driver })?))
         }
-        (Call::Attach { device, .. }, Reply::Device(below)) => {
-            if device == below || !is_among(made.as_slice(), below) {
-                return Ok(made);
-            }
-            with_above(alloc, made.as_slice(), device, below)
+        (Call::Attach { device, .. }, Reply::Device(below))
+            if device != below && is_among(made, below) => {
+            Ok(Some(with_above(alloc, made, device, below)?))
         }
-        _ => Ok(made),
+        _ => Ok(None),
     }
 }
 
-/// The devices that these entries create, at most 64, top first: each attach puts a device just above what was the top
-/// of the stack then. The one error is want of memory.
-pub fn devices_of(alloc: Global, entries: &[Entry]) -> Result<Vec<Made>, AllocError> {
-    let mut made = Vec::new(alloc);
-    for entry in entries {
-        made = after(alloc, made, entry)?;
+/// Follows an entry: keeps the devices as they stand behind it, at most 64 of them, top first. Each attach puts a device
+/// just above what was the top of the stack then. The one error is want of memory.
+pub fn follow(made: &mut Vec<Made>, entry: &Entry) -> Result<(), AllocError> {
+    if let Some(next) = after(*made.allocator(), made.as_slice(), entry)? {
+        *made = next;
     }
-    Ok(made)
+    Ok(())
 }
 
 /// Puts a row that isn't there yet. The one error is want of memory.
@@ -139,70 +136,69 @@ fn put_others(rows: &mut Vec<Option<DeviceId>>, entry: &Entry) -> Result<(), All
     Ok(())
 }
 
-/// Draws which dispatches a driver has. The one error is want of memory.
-fn driver_cell(markup: &mut Markup, header: &Header, driver: DriverId) -> Result<(), AllocError> {
+/// Draws which dispatches a driver has.
+fn driver_cell(markup: &mut Markup, header: &Header, driver: DriverId) {
     let Some(table) = header.drivers.as_slice().get(driver.0 as usize) else {
         return markup.fixed("no such driver");
     };
     if table.as_slice().is_empty() {
         return markup.fixed("none");
     }
-    put_table(markup, table.as_slice())
+    put_table(markup, table.as_slice());
 }
 
-/// Draws dispatches by their major function codes. The one error is want of memory.
-fn put_table(markup: &mut Markup, table: &[(u8, DispatchId)]) -> Result<(), AllocError> {
+/// Draws dispatches by their major function codes.
+fn put_table(markup: &mut Markup, table: &[(u8, DispatchId)]) {
     for (place, pair) in table.iter().enumerate() {
         if place != 0 {
-            markup.fixed(", ")?;
+            markup.fixed(", ");
         }
-        markup.show(MajorWords(pair.0))?;
-        markup.fixed(": dispatch ")?;
-        markup.show(pair.1.0)?;
+        markup.show(MajorWords(pair.0));
+        markup.fixed(": dispatch ");
+        markup.show(pair.1.0);
     }
-    Ok(())
 }
 
-/// Draws the row of a device. The one error is want of memory.
-fn device_row(markup: &mut Markup, header: &Header, made: Made) -> Result<(), AllocError> {
-    markup.open(Tag::Tr, &[])?;
-    markup.open(Tag::Th, &[word("scope", "row")])?;
-    markup.fixed("D")?;
-    markup.show(made.device.0)?;
-    markup.close()?;
-    markup.open(Tag::Td, &[])?;
-    markup.show(made.driver.0)?;
-    markup.close()?;
-    markup.open(Tag::Td, &[])?;
-    driver_cell(markup, header, made.driver)?;
-    markup.close()?;
-    markup.close()
+/// Draws the row of a device.
+fn device_row(markup: &mut Markup, header: &Header, made: Made) {
+    markup.open(Tag::Tr, &[]);
+    markup.open(Tag::Th, &[word("scope", "row")]);
+    markup.fixed("D");
+    markup.show(made.device.0);
+    markup.close();
+    markup.open(Tag::Td, &[]);
+    markup.show(made.driver.0);
+    markup.close();
+    markup.open(Tag::Td, &[]);
+    driver_cell(markup, header, made.driver);
+    markup.close();
+    markup.close();
 }
 
-/// Draws the head of a table's column. The one error is want of memory.
-fn column(markup: &mut Markup, words: &'static str) -> Result<(), AllocError> {
-    markup.open(Tag::Th, &[word("scope", "col")])?;
-    markup.fixed(words)?;
-    markup.close()
+/// Draws the head of a table's column.
+fn column(markup: &mut Markup, words: &'static str) {
+    markup.open(Tag::Th, &[word("scope", "col")]);
+    markup.fixed(words);
+    markup.close();
 }
 
-/// Draws the table of the devices; nothing where there are none. The one error is want of memory.
-pub fn put_devices(markup: &mut Markup, header: &Header, made: &[Made]) -> Result<(), AllocError> {
+/// Draws the table of the devices; nothing where there are none.
+pub fn put_devices(markup: &mut Markup, header: &Header, made: &[Made]) {
     if made.is_empty() {
-        return Ok(());
+        return;
     }
-    markup.open(Tag::H2, &[])?;
-    markup.fixed("Devices, top first")?;
-    markup.close()?;
-    markup.open(Tag::Table, &[])?;
-    markup.open(Tag::Tr, &[])?;
-    column(markup, "Device")?;
-    column(markup, "Driver")?;
-    column(markup, "Dispatches")?;
-    markup.close()?;
+    markup.open(Tag::H2, &[]);
+    markup.fixed("Devices, top first");
+    markup.close();
+    markup.open(Tag::Table, &[]);
+    markup.open(Tag::Tr, &[]);
+    column(markup, "Device");
+    column(markup, "Driver");
+    column(markup, "Dispatches");
+    markup.close();
     for each in made {
-        device_row(markup, header, *each)?;
+        device_row(markup, header, *each);
     }
-    markup.close()?;
-    markup.fixed("\n")
+    markup.close();
+    markup.fixed("\n");
 }

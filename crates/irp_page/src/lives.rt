@@ -1,9 +1,8 @@
 //! Where packets are, as the entries so far tell. Entries of any transcript can be followed, also illegal ones.
 
-use crate::choosing::use_of;
 use irp_listing::{Outcome, moves, outcome_of};
 use irp_names::{caller_of, shown_of};
-use irp_types::{Call, DeviceId, Entry, Party};
+use irp_types::{Call, DeviceId, Entry, IrpRef, Party, Reply};
 use std::alloc::{AllocError, Global};
 use std::collections::HashMap;
 
@@ -75,7 +74,18 @@ pub fn target_of(call: Call) -> Option<DeviceId> {
     }
 }
 
-/// What is known of each packet, by its slot.
+/// The use of a packet that an entry is about: the one that its reply gives, else the one that its call names.
+pub fn use_of(entry: &Entry) -> Option<IrpRef> {
+    match entry.reply {
+        Reply::Irp(irp) => Some(irp),
+        _ => entry.call.packet(),
+    }
+}
+
+/// Of as many packets something is known at most: as many as may live (docs/RULES.md).
+const MOST_LIVES: usize = 4_096;
+
+/// What is known of each live packet, by its slot.
 #[derive(Drop)]
 pub struct Lives {
     by_slot: HashMap<usize, Life>,
@@ -100,8 +110,21 @@ impl Lives {
         }
     }
 
-    /// Follows an entry. The one error is want of memory.
+    /// Keeps what is known of the packet in a slot, unless too many packets are known, which a legal history hasn't.
+    /// The one error is want of memory.
+    fn keep(&mut self, slot: usize, life: Life) -> Result<(), AllocError> {
+        if self.by_slot.len() < MOST_LIVES || self.by_slot.contains_key(&slot) {
+            self.by_slot.insert(slot, life)?;
+        }
+        Ok(())
+    }
+
+    /// Follows an entry: one that moved a packet, or freed it. The one error is want of memory.
     pub fn follow(&mut self, entry: &Entry) -> Result<(), AllocError> {
+        if let (Call::Free { irp }, Reply::Done) = (entry.call, entry.reply) {
+            self.by_slot.remove(&irp.slot);
+            return Ok(());
+        }
         let Some(irp) = use_of(entry) else {
             return Ok(());
         };
@@ -110,7 +133,6 @@ impl Lives {
         }
         let mut life = self.of(entry);
         life.follow(entry);
-        self.by_slot.insert(irp.slot, life)?;
-        Ok(())
+        self.keep(irp.slot, life)
     }
 }

@@ -1,20 +1,22 @@
 //! The picture of a call that moved its packet: rows for the originator and the devices, top first; the way down on the
 //! left, the way up on the right.
 
+use crate::attribute::{count, part, word};
 use crate::boxes::{Frame, Scope, draw_box, line};
+use crate::markup::Markup;
 use crate::places::{LEFT, RIGHT, ROW, Trail, arrow_down, arrow_up, top_of};
-use crate::signs::{FirstLine, SecondLine, ShortResult, class_of, is_error};
+use crate::signs::{
+    CompletedWords, FirstLine, Numbered, SecondLine, ShortResult, class_of, is_error,
+};
+use crate::tag::Tag;
 use crate::words::StepWords;
 use irp_listing::{Outcome, outcome_of};
-use irp_markup::{Markup, Tag, count, part, word};
 use irp_names::{CallWords, call_name, caller_of, shown_of};
-use irp_types::{Asked, Call, DeviceId, Entry, Party};
-use std::alloc::{AllocError, Global};
+use irp_types::{Asked, Call, DeviceId, Entry, Party, Status};
 
 /// What a picture is of.
 #[derive(Drop)]
 pub struct Scene<'a> {
-    pub alloc: Global,
     pub entry: &'a Entry,
     pub scope: Scope,
     /// The step that is wrong, from 0.
@@ -83,33 +85,33 @@ impl Scene<'_> {
     }
 
     /// The words of the call.
-    fn title(&self) -> Result<String, AllocError> {
+    fn title(&self) -> CallWords {
         let Entry { call, drained, .. } = *self.entry;
-        format!(in self.alloc; "{}", CallWords { call, drained })
+        CallWords { call, drained }
     }
 }
 
-/// Draws the name of a row. The one error is want of memory.
-fn row_name(markup: &mut Markup, scene: &Scene, row: Option<DeviceId>) -> Result<(), AllocError> {
+/// Draws the name of a row.
+fn row_name(markup: &mut Markup, scene: &Scene, row: Option<DeviceId>) {
     let top = u64::from(scene.top(row));
     let room = (72, 12);
     let Some(device) = row else {
-        let words = format!(in scene.alloc; "originator")?;
+        let words = markup.text("originator");
         return line(markup, "small", (6, top + 24), room, words);
     };
-    let name = format!(in scene.alloc; "D{}", device.0)?;
+    let name = markup.text(Numbered("D", u64::from(device.0), ""));
     match scene.location(row) {
         None => line(markup, "name", (6, top + 24), room, name),
         Some(location) => {
-            line(markup, "name", (6, top + 18), room, name)?;
-            let words = format!(in scene.alloc; "location {}", location)?;
-            line(markup, "small soft", (6, top + 33), room, words)
+            line(markup, "name", (6, top + 18), room, name);
+            let words = markup.text(Numbered("location ", u64::from(location), ""));
+            line(markup, "small soft", (6, top + 33), room, words);
         }
     }
 }
 
-/// Draws the rows, each other one shaded. The one error is want of memory.
-fn put_rows(markup: &mut Markup, scene: &Scene) -> Result<(), AllocError> {
+/// Draws the rows, each other one shaded.
+fn put_rows(markup: &mut Markup, scene: &Scene) {
     for (place, row) in scene.rows.iter().enumerate() {
         let top = u64::from(scene.top(*row));
         if place % 2 == 0 {
@@ -122,11 +124,10 @@ fn put_rows(markup: &mut Markup, scene: &Scene) -> Result<(), AllocError> {
                     count("width", 400),
                     count("height", u64::from(ROW)),
                 ],
-            )?;
+            );
         }
-        row_name(markup, scene, *row)?;
+        row_name(markup, scene, *row);
     }
-    Ok(())
 }
 
 /// The frame of a box that is no step, on the way down.
@@ -141,15 +142,23 @@ fn plain_frame(scene: &Scene, top: u32) -> Frame {
     }
 }
 
-/// Draws the call of a party. The one error is want of memory.
-fn start_by_party(markup: &mut Markup, scene: &Scene, party: Party) -> Result<Trail, AllocError> {
+/// The way behind a box on the way down.
+fn down_from(frame: Frame) -> Trail {
+    Trail {
+        top: frame.y,
+        up: false,
+    }
+}
+
+/// Draws the call of a party.
+fn start_by_party(markup: &mut Markup, scene: &Scene, party: Party) -> Trail {
     let device = match party {
         Party::Originator => None,
         Party::Device(device) => Some(device),
     };
     let call = scene.entry.call;
     let mut frame = plain_frame(scene, scene.top(device));
-    let first = format!(in scene.alloc; "{}", call_name(call))?;
+    let first = markup.text(call_name(call));
     let second = match call {
         Call::Complete {
             status,
@@ -157,82 +166,77 @@ fn start_by_party(markup: &mut Markup, scene: &Scene, party: Party) -> Result<Tr
             ..
         } => {
             frame.error = !status.is_success();
-            format!(in scene.alloc; "{}", ShortResult(status, information))?
+            markup.text(ShortResult(status, information))
         }
-        Call::CallDriver { target, .. } => format!(in scene.alloc; "to D{}", target.0)?,
-        _ => String::new(scene.alloc),
+        Call::CallDriver { target, .. } => markup.text(Numbered("to D", u64::from(target.0), "")),
+        _ => markup.text(""),
     };
-    draw_box(markup, frame, scene.title()?, first, second)?;
-    Ok(Trail {
-        top: frame.y,
-        up: false,
-    })
+    let title = markup.text(scene.title());
+    draw_box(markup, frame, title, first, second);
+    down_from(frame)
 }
 
 /// Draws the call of a seat that is no party: a cancellation, or the end of a packet that was taken from its cancel
-/// slot. The one error is want of memory.
-fn start_by_seat(markup: &mut Markup, scene: &Scene) -> Result<Trail, AllocError> {
-    let seat = format!(in scene.alloc; "seat {}", scene.entry.seat)?;
-    line(markup, "small", (6, 31), (72, 12), seat)?;
+/// slot.
+fn start_by_seat(markup: &mut Markup, scene: &Scene) -> Trail {
+    let seat = markup.text(Numbered("seat ", u64::from(scene.entry.seat), ""));
+    line(markup, "small", (6, 31), (72, 12), seat);
     let frame = plain_frame(scene, top_of(0));
-    let (first, second) = match scene.entry.call {
-        Call::FinishTaken { token, .. } => (
-            format!(in scene.alloc; "token {}", token)?,
-            format!(in scene.alloc; "out of its cancel slot")?,
-        ),
-        call => (
-            format!(in scene.alloc; "{}", call_name(call))?,
-            String::new(scene.alloc),
-        ),
-    };
-    draw_box(markup, frame, scene.title()?, first, second)?;
-    let trail = Trail {
-        top: frame.y,
-        up: false,
-    };
-    finish_taken(markup, scene, trail)
-}
-
-/// Draws the completion of a packet that was taken from its cancel slot, in the row of the device that held it. The one
-/// error is want of memory.
-fn finish_taken(markup: &mut Markup, scene: &Scene, trail: Trail) -> Result<Trail, AllocError> {
-    let Call::FinishTaken {
+    let title = markup.text(scene.title());
+    let trail = down_from(frame);
+    if let Call::FinishTaken {
+        token,
         status,
         information,
         ..
     } = scene.entry.call
-    else {
-        return Ok(trail);
-    };
+    {
+        let first = markup.text(Numbered("token ", token, ""));
+        let second = markup.text("out of its cancel slot");
+        draw_box(markup, frame, title, first, second);
+        return finish_taken(markup, scene, trail, status, information);
+    }
+    let first = markup.text(call_name(scene.entry.call));
+    let second = markup.text("");
+    draw_box(markup, frame, title, first, second);
+    trail
+}
+
+/// Draws the completion of a packet that was taken from its cancel slot, in the row of the device that held it.
+fn finish_taken(
+    markup: &mut Markup,
+    scene: &Scene,
+    trail: Trail,
+    status: Status,
+    information: u64,
+) -> Trail {
     if scene.owner.is_none() {
-        return Ok(trail);
+        return trail;
     }
     let mut frame = plain_frame(scene, scene.top(scene.owner));
     frame.error = !status.is_success();
-    arrow_down(markup, trail, frame.y)?;
-    let first = format!(in scene.alloc; "IoCompleteRequest")?;
-    let second = format!(in scene.alloc; "{}", ShortResult(status, information))?;
-    draw_box(markup, frame, scene.title()?, first, second)?;
-    Ok(Trail {
-        top: frame.y,
-        up: false,
-    })
+    arrow_down(markup, trail, frame.y);
+    let title = markup.text(scene.title());
+    let first = markup.text("IoCompleteRequest");
+    let second = markup.text(ShortResult(status, information));
+    draw_box(markup, frame, title, first, second);
+    down_from(frame)
 }
 
-/// Draws a step, from 0, and the arrow to it. The one error is want of memory.
+/// Draws a step, from 0, and the arrow to it.
 fn put_step(
     markup: &mut Markup,
     scene: &Scene,
     trail: Trail,
     step: usize,
     question: Asked,
-) -> Result<Trail, AllocError> {
+) -> Trail {
     let top = scene.top(shown_of(question).device);
     let up = matches!(question, Asked::Completion { .. });
     if up {
-        arrow_up(markup, trail, top)?;
+        arrow_up(markup, trail, top);
     } else {
-        arrow_down(markup, trail, top)?;
+        arrow_down(markup, trail, top);
     }
     let number = (step as u64).saturating_add(1);
     let frame = Frame {
@@ -243,49 +247,61 @@ fn put_step(
         number,
         link: scene.scope.step_link(number),
     };
-    let title = format!(in scene.alloc; "{}", StepWords(question))?;
-    let first = format!(in scene.alloc; "{}", FirstLine(question))?;
-    let second = format!(in scene.alloc; "{}", SecondLine(question))?;
-    draw_box(markup, frame, title, first, second)?;
-    Ok(Trail { top, up })
+    let title = markup.text(StepWords(question));
+    let first = markup.text(FirstLine(question));
+    let second = markup.text(SecondLine(question));
+    draw_box(markup, frame, title, first, second);
+    Trail { top, up }
 }
 
-/// Draws all steps, behind the call. The one error is want of memory.
-fn put_steps(markup: &mut Markup, scene: &Scene, start: Trail) -> Result<Trail, AllocError> {
+/// Draws all steps, behind the call.
+fn put_steps(markup: &mut Markup, scene: &Scene, start: Trail) -> Trail {
     let mut trail = start;
     for (step, question) in scene.entry.asked.as_slice().iter().enumerate() {
-        trail = put_step(markup, scene, trail, step, *question)?;
+        trail = put_step(markup, scene, trail, step, *question);
     }
-    Ok(trail)
+    trail
 }
 
-/// Draws where the packet is then. The one error is want of memory.
-fn put_end(markup: &mut Markup, scene: &Scene, trail: Trail) -> Result<(), AllocError> {
+/// Draws that a packet has completed.
+fn put_completed(
+    markup: &mut Markup,
+    scene: &Scene,
+    trail: Trail,
+    status: Status,
+    information: u64,
+) {
+    let mut frame = plain_frame(scene, top_of(0));
+    arrow_up(markup, trail, frame.y);
+    frame.x = RIGHT;
+    frame.error = !status.is_success();
+    frame.class = if frame.error { "bad" } else { "good" };
+    let result = ShortResult(status, information);
+    let title = markup.text(CompletedWords(result));
+    let first = markup.text("completed");
+    let second = markup.text(result);
+    draw_box(markup, frame, title, first, second);
+}
+
+/// Draws where the packet is then.
+fn put_end(markup: &mut Markup, scene: &Scene, trail: Trail) {
     match outcome_of(scene.entry) {
         Outcome::Completed(status, information) => {
-            let mut frame = plain_frame(scene, top_of(0));
-            arrow_up(markup, trail, frame.y)?;
-            frame.x = RIGHT;
-            frame.error = !status.is_success();
-            frame.class = if frame.error { "bad" } else { "good" };
-            let title = format!(in scene.alloc; "completed: {}", ShortResult(status, information))?;
-            let first = format!(in scene.alloc; "completed")?;
-            let second = format!(in scene.alloc; "{}", ShortResult(status, information))?;
-            draw_box(markup, frame, title, first, second)
+            put_completed(markup, scene, trail, status, information)
         }
         Outcome::Held(Some(device)) => {
             let (x, y) = (u64::from(RIGHT) + 6, u64::from(scene.top(Some(device))));
-            let words = format!(in scene.alloc; "D{} holds the packet,", device.0)?;
-            line(markup, "small", (x, y + 18), (136, 26), words)?;
-            let words = format!(in scene.alloc; "marked pending")?;
-            line(markup, "small", (x, y + 33), (136, 26), words)
+            let words = markup.text(Numbered("D", u64::from(device.0), " holds the packet,"));
+            line(markup, "small", (x, y + 18), (136, 26), words);
+            let words = markup.text("marked pending");
+            line(markup, "small", (x, y + 33), (136, 26), words);
         }
-        _ => Ok(()),
+        _ => {}
     }
 }
 
-/// Draws the picture. The one error is want of memory.
-pub fn put_picture(markup: &mut Markup, scene: &Scene) -> Result<(), AllocError> {
+/// Draws the picture.
+pub fn put_picture(markup: &mut Markup, scene: &Scene) {
     let rows = scene.count().min(99_999) as u64;
     markup.open(
         Tag::Svg,
@@ -294,13 +310,13 @@ pub fn put_picture(markup: &mut Markup, scene: &Scene) -> Result<(), AllocError>
             word("role", "group"),
             part("aria-label", "Picture of entry ", scene.scope.place),
         ],
-    )?;
-    put_rows(markup, scene)?;
+    );
+    put_rows(markup, scene);
     let start = match caller_of(scene.entry.call) {
-        Some(party) => start_by_party(markup, scene, party)?,
-        None => start_by_seat(markup, scene)?,
+        Some(party) => start_by_party(markup, scene, party),
+        None => start_by_seat(markup, scene),
     };
-    let trail = put_steps(markup, scene, start)?;
-    put_end(markup, scene, trail)?;
-    markup.close()
+    let trail = put_steps(markup, scene, start);
+    put_end(markup, scene, trail);
+    markup.close();
 }

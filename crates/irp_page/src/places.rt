@@ -1,8 +1,9 @@
 //! Places in a picture, in its units: it is 400 wide. Rows are the originator and the devices, the way down is on the
 //! left, the way up on the right.
 
-use irp_markup::{Markup, Tag, count, word};
-use std::alloc::AllocError;
+use crate::attribute::{count, word};
+use crate::markup::Markup;
+use crate::tag::Tag;
 
 /// The left edge of boxes on the way down.
 pub const LEFT: u32 = 82;
@@ -33,13 +34,8 @@ pub struct Trail {
     pub up: bool,
 }
 
-/// Draws a line. The one error is want of memory.
-fn line(
-    markup: &mut Markup,
-    class: &'static str,
-    (x, y): (u64, u64),
-    (to_x, to_y): (u64, u64),
-) -> Result<(), AllocError> {
+/// Draws a line.
+fn line(markup: &mut Markup, class: &'static str, (x, y): (u64, u64), (to_x, to_y): (u64, u64)) {
     markup.whole(
         Tag::Line,
         &[
@@ -52,42 +48,35 @@ fn line(
     )
 }
 
-/// Draws the tip of an arrow. The one error is want of memory.
-fn tip(
-    markup: &mut Markup,
-    href: &'static str,
-    class: &'static str,
-    x: u64,
-    y: u64,
-) -> Result<(), AllocError> {
+/// Draws the tip of an arrow.
+fn tip(markup: &mut Markup, href: &'static str, class: &'static str, x: u64, y: u64) {
     let at = [
         word("href", href),
         word("class", class),
         count("x", x),
         count("y", y),
     ];
-    markup.whole(Tag::Use, &at)
+    markup.whole(Tag::Use, &at);
 }
 
-/// Draws the arrow down from the last box to a box with this top. The one error is want of memory.
-pub fn arrow_down(markup: &mut Markup, trail: Trail, top: u32) -> Result<(), AllocError> {
+/// Draws the arrow down from the last box to a box with this top.
+pub fn arrow_down(markup: &mut Markup, trail: Trail, top: u32) {
     let from = u64::from(trail.top) + u64::from(TALL);
     let to = u64::from(top);
     let x = u64::from(DOWN);
-    line(markup, "way", (x, from), (x, to.saturating_sub(5)))?;
-    tip(markup, "#down", "fall", x, to)
+    line(markup, "way", (x, from), (x, to.saturating_sub(5)));
+    tip(markup, "#down", "fall", x, to);
 }
 
 /// Draws the arrow up from the last box to a box with this top: from one on the way down it goes to the right first.
-/// The one error is want of memory.
-pub fn arrow_up(markup: &mut Markup, trail: Trail, top: u32) -> Result<(), AllocError> {
+pub fn arrow_up(markup: &mut Markup, trail: Trail, top: u32) {
     let x = u64::from(UP);
     let mut from = u64::from(trail.top);
     if !trail.up {
         from += u64::from(TALL / 2);
-        line(markup, "way up", (u64::from(LEFT + WIDE), from), (x, from))?;
+        line(markup, "way up", (u64::from(LEFT + WIDE), from), (x, from));
     }
     let to = u64::from(top) + u64::from(TALL);
-    line(markup, "way up", (x, from), (x, to + 5))?;
-    tip(markup, "#up", "rise", x, to)
+    line(markup, "way up", (x, from), (x, to + 5));
+    tip(markup, "#up", "rise", x, to);
 }

@@ -31,6 +31,26 @@ impl fmt::Display for ShortResult {
     }
 }
 
+/// That a packet has completed with this.
+#[derive(Clone, Copy)]
+pub struct CompletedWords(pub ShortResult);
+
+impl fmt::Display for CompletedWords {
+    fn fmt<W: fmt::Write>(&self, f: &mut fmt::Formatter<W>) -> fmt::Result {
+        write!(f, "completed: {}", self.0)
+    }
+}
+
+/// A number, with words before and behind it.
+#[derive(Clone, Copy)]
+pub struct Numbered(pub &'static str, pub u64, pub &'static str);
+
+impl fmt::Display for Numbered {
+    fn fmt<W: fmt::Write>(&self, f: &mut fmt::Formatter<W>) -> fmt::Result {
+        write!(f, "{}{}{}", self.0, self.1, self.2)
+    }
+}
+
 /// The first line for a question: what was done.
 #[derive(Clone, Copy)]
 pub struct FirstLine(pub Asked);

@@ -1,7 +1,9 @@
 //! Steps in words, and the part of remove locks and cancel slots.
 
+use crate::attribute::word;
+use crate::markup::Markup;
+use crate::tag::Tag;
 use irp_listing::{AskedWords, Outcome, WordLineWords};
-use irp_markup::{Markup, Tag, word};
 use irp_names::{AnsweredWords, DeviceWords, ResultWords};
 use irp_transcript::{Act, WordLine};
 use irp_types::{Asked, LockAct, SlotAct};
@@ -9,7 +11,7 @@ use std::alloc::{AllocError, Global};
 use std::fmt;
 
 /// As many steps on locks and slots as are listed.
-const MOST_LINES: usize = 2_000;
+pub const MOST_LINES: usize = 2_000;
 
 /// A question, and what was answered.
 #[derive(Clone, Copy)]
@@ -98,29 +100,28 @@ fn spots_of(alloc: Global, lines: &[WordLine]) -> Result<Vec<Spot>, AllocError> 
     Ok(spots)
 }
 
-/// Draws the steps on one spot. The one error is want of memory.
-fn put_spot(markup: &mut Markup, spot: Spot, lines: &[WordLine]) -> Result<(), AllocError> {
-    markup.open(Tag::H3, &[])?;
-    markup.show(spot)?;
-    markup.close()?;
-    markup.open(Tag::Ol, &[word("class", "lines")])?;
+/// Draws the steps on one spot.
+fn put_spot(markup: &mut Markup, spot: Spot, lines: &[WordLine]) {
+    markup.open(Tag::H3, &[]);
+    markup.show(spot);
+    markup.close();
+    markup.open(Tag::Ol, &[word("class", "lines")]);
     for line in lines {
         if spot_of(line.act) == spot {
-            markup.open(Tag::Li, &[])?;
-            markup.show(WordLineWords(*line))?;
-            markup.close()?;
+            markup.open(Tag::Li, &[]);
+            markup.show(WordLineWords(*line));
+            markup.close();
         }
     }
-    markup.close()?;
-    markup.fixed("\n")
+    markup.close();
+    markup.fixed("\n");
 }
 
-/// Draws the steps on all of these spots. The one error is want of memory.
-fn put_spots(markup: &mut Markup, spots: &[Spot], lines: &[WordLine]) -> Result<(), AllocError> {
+/// Draws the steps on all of these spots.
+fn put_spots(markup: &mut Markup, spots: &[Spot], lines: &[WordLine]) {
     for spot in spots {
-        put_spot(markup, *spot, lines)?;
+        put_spot(markup, *spot, lines);
     }
-    Ok(())
 }
 
 /// Draws the steps on remove locks and cancel slots, at most 2,000; nothing where there are none. The one error is want
@@ -130,15 +131,16 @@ pub fn put_lines(alloc: Global, markup: &mut Markup, lines: &[WordLine]) -> Resu
         return Ok(());
     }
     let few = &lines[..lines.len().min(MOST_LINES)];
-    markup.open(Tag::H2, &[])?;
-    markup.fixed("Remove locks and cancel slots")?;
-    markup.close()?;
-    markup.open(Tag::P, &[word("class", "because")])?;
-    markup.fixed("Steps that read and write no packet, and so aren\u{2019}t entries.")?;
-    if few.len() < lines.len() {
-        markup.fixed(" Only the first 2,000 are listed.")?;
-    }
-    markup.close()?;
     let spots = spots_of(alloc, few)?;
-    put_spots(markup, spots.as_slice(), few)
+    markup.open(Tag::H2, &[]);
+    markup.fixed("Remove locks and cancel slots");
+    markup.close();
+    markup.open(Tag::P, &[word("class", "because")]);
+    markup.fixed("Steps that read and write no packet, and so aren\u{2019}t entries.");
+    if few.len() < lines.len() {
+        markup.fixed(" Only the first 2,000 are listed.");
+    }
+    markup.close();
+    put_spots(markup, spots.as_slice(), few);
+    Ok(())
 }

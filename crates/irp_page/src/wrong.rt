@@ -1,16 +1,19 @@
 //! What is wrong with an entry that isn't legal.
 
+use crate::attribute::{part, word};
 use crate::boxes::Scope;
-use crate::devices::{Made, rows_of};
-use crate::lives::Life;
+use crate::card::Deck;
+use crate::devices::rows_of;
+use crate::draft::Picked;
+use crate::markup::Markup;
 use crate::moves::put_moves;
 use crate::picture::Scene;
+use crate::tag::Tag;
 use irp_judge::{Difference, QuestionPart, ShownField, Wrong};
 use irp_listing::AskedWords;
-use irp_markup::{Markup, Tag, part, word};
 use irp_names::{AnsweredWords, ReplyWords};
 use irp_types::{Entry, LockNo};
-use std::alloc::{AllocError, Global};
+use std::alloc::AllocError;
 use std::fmt;
 
 /// The step in which an entry differs from the manager's, from 0.
@@ -116,41 +119,28 @@ impl fmt::Display for LockWords {
     }
 }
 
-/// Draws a name and what it stands for. The one error is want of memory.
-fn put_pair<D: fmt::Display + Drop>(
-    markup: &mut Markup,
-    name: &'static str,
-    words: D,
-) -> Result<(), AllocError> {
-    markup.open(Tag::Dt, &[])?;
-    markup.fixed(name)?;
-    markup.close()?;
-    markup.open(Tag::Dd, &[])?;
-    markup.show(words)?;
-    markup.close()
+/// Draws a name and what it stands for.
+fn put_pair<D: fmt::Display + Drop>(markup: &mut Markup, name: &'static str, words: D) {
+    markup.open(Tag::Dt, &[]);
+    markup.fixed(name);
+    markup.close();
+    markup.open(Tag::Dd, &[]);
+    markup.show(words);
+    markup.close();
 }
 
-/// Draws a paragraph of these words. The one error is want of memory.
-fn put_words(
-    markup: &mut Markup,
-    class: &'static str,
-    words: &'static str,
-) -> Result<(), AllocError> {
-    markup.open(Tag::P, &[word("class", class)])?;
-    markup.fixed(words)?;
-    markup.close()
+/// Draws a paragraph of these words.
+fn put_words(markup: &mut Markup, class: &'static str, words: &'static str) {
+    markup.open(Tag::P, &[word("class", class)]);
+    markup.fixed(words);
+    markup.close();
 }
 
-/// Draws in what an entry differs from the manager's. The one error is want of memory.
-fn put_difference(
-    markup: &mut Markup,
-    entry: &Entry,
-    made: &Entry,
-    difference: Difference,
-) -> Result<(), AllocError> {
-    markup.open(Tag::Dl, &[])?;
-    put_pair(markup, "They differ in", DifferenceWords(difference))?;
-    put_pair(markup, "This entry says", SaysWords { entry, difference })?;
+/// Draws in what an entry differs from the manager's.
+fn put_difference(markup: &mut Markup, entry: &Entry, made: &Entry, difference: Difference) {
+    markup.open(Tag::Dl, &[]);
+    put_pair(markup, "They differ in", DifferenceWords(difference));
+    put_pair(markup, "This entry says", SaysWords { entry, difference });
     put_pair(
         markup,
         "The manager\u{2019}s says",
@@ -158,43 +148,42 @@ fn put_difference(
             entry: made,
             difference,
         },
-    )?;
-    markup.close()
+    );
+    markup.close();
 }
 
 /// Draws what is wrong with an entry, and the entry that the manager makes of its call. The one error is want of
 /// memory.
 pub fn put_wrong(
-    alloc: Global,
+    deck: &Deck,
     markup: &mut Markup,
-    entry: &Entry,
+    picked: &Picked,
     wrong: &Wrong,
-    made: &[Made],
-    life: Life,
 ) -> Result<(), AllocError> {
     let place = wrong.at;
-    markup.open(Tag::Div, &[word("class", "why"), part("id", "m", place)])?;
+    let life = picked.life;
+    let rows = rows_of(deck.alloc, deck.made, life, &wrong.made)?;
+    markup.open(Tag::Div, &[word("class", "why"), part("id", "m", place)]);
     put_words(
         markup,
         "no",
         "The manager can\u{2019}t have made this entry.",
-    )?;
-    put_difference(markup, entry, &wrong.made, wrong.difference)?;
-    put_words(markup, "made", "What the manager makes of this call:")?;
+    );
+    put_difference(markup, &picked.entry, &wrong.made, wrong.difference);
+    put_words(markup, "made", "What the manager makes of this call:");
     let (call, reply) = (wrong.made.call, wrong.made.reply);
-    markup.open(Tag::P, &[word("class", "gives")])?;
-    markup.show(ReplyWords { call, reply })?;
-    markup.close()?;
-    let rows = rows_of(alloc, made, life, &wrong.made)?;
+    markup.open(Tag::P, &[word("class", "gives")]);
+    markup.show(ReplyWords { call, reply });
+    markup.close();
     let scene = Scene {
-        alloc,
         entry: &wrong.made,
         scope: Scope { place, made: true },
         wrong: None,
         rows: rows.as_slice(),
         owner: life.owner,
     };
-    put_moves(markup, &scene)?;
-    markup.close()?;
-    put_words(markup, "because", "From here on nothing is judged.")
+    put_moves(markup, &scene);
+    markup.close();
+    put_words(markup, "because", "From here on nothing is judged.");
+    Ok(())
 }

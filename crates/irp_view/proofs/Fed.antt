@@ -28,6 +28,8 @@ use Rattle.irp_judge.proofs.Verdicts.{illegal_verdict, legal_verdict, verdict_wi
 use Rattle.irp_listing.specs.Bytes.{Bytes}
 use Rattle.irp_view.specs.Reading.{Holds, HoldsNone, IsInput, IsRefused, IsTextOf, IsTextOfNone, TakesAtMost, most_bytes, most_taken}
 use Rattle.irp_view.specs.Judging.{AreJudged, Concludes, Ends, Fails, IsFound, IsHopeless, IsKept, IsSoFar, Reads, piece_of, unread_of}
+use Rattle.irp_page.specs.declared.draft.Draft.{Draft}
+use Rattle.irp_view.specs.Drafts.{AreDrafted}
 use Rattle.irp_view.specs.declared.judging.Found.{Found}
 use Rattle.irp_view.specs.declared.judging.Kept.{Kept}
 use Rattle.irp_view.specs.declared.reading.Unread.{Unread}
@@ -90,6 +92,7 @@ kept_within old new judge kept text block rest within read =
       entry = within.judged.entry;
       words = within.judged.words;
       few = omega (arith, within.judged.few, size, length-append (text ++ within.piece) rest);
+      drafted = within.judged.drafted;
     }
 
 -- a line that is refused
@@ -112,8 +115,9 @@ pub on_within : (old new : Reader) (judge : JudgeValue) (kept : Kept) (after : J
     → after.header ≡ judge.header → HasJudged after (with_line within.judged.transcript line).entries
     → IsKept (with_line within.judged.transcript line).entries after.wrong then.entry
     → then.words ≡ length (with_line within.judged.transcript line).words
+    → AreDrafted then.draft (with_line within.judged.transcript line).entries
     → IsWithin new after then text block (drop count rest)
-on_within old new judge kept after then text block rest count line within some fits place read header judged entry words =
+on_within old new judge kept after then text block rest count line within some fits place read header judged entry words drafted =
     let split : rest ≡ take count rest ++ drop count rest = sym (take-append-drop count rest) in
     let same : (text ++ within.piece) ++ take count rest ≡ text ++ (within.piece ++ take count rest) = append_assoc text within.piece (take count rest) in
     let size : length ((text ++ within.piece) ++ take count rest) ≡ length (text ++ (within.piece ++ take count rest)) = ap length same in
@@ -128,6 +132,7 @@ on_within old new judge kept after then text block rest count line within some f
         entry = entry;
         words = words;
         few = omega (arith, words_more within.judged.transcript line, within.judged.few, size, length-append (text ++ within.piece) (take count rest), length-take-le count rest fits, some);
+        drafted = drafted;
       };
     }
 
@@ -259,8 +264,8 @@ some_header known header entries is none = absurd (none-some header (sym none �
 
 pub finds : (reader : Reader) (judge : JudgeValue) (kept : Kept) (text : List ℕ) (found : Found) (judged : AreJudged reader judge kept text)
     → IsTextOf text judged.transcript → found.entries ≡ judge.fed → found.words ≡ kept.words → found.wrong ≡ judge.wrong → found.entry ≡ kept.entry
-    → Concludes (Ok found) text
-finds reader judge kept text found judged read entries words wrong entry =
+    → found.draft ≡ kept.draft → Concludes (Ok found) text
+finds reader judge kept text found judged read entries words wrong entry draft =
     let of_judge : IsFirstWrongWith (Some judge.header) judged.transcript.entries judge.wrong = judged.judged.wrong in
     let explained : IsExplained judged.transcript found.wrong =
     subst (λ (given : Option Header). IsFirstWrongWith given judged.transcript.entries found.wrong) (sym judged.header)
@@ -275,17 +280,19 @@ finds reader judge kept text found judged read entries words wrong entry =
         judged = verdict_with judged.transcript.header judged.transcript.entries found.wrong
             (some_header judged.transcript.header judge.header judged.transcript.entries judged.header) explained;
         entry = subst (IsKept judged.transcript.entries found.wrong) (sym entry) there;
+        drafted = subst (λ (given : Option Draft). AreDrafted given judged.transcript.entries) (sym draft) judged.drafted;
       },
     )
 
 -- a text without lines
-pub finds_nothing : (found : Found) → found.entries ≡ 0 → found.words ≡ 0 → found.wrong ≡ None → IsFound no_lines found
-finds_nothing found entries words wrong = record {
+pub finds_nothing : (found : Found) → found.entries ≡ 0 → found.words ≡ 0 → found.wrong ≡ None → AreDrafted found.draft [] → IsFound no_lines found
+finds_nothing found entries words wrong drafted = record {
   entries = entries;
   words = words;
   explained = wrong;
   judged = ap (verdict_of 0) wrong;
   entry = subst (λ (given : Option Wrong). IsKept [] given found.entry) (sym wrong) tt;
+  drafted = drafted;
 }
 
 -- ---- endings

@@ -15,6 +15,7 @@ use Rattle.irp_text.specs.declared.line.Line.TheVariants.{Header as HeaderLine}
 use Rattle.irp_text.specs.declared.reader.Reader.{Reader}
 use Rattle.irp_listing.specs.Bytes.{Bytes}
 use Rattle.irp_view.specs.Reading.{Holds, HoldsNone, IsRefused, IsTextOf, IsTextOfNone, TakesAtMost, most_bytes, most_taken}
+use Rattle.irp_view.specs.Drafts.{AreDrafted}
 use Rattle.irp_view.specs.declared.judging.Found.{Found}
 use Rattle.irp_view.specs.declared.judging.Judged.{Judged}
 use Rattle.irp_view.specs.declared.judging.Kept.{Kept}
@@ -60,6 +61,7 @@ pub record IsFound (transcript : TranscriptValue) (found : Found) : Type 0 where
   pub explained : IsExplained transcript found.wrong
   pub judged : IsVerdictOn transcript (verdict_of (length transcript.entries) found.wrong)
   pub entry : IsKept transcript.entries found.wrong found.entry
+  pub drafted : AreDrafted found.draft transcript.entries
 
 -- the lines of this text were read, and their entries judged
 pub record AreJudged (reader : Reader) (judge : JudgeValue) (kept : Kept) (text : List ℕ) : Type 0 where
@@ -70,6 +72,7 @@ pub record AreJudged (reader : Reader) (judge : JudgeValue) (kept : Kept) (text 
   pub entry : IsKept transcript.entries judge.wrong kept.entry
   pub words : kept.words ≡ length transcript.words
   pub few : length transcript.words ≤ length text
+  pub drafted : AreDrafted kept.draft transcript.entries
 
 -- what was found in a whole text, or its first line that is refused
 abbrev pub Concludes : Result Found Unread → List ℕ → Type 0

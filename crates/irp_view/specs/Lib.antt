@@ -1,4 +1,5 @@
 pub mod Blocks
+pub mod Drafts
 pub mod Ending
 pub mod Judging
 pub mod Parts

@@ -1,7 +1,7 @@
 //! The text of an input, judged block after block. Of it a block is kept, and of what was judged the first entry that
 //! isn't legal.
 
-ghost use Rattle.std.specs.Prelude.{ℕ, ◌≡◌, ◌+◌, ◌<◌, ◌≤◌, ◌^◌, List, [], ◌∷◌, ◌++◌, length, Some, OnOk};
+ghost use Rattle.std.specs.Prelude.{ℕ, ◌≡◌, ◌+◌, ◌<◌, ◌≤◌, ◌^◌, List, [], ◌∷◌, ◌++◌, length, Some, IfOk, OnOk};
 ghost use Rattle.irp_types.specs.declared.entry.Entry.{Entry};
 ghost use Rattle.irp_judge.specs.Judges.{seen};
 ghost use Rattle.irp_judge.specs.Judging.{HasJudged};
@@ -10,6 +10,7 @@ ghost use Rattle.irp_transcript.specs.Headers.{IsHeader};
 ghost use Rattle.irp_transcript.specs.Transcripts.{TranscriptValue, no_lines};
 ghost use Rattle.irp_listing.specs.Bytes.{Bytes};
 ghost use Rattle.irp_view.specs.Reading.{most_bytes};
+ghost use Rattle.irp_view.specs.Drafts.{AreDrafted, choice_of};
 ghost use Rattle.irp_view.specs.Judging.{
   AreJudged,
   Concludes,
@@ -24,10 +25,12 @@ ghost use Rattle.irp_view.specs.Judging.{
   Starts,
 };
 
+use crate::drawing::draft_line;
 use crate::input::{PIECE, take_block};
 use crate::lines::{Lines, before_more};
 use crate::reading::{MOST_BYTES, Unread};
 use irp_judge::{Judge, Wrong};
+use irp_page::Draft;
 use irp_text::Line;
 use irp_transcript::Header;
 use irp_types::Entry;
@@ -41,6 +44,8 @@ pub struct Kept {
     pub words: u64,
     /// The first entry that isn't legal; where there is none, the last one.
     pub entry: Option<Entry>,
+    /// What is kept for a page, where one is drawn.
+    pub draft: Option<Draft>,
 }
 
 /// What was found in a transcript.
@@ -54,6 +59,8 @@ pub struct Found {
     pub wrong: Option<Wrong>,
     /// Then the entry that is wrong.
     pub entry: Option<Entry>,
+    /// What was kept for a page, where one is drawn.
+    pub draft: Option<Draft>,
 }
 
 /// A transcript that was judged.
@@ -69,6 +76,7 @@ pub struct Judged {
 fn judge_entry(judge: &mut Judge, kept: &mut Kept, entry: Entry) -> Result<(), AllocError>
     ensures header { (seen judge.new).header ≡ (seen judge.old).header }
     ensures words { kept.new.words ≡ kept.old.words }
+    ensures draft { kept.new.draft ≡ kept.old.draft }
     ensures judged { (history : List Entry) → HasJudged (seen judge.old) history
         → IsKept history (seen judge.old).wrong kept.old.entry → length history + 1 < 2 ^ 64
         → OnOk result (HasJudged (seen judge.new) (history ++ entry ∷ [])
@@ -85,6 +93,10 @@ fn judge_entry(judge: &mut Judge, kept: &mut Kept, entry: Entry) -> Result<(), A
 /// Has the judge judge a line, if it is an entry, and keeps what is kept of lines.
 fn judge_line(judge: &mut Judge, kept: &mut Kept, line: Line) -> Result<(), AllocError>
     ensures header { (seen judge.new).header ≡ (seen judge.old).header }
+    ensures choice { choice_of kept.new.draft ≡ choice_of kept.old.draft }
+    ensures drafted { (before : TranscriptValue) → AreDrafted kept.old.draft before.entries
+        → length before.entries + 1 < 2 ^ 64
+        → OnOk result (AreDrafted kept.new.draft (with_line before line).entries) }
     ensures judged { (before : TranscriptValue) → IsInPlace before line
         → before.header ≡ Some (seen judge.old).header
         → HasJudged (seen judge.old) before.entries → length before.entries + 1 < 2 ^ 64
@@ -94,6 +106,7 @@ fn judge_line(judge: &mut Judge, kept: &mut Kept, line: Line) -> Result<(), Allo
         × IsKept (with_line before line).entries (seen judge.new).wrong kept.new.entry
         × (kept.new.words ≡ length (with_line before line).words)) }
 {
+    draft_line(&mut kept.draft, &line)?;
     match line {
         Line::Entry(entry) => judge_entry(judge, kept, entry),
         Line::Word(_) => {
@@ -113,6 +126,7 @@ fn judge_block(
     block: &[u8],
 ) -> Result<(), Unread>
     ensures header { (seen judge.new).header ≡ (seen judge.old).header }
+    ensures choice { choice_of kept.new.draft ≡ choice_of kept.old.draft }
     ensures judged { (text : List ℕ) → AreJudged lines.old.reader (seen judge.old) kept.old text
         → length text + length block.now ≤ most_bytes
         → JudgesBlock result lines.new.reader (seen judge.new) kept.new (text ++ block.now) }
@@ -215,7 +229,8 @@ fn read_header<R: Read>(
 
 /// What was found in a text that was read to its end.
 fn found_in(lines: &Lines, judge: Judge, kept: Kept) -> Result<Found, Unread>
-    ensures { (text : List ℕ) → AreJudged lines.now.reader (seen judge.entry) kept text
+    ensures choice { IfOk result (λ found. choice_of found.draft ≡ choice_of kept.draft) }
+    ensures found { (text : List ℕ) → AreJudged lines.now.reader (seen judge.entry) kept text
         → length text ≤ most_bytes → Concludes result text }
 {
     lines.finish()?;
@@ -224,6 +239,7 @@ fn found_in(lines: &Lines, judge: Judge, kept: Kept) -> Result<Found, Unread>
         words: kept.words,
         wrong: judge.into_wrong(),
         entry: kept.entry,
+        draft: kept.draft,
     })
 }
 
@@ -234,19 +250,23 @@ fn judge_rest<R: Read>(
     buffer: &mut [u8],
     lines: &mut Lines,
     start: &Start,
+    draft: Option<Draft>,
 ) -> Result<Found, Unread>
     requires room { 0 < length buffer.old }
     requires header { IsHeader start.now.header }
     requires order { start.now.from ≤ start.now.to }
     requires within { start.now.to ≤ length buffer.old }
     requires few { start.now.left ≤ most_bytes }
-    ensures { (old : Bytes) → Starts old (R.remaining input.old) start.now lines.old.reader buffer.old
+    requires fresh { AreDrafted draft [] }
+    ensures choice { IfOk result (λ found. choice_of found.draft ≡ choice_of draft) }
+    ensures ends { (old : Bytes) → Starts old (R.remaining input.old) start.now lines.old.reader buffer.old
         → Ends old (R.remaining input.new) result }
 {
     let mut judge = Judge::new(alloc, &start.header);
     let mut kept = Kept {
         words: 0,
         entry: None,
+        draft,
     };
     let (mut from, mut to, mut left) = (start.from, start.to, start.left);
     loop {
@@ -266,13 +286,20 @@ fn judge_rest<R: Read>(
 }
 
 /// Judges the transcript that the input holds, which is read up to its end: at most 1,073,741,825 bytes are taken, one
-/// more than the text may have. Of the text a block is kept, and the beginning of a line that ends in the next one.
+/// more than the text may have. Of the text a block is kept, and the beginning of a line that ends in the next one. A
+/// draft, where one is given, is given the entries and the word lines.
 ///
 /// # Errors
 ///
 /// Those of `reading::transcript_of`.
-pub fn judge_input<R: Read>(alloc: Global, input: &mut R) -> Result<Judged, Unread>
-    ensures { EndsWith (R.remaining input.old) (R.remaining input.new) result }
+pub fn judge_input<R: Read>(
+    alloc: Global,
+    input: &mut R,
+    draft: Option<Draft>,
+) -> Result<Judged, Unread>
+    requires { AreDrafted draft [] }
+    ensures choice { IfOk result (λ judged. choice_of judged.found.draft ≡ choice_of draft) }
+    ensures ends { EndsWith (R.remaining input.old) (R.remaining input.new) result }
 {
     let mut buffer = [0u8; PIECE];
     let mut lines = Lines::new(alloc);
@@ -284,10 +311,11 @@ pub fn judge_input<R: Read>(alloc: Global, input: &mut R) -> Result<Judged, Unre
                 words: 0,
                 wrong: None,
                 entry: None,
+                draft,
             },
         });
     };
-    let found = judge_rest(alloc, input, &mut buffer, &mut lines, &start)?;
+    let found = judge_rest(alloc, input, &mut buffer, &mut lines, &start, draft)?;
     Ok(Judged {
         header: Some(start.header),
         found,

@@ -5,6 +5,7 @@
 mod answers;
 mod block;
 mod causes;
+mod drawing;
 mod ending;
 mod fields;
 mod help;
@@ -29,12 +30,13 @@ ghost use Rattle.irp_view.specs.declared.orders.Order.TheVariants.{Read as AsksF
 ghost use Rattle.irp_view.specs.declared.orders.Task.TheVariants.{Why, List as Listing, Draw as Drawing};
 ghost use Rattle.irp_transcript.specs.Transcripts.{TranscriptValue};
 
+use crate::drawing::draw_judged;
 use crate::ending::Ending;
 use crate::judging::{Judged, judge_input};
 use crate::orders::{Asked, Order, Span, Task, Unasked};
 use crate::reading::transcript_of;
 use crate::showing::show;
-use irp_page::{Choice, draw};
+use irp_page::{Choice, Draft};
 use irp_transcript_writer::{Out, WriterOut};
 use irp_types::IrpRef;
 use std::alloc::Global;
@@ -62,7 +64,7 @@ fn judge<R: Read, O: Out>(alloc: Global, input: &mut R, output: &mut O) -> Endin
         (streams_of (R.remaining input.old) (output_of (O.gone output.old) (O.failures output.old)))
         (streams_of (R.remaining input.new) (output_of (O.gone output.new) (O.failures output.new))) result }
 {
-    match judge_input(alloc, input) {
+    match judge_input(alloc, input, None) {
         Ok(judged) => tell_why(alloc, output, &judged),
         Err(unread) => Ending::from(unread),
     }
@@ -91,7 +93,7 @@ fn list<R: Read, O: Out>(
     }
 }
 
-/// Draws a page, which has this title, of the transcript in the input.
+/// Draws a page, which has this title, of the transcript in the input, which is judged as it is read.
 fn draw_page<R: Read, O: Out>(
     alloc: Global,
     input: &mut R,
@@ -104,13 +106,9 @@ fn draw_page<R: Read, O: Out>(
         (streams_of (R.remaining input.old) (output_of (O.gone output.old) (O.failures output.old)))
         (streams_of (R.remaining input.new) (output_of (O.gone output.new) (O.failures output.new))) result }
 {
-    let transcript = match transcript_of(alloc, input) {
-        Ok(transcript) => transcript,
-        Err(unread) => return Ending::from(unread),
-    };
-    match draw(alloc, output, &transcript, title, choice) {
-        Ok(()) => Ending::Done,
-        Err(fault) => Ending::from(fault),
+    match judge_input(alloc, input, Some(Draft::new(alloc, choice))) {
+        Ok(judged) => draw_judged(alloc, output, &judged, title),
+        Err(unread) => Ending::from(unread),
     }
 }
 

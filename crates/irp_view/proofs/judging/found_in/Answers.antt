@@ -4,7 +4,7 @@ use Rattle.irp_judge.specs.Judges.{seen}
 use Rattle.irp_view.proofs.Fed.{finds}
 use Rattle.irp_view.proofs.judging.found_in.Goals as goal
 
-pub returns : goal.returns
-returns c = λ text judged few.
+pub returns-clause-found : goal.returns-clause-found
+returns-clause-found c = λ text judged few.
     (finds c.args.lines.now.reader (seen c.args.judge) c.args.kept text _ judged
-    (c.in_ok-finish.ensures text judged.transcript judged.read (omega (arith, few))) c.fed.ensures refl c.into_wrong.ensures refl)
+    (c.in_ok-finish.ensures text judged.transcript judged.read (omega (arith, few))) c.fed.ensures refl c.into_wrong.ensures refl refl)

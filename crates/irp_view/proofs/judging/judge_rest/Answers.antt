@@ -4,20 +4,20 @@ use Rattle.irp_view.specs.Judging.{IsSoFar, piece_of}
 use Rattle.irp_view.proofs.Fed.{ends, few_so_far, so_far_end, so_far_on, takes_more, whole_piece}
 use Rattle.irp_view.proofs.judging.judge_rest.Goals as goal
 
-pub returns-in-Err : goal.returns-in-Err
-returns-in-Err g c = λ old starts.
+pub returns-in-Err-clause-ends : goal.returns-in-Err-clause-ends
+returns-in-Err-clause-ends g c = λ old starts.
     (let inv = c.loop-unread.invariant.so_far old starts in
     let block : List ℕ = piece_of c.loop-unread.buffer c.loop-unread.from c.loop-unread.to in
     c.refuse.ensures old (inv.0 ++ block) inv.2 (c.in-Err.ensures.judged inv.0 inv.1 (few_so_far old (g.R.Read.remaining c.loop-unread.input) c.loop-unread.left inv.0 block inv.2)))
 
-pub returns-in-Err-take_block : goal.returns-in-Err-take_block
-returns-in-Err-take_block g c = λ old starts.
+pub returns-in-Err-take_block-clause-ends : goal.returns-in-Err-take_block-clause-ends
+returns-in-Err-take_block-clause-ends g c = λ old starts.
     (let inv = c.loop-unread.invariant.so_far old starts in
     let block : List ℕ = piece_of c.loop-unread.buffer c.loop-unread.from c.loop-unread.to in
     (tt, takes_more old (g.R.Read.remaining c.loop-unread.input) (g.R.Read.remaining c.take_block.new.reader) c.loop-unread.left (inv.0 ++ block) inv.2 c.in-Err-take_block.ensures.within))
 
-pub returns-then-to-eq0 : goal.returns-then-to-eq0
-returns-then-to-eq0 g c = λ old starts.
+pub returns-then-to-eq0-clause-ends : goal.returns-then-to-eq0-clause-ends
+returns-then-to-eq0-clause-ends g c = λ old starts.
     (let inv = c.loop-unread.invariant.so_far old starts in
     let block : List ℕ = piece_of c.loop-unread.buffer c.loop-unread.from c.loop-unread.to in
     let judged = c.in_default.ensures.judged inv.0 inv.1 (few_so_far old (g.R.Read.remaining c.loop-unread.input) c.loop-unread.left inv.0 block inv.2) in
@@ -25,7 +25,7 @@ returns-then-to-eq0 g c = λ old starts.
     let ended : IsSoFar old (g.R.Read.remaining c.take_block.new.reader) c.loop-unread.left (inv.0 ++ block) =
     so_far_end old (g.R.Read.remaining c.loop-unread.input) (g.R.Read.remaining c.take_block.new.reader) c.loop-unread.left c.in-Ok.count (inv.0 ++ block) c.take_block.new.buffer none inv.2 c.in-Ok.ensures.bytes in
     ends c.found_in.result old (g.R.Read.remaining c.take_block.new.reader) c.loop-unread.left (inv.0 ++ block) ended (c.in-Ok.ensures.end none)
-    (c.found_in.ensures (inv.0 ++ block) judged (omega (arith, ended.count))))
+    (c.found_in.ensures.found (inv.0 ++ block) judged (omega (arith, ended.count))))
 
 pub loop-unread-preserved : goal.loop-unread-preserved
 loop-unread-preserved g c = record {
@@ -33,6 +33,7 @@ loop-unread-preserved g c = record {
   room = c.in-Ok.ensures.room ∙ c.loop-unread.invariant.room;
   order = omega arith;
   within = c.in-Ok.ensures.bound.1;
+  choice = c.judge_block.ensures.choice ∙ c.loop-unread.invariant.choice;
   so_far = λ old starts.
       (let inv = c.loop-unread.invariant.so_far old starts in
       let block : List ℕ = piece_of c.loop-unread.buffer c.loop-unread.from c.loop-unread.to in

@@ -2,6 +2,7 @@
 use Rattle.std.proofs.Common.{◌≡◌, ◌≤◌, ℕ, List, ◌++◌, length}
 use Rattle.irp_judge.specs.Judges.{seen}
 use Rattle.irp_view.specs.Reading.{most_bytes}
+use Rattle.irp_view.specs.Drafts.{choice_of}
 use Rattle.irp_view.specs.Judging.{AreJudged, IsSoFar, Starts, piece_of}
 use Rattle.irp_listing.specs.Bytes.{Bytes}
 use Rattle.irp_view.proofs.judging.judge_rest.Given as goal
@@ -12,6 +13,7 @@ invariant-loop-unread g l = record {
   room : length l.buffer ≡ length l.initial.buffer;
   order : l.from ≤ l.to;
   within : l.to ≤ length l.buffer;
+  choice : choice_of l.kept.draft ≡ choice_of l.draft;
   so_far :
       (old : Bytes)
       → Starts old (g.R.Read.remaining l.initial.input) l.start l.initial.lines.reader l.initial.buffer

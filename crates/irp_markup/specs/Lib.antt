@@ -1,5 +1,0 @@
-pub mod Escaping
-pub mod Nesting
-pub mod Pages
-pub mod Pieces
-pub mod Tags

@@ -1,0 +1,140 @@
+-- Pieces that are put one behind the other.
+use Rattle.std.proofs.Common.{◌≡◌, ℕ, List, [], ◌∷◌, ◌++◌, refl, sym, ap, subst, ◌∙◌, append_assoc, append-nil, inl, inr, Bool, true, false, Option, None, Some, if◌then◌else◌}
+use Rattle.std.specs.List.{flat_map}
+use Rattle.std.proofs.lemmas.Grind.{flat_map-append}
+use Rattle.std.proofs.lemmas.List.{reverse-append}
+use Rattle.std.proofs.lemmas.List.Elements.{filter_map-append}
+use mathlib.Core.List.{reverse}
+use Rattle.irp_page.specs.declared.tag.Tag.{Tag}
+use Rattle.irp_page.specs.declared.tag.Tag.TheVariants.{Li}
+use Rattle.irp_page.specs.declared.piece.Piece.{Piece}
+use Rattle.irp_page.specs.declared.piece.Piece.TheVariants.{Doctype, Open, Close, Whole, Fixed, Words, Entry}
+use Rattle.irp_page.specs.Pieces.{Puts, PutsNothing, piece_bytes, begun, entries_begun}
+use Rattle.irp_page.specs.Nesting.{Leads, Nests, IsMarkup, PutsEnd}
+use Rattle.irp_page.specs.Pages.{Stands}
+
+-- pieces, and then more
+pub then_nests : (one other last : List Tag) (pieces more : List Piece) → Nests one pieces other → Nests other more last → Nests one (pieces ++ more) last
+then_nests one other last [] more first second = subst (λ given. Nests given more last) (sym first) second
+then_nests one other last (piece ∷ pieces) more first second =
+    (first.0, first.1, then_nests first.0 other last pieces more first.2 second)
+
+-- and then one
+pub then_leads : (one other last : List Tag) (pieces : List Piece) (piece : Piece) → Nests one pieces other → Leads other piece last → Nests one (pieces ++ piece ∷ []) last
+then_leads one other last pieces piece first second =
+    then_nests one other last pieces (piece ∷ []) first (last, second, refl)
+
+-- the same piece, with more elements open around it
+leads_within : (opened next around : List Tag) (piece : Piece) → Leads opened piece next → Leads (opened ++ around) piece (next ++ around)
+leads_within opened next around Doctype is = ap (λ given. given ++ around) is
+leads_within opened next around (Open tag attributes) is = ap (λ given. given ++ around) is
+leads_within opened next around (Close tag) is = ap (λ given. given ++ around) is
+leads_within opened next around (Whole tag attributes) is = ap (λ given. given ++ around) is
+leads_within opened next around (Fixed words) is = ap (λ given. given ++ around) is
+leads_within opened next around (Words words) is = ap (λ given. given ++ around) is
+leads_within opened next around (Entry place) is = ap (λ given. given ++ around) is
+
+-- the same pieces
+nests_within : (opened last around : List Tag) (pieces : List Piece) → Nests opened pieces last → Nests (opened ++ around) pieces (last ++ around)
+nests_within opened last around [] is = ap (λ given. given ++ around) is
+nests_within opened last around (piece ∷ pieces) is =
+    (is.0 ++ around, leads_within opened is.0 around piece is.1, nests_within is.0 last around pieces is.2)
+
+-- closed markup leaves open what was
+pub closed_nests : (around : List Tag) (pieces : List Piece) → Nests [] pieces [] → Nests around pieces around
+closed_nests around pieces is = nests_within [] [] around pieces is
+
+-- the innermost stands last
+pub innermost : (opened : List Tag) (tag : Tag) → reverse (opened ++ tag ∷ []) ≡ tag ∷ reverse opened
+innermost opened tag = reverse-append opened (tag ∷ [])
+
+pub no_markup : IsMarkup [] []
+no_markup = record { nests = refl; none = refl }
+
+-- one more piece that begins no entry
+more : (pieces : List Piece) (piece : Piece) → entries_begun pieces ≡ [] → entries_begun (piece ∷ []) ≡ [] → entries_begun (pieces ++ piece ∷ []) ≡ []
+more pieces piece none not =
+    filter_map-append begun pieces (piece ∷ []) ∙ ap (λ given. given ++ entries_begun (piece ∷ [])) none ∙ not
+
+pub one_more : (pieces : List Piece) (piece : Piece) (before after : List Tag) → IsMarkup pieces before → Leads (reverse before) piece (reverse after) → entries_begun (piece ∷ []) ≡ [] → IsMarkup (pieces ++ piece ∷ []) after
+one_more pieces piece before after is leads not = record {
+  nests = then_leads [] (reverse before) (reverse after) pieces piece is.nests leads;
+  none = more pieces piece is.none not;
+}
+
+-- what stands there, and then pieces
+pub stands_on : (places further : List ℕ) (opened next : List Tag) (text after : List ℕ) (pieces : List Piece) → Stands places opened text → after ≡ text ++ flat_map piece_bytes pieces → Nests (reverse opened) pieces (reverse next) → entries_begun pieces ≡ further → Stands (places ++ further) next after
+stands_on places further opened next text after pieces is went nests begins = record {
+  pieces = is.pieces ++ pieces;
+  bytes = went ∙ ap (λ given. given ++ flat_map piece_bytes pieces) is.bytes ∙ sym (flat_map-append piece_bytes is.pieces pieces);
+  nests = then_nests [] (reverse opened) (reverse next) is.pieces pieces is.nests nests;
+  begins = filter_map-append begun is.pieces pieces ∙ ap (λ given. given ++ entries_begun pieces) is.begins ∙ ap (λ given. places ++ given) begins;
+}
+
+-- an element is opened
+pub opens : (pieces : List Piece) (opened : List Tag) (piece : Piece) (tag : Tag) → IsMarkup pieces opened → Leads (reverse opened) piece (tag ∷ reverse opened) → entries_begun (piece ∷ []) ≡ [] → IsMarkup (pieces ++ piece ∷ []) (opened ++ tag ∷ [])
+opens pieces opened piece tag is leads not =
+    one_more pieces piece opened (opened ++ tag ∷ []) is (subst (λ given. Leads (reverse opened) piece given) (sym (innermost opened tag)) leads) not
+
+-- the innermost element is closed
+pub closes : (pieces : List Piece) (opened : List Tag) (tag : Tag) → IsMarkup pieces (opened ++ tag ∷ []) → IsMarkup (pieces ++ Close tag ∷ []) opened
+closes pieces opened tag is = one_more pieces (Close tag) (opened ++ tag ∷ []) opened is (innermost opened tag) refl
+
+-- the item of an entry
+pub stands_entry : (places : List ℕ) (place : ℕ) (opened : List Tag) (text after : List ℕ) (pieces : List Piece) → Stands places opened text → IsMarkup pieces [] → after ≡ text ++ (piece_bytes (Entry place) ++ (flat_map piece_bytes pieces ++ piece_bytes (Close Li))) → Stands (places ++ place ∷ []) opened after
+stands_entry places place opened text after pieces is card went =
+    let around = reverse opened in
+    let item = Entry place ∷ (pieces ++ Close Li ∷ []) in
+    let nests : Nests around item around =
+    (Li ∷ around, refl, then_leads (Li ∷ around) (Li ∷ around) around pieces (Close Li) (closed_nests (Li ∷ around) pieces card.nests) refl) in
+    let bytes : flat_map piece_bytes item ≡ piece_bytes (Entry place) ++ (flat_map piece_bytes pieces ++ piece_bytes (Close Li)) =
+    ap (λ given. piece_bytes (Entry place) ++ given)
+    (flat_map-append piece_bytes pieces (Close Li ∷ []) ∙ ap (λ given. flat_map piece_bytes pieces ++ given) (append-nil (piece_bytes (Close Li)))) in
+    let begins : entries_begun item ≡ place ∷ [] = ap (λ given. place ∷ given) (more pieces (Close Li) card.none refl) in
+    stands_on places (place ∷ []) opened opened text after item is (went ∙ ap (λ given. text ++ given) (sym bytes)) nests begins
+
+-- closed markup
+pub stands_put : (places : List ℕ) (opened : List Tag) (text after : List ℕ) (pieces : List Piece) → Stands places opened text → IsMarkup pieces [] → after ≡ text ++ flat_map piece_bytes pieces → Stands places opened after
+stands_put places opened text after pieces is markup went =
+    subst (λ given. Stands given opened after) (append-nil places)
+    (stands_on places [] opened opened text after pieces is went (closed_nests (reverse opened) pieces markup.nests) markup.none)
+
+-- the innermost element is closed
+pub stands_close : (places : List ℕ) (opened : List Tag) (tag : Tag) (text after : List ℕ) → Stands places (opened ++ tag ∷ []) text → after ≡ text ++ piece_bytes (Close tag) → Stands places opened after
+stands_close places opened tag text after is went =
+    subst (λ given. Stands given opened after) (append-nil places)
+    (stands_on places [] (opened ++ tag ∷ []) opened text after (Close tag ∷ []) is
+    (went ∙ ap (λ given. text ++ given) (sym (append-nil (piece_bytes (Close tag)))))
+    (reverse opened, innermost opened tag, refl) refl)
+
+-- three parts, one behind the other
+pub three : (x y z w a b c : List ℕ) → y ≡ x ++ a → z ≡ y ++ b → w ≡ z ++ c → w ≡ x ++ (a ++ (b ++ c))
+three x y z w a b c first second third =
+    third ∙ ap (λ given. given ++ c) (second ∙ ap (λ given. given ++ b) first ∙ append_assoc x a b) ∙ append_assoc x (a ++ b) c ∙ ap (λ given. x ++ given) (append_assoc a b c)
+
+-- what one more piece puts
+puts : (pieces : List Piece) (piece : Piece) → flat_map piece_bytes (pieces ++ piece ∷ []) ≡ flat_map piece_bytes pieces ++ piece_bytes piece
+puts pieces piece =
+    flat_map-append piece_bytes pieces (piece ∷ []) ∙ ap (λ given. flat_map piece_bytes pieces ++ given) (append-nil (piece_bytes piece))
+
+-- these bytes are that piece's
+pub puts_bytes : (before : Option (List Piece)) (ran_out : Bool) (own after : List Piece) (piece : Piece) (bytes : List ℕ) → (if ran_out then None else Some own) ≡ before → after ≡ own ++ piece ∷ [] → piece_bytes piece ≡ bytes → Puts bytes before (if ran_out then None else Some after)
+puts_bytes before true own after piece bytes same put are = tt
+puts_bytes before false own after piece bytes same put are =
+    subst (λ given. Puts bytes given (Some after)) same
+    (ap (λ given. flat_map piece_bytes given) put ∙ puts own piece ∙ ap (λ given. flat_map piece_bytes own ++ given) are)
+
+-- an end tag was put
+pub puts_end : (before : Option (List Piece)) (ran_out : Bool) (own between after : List Piece) (tag : Tag) → (if ran_out then None else Some own) ≡ before → between ≡ own → after ≡ between ++ Close tag ∷ [] → PutsEnd before (if ran_out then None else Some after)
+puts_end before true own between after tag same stays put = tt
+puts_end before false own between after tag same stays put =
+    subst (λ given. PutsEnd given (Some after)) same (inr (tag, put ∙ ap (λ given. given ++ Close tag ∷ []) stays))
+
+-- nothing was
+pub puts_none : (before : Option (List Piece)) (ran_out : Bool) (own after : List Piece) → (if ran_out then None else Some own) ≡ before → after ≡ own → PutsEnd before (if ran_out then None else Some after)
+puts_none before true own after same stays = tt
+puts_none before false own after same stays = subst (λ given. PutsEnd given (Some after)) same (inl stays)
+
+pub puts_nothing : (before : Option (List Piece)) (ran_out : Bool) (own : List Piece) → (if ran_out then None else Some own) ≡ before → PutsNothing before (if ran_out then None else Some own)
+puts_nothing before true own same = tt
+puts_nothing before false own same = subst (λ given. PutsNothing given (Some own)) same refl
