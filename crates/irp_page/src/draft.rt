@@ -1,6 +1,6 @@
 //! What a page keeps of a transcript whose lines come one after the other.
 
-ghost use Rattle.std.specs.Prelude.{◌≡◌, ◌+◌, ◌<◌, ◌≤◌, ◌^◌, List, [], ◌∷◌, ◌++◌, length, take, OnOk};
+ghost use Rattle.std.specs.Prelude.{◌≡◌, ◌+◌, ◌<◌, ◌≤◌, ◌^◌, List, [], ◌∷◌, ◌++◌, length, take, IfOk, OnOk};
 ghost use Rattle.irp_types.specs.declared.entry.Entry.{Entry};
 ghost use Rattle.irp_page.specs.Choosing.{most_entries};
 ghost use Rattle.irp_page.specs.Drafting.{HasDrafted, places_in};
@@ -44,7 +44,9 @@ pub struct Draft {
 }
 
 /// An equal entry. The one error is want of memory.
-fn copy_of(alloc: Global, entry: &Entry) -> Result<Entry, AllocError> {
+fn copy_of(alloc: Global, entry: &Entry) -> Result<Entry, AllocError>
+    ensures { IfOk result (λ copy. copy ≡ entry.now) }
+{
     let mut room = Vec::new(alloc);
     room.reserve(entry.asked.as_slice().len())?;
     Ok(entry.copy_into(room))
@@ -85,7 +87,7 @@ impl Draft {
     fn follow(&mut self, entry: &Entry) -> Result<Life, AllocError>
         ensures choice { self.new.choice ≡ self.old.choice }
         ensures entries { self.new.entries ≡ self.old.entries }
-        ensures cards { self.new.cards ≡ self.old.cards }
+        ensures cards { self.new.cards.items ≡ self.old.cards.items }
     {
         follow(&mut self.made, entry)?;
         let life = self.lives.of(entry);

@@ -1,6 +1,7 @@
 //! The word `page`: the page of a transcript is drawn.
 
 ghost use Rattle.std.specs.Prelude.{◌≡◌, ◌+◌, ◌<◌, ◌^◌, length, Some, OnOk};
+ghost use Rattle.irp_page.specs.Drafting.{HasDrafted};
 ghost use Rattle.irp_page.specs.declared.choosing.Choice.{Choice};
 ghost use Rattle.irp_text.specs.Fed.{with_line};
 ghost use Rattle.irp_transcript.specs.Transcripts.{TranscriptValue};
@@ -33,6 +34,19 @@ pub fn draft_line(draft: &mut Option<Draft>, line: &Line) -> Result<(), AllocErr
     }
 }
 
+/// Draws the page of a transcript whose entries the draft was given.
+fn draw_subject<O: Out>(alloc: Global, output: &mut O, subject: &Subject) -> Ending
+    ensures { (transcript : TranscriptValue) → HasDrafted subject.now.draft.now transcript.entries
+        → Answers (Drawing subject.now.draft.now.choice) transcript
+        (output_of (O.gone output.old) (O.failures output.old))
+        (output_of (O.gone output.new) (O.failures output.new)) result }
+{
+    match draw(alloc, output, subject) {
+        Ok(()) => Ending::Done,
+        Err(fault) => Ending::from(fault),
+    }
+}
+
 /// Draws the page, which has this title, of a transcript that was judged, and of which a draft was kept.
 pub fn draw_judged<O: Out>(alloc: Global, output: &mut O, judged: &Judged, title: &str) -> Ending
     ensures { (transcript : TranscriptValue) (choice : Choice) → IsFound transcript judged.now.found
@@ -49,8 +63,5 @@ pub fn draw_judged<O: Out>(alloc: Global, output: &mut O, judged: &Judged, title
         draft,
         wrong: judged.found.wrong.as_ref(),
     };
-    match draw(alloc, output, &subject) {
-        Ok(()) => Ending::Done,
-        Err(fault) => Ending::from(fault),
-    }
+    draw_subject(alloc, output, &subject)
 }
