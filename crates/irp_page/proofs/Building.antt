@@ -1,5 +1,5 @@
 -- Pieces that are put one behind the other.
-use Rattle.std.proofs.Common.{◌≡◌, ℕ, List, [], ◌∷◌, ◌++◌, refl, sym, ap, subst, ◌∙◌, append_assoc, append-nil, inl, inr, Bool, true, false, Option, None, Some, if◌then◌else◌}
+use Rattle.std.proofs.Common.{◌≡◌, ℕ, List, [], ◌∷◌, ◌++◌, refl, sym, ap, subst, ◌∙◌, append_assoc, append-nil, Bool, true, false, Option, None, Some, if◌then◌else◌}
 use Rattle.std.specs.List.{flat_map}
 use Rattle.std.proofs.lemmas.Grind.{flat_map-append}
 use Rattle.std.proofs.lemmas.List.{reverse-append}
@@ -9,8 +9,8 @@ use Rattle.irp_page.specs.declared.tag.Tag.{Tag}
 use Rattle.irp_page.specs.declared.tag.Tag.TheVariants.{Li}
 use Rattle.irp_page.specs.declared.piece.Piece.{Piece}
 use Rattle.irp_page.specs.declared.piece.Piece.TheVariants.{Doctype, Open, Close, Whole, Fixed, Words, Entry}
-use Rattle.irp_page.specs.Pieces.{Puts, PutsNothing, piece_bytes, begun, entries_begun}
-use Rattle.irp_page.specs.Nesting.{Leads, Nests, IsMarkup, PutsEnd}
+use Rattle.irp_page.specs.Pieces.{Puts, piece_bytes, begun, entries_begun}
+use Rattle.irp_page.specs.Nesting.{Leads, Nests, IsMarkup}
 use Rattle.irp_page.specs.Pages.{Stands}
 
 -- pieces, and then more
@@ -123,18 +123,3 @@ puts_bytes before true own after piece bytes same put are = tt
 puts_bytes before false own after piece bytes same put are =
     subst (λ given. Puts bytes given (Some after)) same
     (ap (λ given. flat_map piece_bytes given) put ∙ puts own piece ∙ ap (λ given. flat_map piece_bytes own ++ given) are)
-
--- an end tag was put
-pub puts_end : (before : Option (List Piece)) (ran_out : Bool) (own between after : List Piece) (tag : Tag) → (if ran_out then None else Some own) ≡ before → between ≡ own → after ≡ between ++ Close tag ∷ [] → PutsEnd before (if ran_out then None else Some after)
-puts_end before true own between after tag same stays put = tt
-puts_end before false own between after tag same stays put =
-    subst (λ given. PutsEnd given (Some after)) same (inr (tag, put ∙ ap (λ given. given ++ Close tag ∷ []) stays))
-
--- nothing was
-pub puts_none : (before : Option (List Piece)) (ran_out : Bool) (own after : List Piece) → (if ran_out then None else Some own) ≡ before → after ≡ own → PutsEnd before (if ran_out then None else Some after)
-puts_none before true own after same stays = tt
-puts_none before false own after same stays = subst (λ given. PutsEnd given (Some after)) same (inl stays)
-
-pub puts_nothing : (before : Option (List Piece)) (ran_out : Bool) (own : List Piece) → (if ran_out then None else Some own) ≡ before → PutsNothing before (if ran_out then None else Some own)
-puts_nothing before true own same = tt
-puts_nothing before false own same = subst (λ given. PutsNothing given (Some own)) same refl

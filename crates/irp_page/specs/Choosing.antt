@@ -1,5 +1,5 @@
 -- Which entries a page shows.
-use Rattle.std.specs.Prelude.{ℕ, ◌≡◌, ◌⊎◌, ◌+◌, ◌<◌, ◌≤◌, List, [], ◌∷◌, ◌++◌, take}
+use Rattle.std.specs.Prelude.{ℕ, ◌≡◌, ◌⊎◌, ◌+◌, ◌<◌, ◌≤◌, List, [], ◌∷◌, take}
 use Rattle.irp_types.specs.declared.entry.Entry.{Entry}
 use Rattle.irp_listing.specs.Choosing.{IsChosen}
 use Rattle.irp_page.specs.Pages.{IsPage}

@@ -93,6 +93,29 @@ fn judge_entry(judge: &mut Judge, kept: &mut Kept, entry: Entry) -> Result<(), A
 /// Has the judge judge a line, if it is an entry, and keeps what is kept of lines.
 fn judge_line(judge: &mut Judge, kept: &mut Kept, line: Line) -> Result<(), AllocError>
     ensures header { (seen judge.new).header ≡ (seen judge.old).header }
+    ensures draft { kept.new.draft ≡ kept.old.draft }
+    ensures judged { (before : TranscriptValue) → IsInPlace before line
+        → before.header ≡ Some (seen judge.old).header
+        → HasJudged (seen judge.old) before.entries → length before.entries + 1 < 2 ^ 64
+        → IsKept before.entries (seen judge.old).wrong kept.old.entry
+        → kept.old.words ≡ length before.words → length before.words + 1 < 2 ^ 64
+        → OnOk result (HasJudged (seen judge.new) (with_line before line).entries
+        × IsKept (with_line before line).entries (seen judge.new).wrong kept.new.entry
+        × (kept.new.words ≡ length (with_line before line).words)) }
+{
+    match line {
+        Line::Entry(entry) => judge_entry(judge, kept, entry),
+        Line::Word(_) => {
+            kept.words = kept.words.saturating_add(1);
+            Ok(())
+        }
+        Line::Header(_) => Ok(()),
+    }
+}
+
+/// Takes a line: gives it to the draft, where there is one, and to the judge.
+fn take_line(judge: &mut Judge, kept: &mut Kept, line: Line) -> Result<(), AllocError>
+    ensures header { (seen judge.new).header ≡ (seen judge.old).header }
     ensures choice { choice_of kept.new.draft ≡ choice_of kept.old.draft }
     ensures drafted { (before : TranscriptValue) → AreDrafted kept.old.draft before.entries
         → length before.entries + 1 < 2 ^ 64
@@ -107,14 +130,7 @@ fn judge_line(judge: &mut Judge, kept: &mut Kept, line: Line) -> Result<(), Allo
         × (kept.new.words ≡ length (with_line before line).words)) }
 {
     draft_line(&mut kept.draft, &line)?;
-    match line {
-        Line::Entry(entry) => judge_entry(judge, kept, entry),
-        Line::Word(_) => {
-            kept.words = kept.words.saturating_add(1);
-            Ok(())
-        }
-        Line::Header(_) => Ok(()),
-    }
+    judge_line(judge, kept, line)
 }
 
 /// Reads the lines that end in a block, and has the judge judge their entries.
@@ -137,7 +153,7 @@ fn judge_block(
             return Ok(());
         };
         let (line, count) = taken;
-        match judge_line(judge, kept, line) {
+        match take_line(judge, kept, line) {
             Ok(()) => {}
             Err(_) => return Err(Unread::NoMemory),
         }

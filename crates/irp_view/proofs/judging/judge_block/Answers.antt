@@ -31,8 +31,8 @@ returns-in_default-clause-judged c = λ text judged few.
 
 pub loop-rest-preserved : goal.loop-rest-preserved
 loop-rest-preserved c = record {
-  header = c.judge_line.ensures.header ∙ c.loop-rest.invariant.header;
-  choice = c.judge_line.ensures.choice ∙ c.loop-rest.invariant.choice;
+  header = c.take_line.ensures.header ∙ c.loop-rest.invariant.header;
+  choice = c.take_line.ensures.choice ∙ c.loop-rest.invariant.choice;
   within = λ text judged few.
       (let rest : List ℕ = c.loop-rest.rest.now in
       let block : List ℕ = c.args.block.now in
@@ -45,6 +45,6 @@ loop-rest-preserved c = record {
       (omega (arith, within.judged.read.taken.few)) within.judged.entry within.judged.words
       (omega (arith, within.judged.few, few, length-append text within.piece, ap length within.whole, length-append within.piece rest)) in
       let drafted = c.in-Ok.ensures.drafted within.judged.transcript within.judged.drafted (omega (arith, within.judged.read.taken.few)) in
-      subst (IsWithin c.next.new.self.reader (seen c.judge_line.new.judge) c.judge_line.new.kept text block) (sym (take_rest rest count))
-      (on_within c.loop-rest.lines.reader c.next.new.self.reader (seen c.loop-rest.judge) c.loop-rest.kept (seen c.judge_line.new.judge) c.judge_line.new.kept text block rest count line within gives.0 gives.1 gives.2 gives.3 c.judge_line.ensures.header fed.0 fed.1 fed.2 drafted));
+      subst (IsWithin c.next.new.self.reader (seen c.take_line.new.judge) c.take_line.new.kept text block) (sym (take_rest rest count))
+      (on_within c.loop-rest.lines.reader c.next.new.self.reader (seen c.loop-rest.judge) c.loop-rest.kept (seen c.take_line.new.judge) c.take_line.new.kept text block rest count line within gives.0 gives.1 gives.2 gives.3 c.take_line.ensures.header fed.0 fed.1 fed.2 drafted));
 }

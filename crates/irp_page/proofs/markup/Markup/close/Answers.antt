@@ -1,7 +1,7 @@
 -- The innermost element is closed, where one is open.
-use Rattle.std.proofs.Common.{subst, ◌∙◌}
+use Rattle.std.proofs.Common.{subst}
 use Rattle.irp_page.specs.Nesting.{IsMarkup}
-use Rattle.irp_page.proofs.Building.{closes, puts_end, puts_none}
+use Rattle.irp_page.proofs.Building.{closes}
 use Rattle.irp_page.proofs.markup.Markup.close.Goals as goal
 
 pub invariant_of-self-in-Some : goal.invariant_of-self-in-Some

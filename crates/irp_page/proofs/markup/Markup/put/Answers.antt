@@ -1,6 +1,5 @@
 -- One more piece that opens and closes nothing.
-use Rattle.std.proofs.Common.{refl}
-use Rattle.irp_page.proofs.Building.{one_more, puts_bytes}
+use Rattle.irp_page.proofs.Building.{one_more}
 use Rattle.irp_page.proofs.markup.Markup.put.Goals as goal
 
 pub invariant_of-self : goal.invariant_of-self
