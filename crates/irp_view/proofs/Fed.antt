@@ -1,5 +1,5 @@
 -- A text that is judged block after block.
-use Rattle.std.proofs.Common.{◌≡◌, suc, zero, inl, inr, true, false, is_some, slice_get, ◌∷◌, ℕ, ◌+◌, ◌-◌, ◌<◌, ◌≤◌, ◌^◌, List, [], ◌++◌, length, take, drop, Option, Some, None, IfSome, Result, Ok, Err, refl, sym, subst, ap, ◌∙◌, append_assoc, append-nil, arith, length-append}
+use Rattle.std.proofs.Common.{◌≡◌, suc, zero, inl, inr, true, false, is_some, slice_get, ◌∷◌, ℕ, ◌+◌, ◌-◌, ◌<◌, ◌≤◌, ◌^◌, List, [], ◌++◌, length, take, drop, Option, Some, None, IfOk, IfSome, Result, Ok, Err, refl, sym, subst, ap, ◌∙◌, append_assoc, append-nil, arith, length-append}
 use Rattle.std.proofs.lemmas.Bool.{cases_lt}
 use Rattle.std.proofs.lemmas.List.{drop-take, length-take-le, take-append-drop, take-append-le}
 use Rattle.std.proofs.lemmas.Option.{none-some, slice_get_within}
@@ -29,7 +29,8 @@ use Rattle.irp_listing.specs.Bytes.{Bytes}
 use Rattle.irp_view.specs.Reading.{Holds, HoldsNone, IsInput, IsRefused, IsTextOf, IsTextOfNone, TakesAtMost, most_bytes, most_taken}
 use Rattle.irp_view.specs.Judging.{AreJudged, Concludes, Ends, Fails, IsFound, IsHopeless, IsKept, IsSoFar, Reads, piece_of, unread_of}
 use Rattle.irp_page.specs.declared.draft.Draft.{Draft}
-use Rattle.irp_view.specs.Drafts.{AreDrafted}
+use Rattle.irp_page.specs.declared.choosing.Choice.{Choice}
+use Rattle.irp_view.specs.Drafts.{AreDrafted, choice_of}
 use Rattle.irp_view.specs.declared.judging.Found.{Found}
 use Rattle.irp_view.specs.declared.judging.Kept.{Kept}
 use Rattle.irp_view.specs.declared.reading.Unread.{Unread}
@@ -340,3 +341,10 @@ pub both_pieces : (buffer : List ℕ) (from to : ℕ) → from ≤ to → take f
 both_pieces buffer from to order =
     let same : from + (to - from) ≡ to = omega (arith, order) in
     subst (λ (count : ℕ). take from (take count buffer) ++ piece_of buffer from to ≡ take count buffer) same (two_pieces buffer from (to - from))
+
+-- ---- drafts
+
+-- whose page is drawn
+pub choice_through : (result : Result Found Unread) (before after : Option Choice) → before ≡ after → IfOk result (λ (found : Found). choice_of found.draft ≡ before) → IfOk result (λ (found : Found). choice_of found.draft ≡ after)
+choice_through result before after same is =
+    subst (λ (given : Option Choice). IfOk result (λ (found : Found). choice_of found.draft ≡ given)) same is

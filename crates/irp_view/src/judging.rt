@@ -308,6 +308,7 @@ fn judge_rest<R: Read>(
 /// # Errors
 ///
 /// Those of `reading::transcript_of`.
+#[tactic(auto, using(crate::proofs::Fed::finds_nothing))]
 pub fn judge_input<R: Read>(
     alloc: Global,
     input: &mut R,

@@ -1,7 +1,7 @@
 -- Block after block is judged, up to the end of the input.
 use Rattle.std.proofs.Common.{ℕ, ◌≡◌, ◌-◌, List, ◌++◌, take, subst, ◌∙◌, arith, length-take-le}
 use Rattle.irp_view.specs.Judging.{IsSoFar, piece_of}
-use Rattle.irp_view.proofs.Fed.{ends, few_so_far, so_far_end, so_far_on, takes_more, whole_piece}
+use Rattle.irp_view.proofs.Fed.{choice_through, ends, few_so_far, so_far_end, so_far_on, takes_more, whole_piece}
 use Rattle.irp_view.proofs.judging.judge_rest.Goals as goal
 
 pub returns-in-Err-clause-ends : goal.returns-in-Err-clause-ends
@@ -26,6 +26,10 @@ returns-then-to-eq0-clause-ends g c = λ old starts.
     so_far_end old (g.R.Read.remaining c.loop-unread.input) (g.R.Read.remaining c.take_block.new.reader) c.loop-unread.left c.in-Ok.count (inv.0 ++ block) c.take_block.new.buffer none inv.2 c.in-Ok.ensures.bytes in
     ends c.found_in.result old (g.R.Read.remaining c.take_block.new.reader) c.loop-unread.left (inv.0 ++ block) ended (c.in-Ok.ensures.end none)
     (c.found_in.ensures.found (inv.0 ++ block) judged (omega (arith, ended.count))))
+
+pub returns-then-to-eq0-clause-choice : goal.returns-then-to-eq0-clause-choice
+returns-then-to-eq0-clause-choice g c =
+    choice_through c.found_in.result _ _ (c.judge_block.ensures.choice ∙ c.loop-unread.invariant.choice) c.found_in.ensures.choice
 
 pub loop-unread-preserved : goal.loop-unread-preserved
 loop-unread-preserved g c = record {

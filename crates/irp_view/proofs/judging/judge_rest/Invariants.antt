@@ -13,7 +13,7 @@ invariant-loop-unread g l = record {
   room : length l.buffer ≡ length l.initial.buffer;
   order : l.from ≤ l.to;
   within : l.to ≤ length l.buffer;
-  choice : choice_of l.kept.draft ≡ choice_of l.draft;
+  choice : choice_of l.kept.draft ≡ choice_of l.fn.draft;
   so_far :
       (old : Bytes)
       → Starts old (g.R.Read.remaining l.initial.input) l.start l.initial.lines.reader l.initial.buffer
