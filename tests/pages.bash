@@ -51,19 +51,6 @@ for expected in pages/*.html; do
     has_cards "$expected" "$(grep -c '"irp":\[0,1\]' "$transcript")" --packet 0 1 "$transcript"
     has_none "$transcript"
 done
-
-# A history whose text is longer than the memory that the program may have, in units of 1,024 bytes. A program that was
-# built without proofs watches its memory, and starts with more than that.
-if [ "${view%.unproved}" = "$view" ]; then
-    tried=$((tried + 1))
-    short=../examples/sending/one_device_finishes_one_packet.transcript
-    { head -n 2 "$short" && yes "$(sed -n 2p "$short")" | head -n 900000; } >"$kept/long"
-    (ulimit -v 60000 && cards "$kept/long") >"$kept/some"
-    [ "$(wc -l <"$kept/some")" -eq 2000 ] || {
-        echo 'failed: page of a history longer than memory'
-        wrong=$((wrong + 1))
-    }
-fi
 python3 pages.py "$kept"/*.html >"$kept/looked" || wrong=$((wrong + 1))
 grep '^failed: ' "$kept/looked"
 echo "tried: $tried $wrong pages"
