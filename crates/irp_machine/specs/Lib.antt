@@ -1,0 +1,14 @@
+pub mod Asking
+pub mod Lists
+pub mod Marks
+pub mod Seats
+pub mod Changes
+pub mod Standings
+pub mod Next
+pub mod Calling
+pub mod Endings
+pub mod Machine
+pub mod Settled
+pub mod Planning
+pub mod Orders
+pub mod Replays

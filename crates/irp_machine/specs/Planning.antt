@@ -1,0 +1,58 @@
+-- The acts of each seat of a script.
+use Rattle.std.specs.Prelude.{ℕ, zero, suc, ◌+◌, ◌==◌, ◌&&◌, Bool, false, not, if◌then◌else◌, List, [], ◌∷◌, ◌++◌, Option, Some, None}
+use Rattle.std.specs.List.{list_any}
+use Rattle.irp_script_reader.specs.declared.act.Named.{Named}
+use Rattle.irp_script_reader.specs.declared.act.Named.TheVariants.{Label, Irp}
+use Rattle.irp_script_reader.specs.declared.act.Step.{Step}
+use Rattle.irp_machine.specs.declared.parts.Planned.{Planned}
+use Rattle.irp_machine.specs.Next.{label_of, named_by}
+
+-- this is the label
+abbrev pub is_label : ℕ → Option ℕ → Bool
+is_label label None = false
+is_label label (Some bound) = bound == label
+
+-- the step is another seat's and binds the label
+abbrev pub binds_elsewhere : ℕ → ℕ → Step → Bool
+binds_elsewhere seat label step = is_label label (label_of step.act) && not (step.seat == seat)
+
+-- another seat's step binds the label of this seat's step
+abbrev pub is_bound_elsewhere : List Step → ℕ → Option ℕ → Bool
+is_bound_elsewhere steps seat None = false
+is_bound_elsewhere steps seat (Some label) = list_any (binds_elsewhere seat label) steps
+
+-- the label by which a packet is named, where it is
+abbrev pub label_by : Option Named → Option ℕ
+label_by None = None
+label_by (Some (Label label)) = Some label
+label_by (Some (Irp irp)) = None
+
+-- reading the label that names the packet is a step of its own
+abbrev pub reads_alone : List Step → Step → Bool
+reads_alone steps step = is_bound_elsewhere steps step.seat (label_by (named_by step.act))
+
+-- binding the label is a step of its own
+abbrev pub binds_alone : List Step → Step → Bool
+binds_alone steps step = is_bound_elsewhere steps step.seat (label_of step.act)
+
+-- the act of a step
+abbrev pub planned : List Step → ℕ → Step → Planned
+planned steps place step = record {
+  step = place;
+  act = step.act;
+  reads_alone = reads_alone steps step;
+  binds_alone = binds_alone steps step;
+}
+
+-- the acts of a seat among the rest of the steps, of which the first has this place; labels that others of the rivals
+-- bind are read and bound alone
+abbrev pub own_acts : List Step → List Step → ℕ → ℕ → List Planned
+own_acts rivals [] place seat = []
+own_acts rivals (step ∷ rest) place seat =
+    if step.seat == seat then planned rivals place step ∷ own_acts rivals rest (place + 1) seat
+    else own_acts rivals rest (place + 1) seat
+
+-- the acts of each of so many seats
+abbrev pub acts_below : List Step → List Step → ℕ → List (List Planned)
+acts_below rivals steps zero = []
+acts_below rivals steps (suc seat) = acts_below rivals steps seat ++ own_acts rivals steps 0 seat ∷ []

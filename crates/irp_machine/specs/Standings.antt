@@ -1,0 +1,60 @@
+-- Where a script stands between two atomic steps, and what a change makes of that.
+use Rattle.std.specs.Prelude.{ℕ, Bool, List, length, nat_lt, if◌then◌else◌, Option, Some, None, slice_set, slice_index_or}
+use Rattle.irp_types.specs.declared.names.IrpRef.{IrpRef}
+use Rattle.irp_machine.specs.declared.parts.Change.{Change}
+use Rattle.irp_machine.specs.declared.parts.Given.{Given}
+use Rattle.irp_machine.specs.declared.parts.Made.{Made}
+use Rattle.irp_machine.specs.declared.parts.NewLabel.{NewLabel}
+use Rattle.irp_machine.specs.declared.parts.NewSlot.{NewSlot}
+use Rattle.irp_machine.specs.declared.parts.NewWord.{NewWord}
+use Rattle.irp_machine.specs.declared.parts.Slot.{Slot}
+use Rattle.irp_machine.specs.Lists.{with_more, with_item}
+use Rattle.irp_machine.specs.Marks.{mark_after}
+use Rattle.irp_machine.specs.Seats.{SeatValue, new_seat, after_step, with_held}
+
+-- the mark, the calls that changed the manager's state, what each label stands for, the words of the remove locks, the cancel
+-- slots, and the seats
+pub record StandingValue : Type 0 where
+  pub mark : ℕ
+  pub made : List Made
+  pub labels : List IrpRef
+  pub words : List ℕ
+  pub slots : List Slot
+  pub seats : List SeatValue
+
+-- another word of a lock, where one is named
+abbrev pub with_word : Option NewWord → List ℕ → List ℕ
+with_word None words = words
+with_word (Some word) words = with_item word.lock word.word words
+
+-- another state of a slot, where one is named
+abbrev pub with_slot : Option NewSlot → List Slot → List Slot
+with_slot None slots = slots
+with_slot (Some slot) slots = with_item slot.number slot.slot slots
+
+-- another packet for a label, where one is named
+abbrev pub with_label : Option NewLabel → List IrpRef → List IrpRef
+with_label None labels = labels
+with_label (Some label) labels = with_item label.label label.irp labels
+
+-- a seat behind a step of its own
+abbrev pub with_seat_changed : ℕ → Change → ℕ → Bool → List SeatValue → List SeatValue
+with_seat_changed seat change step tells seats =
+    with_item seat (after_step change step tells (slice_index_or seats seat new_seat)) seats
+
+-- a seat that was given a reference, where one is given
+abbrev pub with_given : Option Given → List SeatValue → List SeatValue
+with_given None seats = seats
+with_given (Some given) seats =
+    with_item given.seat (with_held given.held (slice_index_or seats given.seat new_seat)) seats
+
+-- where the script stands behind an atomic step of a seat that changes this
+abbrev pub after_change : ℕ → Change → ℕ → Bool → StandingValue → StandingValue
+after_change seat change step tells old = record {
+  mark = mark_after old.mark change.after step tells;
+  made = with_more change.made old.made;
+  labels = with_label change.label old.labels;
+  words = with_word change.word old.words;
+  slots = with_slot change.slot old.slots;
+  seats = with_given change.gives (with_seat_changed seat change step tells old.seats);
+}

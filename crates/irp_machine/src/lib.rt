@@ -1,0 +1,37 @@
+//! Every order of a script: the machine of its seats' atomic steps, and what the orders end in.
+#![tactic(auto)]
+
+mod asker;
+mod calling;
+mod changes;
+mod ending;
+mod equal;
+mod exploring;
+mod header;
+mod limits;
+mod lists;
+mod live_end;
+mod machine;
+mod marks;
+mod next;
+mod note;
+mod opening;
+mod outcome;
+mod parts;
+mod place;
+mod planning;
+mod record;
+mod replaying;
+mod seat_state;
+mod standing;
+mod told;
+
+pub use exploring::orders;
+pub use limits::{Compared, Limits, NotFound};
+pub use live_end::LiveEnd;
+pub use outcome::{End, Holder, LockEnd, Outcome, SlotEnd};
+pub use replaying::replay;
+pub use told::{Answered, Told};
+
+#[cfg(test)]
+mod tests;

@@ -1,0 +1,64 @@
+//! What an exploration may take, and why it was given up.
+
+use irp_explore::NotExplored;
+use std::alloc::{AllocError, AllocFailed};
+
+/// How much an exploration may take (this project's own rule).
+#[derive(Clone, Copy, PartialEq, Eq, Debug)]
+pub struct Limits {
+    /// How many states orders of equally many steps may lead to, and in how many orders may end.
+    pub states: usize,
+    /// How many outcomes there may be.
+    pub outcomes: usize,
+    /// One more than how many atomic steps an order may have.
+    pub steps: u32,
+}
+
+/// What tells two outcomes apart (this project's own rule).
+#[derive(Clone, Copy, PartialEq, Eq, Debug)]
+pub enum Compared {
+    /// The replies and the end.
+    Replies,
+    /// The end alone: no reply is kept.
+    Ends,
+}
+
+/// Why an exploration was given up (this project's own rule).
+#[derive(Clone, Copy, PartialEq, Eq, Debug)]
+pub enum NotFound {
+    /// Out of memory.
+    Memory,
+    /// More states than were allowed are reached by equally many steps, or are ends.
+    States,
+    /// More outcomes than were allowed.
+    Outcomes,
+    /// Some order has as many atomic steps as were allowed, or more.
+    Steps,
+    /// 2^128 orders or more end in one way.
+    Orders,
+    /// The tables of the script aren't within the limits. None that was read is so.
+    Script,
+}
+
+impl From<AllocError> for NotFound {
+    fn from(_error: AllocError) -> NotFound {
+        NotFound::Memory
+    }
+}
+
+impl<T: Drop> From<AllocFailed<T>> for NotFound {
+    fn from(_error: AllocFailed<T>) -> NotFound {
+        NotFound::Memory
+    }
+}
+
+impl From<NotExplored> for NotFound {
+    fn from(refusal: NotExplored) -> NotFound {
+        match refusal {
+            NotExplored::Memory => NotFound::Memory,
+            NotExplored::States => NotFound::States,
+            NotExplored::Steps => NotFound::Steps,
+            NotExplored::Orders => NotFound::Orders,
+        }
+    }
+}

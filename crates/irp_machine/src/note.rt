@@ -1,0 +1,39 @@
+//! What a seat knows of locks, as a note.
+
+ghost use Rattle.std.specs.Prelude.{◌≡◌};
+ghost use Rattle.std.specs.List.{list_any};
+ghost use Rattle.irp_machine.specs.Seats.{is_drained};
+
+use crate::parts::Learned;
+use crate::seat_state::knows_drained;
+use irp_manager::DrainNote;
+use irp_types::LockNo;
+
+/// A note that knows what a seat has learned.
+#[derive(Clone, Copy)]
+pub struct SeatNote<'a> {
+    pub learned: &'a [Learned],
+}
+
+impl DrainNote for SeatNote<'_> {
+    ghost knows_drained = { λ note lock. list_any (is_drained lock.0) note.learned.now };
+
+    fn knows(&self, lock: LockNo) -> bool {
+        knows_drained(self.learned, lock.0)
+    }
+}
+
+/// A note that knows of each lock that it is drained, or of none.
+#[derive(Clone, Copy)]
+pub struct OneNote {
+    pub drained: bool,
+}
+
+impl DrainNote for OneNote {
+    ghost knows_drained = { λ note lock. note.drained };
+
+    fn knows(&self, lock: LockNo) -> bool {
+        let _ = lock;
+        self.drained
+    }
+}

@@ -1,0 +1,52 @@
+//! How orders end, as it is told.
+
+use crate::live_end::LiveEnd;
+use crate::told::Told;
+use irp_types::IrpRef;
+
+/// Who holds a reference to a remove lock.
+#[derive(Clone, Copy, PartialEq, Eq, Debug)]
+pub struct Holder {
+    pub seat: u32,
+    pub tag: u32,
+}
+
+/// A remove lock at the end.
+#[derive(Drop)]
+pub struct LockEnd {
+    /// Its word: the removed bit, and twice the number of references.
+    pub word: u64,
+    /// Who holds it, by rising seat.
+    pub holders: Vec<Holder>,
+}
+
+/// A cancel slot at the end.
+#[derive(Clone, Copy, PartialEq, Eq, Debug)]
+pub struct SlotEnd {
+    /// 1 where somebody asked, else 0.
+    pub flag: u64,
+    /// The use that stands in it, 0 where none does.
+    pub content: u64,
+}
+
+/// How orders end (this project's own rule).
+#[derive(Drop)]
+pub struct End {
+    /// What each seat was told, in the order of its steps.
+    pub replies: Vec<Vec<Told>>,
+    /// The live packets by rising slot.
+    pub packets: Vec<LiveEnd>,
+    /// What each label stands for: a reference that is never live where it isn't bound.
+    pub labels: Vec<IrpRef>,
+    pub locks: Vec<LockEnd>,
+    pub slots: Vec<SlotEnd>,
+}
+
+/// One way in which orders end, how many do, and one of them (this project's own rule).
+#[derive(Drop)]
+pub struct Outcome {
+    pub orders: u128,
+    /// The seats of the atomic steps of one order, one after another.
+    pub path: Vec<u32>,
+    pub end: End,
+}

@@ -1,0 +1,99 @@
+//! The acts of each seat.
+
+ghost use Rattle.std.specs.Prelude.{◌≡◌, IfOk};
+ghost use Rattle.std.specs.List.{list_any};
+ghost use Rattle.irp_machine.specs.Planning as spec;
+
+use crate::next::{label_of, named_by};
+use crate::parts::Planned;
+use irp_script_reader::{Named, Step};
+use irp_types::Row;
+use std::alloc::{AllocError, Global};
+
+/// Whether a step is another seat's and binds a label.
+fn binds_elsewhere(step: Step, seat: u32, label: usize) -> bool
+    ensures { result ≡ spec.binds_elsewhere seat label step }
+{
+    match label_of(step.act) {
+        Some(bound) => bound == label && step.seat != seat,
+        None => false,
+    }
+}
+
+/// Whether another seat's step binds a label.
+fn is_bound_elsewhere(steps: &[Step], seat: u32, label: usize) -> bool
+    ensures { result ≡ list_any (spec.binds_elsewhere seat label) steps.now }
+{
+    steps.iter().any(|step| binds_elsewhere(*step, seat, label))
+}
+
+/// Whether reading the label that names the packet of a step is a step of its own.
+fn reads_alone(steps: &[Step], step: Step) -> bool
+    ensures { result ≡ spec.reads_alone steps.now step }
+{
+    match named_by(step.act) {
+        Some(Named::Label(label)) => is_bound_elsewhere(steps, step.seat, label),
+        _ => false,
+    }
+}
+
+/// Whether binding the label of a step is a step of its own.
+fn binds_alone(steps: &[Step], step: Step) -> bool
+    ensures { result ≡ spec.binds_alone steps.now step }
+{
+    match label_of(step.act) {
+        Some(label) => is_bound_elsewhere(steps, step.seat, label),
+        None => false,
+    }
+}
+
+/// The act of a step.
+fn planned(steps: &[Step], place: u32, step: Step) -> Planned
+    ensures { result ≡ spec.planned steps.now place step }
+{
+    Planned {
+        step: place,
+        act: step.act,
+        reads_alone: reads_alone(steps, step),
+        binds_alone: binds_alone(steps, step),
+    }
+}
+
+/// The acts of a seat, in the order of the steps. Labels that others of the rivals bind are read and bound alone.
+fn acts_of_seat(
+    alloc: Global,
+    rivals: &[Step],
+    steps: &[Step],
+    seat: u32,
+) -> Result<Vec<Planned>, AllocError>
+    ensures { IfOk result (λ acts. acts.items ≡ spec.own_acts rivals.now steps.now 0 seat) }
+{
+    let mut acts = Vec::new(alloc);
+    let mut place = 0u32;
+    for step in steps {
+        if step.seat == seat {
+            acts.push(planned(rivals, place, *step))?;
+        }
+        if place == u32::MAX {
+            return Err(AllocError);
+        }
+        place += 1;
+    }
+    Ok(acts)
+}
+
+/// The acts of each of so many seats. Labels that others of the rivals bind are read and bound alone.
+pub fn acts_of(
+    alloc: Global,
+    rivals: &[Step],
+    steps: &[Step],
+    seats: u32,
+) -> Result<Vec<Row<Planned>>, AllocError>
+    ensures { IfOk result (λ acts. acts.items ≡ spec.acts_below rivals.now steps.now seats) }
+{
+    let mut acts = Vec::new(alloc);
+    for seat in 0..seats {
+        acts.push(Row::from_vec(acts_of_seat(alloc, rivals, steps, seat)?))?;
+    }
+    Ok(acts)
+}
