@@ -9,7 +9,7 @@ use Rattle.irp_types.specs.declared.seat_act.LockAct.TheVariants.{Acquire, Relea
 use Rattle.irp_transcript.specs.declared.word_line.WordReply.{WordReply}
 use Rattle.irp_transcript.specs.declared.word_line.WordReply.TheVariants as reply
 use Rattle.irp_machine.specs.declared.parts.Stage.{Stage}
-use Rattle.irp_machine.specs.declared.parts.Stage.TheVariants as stage
+use Rattle.irp_machine.specs.declared.parts.Stage.TheVariants as stages
 use Rattle.irp_machine.specs.declared.parts.Learned.TheVariants.{Removed, Drained}
 use Rattle.irp_machine.specs.declared.parts.Slot.{Slot}
 use Rattle.irp_machine.specs.declared.parts.After.{After}
@@ -67,7 +67,7 @@ acquire word lock tag =
       word = Some (record { lock = lock; word = added word });
       holds = Some (record { lock = lock; tag = tag });
     }
-    else record (only (In stage.Tried)) { word = Some (record { lock = lock; word = added word }) }
+    else record (only (In stages.Tried)) { word = Some (record { lock = lock; word = added word }) }
 
 -- an acquire's next step: refusals without a step come first
 abbrev pub acquiring_anew : ℕ → SeatValue → ℕ → ℕ → Change
@@ -76,7 +76,7 @@ acquiring_anew word seat lock tag =
     else (if list_any (is_removed lock) seat.learned then told reply.DeletePending else acquire word lock tag)
 
 abbrev pub acquiring_at : Stage → ℕ → SeatValue → ℕ → ℕ → Change
-acquiring_at stage.Tried word seat lock tag =
+acquiring_at stages.Tried word seat lock tag =
     record (told reply.DeletePending) { word = Some (record { lock = lock; word = taken_from word }) }
 acquiring_at other word seat lock tag = acquiring_anew word seat lock tag
 
@@ -98,14 +98,14 @@ releasing word seat lock tag =
 -- a begin-remove sets the bit, and learns whether it was set before
 abbrev pub begin : ℕ → ℕ → Change
 begin word lock =
-    record (only (if word % 2 == 0 then In stage.Begun else Told (Word reply.AlreadyRemoving))) {
+    record (only (if word % 2 == 0 then In stages.Begun else Told (Word reply.AlreadyRemoving))) {
       word = Some (record { lock = lock; word = with_bit word });
       learns = Some (Removed lock);
     }
 
 -- a begin-remove's next step: it sets the bit, and then gives the reference back
 abbrev pub beginning_at : Stage → ℕ → SeatValue → ℕ → ℕ → Change
-beginning_at stage.Begun word seat lock tag = releasing word seat lock tag
+beginning_at stages.Begun word seat lock tag = releasing word seat lock tag
 beginning_at other word seat lock tag =
     if is_some (position (is_held lock tag) seat.held) then begin word lock else told reply.NotHeld
 
@@ -171,22 +171,22 @@ take_out number slot missed =
 abbrev pub swap_in : ℕ → Slot → ℕ → Change
 swap_in number slot use_no =
     if slot.used then told reply.Used
-    else record (only (In stage.Published)) {
+    else record (only (In stages.Published)) {
       slot = Some (record { number = number; slot = record slot { content = use_no; used = true } });
     }
 
 -- the flag is read: the use stands where it is clear
 abbrev pub check : ℕ → Slot → Change
 check number slot =
-    if slot.flag then only (In stage.FoundSet)
+    if slot.flag then only (In stages.FoundSet)
     else record (told reply.Standing) {
       slot = Some (record { number = number; slot = record slot { stands = true } });
     }
 
 -- a publication swaps the use in, then reads the flag, and where that is set swaps 0 in
 abbrev pub publishing : ℕ → Slot → Stage → ℕ → Change
-publishing number slot stage.Published use_no = check number slot
-publishing number slot stage.FoundSet use_no = take_out number slot reply.Lost
+publishing number slot stages.Published use_no = check number slot
+publishing number slot stages.FoundSet use_no = take_out number slot reply.Lost
 publishing number slot other use_no = swap_in number slot use_no
 
 abbrev pub publish : List Slot → ℕ → Stage → ℕ → Change
@@ -201,8 +201,8 @@ withdraw slots number =
 
 -- a request sets the flag, and then swaps 0 in
 abbrev pub requesting : ℕ → Slot → Stage → Change
-requesting number slot stage.Flagged = take_out number slot reply.Nothing
-requesting number slot other = record (only (In stage.Flagged)) {
+requesting number slot stages.Flagged = take_out number slot reply.Nothing
+requesting number slot other = record (only (In stages.Flagged)) {
   slot = Some (record { number = number; slot = record slot { flag = true } });
 }
 

@@ -34,8 +34,9 @@ seat_at standing seat = slice_index_or standing.seats seat new_seat
 -- the act that a seat is in, or its next one, where it has one
 abbrev pub act_of : RulesValue → StandingValue → ℕ → Option Planned
 act_of rules standing seat =
-    option_and_then (slice_get standing.seats seat)
-    (λ (own : SeatValue). option_and_then (slice_get rules.acts seat) (λ acts. slice_get acts own.made))
+    option_and_then
+    (λ (own : SeatValue). option_and_then (λ (acts : List Planned). slice_get acts own.made) (slice_get rules.acts seat))
+    (slice_get standing.seats seat)
 
 -- which locks a seat knows to be drained
 abbrev pub knows_of : SeatValue → LockNo → Bool

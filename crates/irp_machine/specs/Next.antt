@@ -13,9 +13,9 @@ use Rattle.irp_transcript.specs.declared.word_line.WordReply.TheVariants.{NoToke
 use Rattle.irp_script_reader.specs.declared.act.Named.{Named}
 use Rattle.irp_script_reader.specs.declared.act.Named.TheVariants.{Label, Irp}
 use Rattle.irp_script_reader.specs.declared.act.StepAct.{StepAct}
-use Rattle.irp_script_reader.specs.declared.act.StepAct.TheVariants as act
+use Rattle.irp_script_reader.specs.declared.act.StepAct.TheVariants as does
 use Rattle.irp_machine.specs.declared.parts.Stage.{Stage}
-use Rattle.irp_machine.specs.declared.parts.Stage.TheVariants as stage
+use Rattle.irp_machine.specs.declared.parts.Stage.TheVariants as stages
 use Rattle.irp_machine.specs.declared.parts.Taken.{Taken}
 use Rattle.irp_machine.specs.declared.parts.After.{After}
 use Rattle.irp_machine.specs.declared.parts.After.TheVariants.{In, Told, Binds}
@@ -36,8 +36,8 @@ unbound = record { slot = 4294967295; use_no = 0 }
 
 -- how an act names its packet, where it names one
 abbrev pub named_by : StepAct → Option Named
-named_by (act.Call call) = packet_named call
-named_by (act.Publish slot irp) = Some irp
+named_by (does.Call call) = packet_named call
+named_by (does.Publish slot irp) = Some irp
 named_by other = None
 
 -- the label by which a packet is named
@@ -48,8 +48,8 @@ label_in (Irp irp) = None
 -- the label that an act binds where it is answered by a packet: an allocation its own, and a reuse the one that named
 -- its packet
 abbrev pub label_of : StepAct → Option ℕ
-label_of (act.Allocate size label) = Some label
-label_of (act.Call (Reuse irp status)) = label_in irp
+label_of (does.Allocate size label) = Some label
+label_of (does.Call (Reuse irp status)) = label_in irp
 label_of other = None
 
 -- what a label stands for
@@ -68,12 +68,12 @@ packet_of labels act = packet_at labels (named_by act)
 
 -- the slot from which the token of a finish is to come, where the act is one
 abbrev pub slot_of : StepAct → Option ℕ
-slot_of (act.Call (FinishTaken irp slot status information)) = Some slot
+slot_of (does.Call (FinishTaken irp slot status information)) = Some slot
 slot_of other = None
 
 -- the place of the use that an act finishes, where it finishes one that the seat has
 abbrev pub spent_by : List Taken → StepAct → Option ℕ
-spent_by taken act = option_and_then (slot_of act) (λ slot. position (is_taken slot) taken)
+spent_by taken act = option_and_then (λ slot. position (is_taken slot) taken) (slot_of act)
 
 -- a finish for which the seat has no token
 abbrev pub is_tokenless : List Taken → StepAct → Bool
@@ -86,8 +86,8 @@ use_at taken (Some place) = option_map_or (λ (one : Taken). one.use_no) (slice_
 
 -- the call of an act, of this packet and with this token; a look where the act is none
 abbrev pub call_with : StepAct → IrpRef → ℕ → Call
-call_with (act.Call call) irp token = calls.call_with call irp token
-call_with (act.Allocate size label) irp token = AllocateCall size
+call_with (does.Call call) irp token = calls.call_with call irp token
+call_with (does.Allocate size label) irp token = AllocateCall size
 call_with other irp token = Look irp
 
 -- an act calls the manager, of this packet
@@ -97,16 +97,16 @@ calling taken act irp =
 
 -- what an act does next that names this packet
 abbrev pub with_packet : StandingValue → SeatValue → StepAct → IrpRef → Next
-with_packet standing seat (act.Publish slot named) irp = Changes (change.publish standing.slots slot seat.stage irp.use_no)
+with_packet standing seat (does.Publish slot named) irp = Changes (change.publish standing.slots slot seat.stage irp.use_no)
 with_packet standing seat act irp = calling seat.taken act irp
 
 -- what an act does next that may name a packet by a label: it reads the label, where that is a step of its own; it binds
 -- the label, where that is; and else it goes on with the packet
 abbrev pub naming_at : Stage → StandingValue → SeatValue → Planned → Next
-naming_at (stage.Answered irp) standing seat planned = Changes (change.bound (unwrap_or (label_of planned.act) 0) irp)
-naming_at (stage.Read irp) standing seat planned = with_packet standing seat planned.act irp
-naming_at stage.Between standing seat planned =
-    if planned.reads_alone then Changes (change.only (In (stage.Read (packet_of standing.labels planned.act))))
+naming_at (stages.Answered irp) standing seat planned = Changes (change.bound (unwrap_or (label_of planned.act) 0) irp)
+naming_at (stages.Read irp) standing seat planned = with_packet standing seat planned.act irp
+naming_at stages.Between standing seat planned =
+    if planned.reads_alone then Changes (change.only (In (stages.Read (packet_of standing.labels planned.act))))
     else with_packet standing seat planned.act (packet_of standing.labels planned.act)
 naming_at other standing seat planned = with_packet standing seat planned.act (packet_of standing.labels planned.act)
 
@@ -120,10 +120,10 @@ with_token standing seat planned =
 
 -- what a seat does next in an act
 abbrev pub next_by : StepAct → StandingValue → SeatValue → Planned → Next
-next_by (act.OnLock on) standing seat planned = Changes (change.on_lock standing.words seat on)
-next_by (act.Hand hand) standing seat planned = Changes (change.hand standing.words standing.seats seat hand)
-next_by (act.Withdraw slot) standing seat planned = Changes (change.withdraw standing.slots slot)
-next_by (act.Request slot) standing seat planned = Changes (change.request standing.slots slot seat.stage)
+next_by (does.OnLock on) standing seat planned = Changes (change.on_lock standing.words seat on)
+next_by (does.Hand hand) standing seat planned = Changes (change.hand standing.words standing.seats seat hand)
+next_by (does.Withdraw slot) standing seat planned = Changes (change.withdraw standing.slots slot)
+next_by (does.Request slot) standing seat planned = Changes (change.request standing.slots slot seat.stage)
 next_by other standing seat planned = with_token standing seat planned
 
 abbrev pub next_of : StandingValue → SeatValue → Planned → Next

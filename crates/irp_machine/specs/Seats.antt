@@ -1,7 +1,7 @@
 -- Seats: how far they are, what they hold and know, and what a step makes of them.
-use Rattle.std.specs.Prelude.{ℕ, ◌+◌, ◌^◌, ◌==◌, ◌&&◌, Bool, false, if◌then◌else◌, nat_lt, List, [], ◌∷◌, ◌++◌, Option, Some, None}
+use Rattle.std.specs.Prelude.{ℕ, ◌+◌, ◌^◌, ◌==◌, ◌&&◌, Bool, false, if◌then◌else◌, nat_le, List, [], ◌∷◌, ◌++◌, Option, Some, None}
 use Rattle.irp_machine.specs.declared.parts.Stage.{Stage}
-use Rattle.irp_machine.specs.declared.parts.Stage.TheVariants as stage
+use Rattle.irp_machine.specs.declared.parts.Stage.TheVariants as stages
 use Rattle.irp_machine.specs.declared.parts.Held.{Held}
 use Rattle.irp_machine.specs.declared.parts.Taken.{Taken}
 use Rattle.irp_machine.specs.declared.parts.Learned.{Learned}
@@ -23,7 +23,7 @@ pub record SeatValue : Type 0 where
 
 -- a seat that has made nothing
 abbrev pub new_seat : SeatValue
-new_seat = record { made = 0; stage = stage.Between; held = []; learned = []; taken = []; told = [] }
+new_seat = record { made = 0; stage = stages.Between; held = []; learned = []; taken = []; told = [] }
 
 -- a reference to this lock under this tag
 abbrev pub is_held : ℕ → ℕ → Held → Bool
@@ -56,14 +56,14 @@ told_of after step tells = if tells then told_after after step else None
 
 -- one more act made, as far as numbers go
 abbrev pub one_more : ℕ → ℕ
-one_more made = if nat_lt (made + 1) (2 ^ 64) then made + 1 else made
+one_more made = if nat_le (2 ^ 62) made then made else made + 1
 
 -- how many acts were made behind a step, and how far the present one is
 abbrev pub place_after : ℕ → After → ℕ × Stage
 place_after made (In stage) = (made, stage)
-place_after made (IsTold answer) = (one_more made, stage.Between)
-place_after made (Binds answer irp) = (made, stage.Answered irp)
-place_after made Bound = (one_more made, stage.Between)
+place_after made (IsTold answer) = (one_more made, stages.Between)
+place_after made (Binds answer irp) = (made, stages.Answered irp)
+place_after made Bound = (one_more made, stages.Between)
 
 -- a seat behind a step of its own
 abbrev pub after_step : Change → ℕ → Bool → SeatValue → SeatValue

@@ -104,7 +104,7 @@ fn explored(
     limits: Limits,
 ) -> Result<Vec<Node<Place>>, NotFound>
     ensures { IfOk result (λ found.
-        AreOrders (PlaceSteps machine.now) (length machine.now.acts + 1) (Running standing.entry)
+        AreOrders (PlaceSteps machine.now) (length machine.now.acts + 1) (Running standing)
         found.items) }
 {
     let start = Place::Running(standing);

@@ -20,7 +20,7 @@ mod outcome;
 mod parts;
 mod place;
 mod planning;
-mod record;
+mod recorded;
 mod replaying;
 mod seat_state;
 mod standing;

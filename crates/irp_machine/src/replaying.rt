@@ -16,7 +16,7 @@ use crate::next::{called, next_of};
 use crate::note::SeatNote;
 use crate::opening::{first_standing, machine_of, opened};
 use crate::parts::Next;
-use crate::record::Record;
+use crate::recorded::Recorded;
 use crate::standing::Standing;
 use crate::told::Answered;
 use irp_script_reader::{Script, ScriptParts, Step, StepAct};
@@ -25,20 +25,20 @@ use irp_types::{Call, Entry, Questions, Row, SlotAct, history_goes_on};
 use std::alloc::{AllocError, Global};
 
 /// Makes a call of a seat and records it.
-fn record(
+fn record_call(
     asker: &ScriptAsker,
-    record: &mut Record,
+    kept: &mut Recorded,
     seat: u32,
     call: Call,
     note: &SeatNote<'_>,
 ) -> Result<Reached, AllocError>
-    requires { IsRecorded (fixed_of asker.now.header.now) record.old }
-    ensures { OnOk result (IsRecorded (fixed_of asker.now.header.now) record.new) }
+    requires { IsRecorded (fixed_of asker.now.header.now) kept.old }
+    ensures { OnOk result (IsRecorded (fixed_of asker.now.header.now) kept.new) }
 {
-    let number = record.entries.len() as u64;
-    record.entries.reserve(1)?;
-    let applied = record.manager.apply(asker, call, note, None)?;
-    record.entries.push_reserved(Entry {
+    let number = kept.entries.len() as u64;
+    kept.entries.reserve(1)?;
+    let applied = kept.manager.apply(asker, call, note, None)?;
+    kept.entries.push_reserved(Entry {
         number,
         call,
         asked: Questions::from_vec(applied.asked),
@@ -57,7 +57,7 @@ fn record(
 /// Makes a step of a seat again, and records its call.
 fn play(
     machine: &ScriptMachine,
-    kept: &mut Record,
+    kept: &mut Recorded,
     standing: &mut Standing,
     seat: u32,
 ) -> Result<(), AllocError>
@@ -78,7 +78,7 @@ fn play(
             let note = SeatNote {
                 learned: own.learned(),
             };
-            let reached = record(machine.asker(), kept, seat, calling.call, &note)?;
+            let reached = record_call(machine.asker(), kept, seat, calling.call, &note)?;
             called(planned, calling, reached.knows, reached.reply)
         }
     };
@@ -90,7 +90,7 @@ fn play_setup(
     alloc: Global,
     header: &Header,
     script: &ScriptParts,
-    kept: &mut Record,
+    kept: &mut Recorded,
 ) -> Result<Standing, NotFound>
     requires tables { AreTables (fixed_of header.now).tables }
     requires kept { IsRecorded (fixed_of header.now) kept.old }
@@ -111,7 +111,7 @@ fn play_path(
     alloc: Global,
     header: &Header,
     script: &ScriptParts,
-    kept: &mut Record,
+    kept: &mut Recorded,
     mut standing: Standing,
     path: &[u32],
 ) -> Result<Standing, NotFound>
@@ -183,7 +183,7 @@ pub fn replay(alloc: Global, script: &Script, path: &[u32]) -> Result<Transcript
     let asker = ScriptAsker::new(&header, script);
     let manager = new_manager(alloc, &asker);
     let entries = Vec::new(alloc);
-    let mut kept = Record { manager, entries };
+    let mut kept = Recorded { manager, entries };
     let standing = play_setup(alloc, &header, script, &mut kept)?;
     let standing = play_path(alloc, &header, script, &mut kept, standing, path)?;
     let words = words_of(alloc, script.steps.as_slice(), &standing)?;

@@ -3,7 +3,7 @@
 ghost use Rattle.std.specs.Prelude.{◌≡◌, [], true, IfOk, OnOk, position};
 ghost use Rattle.std.specs.List.{list_any};
 ghost use mathlib.Core.Logic.{◌↔◌};
-ghost use Rattle.irp_machine.specs.Seats.{is_held, is_taken, is_removed, is_drained, after_step, new_seat, told_of, place_after, with_held};
+ghost use Rattle.irp_machine.specs.Seats.{is_held, is_taken, is_removed, is_drained, after_step, new_seat, told_of, one_more, place_after, with_held};
 
 use crate::lists::{push_if, remove_if};
 use crate::parts::{After, Change, Held, Learned, Stage, Taken};
@@ -135,14 +135,24 @@ fn told_of(after: After, step: u32, tells: bool) -> Option<Told>
     }
 }
 
-/// How many acts were made behind a step, and how far the present one is. (No seat makes as many as there are numbers.)
+/// One more act made. No seat gets to where there is none.
+fn one_more(made: usize) -> usize
+    ensures { result ≡ one_more made }
+{
+    if made >= 1 << 62 {
+        return made;
+    }
+    made + 1
+}
+
+/// How many acts were made behind a step, and how far the present one is.
 fn place_after(made: usize, after: After) -> (usize, Stage)
     ensures { result ≡ place_after made after }
 {
     match after {
         After::In(stage) => (made, stage),
         After::Binds(_, irp) => (made, Stage::Answered(irp)),
-        After::Told(_) | After::Bound => (made.saturating_add(1), Stage::Between),
+        After::Told(_) | After::Bound => (one_more(made), Stage::Between),
     }
 }
 

@@ -6,7 +6,7 @@ use irp_types::Entry;
 
 /// A manager, and the entries of its calls.
 #[derive(Drop)]
-pub struct Record {
+pub struct Recorded {
     pub manager: ManagerState<PlainKeep>,
     pub entries: Vec<Entry>,
 }
