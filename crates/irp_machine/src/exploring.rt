@@ -21,16 +21,15 @@ use std::alloc::{AllocError, Global};
 /// Who holds a lock.
 fn holders_of(alloc: Global, seats: &[SeatState], lock: usize) -> Result<Vec<Holder>, AllocError> {
     let mut holders = Vec::new(alloc);
-    for (seat, own) in seats.iter().enumerate() {
+    let mut seat = 0u32;
+    for own in seats {
         for held in own.held() {
             if held.lock as usize == lock {
                 let tag = held.tag;
-                holders.push(Holder {
-                    seat: seat as u32,
-                    tag,
-                })?;
+                holders.push(Holder { seat, tag })?;
             }
         }
+        seat = seat.saturating_add(1);
     }
     Ok(holders)
 }
@@ -80,13 +79,13 @@ fn end_of(alloc: Global, ending: &Ending) -> Result<End, AllocError> {
 fn outcomes_of(alloc: Global, mut found: Vec<Node<Place>>) -> Result<Vec<Outcome>, AllocError> {
     let mut outcomes = Vec::new(alloc);
     while let Some(node) = found.pop() {
-        if let Place::Over(ending) = node.state {
-            let mut path = node.path;
-            let _closing = path.pop();
-            let end = end_of(alloc, &ending)?;
-            let orders = node.orders;
-            outcomes.push(Outcome { orders, path, end })?;
-        }
+        let (state, orders, mut path) = (node.state, node.orders, node.path);
+        let Place::Over(ending) = state else {
+            continue;
+        };
+        let _closing = path.pop();
+        let end = end_of(alloc, &ending)?;
+        outcomes.push(Outcome { orders, path, end })?;
     }
     Ok(outcomes)
 }

@@ -32,8 +32,9 @@ fn one_more(known: Known, rule: Rule) -> Known {
 
 /// How many routines of each kind there are.
 fn known_of(routines: &[CompletionRoutine], cancels: usize) -> Known {
+    let cancel = if cancels <= 256 { cancels as u32 } else { 0 };
     let mut known = Known {
-        cancel: cancels as u32,
+        cancel,
         ..NO_ROUTINES
     };
     for routine in routines {

@@ -146,7 +146,7 @@ impl<'a> ScriptMachine<'a> {
     }
 
     /// Makes the next step of a seat, where it has one.
-    fn step_of(
+    pub fn step_of(
         &self,
         alloc: Global,
         standing: &Standing,

@@ -10,11 +10,9 @@ use crate::limits::NotFound;
 use crate::machine::ScriptMachine;
 use crate::next::UNBOUND;
 use crate::parts::{Made, Slot};
-use crate::place::Place;
 use crate::planning::acts_of;
 use crate::seat_state::SeatState;
 use crate::standing::Standing;
-use irp_explore::Machine;
 use irp_script_reader::{ScriptParts, Step};
 use irp_transcript::Header;
 use irp_types::IrpRef;
@@ -101,19 +99,15 @@ pub fn opened(alloc: Global, header: &Header, ended: &Standing) -> Result<Standi
 pub fn opening(alloc: Global, header: &Header, script: &ScriptParts) -> Result<Standing, NotFound>
     requires { AreTables (fixed_of header.now).tables }
 {
-    let first = first_standing(alloc, header, script)?;
+    let mut standing = first_standing(alloc, header, script)?;
     let setup = script.setup.as_slice();
     let machine = machine_of(alloc, header, script, &[], setup, false)?;
-    let mut place = Place::Running(first);
     for step in setup {
-        let Some(next) = machine.step(alloc, &place, step.seat)? else {
+        let Some(next) = machine.step_of(alloc, &standing, step.seat as usize)? else {
             return Err(NotFound::Script);
         };
-        place = next;
+        standing = next;
     }
-    let Place::Running(standing) = place else {
-        return Err(NotFound::Script);
-    };
     let opened = opened(alloc, header, &standing)?;
     Ok(opened)
 }

@@ -18,7 +18,7 @@ use crate::opening::{first_standing, machine_of, opened};
 use crate::parts::Next;
 use crate::recorded::Recorded;
 use crate::standing::Standing;
-use crate::told::Answered;
+use crate::told::{Answered, Told};
 use irp_script_reader::{Script, ScriptParts, Step, StepAct};
 use irp_transcript::{Act, Header, Transcript, WordLine};
 use irp_types::{Call, Entry, Questions, Row, SlotAct, history_goes_on};
@@ -140,6 +140,21 @@ fn act_of(act: StepAct) -> Option<Act> {
     }
 }
 
+/// The word line of what a seat was told, where a lock or a slot told it.
+fn line_of(steps: &[Step], seat: u32, told: Told) -> Option<WordLine> {
+    let Answered::Word(reply) = told.answer else {
+        return None;
+    };
+    let step = steps.get(told.step as usize)?;
+    let act = act_of(step.act)?;
+    Some(WordLine {
+        seat,
+        step: told.step,
+        act,
+        reply,
+    })
+}
+
 /// The word lines of what the seats were told, by rising seat and then by rising step.
 fn words_of(
     alloc: Global,
@@ -147,20 +162,14 @@ fn words_of(
     standing: &Standing,
 ) -> Result<Vec<WordLine>, AllocError> {
     let mut words = Vec::new(alloc);
-    for (seat, own) in standing.seats().iter().enumerate() {
+    let mut seat = 0u32;
+    for own in standing.seats() {
         for told in own.told() {
-            let Some(step) = steps.get(told.step as usize) else {
-                continue;
-            };
-            if let (Answered::Word(reply), Some(act)) = (told.answer, act_of(step.act)) {
-                words.push(WordLine {
-                    seat: seat as u32,
-                    step: told.step,
-                    act,
-                    reply,
-                })?;
+            if let Some(line) = line_of(steps, seat, *told) {
+                words.push(line)?;
             }
         }
+        seat = seat.saturating_add(1);
     }
     Ok(words)
 }

@@ -1,4 +1,4 @@
-use Rattle.std.proofs.Common.{◌≡◌, true, Option, sym, ap, subst, ◌∙◌}
+use Rattle.std.proofs.Common.{◌≡◌, true, Option, List, sym, ap, subst, ◌∙◌}
 use Rattle.std.specs.Option.{option_map_or}
 use Rattle.irp_types.specs.Rules.{is_plan_allowed}
 use Rattle.irp_types.specs.declared.routine.Known.{Known}
@@ -19,5 +19,6 @@ returns c =
       };
       told =
           c.guarded_plan.ensures ∙ ap (guarded_plan known shown) c.plan_at-plan.ensures
+          ∙ ap (λ (plans : List Plan). guarded_plan known shown (plan_at plans c.args.id.0 shown)) c.as_slice.ensures
           ∙ ap (λ (given : Option Known). option_map_or (λ (known : Known). guarded_plan known shown (plan_at c.args.self.now.script.now.dispatches c.args.id.0 shown)) given fixed_plan) (sym c.known_of-known.ensures);
     }
