@@ -78,7 +78,10 @@ fn end_of(alloc: Global, ending: &Ending) -> Result<End, AllocError> {
 /// The outcomes of what was found.
 fn outcomes_of(alloc: Global, mut found: Vec<Node<Place>>) -> Result<Vec<Outcome>, AllocError> {
     let mut outcomes = Vec::new(alloc);
-    while let Some(node) = found.pop() {
+    for _left in 0..found.len() {
+        let Some(node) = found.pop() else {
+            return Ok(outcomes);
+        };
         let (state, orders, mut path) = (node.state, node.orders, node.path);
         let Place::Over(ending) = state else {
             continue;

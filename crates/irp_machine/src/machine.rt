@@ -13,7 +13,7 @@ use crate::calling::{call, manager_after};
 use crate::ending::{Ending, ending_of};
 use crate::next::{called, next_of};
 use crate::note::SeatNote;
-use crate::parts::{Calling, Change, Next, Planned};
+use crate::parts::{Calling, Change, Learned, Next, Planned};
 use crate::place::Place;
 use crate::standing::Standing;
 use irp_explore::Machine;
@@ -53,8 +53,8 @@ impl<'a> ScriptMachine<'a> {
     pub fn new(asker: ScriptAsker<'a>, acts: Vec<Row<Planned>>, tells: bool) -> ScriptMachine<'a>
         requires { length acts.items ≤ 64 }
         ensures { result ≡ record {
-          fixed = fixed_of asker.header.now;
-          script = asker.script.now;
+          fixed = fixed_of asker.entry.header.now;
+          script = asker.entry.script.now;
           acts = acts.items;
           tells = tells;
         } }
@@ -111,17 +111,16 @@ impl<'a> ScriptMachine<'a> {
         alloc: Global,
         standing: &Standing,
         seat: usize,
+        learned: &[Learned],
         planned: Planned,
         calling: Calling,
     ) -> Result<Change, AllocError>
-        requires { seat < length standing.now.seats }
+        requires { learned.now ≡ (seat_at standing.now seat).learned }
         ensures { IfOk result (IsCallOf self.now standing.now seat planned calling) }
     {
         let mut manager = manager_after(alloc, &self.asker, standing.made())?;
-        let own = &standing.seats()[seat];
-        let note = SeatNote {
-            learned: own.learned(),
-        };
+        let _ = seat;
+        let note = SeatNote { learned };
         let reached = call(&self.asker, &mut manager, calling.call, &note)?;
         Ok(called(planned, calling, reached.knows, reached.reply))
     }
@@ -140,7 +139,10 @@ impl<'a> ScriptMachine<'a> {
     {
         let change = match next_of(standing, &standing.seats()[seat], planned) {
             Next::Changes(change) => change,
-            Next::Calls(calling) => self.calls(alloc, standing, seat, planned, calling)?,
+            Next::Calls(calling) => {
+                let learned = standing.seats()[seat].learned();
+                self.calls(alloc, standing, seat, learned, planned, calling)?
+            },
         };
         self.changed(standing, seat, planned, change)
     }

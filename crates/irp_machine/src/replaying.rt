@@ -85,6 +85,31 @@ fn play(
     standing.change(place, change, planned.step, true)
 }
 
+/// Makes the steps of these seats, one after another, and records their calls.
+fn play_all(
+    machine: &ScriptMachine,
+    kept: &mut Recorded,
+    standing: &mut Standing,
+    path: &[u32],
+) -> Result<(), AllocError>
+    requires { IsRecorded machine.now.fixed kept.old }
+    ensures { OnOk result (IsRecorded machine.now.fixed kept.new) }
+{
+    for seat in path {
+        play(machine, kept, standing, *seat)?;
+    }
+    Ok(())
+}
+
+/// The seats of steps.
+fn seats_of(alloc: Global, steps: &[Step]) -> Result<Vec<u32>, AllocError> {
+    let mut seats = Vec::new(alloc);
+    for step in steps {
+        seats.push(step.seat)?;
+    }
+    Ok(seats)
+}
+
 /// Makes the setup of a script, and records its calls. Returns where the script stands then.
 fn play_setup(
     alloc: Global,
@@ -99,9 +124,8 @@ fn play_setup(
     let setup = script.setup.as_slice();
     let machine = machine_of(alloc, header, script, &[], setup, false)?;
     let mut standing = first_standing(alloc, header, script)?;
-    for step in setup {
-        play(&machine, kept, &mut standing, step.seat)?;
-    }
+    let seats = seats_of(alloc, setup)?;
+    play_all(&machine, kept, &mut standing, &seats)?;
     let opened = opened(alloc, header, &standing)?;
     Ok(opened)
 }
@@ -121,9 +145,7 @@ fn play_path(
 {
     let steps = script.steps.as_slice();
     let machine = machine_of(alloc, header, script, steps, steps, true)?;
-    for seat in path {
-        play(&machine, kept, &mut standing, *seat)?;
-    }
+    play_all(&machine, kept, &mut standing, path)?;
     Ok(standing)
 }
 

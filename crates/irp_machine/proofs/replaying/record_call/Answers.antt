@@ -1,4 +1,4 @@
-use Rattle.std.proofs.Common.{◌≡◌, ◌++◌, ◌∷◌, [], List, length, refl, sym, ap, ◌∙◌, subst}
+use Rattle.std.proofs.Common.{rules, ◌≡◌, ◌++◌, ◌∷◌, [], List, length, refl, sym, ap, ◌∙◌, subst}
 use Rattle.std.specs.List.{list_any}
 use Rattle.irp_types.specs.Steps.{Step}
 use Rattle.irp_types.specs.Histories.{IsEntryAt}
@@ -29,8 +29,9 @@ returns c =
     let old = state_of live_of c.args.kept.now.manager in
     let new = state_of live_of c.apply.new.self in
     let kept = c.in_ok-applied.ensures.stepped.fixed in
+    let numbered : c.len-number.result ≡ length history = search rules in
     let holds : IsEntryAt fixed (length history) old entry new = record {
-      numbered = c.len-number.ensures;
+      numbered = numbered;
       lock = c.in_ok-applied.ensures.lock;
       undrained = undrained (λ (lock : LockNo). list_any (is_drained lock.0) c.args.note.now.learned.now) applied.lock applied.drained c.in_ok-applied.ensures.drained;
       step = subst (λ (asked : List Asked). Step fixed old applied.drained c.args.call asked applied.reply new)
