@@ -1,9 +1,9 @@
 //! The header of a script's transcripts.
 
+use irp_script::cancel_rule;
 use irp_script_reader::{CompletionRoutine, ScriptForm, ScriptParts};
 use irp_transcript::{Form, Header};
 use irp_types::{CancelAnswer, CancelRule, DispatchId, Known, Row, Rule};
-use irp_workers::cancel_rule;
 use std::alloc::{AllocError, Global};
 
 /// No routines.
