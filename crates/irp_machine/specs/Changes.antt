@@ -1,5 +1,5 @@
 -- What an atomic step changes, at remove locks and cancel slots.
-use Rattle.std.specs.Prelude.{ℕ, ◌+◌, ◌-◌, ◌%◌, ◌^◌, ◌==◌, Bool, true, false, if◌then◌else◌, nat_lt, nat_le, List, length, slice_get, position, Option, Some, None, is_some}
+use Rattle.std.specs.Prelude.{ℕ, ◌+◌, ◌-◌, ◌%◌, ◌^◌, ◌==◌, true, false, if◌then◌else◌, nat_lt, nat_le, List, length, slice_get, position, Some, None, is_some}
 use Rattle.std.specs.List.{list_any}
 use Rattle.std.specs.Option.{option_map_or}
 use Rattle.irp_types.specs.declared.names.IrpRef.{IrpRef}

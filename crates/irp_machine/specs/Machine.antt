@@ -1,5 +1,5 @@
 -- The machine of a script: what the next step of a seat makes of where the script stands.
-use Rattle.std.specs.Prelude.{ℕ, zero, suc, ◌≡◌, ◌&&◌, Bool, true, false, not, if◌then◌else◌, nat_lt, List, length, slice_get, slice_index_or, Option, Some, None, is_some}
+use Rattle.std.specs.Prelude.{ℕ, zero, suc, ◌≡◌, ◌&&◌, Bool, true, false, not, nat_lt, List, length, slice_get, slice_index_or, Option, Some, None, is_some}
 use Rattle.std.specs.List.{list_any}
 use Rattle.std.specs.Option.{option_map, option_and_then}
 use Rattle.irp_types.specs.State.{StateValue, Fixed, opening_state}

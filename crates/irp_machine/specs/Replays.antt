@@ -1,5 +1,4 @@
 -- Orders made again, and recorded.
-use Rattle.std.specs.Prelude.{◌≡◌}
 use Rattle.irp_types.specs.State.{Fixed}
 use Rattle.irp_types.specs.Histories.{LeadsTo}
 use Rattle.irp_types.specs.Standing.{StandingFacts}

@@ -5,7 +5,7 @@ use Rattle.std.specs.Option.{option_map}
 use Rattle.std.proofs.Common.{ap, sym, subst, ◌∙◌, refl, inl, inr, arith}
 use Rattle.std.proofs.lemmas.Bool.{cases_eq, cases_lt}
 use Rattle.irp_types.specs.Calls.{Call}
-use Rattle.irp_types.specs.State.{StateValue, Fixed, live_at, opening_state}
+use Rattle.irp_types.specs.State.{StateValue, Fixed, opening_state}
 use Rattle.irp_types.specs.Packet.{size_of}
 use Rattle.irp_types.specs.Unwinding.{unwound_packet}
 use Rattle.irp_types.specs.Refusals.{first_refusal}
@@ -14,8 +14,7 @@ use Rattle.irp_types.specs.declared.asked.Asked.{Asked}
 use Rattle.irp_types.specs.declared.asked.Asked.TheVariants.{Dispatch, Completion, Cancel}
 use Rattle.irp_types.specs.declared.names.LockNo.{LockNo}
 use Rattle.irp_types.specs.declared.reply.Reply.{Reply}
-use Rattle.irp_types.specs.declared.reply.Reply.TheVariants.{Irp}
-use Rattle.irp_unwind.specs.Laws.{IsReplyOf, UnwindingIsSettled, DescentIsSettled}
+use Rattle.irp_unwind.specs.Laws.{IsReplyOf, UnwindingIsSettled}
 use Rattle.irp_unwind.proofs.Settled.{same_asking}
 use Rattle.irp_unwind.proofs.SettledDown.{same_descent}
 use Rattle.irp_manager.proofs.SettledSteps.{same_step}
@@ -35,7 +34,7 @@ use Rattle.irp_machine.specs.Standings.{StandingValue, after_change}
 use Rattle.irp_machine.specs.Next.{next_of, called}
 use Rattle.irp_machine.specs.Calling.{IsLowest, IsCalled, Leads}
 use Rattle.irp_machine.specs.Endings.{EndingValue, ending_of}
-use Rattle.irp_machine.specs.Machine.{RulesValue, IsCallOf, IsNext, Makes, StepsTo, ClosesIf, ClosesTo, RunningSteps, PlaceSteps, act_of, has_ended, seat_at, knows_of}
+use Rattle.irp_machine.specs.Machine.{RulesValue, IsCallOf, IsNext, Makes, StepsTo, ClosesIf, RunningSteps, PlaceSteps, act_of, has_ended, seat_at, knows_of}
 
 -- ---- calls
 

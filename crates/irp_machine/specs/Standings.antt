@@ -1,5 +1,5 @@
 -- Where a script stands between two atomic steps, and what a change makes of that.
-use Rattle.std.specs.Prelude.{ℕ, Bool, List, length, nat_lt, if◌then◌else◌, Option, Some, None, slice_set, slice_index_or}
+use Rattle.std.specs.Prelude.{ℕ, Bool, List, Option, Some, None, slice_index_or}
 use Rattle.irp_types.specs.declared.names.IrpRef.{IrpRef}
 use Rattle.irp_machine.specs.declared.parts.Change.{Change}
 use Rattle.irp_machine.specs.declared.parts.Given.{Given}

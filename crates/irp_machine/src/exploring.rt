@@ -93,8 +93,8 @@ fn outcomes_of(alloc: Global, mut found: Vec<Node<Place>>) -> Result<Vec<Outcome
     Ok(outcomes)
 }
 
-/// Explores each order of the atomic steps of a script's seats, from where it stands. Each place that is found tells how
-/// the script has ended.
+/// Explores each order of the atomic steps of a script's seats, from where it stands. Each place that is found tells
+/// how the script has ended.
 ///
 /// # Errors
 ///
@@ -117,7 +117,9 @@ fn explored(
     Ok(found)
 }
 
-/// Each way in which the orders of a script's atomic steps end, behind its setup.
+/// Each way in which the orders of a script's atomic steps end, behind its setup. What is explored keeps the clauses of
+/// `explored`. (Not proved, but tested: that the setup is made as `run` makes it, and that an outcome tells what was
+/// found as it is.)
 ///
 /// # Errors
 ///

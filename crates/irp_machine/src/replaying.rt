@@ -196,8 +196,8 @@ fn words_of(
     Ok(words)
 }
 
-/// The transcript of one order of a script's atomic steps, given by their seats, behind its setup. Its history is legal.
-/// A seat that has no step left makes none.
+/// The transcript of one order of a script's atomic steps, given by their seats, behind its setup. Its history is
+/// legal. A seat that has no step left makes none. (Not proved: that it ends as the outcome that the path is of.)
 ///
 /// # Errors
 ///

@@ -4,8 +4,8 @@ use super::*;
 use irp_script_reader::read_script;
 use std::test::Fail;
 
-/// A publication against a request, at one slot. Where the owner reads the flag before it is set there is one order: the
-/// use stands, and is taken by the request. Else the owner takes its use back in a third step: of the seven orders with
+/// A publication against a request, at one slot. Where the owner reads the flag before it is set there is one order:
+/// the use stands, and is taken by the request. Else the owner takes its use back in a third step: of the seven orders with
 /// the flag before the read, the request comes between the two swaps of the owner in four, and takes the use; in three
 /// it finds nothing.
 const RACE: &[u8] =

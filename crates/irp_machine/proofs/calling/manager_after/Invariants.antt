@@ -1,4 +1,4 @@
-use Rattle.std.proofs.Common.{◌≡◌, drop}
+use Rattle.std.proofs.Common.{drop}
 use Rattle.irp_types.specs.State.{StateValue, opening_state}
 use Rattle.irp_types.specs.Standing.{StandingFacts}
 use Rattle.irp_transcript.specs.Headers.{fixed_of}
