@@ -1,0 +1,169 @@
+//! How the program ends.
+
+ghost use Rattle.std.specs.Prelude.{◌≡◌};
+ghost use Rattle.std.specs.Process.{exit_status};
+ghost use Rattle.irp_orders.specs.Ending.{has_line, status_of};
+
+use crate::asked::Unasked;
+use crate::input::StreamFault;
+use irp_condition::{Fault, Unread};
+use irp_listing::Unwritten;
+use irp_machine::NotFound;
+use irp_script_reader::{ScriptFault, ScriptRefusal};
+use std::alloc::{AllocError, AllocFailed};
+use std::fmt;
+use std::process::ExitCode;
+
+/// How the program ends: its exit status, and the line for standard error (this project's own command line).
+#[derive(Clone, Copy)]
+pub enum Ending {
+    /// All was done, and the condition never holds where one was asked: status 0, and no line.
+    Done,
+    /// The script is refused: status 1.
+    RefusedScript(ScriptRefusal),
+    /// An order makes the condition hold, and was told: status 2, and no line.
+    Broken,
+    /// Memory ran out: status 3.
+    NoMemory,
+    /// A bound was met: status 3.
+    Met(NotFound),
+    /// The words are none that the program takes: status 4.
+    OtherWords,
+    /// The condition isn't one: status 4.
+    RefusedCondition(Fault),
+    /// There are only so many outcomes: status 4.
+    NoOutcome(u64),
+    /// The file can't be opened: status 5.
+    NoFile,
+    /// The input or the output failed: status 5.
+    Failed,
+}
+
+impl Ending {
+    /// The exit status.
+    pub fn status(self) -> u8
+        ensures { result ≡ status_of self }
+    {
+        match self {
+            Ending::Done => 0,
+            Ending::RefusedScript(_) => 1,
+            Ending::Broken => 2,
+            Ending::NoMemory | Ending::Met(_) => 3,
+            Ending::OtherWords | Ending::RefusedCondition(_) | Ending::NoOutcome(_) => 4,
+            Ending::NoFile | Ending::Failed => 5,
+        }
+    }
+
+    /// The exit status, as a process ends with it.
+    pub fn code(self) -> ExitCode
+        ensures { exit_status result ≡ status_of self }
+    {
+        ExitCode::from(self.status())
+    }
+
+    /// Whether there is a line for standard error.
+    pub fn has_line(self) -> bool
+        ensures { result ≡ has_line self }
+    {
+        !matches!(self, Ending::Done | Ending::Broken)
+    }
+}
+
+/// Which bound was met, and how it is raised.
+fn bound_words(met: NotFound) -> &'static str {
+    match met {
+        NotFound::Memory => "out of memory",
+        NotFound::States =>
+            "more states than may be side by side; --states N allows more, --ends needs fewer",
+        NotFound::Outcomes =>
+            "more outcomes than there may be; --outcomes N allows more, --ends has fewer",
+        NotFound::Steps => "an order has 1,000,000 steps or more; make the script shorter",
+        NotFound::Orders => "2^128 orders or more end in one way; make the script shorter",
+        NotFound::Script => "the script has too many seats or routines",
+    }
+}
+
+/// The line for standard error, without its newline; no text where there is none.
+impl fmt::Display for Ending {
+    fn fmt<W: fmt::Write>(&self, f: &mut fmt::Formatter<W>) -> fmt::Result {
+        match self {
+            Ending::Done | Ending::Broken => Ok(()),
+            Ending::RefusedScript(refusal) => write!(f, "irp_orders: script refused: {refusal}"),
+            Ending::NoMemory => f.write_str("irp_orders: out of memory"),
+            Ending::Met(met) => write!(f, "irp_orders: {}", bound_words(*met)),
+            Ending::OtherWords => f.write_str(
+                "irp_orders: usage: irp_orders [--show K or --never CONDITION] [FILE]; see irp_orders --help",
+            ),
+            Ending::RefusedCondition(fault) => write!(f, "irp_orders: condition refused: {fault}"),
+            Ending::NoOutcome(count) => write!(f, "irp_orders: outcomes are numbered 1 to {count}"),
+            Ending::NoFile => f.write_str("irp_orders: the file can't be opened"),
+            Ending::Failed => f.write_str("irp_orders: input or output failed"),
+        }
+    }
+}
+
+impl From<Unasked> for Ending {
+    fn from(given: Unasked) -> Ending {
+        match given {
+            Unasked::Usage => Ending::OtherWords,
+            Unasked::NoMemory => Ending::NoMemory,
+        }
+    }
+}
+
+impl From<StreamFault> for Ending {
+    fn from(given: StreamFault) -> Ending {
+        match given {
+            StreamFault::Failed => Ending::Failed,
+            StreamFault::NoMemory => Ending::NoMemory,
+        }
+    }
+}
+
+impl From<ScriptFault> for Ending {
+    fn from(given: ScriptFault) -> Ending {
+        match given {
+            ScriptFault::Refused(refusal) => Ending::RefusedScript(refusal),
+            ScriptFault::NoMemory => Ending::NoMemory,
+        }
+    }
+}
+
+impl From<Unread> for Ending {
+    fn from(given: Unread) -> Ending {
+        match given {
+            Unread::Fault(fault) => Ending::RefusedCondition(fault),
+            Unread::NoMemory => Ending::NoMemory,
+        }
+    }
+}
+
+impl From<NotFound> for Ending {
+    fn from(given: NotFound) -> Ending {
+        match given {
+            NotFound::Memory => Ending::NoMemory,
+            met => Ending::Met(met),
+        }
+    }
+}
+
+impl From<Unwritten> for Ending {
+    fn from(given: Unwritten) -> Ending {
+        match given {
+            Unwritten::Failed => Ending::Failed,
+            Unwritten::NoMemory => Ending::NoMemory,
+        }
+    }
+}
+
+impl From<AllocError> for Ending {
+    fn from(_given: AllocError) -> Ending {
+        Ending::NoMemory
+    }
+}
+
+impl<T: Drop> From<AllocFailed<T>> for Ending {
+    fn from(_given: AllocFailed<T>) -> Ending {
+        Ending::NoMemory
+    }
+}

@@ -1,0 +1,47 @@
+//! The help.
+
+use crate::ending::Ending;
+use irp_listing::send;
+use irp_transcript_writer::Out;
+
+/// What the help says.
+const HELP: &str = "\
+irp_orders explores every order in which the seats of a script can make their steps, and tells how they end.
+
+Usage: irp_orders [--ends] [--groups] [--states N] [--outcomes N] [FILE]
+       irp_orders --show K [..] [FILE]
+       irp_orders --never CONDITION [..] [FILE]
+
+The script is read from FILE, or from standard input. Without --show and --never, a table of the outcomes is printed, the
+most frequent first: how many orders end so, the replies in which outcomes differ, the live packets, the remove locks and
+the cancel slots.
+
+  --show K           prints a transcript that leads to outcome K
+  --never CONDITION  tells whether no order ends so; where one does, the shortest that does
+  --ends             joins outcomes that end alike, whatever was replied: for larger scripts
+  --groups           joins outcomes that differ in the numbers of uses and slots of packets alone
+  --states N         at most N states side by side; 200,000 without it
+  --outcomes N       at most N outcomes; 20,000 without it
+  --help             prints this
+
+A condition joins facts by and, or, not and parentheses. deleted(0), live(a), removing(lock 0) are true or false; owner(a),
+status(a), current(a), held(lock 0) and reply(7) are compared by ==, !=, <, <=, > or >=. A packet is named by its label, a
+step by its place among the script's steps, from 0. Owners are originator, ended, device 2 and none; replies are a
+refusal as Ended, a status as STATUS_PENDING or 0x103, a number, done, standing, taken, lost, yes, busy and so on.
+
+Exit status: 0 done (--never: it never holds), 1 the script is refused, 2 --never: it holds in an order, 3 out of memory or
+a bound is met, 4 other words, 5 input or output failed.
+
+Examples:
+  irp_orders examples/recipes/a_cancel_race.script
+  irp_orders --show 2 examples/recipes/a_cancel_race.script | irp_view text
+  irp_orders --never 'live(a) and owner(a) != ended' my.script
+";
+
+/// Writes the help.
+pub fn help<O: Out>(output: &mut O) -> Ending {
+    match send(output, HELP.as_bytes()) {
+        Ok(()) => Ending::Done,
+        Err(fault) => Ending::from(fault),
+    }
+}

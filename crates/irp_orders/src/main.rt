@@ -1,0 +1,75 @@
+//! The program that explores every order of a script's steps, and tells how they end.
+#![tactic(auto)]
+
+mod asked;
+mod ending;
+mod ends;
+mod exploring;
+mod found;
+mod groups;
+mod help;
+mod input;
+mod labels;
+mod never;
+mod steps;
+mod table;
+mod words;
+
+use crate::asked::{Asked, Order, Unasked};
+use crate::ending::Ending;
+use crate::exploring::explore;
+use irp_transcript_writer::{Out, WriterOut};
+use std::env;
+use std::fs::File;
+use std::io::{self, Write};
+use std::process::ExitCode;
+
+/// Tells what is asked of the script in the file, or in standard input.
+fn explore_in<O: Out>(
+    rt: &HostRuntime,
+    output: &mut O,
+    order: &Order<'_>,
+    file: Option<&str>,
+) -> Ending {
+    let Some(name) = file else {
+        let mut input = rt.stdin();
+        return explore(rt.alloc(), &mut input, output, order);
+    };
+    match File::open(rt, name) {
+        Ok(mut file) => explore(rt.alloc(), &mut file, output, order),
+        Err(_) => Ending::NoFile,
+    }
+}
+
+/// The words that the program was given. `Usage` where they can't be had, and `NoMemory` where memory was missing for
+/// them.
+fn words_of(rt: &HostRuntime) -> Result<Vec<String>, Unasked> {
+    let words = match env::args(rt) {
+        Ok(words) => words,
+        Err(error) if error.kind() == io::ErrorKind::OutOfMemory => return Err(Unasked::NoMemory),
+        Err(_) => return Err(Unasked::Usage),
+    };
+    Ok(words.collect(rt.alloc())?)
+}
+
+/// Does what the words ask for.
+fn obey<O: Out>(rt: &HostRuntime, output: &mut O) -> Ending {
+    let words = match words_of(rt) {
+        Ok(words) => words,
+        Err(unasked) => return Ending::from(unasked),
+    };
+    match words::asked(rt.alloc(), words.as_slice()) {
+        Ok(Asked::Help) => help::help(output),
+        Ok(Asked::Explore { order, file }) => explore_in(rt, output, &order, file),
+        Err(unasked) => Ending::from(unasked),
+    }
+}
+
+fn main(rt: HostRuntime) -> ExitCode {
+    let mut output = WriterOut::new(io::writer(&rt));
+    let mut ending = obey(&rt, &mut output);
+    if ending.has_line() && writeln!(rt.stderr(), "{ending}").is_err() {
+        ending = Ending::Failed;
+    }
+    ending.code()
+}

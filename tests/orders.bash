@@ -1,0 +1,190 @@
+#!/bin/bash
+# Shows that `irp_orders` tells the outcomes of the races in examples/orders as they were worked out, judges conditions on
+# them, and ends as it should where it is refused or a bound is met; then that it tells the same orders as the second
+# reading's model, and that runs by several workers print no others (orders.py).
+#
+# IRP_ORDERS and IRPX name the programs; without them, they are those that bin/irp_orders and bin/irpx run. COUNT is how many
+# scripts are made by chance and SEED their seed, RUNS how often each race is run.
+# Each failure has a line of its own. Ends with status 0 where all was as expected, else with 1.
+set -u
+cd "$(dirname "$(readlink -f "$0")")" || exit 1
+irp_orders=${IRP_ORDERS:-$(../bin/program irp_orders quick)} || exit 1
+irpx=${IRPX:-$(../bin/program irpx quick)} || exit 1
+room=$(mktemp -d) || exit 1
+trap 'rm -rf "$room"' EXIT
+examples=../examples/orders
+tried=0
+wrong=0
+case $irp_orders in *.unproved) count=${COUNT:-10} runs=${RUNS:-5} ;; *) count=${COUNT:-60} runs=${RUNS:-40} ;; esac
+
+# Counts one check. Its name is $1; the rest is a command that succeeds where the check is met.
+meets() {
+    local name=$1
+    shift
+    tried=$((tried + 1))
+    "$@" && return
+    wrong=$((wrong + 1))
+    echo "failed: orders: $name"
+}
+
+# Runs irp_orders with the given words. Keeps its output, its errors and its status. Standard input is what stands at the
+# call.
+run() {
+    timeout 300 "$irp_orders" "$@" >"$room/output" 2>"$room/errors"
+    status=$?
+}
+
+# Checks that the last run ended with the status $2, with the line $3 on standard error, or none, and where $4 is given with
+# this first line on standard output.
+ended() {
+    meets "$1: status $status, not $2" [ "$status" -eq "$2" ]
+    meets "$1: standard error $(head -c 200 "$room/errors")" [ "$(cat "$room/errors")" = "$3" ]
+    [ $# -lt 4 ] || meets "$1: first line $(head -n 1 "$room/output")" [ "$(head -n 1 "$room/output")" = "$4" ]
+}
+
+# The races: the table, from a file and from standard input.
+for script in "$examples"/*.script; do
+    run "$script"
+    ended "$script" 0 ''
+    meets "$script: table" cmp -s "${script%.script}.expected" "$room/output"
+    run <"$script"
+    meets "$script: from standard input" cmp -s "${script%.script}.expected" "$room/output"
+done
+
+# Conditions that never hold of a race, and some that do.
+while IFS='|' read -r name condition; do
+    [ -n "$name" ] || continue
+    run --never "$condition" "$examples/$name.script"
+    all=$(sed -n '1s/^outcomes: \([0-9]*\), of \([0-9]*\) orders$/never: it holds in none of \2 orders, \1 outcomes/p' "$examples/$name.expected")
+    ended "$name, never $condition" 0 '' "$all"
+done <<'END'
+a_cancel_against_a_completion|live(a) and owner(a) != ended
+a_cancel_against_a_completion|reply(1) == done and reply(2) == true
+a_cancel_against_a_completion_by_a_slot|reply(2) == done and reply(4) == done
+a_cancel_against_a_completion_by_a_slot|not owner(a) == ended
+a_removal_against_a_send|reply(4) == STATUS_SUCCESS and reply(5) == DeviceGone
+a_removal_against_a_send|deleted(0) and held(lock 0) > 0
+a_hand_over_against_a_drain|reply(4) == yes and held(lock 0) > 0
+a_reuse_against_a_late_cancel|status(a) == STATUS_CANCELLED and owner(a) != ended
+END
+while IFS='|' read -r name condition line; do
+    [ -n "$name" ] || continue
+    run --never "$condition" "$examples/$name.script"
+    ended "$name, never $condition" 2 '' "$line"
+done <<'END'
+a_lost_pending_mark|reply(1) == NotOwner|it holds in 2 of 3 orders, 2 of 3 outcomes; the shortest:
+a_cancel_against_a_completion|status(a) == 0xC0000120|it holds in 1 of 3 orders, 1 of 3 outcomes; the shortest:
+a_cancel_against_a_completion|reply(2) == Ended or reply(2) == false|it holds in 2 of 3 orders, 2 of 3 outcomes; the shortest:
+a_removal_against_a_send|reply(5) == DeviceGone|it holds in 6 of 71 orders, 1 of 5 outcomes; the shortest:
+a_hand_over_against_a_drain|held(lock 0) == 1 and removing(lock 0)|it holds in 38 of 143 orders, 1 of 5 outcomes; the shortest:
+a_hand_over_against_a_drain|reply(5) == not_held and held(0) >= 1|it holds in 38 of 143 orders, 1 of 5 outcomes; the shortest:
+a_reuse_against_a_late_cancel|reply(4) == true|it holds in 3 of 15 orders, 1 of 5 outcomes; the shortest:
+a_reuse_against_a_late_cancel|current(a) < 2 and status(a) <= 0|it holds in 9 of 15 orders, 3 of 5 outcomes; the shortest:
+END
+
+# Texts that are no conditions: the column, and what was expected there.
+while IFS='|' read -r condition column expected; do
+    [ -n "$column" ] || continue
+    run --never "$condition" "$examples"/a_cancel_against_a_completion.script
+    ended "never '$condition'" 4 "irp_orders: condition refused: column $column: expected $expected"
+done <<'END'
+|1|not, a parenthesis, or reply, owner, status, current, live, deleted, held or removing
+owner(b) == ended|7|a label of the script, as in owner(a)
+owner a == ended|7|an opening parenthesis, as in owner(a)
+owner(a == ended|9|a closing parenthesis
+owner(a)|9|==, !=, <, <=, > or >=
+owner(a) = ended|10|==, !=, <, <=, > or >=
+owner(a) == Ended|13|originator, ended, device 2 or none
+reply(3) == Ended|7|the place of one of the script's steps, from 0, as in reply(7)
+reply(2) == Endd|13|a refusal as Ended, a number, a status, done, an answer as standing, device 2, true, false or none
+held(lock 1) > 0|11|the number of a remove lock, as in held(lock 0)
+held(0) > many|11|a number as 5 or 0x103, or a status as STATUS_PENDING
+deleted(64)|9|the number of a device, as in deleted(0)
+deleted(0) == 1|15|true or false
+live(a) live(a)|9|and, or, or the end
+live(a) and|12|not, a parenthesis, or reply, owner, status, current, live, deleted, held or removing
+END
+deep=$(printf 'not %.0s' $(seq 33))
+run --never "${deep}live(a)" "$examples"/a_cancel_against_a_completion.script
+meets 'thirty-three nots' grep -q 'at most 32 parentheses and nots within each other' "$room/errors"
+run --never "${deep#not }live(a)" "$examples"/a_cancel_against_a_completion.script
+ended 'thirty-two nots' 2 '' 'it holds in 3 of 3 orders, 3 of 3 outcomes; the shortest:'
+
+# Outcomes by their ends: two of the first race look alike.
+run --ends "$examples"/a_cancel_against_a_completion.script
+meets 'by ends: status' [ "$status" -eq 0 ]
+meets 'by ends: orders' grep -q '^outcomes: [23], of 3 orders$' "$room/output"
+run --ends --never 'live(a) and reply(0) == done' "$examples"/a_cancel_against_a_completion.script
+ended 'a reply by ends' 4 'irp_orders: condition refused: column 13: expected no reply and no deleted beside --ends, which leaves replies out'
+
+# Two seats that allocate: the outcomes differ in use numbers alone.
+printf '{"form":1,"seats":2,"locks":1,"completions":[],"cancels":[],"dispatches":[],"drivers":[[]],"setup":[],"steps":[%s,%s]}' \
+    '{"seat":0,"do":"allocate","size":1,"as":"a"}' '{"seat":1,"do":"allocate","size":1,"as":"b"}' >"$room/two.script"
+run "$room/two.script"
+ended 'two allocations' 0 '' 'outcomes: 2, of 2 orders'
+run --groups "$room/two.script"
+ended 'two allocations in groups' 0 '' 'outcomes: 1, of 2 orders'
+
+# Each transcript that is shown is legal; numbers beyond the last are refused.
+for number in 1 2 3; do
+    run --show "$number" "$examples"/a_cancel_against_a_completion.script
+    meets "show $number" [ "$("$irpx" check <"$room/output")" = 'legal 7' ]
+done
+# All of them, written by bin/irp_orders.
+if [ -z "${IRP_ORDERS:-}" ]; then
+    ../bin/irp_orders --write "$room/all" "$examples"/a_cancel_against_a_completion.script >"$room/output" 2>"$room/errors"
+    status=$?
+    ended 'write' 0 '' "$room/all: the table and 3 transcripts"
+    meets 'write: files' [ "$(cd "$room/all" && echo *)" = '1.transcript 2.transcript 3.transcript table' ]
+    meets 'write: table' cmp -s "$room/all/table" "$examples"/a_cancel_against_a_completion.expected
+fi
+for number in 0 4; do
+    run --show "$number" "$examples"/a_cancel_against_a_completion.script
+    ended "show $number" 4 'irp_orders: outcomes are numbered 1 to 3'
+done
+
+# Bounds that are met.
+run --states 1 "$examples"/a_removal_against_a_send.script
+ended 'one state' 3 'irp_orders: more states than may be side by side; --states N allows more, --ends needs fewer'
+run --outcomes 4 "$examples"/a_removal_against_a_send.script
+ended 'four outcomes' 3 'irp_orders: more outcomes than there may be; --outcomes N allows more, --ends has fewer'
+run --outcomes 5 "$examples"/a_removal_against_a_send.script
+ended 'five outcomes' 0 '' 'outcomes: 5, of 71 orders'
+
+# Scripts that are refused are told as irpx tells them.
+for script in refused/*.script; do
+    run "$script"
+    ended "$script" 1 "$(sed 's/^irpx:/irp_orders:/' "${script%.script}.expected")"
+done
+
+# Other words, files and outputs.
+usage='irp_orders: usage: irp_orders [--show K or --never CONDITION] [FILE]; see irp_orders --help'
+while read -r words; do
+    # shellcheck disable=SC2086
+    run $words <.
+    ended "words '$words'" 4 "$usage"
+done <<'END'
+--show
+--show one
+--show 1 --never live(a)
+--states -1
+--workers 2
+one two
+END
+run "$room/none.script"
+ended 'no such file' 5 "irp_orders: the file can't be opened"
+run <.
+ended 'a directory' 5 'irp_orders: input or output failed'
+timeout 300 "$irp_orders" "$examples"/a_lost_pending_mark.script >/dev/full 2>"$room/errors"
+status=$?
+ended 'a full device' 5 'irp_orders: input or output failed'
+run --help
+meets '--help shows an example' grep -q "irp_orders --never '" "$room/output"
+
+echo "tried: $tried $wrong orders"
+if ! python3 -c 'import sys; sys.exit(sys.version_info < (3, 9))' 2>/dev/null; then
+    echo 'passed over, for want of Python 3.9: orders by the second reading'
+elif ! python3 -B orders.py "$irp_orders" "$irpx" "$count" "$runs" "${SEED:-1}"; then
+    wrong=$((wrong + 1))
+fi
+[ "$wrong" -eq 0 ]

@@ -1,0 +1,139 @@
+"""Compares irp_orders with every order of a script that the second reading's model makes, one after another, and with what
+irpx prints.
+
+Usage: orders.py IRP_ORDERS IRPX COUNT RUNS SEED. Of the small scripts of the examples and of COUNT scripts made by chance
+the two have to tell as many orders for the same replies; each transcript that is shown has to be legal by the model. Of
+each race, RUNS runs on as many workers as it has seats have to print one of the outcomes. Prints a line for each
+difference, and then how many were tried. Ends with status 0, or 1 where something differs.
+"""
+
+import collections
+import glob
+import os
+import random
+import re
+import subprocess
+import sys
+
+HERE = os.path.dirname(os.path.realpath(__file__))
+sys.path.append(os.path.join(HERE, "second_reading"))
+
+from cases_by_chance import base_script  # noqa: E402
+from json_texts import read_json  # noqa: E402
+from layouts import encode, text_of  # noqa: E402
+from orders_of_steps import orders_of, replies_of  # noqa: E402
+from runs import Tally, work  # noqa: E402
+from scripts import LOCK_STEPS, read_script  # noqa: E402
+from transcripts import check  # noqa: E402
+
+EXAMPLES = os.path.join(os.path.dirname(HERE), "examples")
+# Scripts with more orders than this are left out.
+MOST = 2000
+# Steps of a script that is made by chance: so many at most, in each of its seats.
+STEPS = 7
+KIND = "orders"
+ON_WORDS = (*LOCK_STEPS, "hand", "publish", "withdraw", "request", "finish_taken")
+
+IRP_ORDERS = IRPX = None
+
+
+def prepare(irp_orders, irpx):
+    global IRP_ORDERS, IRPX
+    IRP_ORDERS, IRPX = irp_orders, irpx
+
+
+def ended(program, *words, text):
+    """Runs a program, and returns what it printed. It has to end with status 0, and without a line of complaint."""
+    it = subprocess.run([program, *words], input=text, capture_output=True, timeout=300)
+    if it.returncode or it.stderr:
+        raise ValueError(f"{' '.join(words)}: status {it.returncode}, {it.stderr[:200]!r}")
+    return it.stdout
+
+
+def replies_in(transcript, script):
+    """Returns the replies of a transcript behind those of `setup`."""
+    lines = [read_json(line) for line in transcript.split(b"\n")[1:-1]]
+    return replies_of(lines, len(script.setup))
+
+
+def told(text, script):
+    """Returns how many orders the program tells for which replies, and what is wrong with its transcripts."""
+    table = ended(IRP_ORDERS, text=text).decode()
+    counts = [int(it) for it in re.findall(r"(?m)^outcome \d+: (\d+) of \d+ orders", table)]
+    head = re.match(r"outcomes: (\d+), of (\d+) orders\n", table)
+    if not head or [int(it) for it in head.groups()] != [len(counts), sum(counts)]:
+        return None, f"the first line is {table.splitlines()[:1]}, and {len(counts)} outcomes follow"
+    found = collections.Counter()
+    for at, count in enumerate(counts):
+        transcript = ended(IRP_ORDERS, "--show", str(at + 1), text=text)
+        verdict = check(transcript)
+        if not verdict.startswith("legal"):
+            return None, f"the model judges the transcript of outcome {at + 1}: {verdict}"
+        found[replies_in(transcript, script)] += count
+    return found, None
+
+
+def compare(name, text):
+    """Compares the outcomes of one script. Returns the tally of it."""
+    tally = Tally()
+    script = read_script(text, 1)
+    wanted = orders_of(script, MOST)
+    if wanted is None:
+        return tally
+    try:
+        found, wrong = told(text, script)
+        if found is not None and found != wanted:
+            wrong = f"expected {sorted(wanted.values())} orders, got {sorted(found.values())}"
+    except ValueError as error:
+        wrong = str(error)
+    tally.note(KIND, f"{name}: {wrong}", wrong is None)
+    return tally
+
+
+def by_chance(seed, number):
+    """Compares a small script that is made by chance."""
+    rng = random.Random(f"{seed}:{number}")
+    for _ in range(1000):
+        script = base_script(rng, rng.choice((1, 2)), 20)
+        steps = script["setup"] + script["steps"]
+        first = next((at for at, step in enumerate(steps) if step["do"] in ON_WORDS), len(steps))
+        first = min(first, rng.randrange(12))
+        script["setup"], script["steps"] = steps[:first], steps[first : first + rng.randrange(3, STEPS + 1)]
+        if len({step["seat"] for step in script["steps"]}) > 1:
+            break
+    return compare(f"script {number} of seed {seed}", encode(text_of(script, rng, False)))
+
+
+def race(name, text, runs):
+    """Runs a script on as many workers as it has seats. Each run has to print an outcome. Returns the tally."""
+    tally = Tally()
+    script = read_script(text, 1)
+    if any(step["do"] == "hand" for step in script.steps):
+        return tally
+    found, wrong = told(text, script)
+    for number in range(runs):
+        printed = ended(IRPX, "run", "--workers", str(script.seats), text=text)
+        is_found = found is not None and replies_in(printed, script) in found
+        tally.note("races", f"{name}, run {number}: {wrong or 'no outcome has its replies'}", is_found)
+    return tally
+
+
+def main():
+    irp_orders, irpx, count, runs, seed = sys.argv[1], sys.argv[2], *map(int, sys.argv[3:6])
+    tasks = []
+    for path in sorted(glob.glob(os.path.join(EXAMPLES, "*", "*.script"))):
+        with open(path, "rb") as it:
+            text = it.read()
+        name = os.path.relpath(path, EXAMPLES)
+        if len({step["seat"] for step in read_script(text, 1).steps}) > 1:
+            tasks.append((compare, name, text))
+        if name.startswith("orders/"):
+            tasks.append((race, name, text, runs))
+    tasks += [(by_chance, seed, number) for number in range(count)]
+    tally = work(tasks, prepare, (irp_orders, irpx))
+    tally.tell()
+    return 1 if tally.wrong else 0
+
+
+if __name__ == "__main__":
+    sys.exit(main())

@@ -1,0 +1,188 @@
+"""Every order of the atomic steps of a script's seats, one after another: how each ends, and how many end so.
+
+Nothing is joined and nothing left out: each order is made from the beginning. What an atomic step is stands in
+docs/ORDERS.md; what a step on a remove lock or on a cancel slot does is read from docs/RULES.md and
+docs/CANCEL_SLOTS.md.
+"""
+
+import collections
+import math
+
+from json_texts import compact
+from running import UNBOUND, Runner
+
+DELETE_PENDING = {'status': 3221225558}
+
+
+class Stepper(Runner):
+    """A runner whose seats make their steps in atomic steps: what stands between two `yield`s is one of them."""
+    def __init__(self, script):
+        super().__init__(script)
+        for step in script.setup:
+            self.step(step)
+        self.begun = len(self.entries)
+        # The locks whose removal a seat's own begin_remove found or set.
+        self.removed = [set() for _ in range(script.seats)]
+        binders = collections.defaultdict(set)
+        for step in script.steps:
+            label = step.get('as') or (step['do'] == 'reuse' and step['irp'])
+            if isinstance(label, str):
+                binders[label].add(step['seat'])
+        self.binders = binders
+        self.seats = [self.seat(n) for n in range(script.seats)]
+
+    def seat(self, number):
+        for place, step in enumerate(self.script.steps):
+            if step['seat'] == number:
+                yield from self.act(step, place)
+
+    def read_apart(self, step):
+        """Returns whether reading the label of a step is a step of its own: another seat binds it."""
+        irp = step.get('irp')
+        return isinstance(irp, str) and bool(self.binders[irp] - {step['seat']})
+
+    def act(self, step, place):
+        """The atomic steps of a step."""
+        do, seat = step['do'], step['seat']
+        if do in ('acquire', 'begin_remove'):
+            yield from getattr(self, do)(step, place)
+        elif do == 'publish':
+            yield from self.publish(step, place)
+        elif do == 'request':
+            yield from self.request(step, place)
+        elif do == 'finish_taken' and (seat, step['slot']) not in self.tokens:
+            self.word(step, place, 'no_token')
+            yield
+        elif self.read_apart(step):
+            label = step['irp']
+            irp = self.labels.get(label, UNBOUND)
+            yield
+            before = self.labels.get(label)
+            reply = self.step(dict(step, irp=list(irp)), place) or self.entries[-1]['reply']
+            if do == 'reuse' and type(reply) is dict and 'irp' in reply:
+                yield
+                self.labels[label] = reply['irp']
+            elif before is not None:
+                self.labels[label] = before
+            yield
+        elif do == 'allocate' and self.binders[step['as']] - {seat}:
+            label = step['as']
+            before = self.labels.get(label)
+            self.step(step, place)
+            reply = self.entries[-1]['reply']
+            if type(reply) is dict and 'irp' in reply:
+                self.labels.pop(label) if before is None else self.labels.update({label: before})
+                yield
+                self.labels[label] = reply['irp']
+            yield
+        else:
+            self.step(step, place)
+            yield
+
+    def acquire(self, step, place):
+        locks, seat, lock = self.locks, step['seat'], step['lock']
+        if lock >= len(locks.count) or len(locks.held[seat]) >= 64 or not locks.removed[lock]:
+            self.step(step, place)
+        elif lock in self.removed[seat]:
+            self.word(step, place, DELETE_PENDING)
+        else:
+            locks.count[lock] += 1
+            yield
+            locks.count[lock] -= 1
+            self.word(step, place, DELETE_PENDING)
+        yield
+
+    def begin_remove(self, step, place):
+        locks, seat, lock = self.locks, step['seat'], step['lock']
+        if lock < len(locks.count) and (lock, step['tag']) in locks.held[seat]:
+            self.removed[seat].add(lock)
+            if not locks.removed[lock]:
+                locks.removed[lock] = True
+                yield
+                self.word(step, place, locks.release(seat, lock, step['tag']))
+                yield
+                return
+        self.step(step, place)
+        yield
+
+    def publish(self, step, place):
+        slots, slot = self.slots, step['slot']
+        irp = step['irp']
+        if isinstance(irp, str):
+            label, irp = irp, self.labels.get(irp, UNBOUND)
+            if self.binders[label] - {step['seat']}:
+                yield
+        if slots.owner[slot] != 'idle':
+            self.word(step, place, 'used')
+            yield
+            return
+        slots.content[slot] = irp[1]
+        slots.owner[slot] = 'published'
+        yield
+        if not slots.flag[slot]:
+            slots.owner[slot] = 'standing'
+            self.word(step, place, 'standing')
+            yield
+            return
+        slots.owner[slot] = 'done'
+        yield
+        self.took(step, place, slots.swap_out(slot), 'lost')
+        yield
+
+    def request(self, step, place):
+        slots, slot = self.slots, step['slot']
+        if slot >= len(slots.flag):
+            self.word(step, place, 'no_slot')
+        else:
+            slots.flag[slot] = True
+            yield
+            self.took(step, place, slots.swap_out(slot), 'nothing')
+        yield
+
+    def took(self, step, place, use, otherwise):
+        """Notes what a seat took from a slot: a use, or nothing."""
+        if use:
+            self.tokens[step['seat'], step['slot']] = use
+        self.word(step, place, {'taken': use} if use else otherwise)
+
+    def makes(self, seat):
+        """Makes the next atomic step of a seat. Returns whether it had one."""
+        return next(self.seats[seat], self) is not self
+
+
+def replies_of(lines, begun):
+    """Returns what the steps behind `setup` were answered: of each seat its calls in order, and the word lines."""
+    calls = [(e['seat'], e['call']['do'], e['reply']) for e in lines if 'call' in e][begun:]
+    words = [(w['seat'], w['step'], w['do'], w['reply']) for w in lines if 'step' in w]
+    return compact([sorted(calls, key=lambda c: c[0]), words])
+
+
+def orders_of(script, most):
+    """Returns how many orders end with which replies, or None where there are more than `most`."""
+    lengths = collections.Counter(step['seat'] for step in script.steps)
+    least = math.factorial(sum(lengths.values())) // math.prod(map(math.factorial, lengths.values()))
+    if least > most:
+        return None
+    found = collections.Counter()
+
+    def follow(path):
+        """Follows all orders that begin so."""
+        gone_on = False
+        for seat in range(script.seats):
+            stepper = Stepper(script)
+            for before in path:
+                stepper.makes(before)
+            if not stepper.makes(seat):
+                continue
+            gone_on = True
+            follow(path + [seat])
+            if sum(found.values()) > most:
+                return
+        if not gone_on:
+            ended = Stepper(script)
+            for seat in path:
+                ended.makes(seat)
+            found[replies_of(ended.lines()[1:], ended.begun)] += 1
+
+    follow([])
+    return None if sum(found.values()) > most else found
