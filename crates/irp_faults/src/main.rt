@@ -5,9 +5,7 @@
 mod counting;
 mod example;
 mod growing;
-mod in_book;
-mod keeps;
-mod place;
+mod outcome;
 mod playing;
 mod removes;
 mod rows;

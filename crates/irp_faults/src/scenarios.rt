@@ -2,11 +2,7 @@
 
 use crate::counting::{Asker, Counting};
 use crate::example::Example;
-use crate::growing::{create_devices, grow_table, grow_tables};
-use crate::in_book::in_book;
-use crate::keeps::{fill, fill_seat};
-use crate::place::{Alone, Bare};
-use crate::playing::play;
+use crate::growing::grow_table;
 use crate::rows::{ExampleName, example_of};
 use crate::seating::seat_pairs;
 use crate::session::session;
@@ -14,7 +10,6 @@ use crate::stores::{add_cancels, add_dispatches, add_drivers, add_routines};
 use crate::tables::add_all;
 use crate::texts::{put_transcript, read_the_script, read_the_transcript, write_the_transcript};
 use crate::tried::{Halt, Tried};
-use irp_manager::{MapKeep, SlabKeep};
 use irp_routines::AnswerTable;
 use std::alloc::Global;
 use std::marker::Brand;
@@ -22,32 +17,14 @@ use std::sync::atomic::AtomicU32;
 use std::sync::ledger::Blank;
 use std::sync::{Arc, Wait};
 
-/// Where an example is played.
-#[derive(Clone, Copy)]
-pub enum Where {
-    /// In a session, whose transcript is put out.
-    Session,
-    /// In a book, which copies each entry as it is recorded, or doesn't.
-    Book(bool),
-    /// By the manager alone.
-    Manager,
-    /// By a bare core.
-    Core,
-}
-
 /// What grows.
 #[derive(Clone, Copy)]
 pub enum Growth {
-    Devices,
     AnswerTable,
-    Tables,
     Routines,
     Cancels,
     Dispatches,
     Drivers,
-    Map,
-    Slab,
-    Seat,
     Pairs,
 }
 
@@ -62,80 +39,24 @@ pub enum Text {
 /// What a scenario does.
 #[derive(Clone, Copy)]
 pub enum Work {
-    Play(Where, ExampleName),
+    /// Plays an example in a session, whose transcript is put out.
+    Play(ExampleName),
     Grow(Growth),
     Text(Text),
 }
 
 /// The scenarios.
-pub const SCENARIOS: [(&str, Work); 29] = [
-    (
-        "finished_in_a_session",
-        Work::Play(Where::Session, ExampleName::Finished),
-    ),
-    (
-        "kept_in_a_session",
-        Work::Play(Where::Session, ExampleName::Kept),
-    ),
-    (
-        "cancelled_in_a_session",
-        Work::Play(Where::Session, ExampleName::Cancelled),
-    ),
-    (
-        "taken_in_a_session",
-        Work::Play(Where::Session, ExampleName::Taken),
-    ),
-    (
-        "drained_in_a_session",
-        Work::Play(Where::Session, ExampleName::Drained),
-    ),
-    (
-        "finished_in_a_book",
-        Work::Play(Where::Book(false), ExampleName::Finished),
-    ),
-    (
-        "kept_in_a_book",
-        Work::Play(Where::Book(false), ExampleName::Kept),
-    ),
-    (
-        "cancelled_in_a_book",
-        Work::Play(Where::Book(false), ExampleName::Cancelled),
-    ),
-    (
-        "kept_with_copies",
-        Work::Play(Where::Book(true), ExampleName::Kept),
-    ),
-    (
-        "finished_by_the_manager",
-        Work::Play(Where::Manager, ExampleName::Finished),
-    ),
-    (
-        "kept_by_the_manager",
-        Work::Play(Where::Manager, ExampleName::Kept),
-    ),
-    (
-        "cancelled_by_the_manager",
-        Work::Play(Where::Manager, ExampleName::Cancelled),
-    ),
-    (
-        "finished_by_a_core",
-        Work::Play(Where::Core, ExampleName::Finished),
-    ),
-    ("kept_by_a_core", Work::Play(Where::Core, ExampleName::Kept)),
-    (
-        "cancelled_by_a_core",
-        Work::Play(Where::Core, ExampleName::Cancelled),
-    ),
-    ("devices", Work::Grow(Growth::Devices)),
+pub const SCENARIOS: [(&str, Work); 14] = [
+    ("finished_in_a_session", Work::Play(ExampleName::Finished)),
+    ("kept_in_a_session", Work::Play(ExampleName::Kept)),
+    ("cancelled_in_a_session", Work::Play(ExampleName::Cancelled)),
+    ("taken_in_a_session", Work::Play(ExampleName::Taken)),
+    ("drained_in_a_session", Work::Play(ExampleName::Drained)),
     ("a_table_of_answers", Work::Grow(Growth::AnswerTable)),
-    ("tables", Work::Grow(Growth::Tables)),
     ("a_store_of_routines", Work::Grow(Growth::Routines)),
     ("a_store_of_cancel_routines", Work::Grow(Growth::Cancels)),
     ("a_store_of_dispatches", Work::Grow(Growth::Dispatches)),
     ("a_store_of_drivers", Work::Grow(Growth::Drivers)),
-    ("packets_in_a_map", Work::Grow(Growth::Map)),
-    ("packets_in_a_slab", Work::Grow(Growth::Slab)),
-    ("entries_of_a_seat", Work::Grow(Growth::Seat)),
     ("pairs_of_seats", Work::Grow(Growth::Pairs)),
     ("a_script_is_read", Work::Text(Text::Script)),
     ("a_transcript_is_read", Work::Text(Text::Read)),
@@ -160,19 +81,6 @@ fn play_in_session<R: Wait>(
     put_transcript(alloc, out, transcript, example.seats, tried)
 }
 
-/// Plays an example in a book.
-fn play_in_book(
-    alloc: Global,
-    ask: Asker,
-    asked: &AtomicU32,
-    example: &Example,
-    copies: bool,
-    tried: &mut Tried,
-) -> Result<(), Halt> {
-    let blank = Blank::new(1);
-    in_book::<Brand>(alloc, blank, ask, asked, example, copies, tried)
-}
-
 /// Adds those whom an example asks, and answers who asks them and counts there.
 fn asker_of(
     alloc: Global,
@@ -186,37 +94,26 @@ fn asker_of(
 }
 
 /// Plays an example.
-fn play_there<R: Wait>(
+fn play_example<R: Wait>(
     rt: &R,
     alloc: Global,
-    place: Where,
     example: &Example,
     tried: &mut Tried,
     out: &mut Vec<u8>,
 ) -> Result<(), Halt> {
     let asked = Arc::new(alloc, AtomicU32::new(0))?;
     let ask = asker_of(alloc, asked.clone()?, example, tried)?;
-    match place {
-        Where::Session => play_in_session(rt, alloc, ask, &asked, example, tried, out),
-        Where::Book(copies) => play_in_book(alloc, ask, &asked, example, copies, tried),
-        Where::Manager => play(Alone::new(alloc, ask), &asked, tried, example),
-        Where::Core => play(Bare::new(alloc, ask), &asked, tried, example),
-    }
+    play_in_session(rt, alloc, ask, &asked, example, tried, out)
 }
 
 /// Has something grow.
 fn grow(alloc: Global, growth: Growth, tried: &mut Tried) -> Result<(), Halt> {
     match growth {
-        Growth::Devices => create_devices(alloc, tried),
         Growth::AnswerTable => grow_table(alloc, tried),
-        Growth::Tables => grow_tables(alloc, tried),
         Growth::Routines => add_routines(alloc, tried),
         Growth::Cancels => add_cancels(alloc, tried),
         Growth::Dispatches => add_dispatches(alloc, tried),
         Growth::Drivers => add_drivers(alloc, tried),
-        Growth::Map => fill(MapKeep::new(alloc), "MapKeep::insert", tried),
-        Growth::Slab => fill(SlabKeep::new(alloc), "SlabKeep::insert", tried),
-        Growth::Seat => fill_seat::<Brand>(alloc, Blank::new(1), tried),
         Growth::Pairs => {
             let table = AnswerTable::new(alloc);
             seat_pairs::<AnswerTable, Brand>(alloc, Blank::new(9), table, 1, 9, tried)
@@ -233,7 +130,7 @@ pub fn perform<R: Wait>(
     out: &mut Vec<u8>,
 ) -> Result<(), Halt> {
     match work {
-        Work::Play(place, name) => play_there(rt, alloc, place, example_of(name), tried, out),
+        Work::Play(name) => play_example(rt, alloc, example_of(name), tried, out),
         Work::Grow(growth) => grow(alloc, growth, tried),
         Work::Text(Text::Script) => read_the_script(alloc, out, tried),
         Work::Text(Text::Read) => read_the_transcript(alloc, out, tried),

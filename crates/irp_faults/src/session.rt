@@ -4,7 +4,7 @@ ghost use Rattle.std.specs.Prelude.{◌≡◌};
 ghost use Rattle.irp_shared.specs.Answered.{AnswersSo};
 
 use crate::example::{Act, Example};
-use crate::place::{Lack, Place, told};
+use crate::outcome::{Lack, told};
 use crate::playing::play;
 use crate::removes::Removes;
 use crate::taking::taken;
@@ -22,7 +22,7 @@ use std::sync::ledger::Blank;
 /// The seats of a session, the last of which looks on; their remove lock; the token of the first packet's use, until it
 /// is spent; and how many entries the history has.
 #[derive(Drop)]
-struct Room<'a, R, A: Ask, L: Session> {
+pub struct Room<'a, R, A: Ask, L: Session> {
     rt: &'a R,
     shared: &'a Shared<A, L>,
     seats: &'a mut [Seat<L>],
@@ -63,8 +63,9 @@ fn finished<A: Ask, L: Session>(
     }
 }
 
-impl<R: Wait, A: Ask, L: Session> Place for Room<'_, R, A, L> {
-    fn make(&mut self, seat: u32, call: Call) -> Result<Reply, Lack> {
+impl<R: Wait, A: Ask, L: Session> Room<'_, R, A, L> {
+    /// Makes a call in a seat, and answers the reply.
+    pub fn make(&mut self, seat: u32, call: Call) -> Result<Reply, Lack> {
         let Some(own) = self.seats.get_mut(seat as usize) else {
             return Err(Lack::Wrong("there is no such seat"));
         };
@@ -87,7 +88,8 @@ impl<R: Wait, A: Ask, L: Session> Place for Room<'_, R, A, L> {
         Ok(reply)
     }
 
-    fn acts(&mut self, seat: u32, act: Act) -> bool {
+    /// Acts on the remove lock in a seat, and answers whether it was answered as it has to be.
+    pub fn acts(&mut self, seat: u32, act: Act) -> bool {
         self.removes.act(seat, act)
     }
 }
@@ -112,7 +114,7 @@ fn played<A: Ask, L: Session, R: Wait>(
 ) -> Result<(), Halt> {
     let token = taken(alloc, tried)?;
     let removes = Removes::open(alloc, tried)?;
-    let room = Room {
+    let mut room = Room {
         rt,
         shared,
         seats,
@@ -120,7 +122,7 @@ fn played<A: Ask, L: Session, R: Wait>(
         token: Some(token),
         entries: 0,
     };
-    play(room, asked, tried, example)
+    play(&mut room, asked, tried, example)
 }
 
 /// The transcript of a session with one lock and these many seats, the last of which looks on while the others make the

@@ -1,4 +1,4 @@
-//! Tables that those who are asked are added to: tables of answers, and the tables behind stores and these.
+//! A table of answers that those who are asked are added to.
 
 use crate::example::Asked;
 use crate::tried::{Halt, Tried, carried, wanted};
@@ -28,12 +28,6 @@ pub struct Refused {
     pairs: Vec<(u8, DispatchId)>,
 }
 
-/// Tables that those who are asked are added to.
-pub trait Tables {
-    /// Adds one who is asked, a driver with these pairs. None where that was done.
-    fn put(&mut self, asked: Asked, pairs: Vec<(u8, DispatchId)>) -> Option<Refused>;
-}
-
 /// How much these tables have: the counts of routines, and how many dispatches and drivers.
 pub fn extent_of(tables: &FixedTables) -> (Known, usize, usize) {
     (
@@ -57,65 +51,37 @@ fn without_pairs<I: Drop>(
     }
 }
 
-impl Tables for AnswerTable {
-    fn put(&mut self, asked: Asked, pairs: Vec<(u8, DispatchId)>) -> Option<Refused> {
-        let before = extent_of(self.tables());
-        let (name, back) = match asked {
-            Asked::Routine(rule) => (
-                "AnswerTable::add",
-                without_pairs(self.add(rule, BEHAVIOUR), pairs),
-            ),
-            Asked::Cancel(rule, answer) => (
-                "AnswerTable::add_cancel",
-                without_pairs(self.add_cancel(rule, answer), pairs),
-            ),
-            Asked::Dispatch(plan) => (
-                "AnswerTable::add_dispatch",
-                without_pairs(self.add_dispatch(before.0, plan), pairs),
-            ),
-            Asked::Driver(_) => ("AnswerTable::add_driver", self.add_driver(pairs).err()),
-        };
-        let back = back?;
-        Some(Refused {
-            name,
-            is_same: extent_of(self.tables()) == before && back.reason == Reason::Memory,
-            pairs: back.item,
-        })
-    }
-}
-
-impl Tables for FixedTables {
-    fn put(&mut self, asked: Asked, pairs: Vec<(u8, DispatchId)>) -> Option<Refused> {
-        let before = extent_of(self);
-        let (name, back) = match asked {
-            Asked::Routine(rule) => (
-                "FixedTables::add_routine",
-                without_pairs(self.add_routine(rule), pairs),
-            ),
-            Asked::Cancel(rule, _) => (
-                "FixedTables::add_cancel",
-                without_pairs(self.add_cancel(rule), pairs),
-            ),
-            Asked::Dispatch(_) => (
-                "FixedTables::add_dispatch",
-                without_pairs(self.add_dispatch(before.0), pairs),
-            ),
-            Asked::Driver(_) => ("FixedTables::add_driver", self.add_driver(pairs).err()),
-        };
-        let back = back?;
-        Some(Refused {
-            name,
-            is_same: extent_of(self) == before && back.reason == Reason::Memory,
-            pairs: back.item,
-        })
-    }
+/// Adds one who is asked to the table, a driver with these pairs. None where that was done.
+fn put(table: &mut AnswerTable, asked: Asked, pairs: Vec<(u8, DispatchId)>) -> Option<Refused> {
+    let before = extent_of(table.tables());
+    let (name, back) = match asked {
+        Asked::Routine(rule) => (
+            "AnswerTable::add",
+            without_pairs(table.add(rule, BEHAVIOUR), pairs),
+        ),
+        Asked::Cancel(rule, answer) => (
+            "AnswerTable::add_cancel",
+            without_pairs(table.add_cancel(rule, answer), pairs),
+        ),
+        Asked::Dispatch(plan) => (
+            "AnswerTable::add_dispatch",
+            without_pairs(table.add_dispatch(before.0, plan), pairs),
+        ),
+        Asked::Driver(_) => ("AnswerTable::add_driver", table.add_driver(pairs).err()),
+    };
+    let back = back?;
+    Some(Refused {
+        name,
+        is_same: extent_of(table.tables()) == before && back.reason == Reason::Memory,
+        pairs: back.item,
+    })
 }
 
 /// Adds those who are asked, each dispatch so that it may name all routines that there are. A call that finds no memory
-/// has to leave the tables as they were, and to hand a driver's pairs back. It is made again, with what came back.
-pub fn add_all<T: Tables>(
+/// has to leave the table as it was, and to hand a driver's pairs back. It is made again, with what came back.
+pub fn add_all(
     alloc: Global,
-    tables: &mut T,
+    table: &mut AnswerTable,
     all: &[Asked],
     tried: &mut Tried,
 ) -> Result<(), Halt> {
@@ -124,13 +90,13 @@ pub fn add_all<T: Tables>(
             Asked::Driver(pairs) => *pairs,
             _ => &[],
         };
-        let Some(back) = tables.put(*asked, pairs.to_vec(alloc)?) else {
+        let Some(back) = put(table, *asked, pairs.to_vec(alloc)?) else {
             continue;
         };
         let is_same = back.is_same && back.pairs.as_slice() == pairs;
         let own = carried(tried.refused(back.name, is_same), back.pairs)?;
         wanted(
-            tables.put(*asked, own).is_none(),
+            put(table, *asked, own).is_none(),
             "a call was refused twice",
         )?;
     }

@@ -6,6 +6,3 @@ ghosts-seat_pairs-L-Ledger a = record { name = a.blank.name; parts = a.blank.par
 
 abbrev pub ghosts-seat_pairs-L-Session : goal.ghosts-seat_pairs-L-Session
 ghosts-seat_pairs-L-Session a = record { seats = a.seats; fixed = record { locks = a.locks; tables = a.ask.tables; limit = ThirtyTwo }; may = λ asked. Unit {0} }
-
-abbrev pub ghosts-fill_seat : goal.ghosts-fill_seat
-ghosts-fill_seat a = record { name = a.blank.name; parts = a.blank.parts }
