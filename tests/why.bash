@@ -162,7 +162,7 @@ packet
 packet 0
 packet 0 one
 END
-echo "irp_view: the file can't be opened" >"$room/failed"
+echo "irp_view: $room/no_such_file: can't be opened: there is no such file" >"$room/failed"
 run why "$room/no_such_file"
 meets 'a file that is not there' left 5 /dev/null "$room/failed"
 echo 'irp_view: input or output failed' >"$room/failed"

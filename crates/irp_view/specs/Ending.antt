@@ -1,5 +1,5 @@
 -- The exit statuses, and the lines for standard error.
-use Rattle.std.specs.Prelude.{ℕ, List, ◌++◌, codes, Bool, true, false, Option, Some, Result, Ok, Err}
+use Rattle.std.specs.Prelude.{ℕ, List, ◌++◌, codes, Bool, true, false, Option, Some, Result, Ok, Err, string_bytes}
 use Rattle.std.specs.Fmt.{decimal}
 use Rattle.irp_judge.specs.declared.verdict.Verdict.{Verdict}
 use Rattle.irp_judge.specs.declared.verdict.Verdict.TheVariants as verdict
@@ -16,6 +16,8 @@ use Rattle.irp_view.specs.declared.ending.Ending.TheVariants.{
   NoFile,
   Failed,
 }
+use Rattle.irp_view.specs.declared.ending.NoOpen.{NoOpen}
+use Rattle.irp_view.specs.declared.ending.NoOpen.TheVariants.{Missing, Denied, Other}
 use Rattle.irp_view.specs.declared.input.StreamFault.{StreamFault}
 use Rattle.irp_view.specs.declared.input.StreamFault.TheVariants as stream
 use Rattle.irp_view.specs.declared.orders.Unasked.{Unasked}
@@ -65,7 +67,7 @@ status_of (Refused line expected) = 1
 status_of Wrong = 2
 status_of NoMemory = 3
 status_of OtherWords = 4
-status_of NoFile = 5
+status_of (NoFile name reason) = 5
 status_of Failed = 5
 
 -- whether an ending has a line for standard error
@@ -73,6 +75,12 @@ abbrev pub has_line : Ending → Bool
 has_line Done = false
 has_line Wrong = false
 has_line ending = true
+
+-- why a file isn't opened
+abbrev pub reason_text : NoOpen → List ℕ
+reason_text Missing = codes "there is no such file"
+reason_text Denied = codes "it may not be read"
+reason_text Other = codes "the system refuses it"
 
 -- the line for standard error, without its newline
 abbrev pub complaint_of : Ending → Option (List ℕ)
@@ -83,5 +91,6 @@ complaint_of Wrong = Some (codes "")
 complaint_of NoMemory = Some (codes "irp_view: out of memory")
 complaint_of OtherWords =
     Some (codes "irp_view: usage: irp_view why, text, page or packet SLOT USE, then [FILE]; see irp_view --help")
-complaint_of NoFile = Some (codes "irp_view: the file can't be opened")
+complaint_of (NoFile name reason) =
+    Some (codes "irp_view: " ++ (string_bytes name ++ (codes ": can't be opened: " ++ reason_text reason)))
 complaint_of Failed = Some (codes "irp_view: input or output failed")

@@ -2,7 +2,7 @@
 
 ghost use Rattle.std.specs.Prelude.{◌≡◌};
 ghost use Rattle.std.specs.Process.{exit_status};
-ghost use Rattle.irp_view.specs.Ending.{has_line, of_stream, of_unread, of_unwritten, of_verdict, of_words, status_of};
+ghost use Rattle.irp_view.specs.Ending.{has_line, reason_text, of_stream, of_unread, of_unwritten, of_verdict, of_words, status_of};
 
 use crate::input::StreamFault;
 use crate::orders::Unasked;
@@ -13,8 +13,30 @@ use irp_listing::Unwritten;
 use std::fmt;
 use std::process::ExitCode;
 
-/// How the program ends: its exit status, and the line for standard error (this project's own command line).
+/// Why a file isn't opened.
 #[derive(Clone, Copy)]
+pub enum NoOpen {
+    /// There is no such file.
+    Missing,
+    /// It may not be read.
+    Denied,
+    /// The system says something else.
+    Other,
+}
+
+/// Why a file isn't opened.
+fn reason_text(reason: NoOpen) -> &'static str
+    ensures { result.now ≡ reason_text reason }
+{
+    match reason {
+        NoOpen::Missing => "there is no such file",
+        NoOpen::Denied => "it may not be read",
+        NoOpen::Other => "the system refuses it",
+    }
+}
+
+/// How the program ends: its exit status, and the line for standard error (this project's own command line).
+#[derive(Drop)]
 pub enum Ending {
     /// All was done, and nothing is wrong where that was asked: status 0, and no line.
     Done,
@@ -26,16 +48,16 @@ pub enum Ending {
     NoMemory,
     /// The words are none that the program takes: status 4.
     OtherWords,
-    /// The file can't be opened: status 5.
-    NoFile,
+    /// The file of this name can't be opened: status 5.
+    NoFile { name: String, reason: NoOpen },
     /// The input or the output failed: status 5.
     Failed,
 }
 
 impl Ending {
     /// The exit status.
-    pub fn status(self) -> u8
-        ensures { result ≡ status_of self }
+    pub fn status(&self) -> u8
+        ensures { result ≡ status_of self.now }
     {
         match self {
             Ending::Done => 0,
@@ -43,20 +65,20 @@ impl Ending {
             Ending::Wrong => 2,
             Ending::NoMemory => 3,
             Ending::OtherWords => 4,
-            Ending::NoFile | Ending::Failed => 5,
+            Ending::NoFile { .. } | Ending::Failed => 5,
         }
     }
 
     /// The exit status, as a process ends with it.
-    pub fn code(self) -> ExitCode
-        ensures { exit_status result ≡ status_of self }
+    pub fn code(&self) -> ExitCode
+        ensures { exit_status result ≡ status_of self.now }
     {
         ExitCode::from(self.status())
     }
 
     /// Whether there is a line for standard error.
-    pub fn has_line(self) -> bool
-        ensures { result ≡ has_line self }
+    pub fn has_line(&self) -> bool
+        ensures { result ≡ has_line self.now }
     {
         !matches!(self, Ending::Done | Ending::Wrong)
     }
@@ -78,7 +100,13 @@ impl fmt::Display for Ending {
             Ending::OtherWords => f.write_str(
                 "irp_view: usage: irp_view why, text, page or packet SLOT USE, then [FILE]; see irp_view --help",
             ),
-            Ending::NoFile => f.write_str("irp_view: the file can't be opened"),
+            Ending::NoFile { name, reason } => {
+                write!(
+                    f,
+                    "irp_view: {name}: can't be opened: {}",
+                    reason_text(*reason)
+                )
+            }
             Ending::Failed => f.write_str("irp_view: input or output failed"),
         }
     }

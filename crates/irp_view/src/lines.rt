@@ -6,7 +6,8 @@ ghost use Rattle.irp_transcript.specs.Transcripts.{TranscriptValue, no_lines};
 ghost use Rattle.irp_view.specs.Judging.{IsEnd, IsHopeless, Reads, unread_of};
 
 use crate::reading::Unread;
-use crate::refusal::{Before, Expected, expected_in};
+use crate::refusal::{Before, Expected, bounds_of, expected_in};
+use irp_expected::Before as Bounds;
 use irp_text::{Line, Reader};
 use irp_transcript_reader::ReadFault;
 use memchr::memchr;
@@ -58,7 +59,8 @@ impl Lines {
             reader: Reader::new(alloc),
             beginning: Vec::new(alloc),
             before: Before {
-                seats: None,
+                bounds: Bounds::Nothing,
+                entries: 0,
                 words: false,
             },
         }
@@ -70,9 +72,9 @@ impl Lines {
     {
         self.beginning.clear();
         match line {
-            Line::Header(header) => self.before.seats = Some(header.seats),
+            Line::Header(header) => self.before.bounds = bounds_of(header),
             Line::Word(_) => self.before.words = true,
-            Line::Entry(_) => {}
+            Line::Entry(_) => self.before.entries = self.before.entries.saturating_add(1),
         }
     }
 

@@ -31,7 +31,7 @@ ghost use Rattle.irp_view.specs.declared.orders.Task.TheVariants.{Why, List as L
 ghost use Rattle.irp_transcript.specs.Transcripts.{TranscriptValue};
 
 use crate::drawing::draw_judged;
-use crate::ending::Ending;
+use crate::ending::{Ending, NoOpen};
 use crate::judging::{Judged, judge_input};
 use crate::orders::{Asked, Order, Span, Task, Unasked};
 use crate::reading::transcript_of;
@@ -137,6 +137,19 @@ fn run<R: Read, O: Out>(
     }
 }
 
+/// How the program ends where the file of this name can't be opened.
+fn no_file(alloc: Global, name: &str, kind: io::ErrorKind) -> Ending {
+    let reason = match kind {
+        io::ErrorKind::NotFound => NoOpen::Missing,
+        io::ErrorKind::PermissionDenied => NoOpen::Denied,
+        _ => NoOpen::Other,
+    };
+    match name.to_string(alloc) {
+        Ok(name) => Ending::NoFile { name, reason },
+        Err(_) => Ending::NoMemory,
+    }
+}
+
 /// Does what is asked for, with the file or with standard input.
 fn run_on<O: Out>(rt: &HostRuntime, output: &mut O, asked: Asked<'_>) -> Ending {
     let Some(name) = asked.file else {
@@ -145,7 +158,7 @@ fn run_on<O: Out>(rt: &HostRuntime, output: &mut O, asked: Asked<'_>) -> Ending 
     };
     match File::open(rt, name) {
         Ok(mut file) => run(rt.alloc(), &mut file, output, asked.order, name),
-        Err(_) => Ending::NoFile,
+        Err(error) => no_file(rt.alloc(), name, error.kind()),
     }
 }
 

@@ -14,7 +14,7 @@ use std::io::Read;
 pub const MOST_BYTES: usize = 1_073_741_824;
 
 /// Why the input holds no transcript.
-#[derive(Clone, Copy)]
+#[derive(Drop)]
 pub enum Unread {
     /// The input wasn't read. One that is too long counts as failed.
     Input(StreamFault),

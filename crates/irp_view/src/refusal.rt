@@ -3,18 +3,18 @@
 ghost use Rattle.std.specs.Prelude.{◌≡◌};
 ghost use Rattle.irp_view.specs.Refusals.{plain_text};
 
-use irp_forms::{list_at, under};
+use irp_expected::{Before as Bounds, misfit_of};
 use irp_text::read_transcript;
-use irp_transcript::Transcript;
+use irp_transcript::{Form, Header, Transcript};
 use irp_transcript_reader::MOST_BYTES;
-use irp_types::Asked;
+use irp_types::limits::MOST_ENTRIES;
 use memchr::memchr;
 use serde_json::Value;
 use std::alloc::Global;
 use std::fmt;
 
 /// What was expected of a line that is refused, as far as it is told.
-#[derive(Clone, Copy)]
+#[derive(Drop)]
 pub enum Expected {
     /// A newline behind it.
     Newline,
@@ -22,20 +22,14 @@ pub enum Expected {
     Shorter,
     /// JSON, which the text isn't at this column.
     Json { column: usize },
-    /// A header, since it is the first.
-    Header,
-    /// An entry: its call or its reply has no form of docs/FORMATS.md, or its keys are others.
-    Entry,
+    /// Something else in the part at this column; the words tell which part it is, and what was expected.
+    Part { column: usize, words: String },
     /// No entry, since a word line stands before it.
     NoEntry,
-    /// A word line, or an entry with a call.
-    WordLine,
-    /// A number under the key `n`.
-    Number,
-    /// A list of questions under the key `asked`.
-    Questions,
-    /// A number below so many under the key `seat`.
-    Seat { seats: u32 },
+    /// No entry, since there are as many as there may be.
+    NoMore,
+    /// Another line; nothing more is known of it.
+    Other,
     /// It isn't known, for want of memory.
     Fitting,
 }
@@ -47,39 +41,25 @@ impl fmt::Display for Expected {
     ghost output = { λ expected. Some (expected_text expected) };
 
     fn fmt<W: fmt::Write>(&self, f: &mut fmt::Formatter<W>) -> fmt::Result {
-        match *self {
+        match self {
             Expected::Json { column } => write!(f, ", column {column}: this isn't JSON"),
-            Expected::Seat { seats } => {
-                write!(
-                    f,
-                    ", \"seat\": a number below {seats}, the header's seats, was expected"
-                )
-            }
+            Expected::Part { column, words } => write!(f, ", column {column}{words}"),
             other => f.write_str(plain_text(other)),
         }
     }
 }
 
 /// What was expected, where that has no number.
-fn plain_text(expected: Expected) -> &'static str
-    ensures { result.now ≡ plain_text expected }
+fn plain_text(expected: &Expected) -> &'static str
+    ensures { result.now ≡ plain_text expected.now }
 {
     match expected {
         Expected::Newline => ": the last line has no newline",
         Expected::Shorter => ": a line has at most 65536 bytes",
-        Expected::Header => {
-            ": a header was expected, with the keys cancels, completions, dispatches, drivers, form, locks, seats, in form 2 slots"
-        }
-        Expected::Entry => {
-            ": an entry was expected, with the keys asked, call, n, reply and seat, each in its form"
-        }
         Expected::NoEntry => ": an entry stands behind a word line",
-        Expected::WordLine => {
-            ": a word line was expected, with the keys do, reply, seat, step and the step's own; or an entry with a call"
-        }
-        Expected::Number => ", \"n\": a number below 18446744073709551616 was expected",
-        Expected::Questions => ", \"asked\": a list of questions was expected",
-        Expected::Json { .. } | Expected::Seat { .. } | Expected::Fitting => "",
+        Expected::NoMore => ": a transcript has at most 1000000 entries",
+        Expected::Other => ": the line has none of the forms of docs/FORMATS.md",
+        Expected::Json { .. } | Expected::Part { .. } | Expected::Fitting => "",
     }
 }
 
@@ -103,54 +83,53 @@ fn rest_from(text: &[u8], line: u64) -> &[u8] {
     rest
 }
 
-/// What was expected of this entry.
-fn expected_of_entry(alloc: Global, seats: u32, value: &Value) -> Expected {
-    if under::<u64>("n", value).is_none() {
-        return Expected::Number;
-    }
-    match under::<u32>("seat", value) {
-        Some(seat) if seat < seats => {}
-        _ => return Expected::Seat { seats },
-    }
-    match value.get("asked") {
-        Some(asked) if list_at::<Asked>(alloc, asked).is_ok() => Expected::Entry,
-        _ => Expected::Questions,
-    }
-}
-
 /// What stands before a line, as far as it tells what is expected of the line.
 #[derive(Clone, Copy)]
 pub struct Before {
-    /// The header's seats, where there is a header.
-    pub seats: Option<u32>,
+    /// What the header settles, where there is a header.
+    pub bounds: Bounds,
+    /// How many entries there are.
+    pub entries: usize,
     /// Whether there is a word line.
     pub words: bool,
 }
 
+/// What a header settles for the lines behind it.
+pub fn bounds_of(header: &Header) -> Bounds {
+    Bounds::Header {
+        two: matches!(header.form, Form::Two { .. }),
+        seats: header.seats,
+    }
+}
+
 /// What stands in a transcript's lines.
 fn before_of(transcript: &Transcript) -> Before {
-    let seats = match transcript.header() {
-        Some(header) => Some(header.seats),
-        None => None,
+    let bounds = match transcript.header() {
+        Some(header) => bounds_of(header),
+        None => Bounds::Nothing,
     };
     Before {
-        seats,
+        bounds,
+        entries: transcript.entries().len(),
         words: !transcript.words().is_empty(),
     }
 }
 
-/// What was expected of this value behind these lines.
-fn expected_behind(alloc: Global, before: Before, value: &Value) -> Expected {
-    let Some(seats) = before.seats else {
-        return Expected::Header;
-    };
-    if value.get("call").is_none() {
-        return Expected::WordLine;
-    }
-    if before.words {
+/// What was expected of this line, which has this value, behind these lines.
+fn expected_behind(alloc: Global, before: Before, line: &[u8], value: &Value) -> Expected {
+    let is_entry = value.get("call").is_some();
+    if is_entry && before.words {
         return Expected::NoEntry;
     }
-    expected_of_entry(alloc, seats, value)
+    match misfit_of(alloc, before.bounds, line, value) {
+        Ok(Some(misfit)) => Expected::Part {
+            column: misfit.column,
+            words: misfit.words,
+        },
+        Ok(None) if is_entry && before.entries >= MOST_ENTRIES => Expected::NoMore,
+        Ok(None) => Expected::Other,
+        Err(_) => Expected::Fitting,
+    }
 }
 
 /// The value that this line is; or what was expected of the line where it isn't one.
@@ -171,7 +150,7 @@ fn expected_of_line(alloc: Global, before: &[u8], line: &[u8]) -> Expected {
         Err(expected) => return expected,
     };
     match read_transcript(alloc, before) {
-        Ok(transcript) => expected_behind(alloc, before_of(&transcript), &value),
+        Ok(transcript) => expected_behind(alloc, before_of(&transcript), line, &value),
         Err(_) => Expected::Fitting,
     }
 }
@@ -192,7 +171,7 @@ pub fn expected_in(alloc: Global, before: Before, beginning: &[u8], block: &[u8]
         return Expected::Fitting;
     }
     match value_of(alloc, line.as_slice()) {
-        Ok(value) => expected_behind(alloc, before, &value),
+        Ok(value) => expected_behind(alloc, before, line.as_slice(), &value),
         Err(expected) => expected,
     }
 }
