@@ -53,14 +53,24 @@ fn has_one_of(value: &Value, keys: &[&str]) -> bool {
     false
 }
 
+/// The first fault of an entry.
+fn fault_of_entry<'a>(alloc: Global, value: &'a Value, bounds: Bounds) -> Found<'a> {
+    first_fault(alloc, value, ENTRY, bounds)
+}
+
+/// The first fault of a word line.
+fn fault_of_word<'a>(alloc: Global, value: &'a Value, bounds: Bounds) -> Found<'a> {
+    first_fault(alloc, value, WORD_LINE, bounds)
+}
+
 /// The first fault of a line behind the header: of an entry where it has a key that only an entry has, and of a word
 /// line where it has one that only a word line has.
 fn fault_of_line<'a>(alloc: Global, value: &'a Value, bounds: Bounds) -> Found<'a> {
     if has_one_of(value, &["call", "asked", "n"]) {
-        return first_fault(alloc, value, ENTRY, bounds);
+        return fault_of_entry(alloc, value, bounds);
     }
     if has_one_of(value, &["do", "step"]) {
-        return first_fault(alloc, value, WORD_LINE, bounds);
+        return fault_of_word(alloc, value, bounds);
     }
     Ok(Some(Fault::at(Path::whole(), What::NoLine)))
 }
