@@ -1,9 +1,9 @@
 #!/bin/bash
 # Shows that `irp_view why` tells of a line that is refused where in it and what was expected there: each line of
 # refused_lines gets what stands below it, and one changed key of a line of an example is named. IRP_VIEW names the
-# program; without it, it is the one that bin/irp_view runs. SEED and COUNT are those of the changed keys: without them 1,
-# and 400 or, with a program that was built without proofs, 100. Each failure has a line of its own. Ends with status 0
-# where all was as expected, else with 1.
+# program; without it, it is the one that bin/irp_view runs. SEED and COUNT are those of the changed keys: without
+# them 1, and 400 or, with a program that was built without proofs, 100. Each failure has a line of its own. Ends with
+# status 0 where all was as expected, else with 1.
 set -u
 cd "$(dirname "$(readlink -f "$0")")" || exit 1
 irp_view=${IRP_VIEW:-$(../bin/program irp_view quick)} || exit 1

@@ -1,5 +1,7 @@
 //! Calls.
 
+use crate::choosing::look_by_do;
+use crate::search::{Found, Task};
 use crate::shape::{Kind, Part, Shape};
 use crate::small::{
     ANY, CANCEL_ROUTINE_OR_NULL, DEVICE, DRAINED, DRIVER, INFORMATION, LOCK, LOCK_OR_NULL, MAJOR,
@@ -140,5 +142,10 @@ const CALLS: &[Kind] = &[
 
 pub const CALL: Part = Part {
     told: "a call",
-    shape: Shape::ByDo(CALLS),
+    shape: Shape::Call,
 };
+
+/// Looks at a call.
+pub fn look_at_call<'a>(tasks: &mut Vec<Task<'a>>, task: Task<'a>, two: bool) -> Found<'a> {
+    look_by_do(tasks, task, CALLS, two)
+}

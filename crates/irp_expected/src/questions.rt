@@ -1,5 +1,7 @@
 //! What closures are asked, and what they answer.
 
+use crate::choosing::look_by_key;
+use crate::search::{Found, Task};
 use crate::shape::{Kind, Part, Shape, Sort};
 use crate::small::{
     CANCEL, CANCEL_ROUTINE, CANCEL_ROUTINE_OR_NULL, CONTEXT, DEVICE_OR_NULL, DISPATCH, HAS_LOWER,
@@ -108,35 +110,39 @@ const COMPLETION: Part = Part {
     shape: Shape::Items(&[RULE, ROUTINE]),
 };
 
+/// The questions, by the key that tells who is asked.
+const KINDS: &[Kind] = &[
+    Kind {
+        name: "cancel",
+        keys: &[
+            ("answer", CANCEL_ANSWER),
+            ("cancel", CANCEL_ROUTINE),
+            ("shown", SHOWN),
+        ],
+        two: false,
+    },
+    Kind {
+        name: "completion",
+        keys: &[
+            ("answer", COMPLETION_ANSWER),
+            ("completion", COMPLETION),
+            ("shown", SHOWN),
+        ],
+        two: false,
+    },
+    Kind {
+        name: "dispatch",
+        keys: &[("dispatch", DISPATCH), ("plan", PLAN), ("shown", SHOWN)],
+        two: false,
+    },
+];
+
 pub const QUESTION: Part = Part {
     told: "a question",
-    shape: Shape::ByKey {
-        names: &[],
-        kinds: &[
-            Kind {
-                name: "cancel",
-                keys: &[
-                    ("answer", CANCEL_ANSWER),
-                    ("cancel", CANCEL_ROUTINE),
-                    ("shown", SHOWN),
-                ],
-                two: false,
-            },
-            Kind {
-                name: "completion",
-                keys: &[
-                    ("answer", COMPLETION_ANSWER),
-                    ("completion", COMPLETION),
-                    ("shown", SHOWN),
-                ],
-                two: false,
-            },
-            Kind {
-                name: "dispatch",
-                keys: &[("dispatch", DISPATCH), ("plan", PLAN), ("shown", SHOWN)],
-                two: false,
-            },
-        ],
-        object: "this question",
-    },
+    shape: Shape::Question,
 };
+
+/// Looks at a question.
+pub fn look_at_question<'a>(tasks: &mut Vec<Task<'a>>, task: Task<'a>, two: bool) -> Found<'a> {
+    look_by_key(tasks, task, &[], KINDS, "this question", two)
+}

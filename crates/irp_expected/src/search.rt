@@ -1,7 +1,9 @@
 //! The first part of a value that isn't as it should be.
 
+use crate::calls::look_at_call;
 use crate::choosing::{look_by_do, look_by_first, look_by_key};
 use crate::fault::{Fault, Path, Step, What};
+use crate::questions::look_at_question;
 use crate::shape::{Key, Part, Shape};
 use irp_forms::named;
 use irp_types::Refusal;
@@ -239,6 +241,8 @@ fn look<'a>(tasks: &mut Vec<Task<'a>>, task: Task<'a>, bounds: Bounds) -> Found<
             object,
         } => look_by_key(tasks, task, names, kinds, object, bounds.two),
         Shape::ByFirst(sorts) => look_by_first(tasks, task, sorts, bounds.two),
+        Shape::Call => look_at_call(tasks, task, bounds.two),
+        Shape::Question => look_at_question(tasks, task, bounds.two),
         alone => Ok(look_at_alone(task, alone, bounds)),
     }
 }

@@ -86,4 +86,8 @@ pub enum Shape {
     },
     /// A list of one sort; told by its noun.
     ByFirst(&'static [Sort]),
+    /// A call.
+    Call,
+    /// A question.
+    Question,
 }
