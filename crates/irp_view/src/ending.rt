@@ -2,7 +2,7 @@
 
 ghost use Rattle.std.specs.Prelude.{◌≡◌};
 ghost use Rattle.std.specs.Process.{exit_status};
-ghost use Rattle.irp_view.specs.Ending.{has_line, reason_text, of_stream, of_unread, of_unwritten, of_verdict, of_words, status_of};
+ghost use Rattle.irp_view.specs.Ending.{has_line, of_stream, of_unread, of_unwritten, of_verdict, of_words, status_of};
 
 use crate::input::StreamFault;
 use crate::orders::Unasked;
@@ -24,14 +24,19 @@ pub enum NoOpen {
     Other,
 }
 
-/// Why a file isn't opened.
-fn reason_text(reason: NoOpen) -> &'static str
-    ensures { result.now ≡ reason_text reason }
-{
-    match reason {
-        NoOpen::Missing => "there is no such file",
-        NoOpen::Denied => "it may not be read",
-        NoOpen::Other => "the system refuses it",
+/// Why a file isn't opened, in words.
+impl fmt::Display for NoOpen {
+    ghost use Rattle.std.specs.Prelude.{Some};
+    ghost use Rattle.irp_view.specs.Ending.{reason_text};
+
+    ghost output = { λ reason. Some (reason_text reason) };
+
+    fn fmt<W: fmt::Write>(&self, f: &mut fmt::Formatter<W>) -> fmt::Result {
+        match self {
+            NoOpen::Missing => f.write_str("there is no such file"),
+            NoOpen::Denied => f.write_str("it may not be read"),
+            NoOpen::Other => f.write_str("the system refuses it"),
+        }
     }
 }
 
