@@ -106,11 +106,7 @@ impl fmt::Display for Ending {
                 "irp_view: usage: irp_view why, text, page or packet SLOT USE, then [FILE]; see irp_view --help",
             ),
             Ending::NoFile { name, reason } => {
-                write!(
-                    f,
-                    "irp_view: {name}: can't be opened: {}",
-                    reason_text(*reason)
-                )
+                write!(f, "irp_view: {name}: can't be opened: {reason}")
             }
             Ending::Failed => f.write_str("irp_view: input or output failed"),
         }
