@@ -32,6 +32,3 @@ pub use live_end::LiveEnd;
 pub use outcome::{End, Holder, LockEnd, Outcome, SlotEnd};
 pub use replaying::replay;
 pub use told::{Answered, Told};
-
-#[cfg(test)]
-mod tests;
