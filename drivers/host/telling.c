@@ -5,7 +5,7 @@
 int n_faults, n_notes;
 
 static const struct { const char *rule, *known; } known_as[] = {
-    { "CompletedTwice", "0x44" }, { "Ended", "0x44" }, { "TooShort", "0x35" },
+    { "CompletedTwice", "0x44" }, { "Ended", "its use was completed" }, { "TooShort", "0x35" },
     { "BadStatus", "Driver Verifier 0xC9 / 6" },
     { "CancelRoutineSet", "0x48" }, { "InFlight", "memory freed in use" }, { "NotDrained", "RemoveLock rules" },
     { "NotHeld", "RemoveLock rules" }, { "AlreadyRemoving", "RemoveLock rules" },
