@@ -4,6 +4,7 @@
 -- given, the word in that state has it. No clause says that it is the word which the running table had.
 use Rattle.std.specs.Prelude.{◌≡◌, ◌≢◌, ◌⊎◌, ℕ, ◌+◌, ◌-◌, ◌%◌, ◌<◌, ◌≤◌, true, false, List, [], ◌∷◌, ◌++◌, length}
 use Rattle.std.specs.Prelude.{Contains, Some, slice_get, slice_set, remove, bit_or}
+use Rattle.irp_types.specs.Limits.{most_held}
 use Rattle.irp_remove.specs.declared.refusal.AcquireRefusal.{AcquireRefusal}
 use Rattle.irp_remove.specs.declared.refusal.AcquireRefusal.TheVariants as acquire
 use Rattle.irp_remove.specs.declared.refusal.ReleaseRefusal.{ReleaseRefusal}
@@ -63,7 +64,7 @@ OneMore lock tag before after =
 -- acquire answered Ok
 abbrev pub Acquired : ℕ → ℕ → ℕ → Holder → Holder → Type 0
 Acquired count lock tag before after =
-    (lock < count) × (length before.held < 64) × (flag before.watch.began lock ≡ false)
+    (lock < count) × (length before.held < most_held) × (flag before.watch.began lock ≡ false)
     × (flag before.watch.saw lock ≡ false)
     × OneMore lock tag before after × (after.watch ≡ before.watch)
 
@@ -77,9 +78,9 @@ TriedInVain lock before after =
 -- acquire was refused
 abbrev pub AcquireRefused : ℕ → ℕ → Holder → Holder → AcquireRefusal → Type 0
 AcquireRefused count lock before after acquire.NoLock = (count ≤ lock) × (after ≡ before)
-AcquireRefused count lock before after acquire.SeatFull = (lock < count) × (length before.held ≡ 64) × (after ≡ before)
+AcquireRefused count lock before after acquire.SeatFull = (lock < count) × (length before.held ≡ most_held) × (after ≡ before)
 AcquireRefused count lock before after acquire.DeletePending =
-    (lock < count) × (length before.held < 64) × KnowsRemoved lock after
+    (lock < count) × (length before.held < most_held) × KnowsRemoved lock after
     × ((ObserverKnowsRemoved lock before × (after ≡ before))
     ⊎ ((flag before.watch.began lock ≡ false) × (flag before.watch.saw lock ≡ false) × TriedInVain lock before after))
 
@@ -147,7 +148,7 @@ ChangedOwners lock tag giver giver_after taker taker_after =
 -- hand answered Ok
 abbrev pub Handed : ℕ → ℕ → ℕ → Holder → Holder → Holder → Holder → Type 0
 Handed count lock tag giver giver_after taker taker_after =
-    (lock < count) × (length taker.held < 64) × ChangedOwners lock tag giver giver_after taker taker_after
+    (lock < count) × (length taker.held < most_held) × ChangedOwners lock tag giver giver_after taker taker_after
     × (giver_after.watch ≡ giver.watch) × (taker_after.watch ≡ taker.watch)
 
 -- hand was refused
@@ -157,5 +158,5 @@ HandRefused count lock tag giver giver_after taker taker_after hand.NoLock =
 HandRefused count lock tag giver giver_after taker taker_after hand.NotHeld =
     (lock < count) × (¬ Contains giver.held (lock, tag)) × (giver_after ≡ giver) × (taker_after ≡ taker)
 HandRefused count lock tag giver giver_after taker taker_after hand.SeatFull =
-    (lock < count) × Contains giver.held (lock, tag) × (length taker.held ≡ 64) × (giver_after ≡ giver)
+    (lock < count) × Contains giver.held (lock, tag) × (length taker.held ≡ most_held) × (giver_after ≡ giver)
     × (taker_after ≡ taker)

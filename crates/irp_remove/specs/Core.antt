@@ -2,6 +2,7 @@
 -- A word is the removed bit plus twice the number of stakes that hold the lock or are trying it.
 use Rattle.std.specs.Prelude.{◌≡◌, ℕ, ◌+◌, ◌-◌, ◌*◌, ◌%◌, ◌^◌, ◌<◌, ◌≤◌, Bool, true, false, ◌||◌, List, [], ◌∷◌, length}
 use Rattle.std.specs.Prelude.{slice_index, slice_index_or, slice_set, replicate, if◌then◌else◌, nat_eq, bit_or}
+use Rattle.irp_types.specs.Limits.{most_locks, most_seats, most_held}
 use mathlib.Core.Option.{some}
 use lib.ListN.{get_elem?}
 use Rattle.atomic_table.specs.Table.{State, Me, Step}
@@ -97,8 +98,8 @@ pub record Kept (key : Parties) (state : State (Unit {0}) View) : Type 0 where
       → (total (began lock) state.views ≡ 1) × (total (held lock) state.views ≡ 0)
   pub all_observers : total observers state.views ≡ key.observers
   pub all_stakes : total stakes state.views ≡ key.stakes
-  pub few_observers : key.observers ≤ 64
-  pub few_stakes : key.stakes ≤ 4096
+  pub few_observers : key.observers ≤ most_seats
+  pub few_stakes : key.stakes ≤ most_seats * most_held
 
 -- the view of the first party, which makes the others
 abbrev pub at_first : Parties → View
@@ -197,9 +198,9 @@ one_stake_less (Stake stage seen) = Stake stage seen
 -- an observer knows nothing when it is made
 abbrev pub new_watch : Watch
 new_watch = record {
-  began = replicate 64 false;
-  saw = replicate 64 false;
-  drained = replicate 64 false;
+  began = replicate most_locks false;
+  saw = replicate most_locks false;
+  drained = replicate most_locks false;
   looks = 0;
   lock = 0;
   word = 0;

@@ -1,6 +1,7 @@
 -- What opening gives.
 use Rattle.std.specs.Prelude.{◌≡◌, ◌⊎◌, ℕ, zero, suc, ◌*◌, ◌<◌, ◌≤◌, List, [], ◌∷◌, ◌++◌, map, All, replicate}
 use Rattle.std.specs.Prelude.{slice_index}
+use Rattle.irp_types.specs.Limits.{most_locks, most_seats, most_held}
 use Rattle.atomic_table.specs.Table.{State}
 use Rattle.atomic_table.specs.Seated.{TableId}
 use Rattle.irp_remove.specs.Core.{total, began, staked, saw, knows_drained, Kept, new_watch, new_stake}
@@ -11,13 +12,13 @@ use Rattle.irp_remove.specs.Seats.{Holder}
 use Rattle.irp_remove.specs.declared.refusal.OpenRefusal.{OpenRefusal}
 use Rattle.irp_remove.specs.declared.refusal.OpenRefusal.TheVariants as refusal
 
--- there are none or more than 64 of either
+-- there are none of either, or too many
 abbrev pub IsBadCount : ℕ → ℕ → Type 0
-IsBadCount locks seats = ((locks ≡ 0) ⊎ (64 < locks)) ⊎ ((seats ≡ 0) ⊎ (64 < seats))
+IsBadCount locks seats = ((locks ≡ 0) ⊎ (most_locks < locks)) ⊎ ((seats ≡ 0) ⊎ (most_seats < seats))
 
--- there are 1 to 64 of each
+-- there is one of each at least, and not too many
 abbrev pub IsGoodCount : ℕ → ℕ → Type 0
-IsGoodCount locks seats = (0 < locks) × (locks ≤ 64) × (0 < seats) × (seats ≤ 64)
+IsGoodCount locks seats = (0 < locks) × (locks ≤ most_locks) × (0 < seats) × (seats ≤ most_seats)
 
 -- when an opening is refused
 abbrev pub OpenRefused : ℕ → ℕ → OpenRefusal → Type 0
@@ -28,7 +29,7 @@ OpenRefused locks seats refusal.Memory = IsGoodCount locks seats
 abbrev pub IsFresh : TableId → Holder → Type 0
 IsFresh table holder =
     (holder.table ≡ table) × (holder.watch ≡ new_watch) × (holder.held ≡ []) × (holder.held_views ≡ [])
-    × (holder.idle_views ≡ replicate 64 new_stake)
+    × (holder.idle_views ≡ replicate most_held new_stake)
 
 -- a remove seat's number
 abbrev pub number_of : Holder → ℕ
@@ -43,9 +44,9 @@ numbers_below (suc count) = numbers_below count ++ count ∷ []
 abbrev pub AreFresh : TableId → ℕ → List Holder → Type 0
 AreFresh table count holders = All (IsFresh table) holders × (map number_of holders ≡ numbers_below count)
 
--- the parties of a table of so many locks and seats: one observer and 64 stakes a seat
+-- the parties of a table of so many locks and seats: one observer a seat, and a stake for each reference that it may hold
 abbrev pub parties_of : ℕ → ℕ → Parties
-parties_of locks seats = record { locks = locks; observers = seats; stakes = seats * 64 }
+parties_of locks seats = record { locks = locks; observers = seats; stakes = seats * most_held }
 
 -- the views of a seat's parties
 abbrev pub views_of : Holder → List View

@@ -1,5 +1,6 @@
 -- What a clause reads of a remove seat.
 use Rattle.std.specs.Prelude.{◌≡◌, ℕ, ◌+◌, ◌<◌, Bool, List, [], ◌∷◌, map, length, All, Option, Some, None}
+use Rattle.irp_types.specs.Limits.{most_locks, most_held}
 use Rattle.atomic_table.specs.Seated.{TableId}
 use Rattle.atomic_table.specs.declared.shared.Seat.{Seat}
 use Rattle.irp_remove.specs.declared.views.Stage.TheVariants.{Idle, Trying, Held}
@@ -63,8 +64,8 @@ pub record IsSeated (observer : Seat (Unit {0}) View) (idle held : List Referenc
   pub drained_is : (watch_of observer.me.0).drained ≡ drained
   pub all_idle : All (IsIdle observer.table_id) idle
   pub all_held : All (IsHeld observer.table_id) held
-  pub all_there : length idle + length held ≡ 64
-  pub flags : (length began ≡ 64) × (length saw ≡ 64) × (length drained ≡ 64)
+  pub all_there : length idle + length held ≡ most_held
+  pub flags : (length began ≡ most_locks) × (length saw ≡ most_locks) × (length drained ≡ most_locks)
 
 -- a stake as it is made
 abbrev pub IsNew : TableId → Reference → Type 0
@@ -82,8 +83,9 @@ held_in (Stake (Held lock tag) seen) = Some (lock, tag)
 abbrev pub IsIdleView : View → Type 0
 IsIdleView view = (seen : List ℕ) × (view ≡ Stake Idle seen)
 
--- each reference is a stake that holds that lock under that tag, the other stakes are idle, and there are 64 in all
+-- each reference is a stake that holds that lock under that tag, the other stakes are idle, and there is one for each
+-- reference that a seat may hold
 abbrev pub IsWhole : Holder → Type 0
 IsWhole holder =
     (map held_in holder.held_views ≡ map Some holder.held) × All IsIdleView holder.idle_views
-    × (length holder.held + length holder.idle_views ≡ 64)
+    × (length holder.held + length holder.idle_views ≡ most_held)

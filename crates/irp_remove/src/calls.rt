@@ -2,6 +2,7 @@
 //! That refusals come in the order in which they are listed is this project's own rule.
 ghost use Rattle.std.specs.Prelude.{◌≡◌, ◌<◌, ◌≤◌, Contains, Err, length, MatchResult, IfSome, IfNone, slice_get, Some};
 ghost use Rattle.std.specs.Prelude.{map};
+ghost use Rattle.irp_types.specs.Limits.{most_held};
 ghost use mathlib.Core.Logic.{◌↔◌};
 ghost use Rattle.irp_remove.specs.declared.refusal.AcquireRefusal.TheVariants.{NoLock as acquire_NoLock};
 ghost use Rattle.irp_remove.specs.declared.refusal.AcquireRefusal.TheVariants.{SeatFull as acquire_SeatFull};
@@ -46,7 +47,7 @@ impl Locks {
         ensures seat { IsSameSeat seat.old seat.new }
         ensures no_lock { (result ≡ Err acquire_NoLock) ↔ (lock_count self.now ≤ lock.0) }
         ensures seat_full { (result ≡ Err acquire_SeatFull)
-            ↔ ((lock.0 < lock_count self.now) × (64 ≤ length seat.old.held)) }
+            ↔ ((lock.0 < lock_count self.now) × (most_held ≤ length seat.old.held)) }
         ensures reply { MatchResult result
             (λ _. Acquired (lock_count self.now) lock.0 tag seat.old seat.new)
             (AcquireRefused (lock_count self.now) lock.0 seat.old seat.new) }
@@ -197,7 +198,7 @@ impl Locks {
             ↔ ((lock.0 < lock_count self.now) × ¬ Contains giver.old.held (lock.0, tag)) }
         ensures seat_full { (result ≡ Err hand_SeatFull)
             ↔ ((lock.0 < lock_count self.now) × Contains giver.old.held (lock.0, tag)
-            × (64 ≤ length taker.old.held)) }
+            × (most_held ≤ length taker.old.held)) }
         ensures reply { MatchResult result
             (λ _. Handed (lock_count self.now) lock.0 tag giver.old giver.new taker.old taker.new)
             (HandRefused (lock_count self.now) lock.0 tag giver.old giver.new taker.old taker.new) }

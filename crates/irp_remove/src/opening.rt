@@ -1,5 +1,6 @@
 //! How locks and their seats are made.
 ghost use Rattle.std.specs.Prelude.{◌≡◌, ◌<◌, ◌≤◌, ◌*◌, ◌-◌, All, Err, IfOk, MatchResult, length, vec_len};
+ghost use Rattle.irp_types.specs.Limits.{most_held};
 ghost use Rattle.irp_remove.specs.Core.{observers, stakes};
 ghost use Rattle.irp_remove.specs.Opening.{IsBadCount, IsGoodCount, OpenRefused, IsFresh, AreFresh, parties_of};
 ghost use Rattle.irp_remove.specs.Opening.{IsAllIdle};
@@ -66,7 +67,7 @@ impl Locks {
         count: u32,
     ) -> Result<Vec<RemoveSeat>, AllocError>
         requires table { first.table_id ≡ self.now.table.shared.table_id }
-        requires first { first.me.0 ≡ First count (count * 64) }
+        requires first { first.me.0 ≡ First count (count * most_held) }
         ensures count { IfOk result (λ made. vec_len made ≡ count) }
         ensures fresh { IfOk result (λ made.
             AreFresh self.now.table.shared.table_id count made.items) }
@@ -83,10 +84,10 @@ impl Locks {
     fn seat(&self, first: &mut Seat<(), View>, number: u32) -> RemoveSeat
         requires table { first.old.table_id ≡ self.now.table.shared.table_id }
         requires first { first.old.me.0 ≡ First (observers first.old.me.0) (stakes first.old.me.0) }
-        requires left { (0 < observers first.old.me.0) × (64 ≤ stakes first.old.me.0) }
+        requires left { (0 < observers first.old.me.0) × (most_held ≤ stakes first.old.me.0) }
         ensures table { first.new.table_id ≡ first.old.table_id }
         ensures first { first.new.me.0
-            ≡ First (observers first.old.me.0 - 1) (stakes first.old.me.0 - 64) }
+            ≡ First (observers first.old.me.0 - 1) (stakes first.old.me.0 - most_held) }
         ensures number { result.number ≡ number }
         ensures fresh { IsFresh self.now.table.shared.table_id result }
     {
@@ -107,12 +108,12 @@ impl Locks {
     fn stakes(&self, first: &mut Seat<(), View>) -> ArrayVec<Reference, 64>
         requires table { first.old.table_id ≡ self.now.table.shared.table_id }
         requires first { first.old.me.0 ≡ First (observers first.old.me.0) (stakes first.old.me.0) }
-        requires left { 64 ≤ stakes first.old.me.0 }
+        requires left { most_held ≤ stakes first.old.me.0 }
         ensures table { first.new.table_id ≡ first.old.table_id }
         ensures first { first.new.me.0
-            ≡ First (observers first.old.me.0) (stakes first.old.me.0 - 64) }
+            ≡ First (observers first.old.me.0) (stakes first.old.me.0 - most_held) }
         ensures new { All (IsNew self.now.table.shared.table_id) result.items }
-        ensures all { length result.items ≡ 64 }
+        ensures all { length result.items ≡ most_held }
     {
         let mut idle = ArrayVec::new();
         for _ in 0..64u32 {

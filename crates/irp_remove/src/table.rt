@@ -1,5 +1,6 @@
 //! The locks, one word each. A file of its own, since definitions that clauses cite name this struct.
 ghost use Rattle.std.specs.Prelude.{◌≡◌, ◌<◌, ◌≤◌};
+ghost use Rattle.irp_types.specs.Limits.{most_locks};
 
 use crate::plays::Counted;
 use crate::views::{Parties, View};
@@ -16,6 +17,6 @@ use std::alloc::Global;
 pub struct Locks {
     pub(crate) table: Table<(), View, Parties, Counted, Global>,
     ghost counted: { table.shared.table_id.words ≡ table.shared.key.locks },
-    ghost few: { table.shared.table_id.words ≤ 64 },
+    ghost few: { table.shared.table_id.words ≤ most_locks },
     ghost some: { 0 < table.shared.table_id.words },
 }

@@ -4,6 +4,7 @@
 use Rattle.std.specs.Prelude.{◌≡◌, ◌⊎◌, replicate, ℕ, zero, suc, ◌+◌, ◌-◌, ◌*◌, ◌/◌, ◌%◌, ◌<◌, ◌≤◌, Bool, true, false}
 use Rattle.std.specs.Prelude.{not, ◌&&◌, ◌||◌, List, [], ◌∷◌, length, All, slice_index, slice_index_or, slice_set}
 use Rattle.std.specs.Prelude.{if◌then◌else◌, nat_eq, bit_or}
+use Rattle.irp_types.specs.Limits.{most_seats, most_slots}
 use mathlib.Core.Option.{some}
 use lib.ListN.{get_elem?}
 use Rattle.atomic_table.specs.Table.{State, Me, Step}
@@ -182,8 +183,8 @@ pub record Kept (key : Parties) (s : State (Unit {0}) View) : Type 0 where
   pub stands : (slot : ℕ) → slot < key.slots → 0 < total (standing slot) s.views → 0 < total (ended slot) s.views
       → content_of s.words slot ≡ 0
   pub all_cancellers : total canceller_count s.views ≡ key.cancellers
-  pub few_slots : key.slots ≤ 64
-  pub few_cancellers : key.cancellers ≤ 64
+  pub few_slots : key.slots ≤ most_slots
+  pub few_cancellers : key.cancellers ≤ most_seats
 
 -- so many numbers from this one on
 abbrev pub span : ℕ → ℕ → List ℕ
@@ -210,7 +211,7 @@ owning_of (Canceller asking) = new_owning 0
 
 -- a canceller knows nothing when it is made
 abbrev pub new_asking : Asking
-new_asking = record { flagged = replicate 64 false; ended = replicate 64 false; taken = [] }
+new_asking = record { flagged = replicate most_slots false; ended = replicate most_slots false; taken = [] }
 
 -- what a canceller with this view knows
 abbrev pub asking_of : View → Asking

@@ -1,5 +1,6 @@
 -- What clauses read of an owner and of a canceller.
 use Rattle.std.specs.Prelude.{◌≡◌, ℕ, ◌+◌, ◌*◌, ◌<◌, Bool, false, [], length}
+use Rattle.irp_types.specs.Limits.{most_slots}
 use Rattle.atomic_table.specs.Seated.{TableId}
 use Rattle.atomic_table.specs.declared.shared.Seat.{Seat}
 use Rattle.irp_slots.specs.declared.views.Owning.{Owning}
@@ -25,9 +26,9 @@ pub record IsOwner (seat : Seat (Unit {0}) View) (slot : ℕ) (used stands : Boo
   pub used_is : used ≡ is_begun (owning_of seat.me.0).stage
   pub stands_is : stands ≡ is_standing (owning_of seat.me.0).stage
   pub unspent : is_done (owning_of seat.me.0).stage ≡ false → (owning_of seat.me.0).taken ≡ []
-  pub inside : (2 * slot + 1 < seat.table_id.words) × (slot < 64)
+  pub inside : (2 * slot + 1 < seat.table_id.words) × (slot < most_slots)
 
--- a canceller has a flag for each of 64 slots
+-- a canceller has a flag for each slot that there may be
 pub record IsAsker (seat : Seat (Unit {0}) View) : Type 0 where
   pub asks : seat.me.0 ≡ Canceller (asking_of seat.me.0)
-  pub flags : (length (asking_of seat.me.0).flagged ≡ 64) × (length (asking_of seat.me.0).ended ≡ 64)
+  pub flags : (length (asking_of seat.me.0).flagged ≡ most_slots) × (length (asking_of seat.me.0).ended ≡ most_slots)

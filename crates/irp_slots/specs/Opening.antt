@@ -1,5 +1,6 @@
 -- What opening gives.
 use Rattle.std.specs.Prelude.{◌≡◌, ◌⊎◌, ℕ, zero, suc, ◌<◌, ◌≤◌, List, [], ◌∷◌, ◌++◌, map, All, ◌%◌}
+use Rattle.irp_types.specs.Limits.{most_seats, most_slots}
 use Rattle.atomic_table.specs.Table.{State}
 use Rattle.atomic_table.specs.Seated.{TableId}
 use Rattle.irp_slots.specs.declared.views.Owning.{Owning}
@@ -11,13 +12,13 @@ use Rattle.irp_slots.specs.Models.{Publisher, Asker}
 use Rattle.irp_slots.specs.declared.answers.OpenRefusal.{OpenRefusal}
 use Rattle.irp_slots.specs.declared.answers.OpenRefusal.TheVariants as refusal
 
--- there are more than 64 slots, or none or more than 64 cancellers
+-- there are too many slots, or no canceller or too many
 abbrev pub IsBadCount : ℕ → ℕ → Type 0
-IsBadCount slots cancellers = (64 < slots) ⊎ ((cancellers ≡ 0) ⊎ (64 < cancellers))
+IsBadCount slots cancellers = (most_slots < slots) ⊎ ((cancellers ≡ 0) ⊎ (most_seats < cancellers))
 
--- there are at most 64 slots, and 1 to 64 cancellers
+-- there are as many slots and cancellers as there may be, and one canceller at least
 abbrev pub IsGoodCount : ℕ → ℕ → Type 0
-IsGoodCount slots cancellers = (slots ≤ 64) × (0 < cancellers) × (cancellers ≤ 64)
+IsGoodCount slots cancellers = (slots ≤ most_slots) × (0 < cancellers) × (cancellers ≤ most_seats)
 
 -- when an opening is refused
 abbrev pub OpenRefused : ℕ → ℕ → OpenRefusal → Type 0

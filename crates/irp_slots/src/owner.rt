@@ -1,5 +1,6 @@
 //! The owner of a slot.
 ghost use Rattle.std.specs.Prelude.{◌≡◌, ◌<◌};
+ghost use Rattle.irp_types.specs.Limits.{most_slots};
 
 use crate::views::View;
 use atomic_table::Seat;
@@ -33,10 +34,10 @@ impl Model for SlotOwner {
 }
 
 impl SlotOwner {
-    /// The number of its slot among those that were opened together, from 0 to 63 (this project's own rule).
+    /// The number of its slot among those that were opened together, from 0 (this project's own rule).
     pub fn slot(&self) -> u32
         ensures slot { result ≡ self.now.owning.slot }
-        ensures few { result < 64 }
+        ensures few { result < most_slots }
     {
         self.slot as u32
     }

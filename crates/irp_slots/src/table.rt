@@ -1,5 +1,6 @@
 //! The words of the slots. A file of its own, since definitions that clauses cite name this struct.
 ghost use Rattle.std.specs.Prelude.{◌≡◌, ◌+◌, ◌*◌, ◌≤◌};
+ghost use Rattle.irp_types.specs.Limits.{most_slots};
 
 use crate::plays::Published;
 use crate::views::{Parties, View};
@@ -15,5 +16,5 @@ use std::alloc::Global;
 pub struct Slots {
     pub(crate) table: Table<(), View, Parties, Published, Global>,
     ghost counted: { table.shared.table_id.words ≡ 2 * table.shared.key.slots + 1 },
-    ghost few: { table.shared.key.slots ≤ 64 },
+    ghost few: { table.shared.key.slots ≤ most_slots },
 }

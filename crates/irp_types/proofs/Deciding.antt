@@ -63,19 +63,19 @@ Tells {A} E = (one other : A) → Decides (E one other) (one ≡ other)
 -- ---- tests of the parts of a value
 
 -- no field
-empty : Tells (λ (one other : Unit {0}). true)
+pub empty : Tells (λ (one other : Unit {0}). true)
 empty one other = (λ _ _. tt, λ _ _. true)
 
 -- the last field
-last : {A : Type 0} {E : A → A → Bool} → Tells E → Tells (λ (one other : A × Unit {0}). E one.0 other.0)
+pub last : {A : Type 0} {E : A → A → Bool} → Tells E → Tells (λ (one other : A × Unit {0}). E one.0 other.0)
 last e one other = Decides-like _ (λ p i. (p i, tt)) (ap (λ z. z.0)) (e one.0 other.0)
 
 -- a field and those after it
-also : {A B : Type 0} {E : A → A → Bool} {F : B → B → Bool} → Tells E → Tells F → Tells (λ (one other : A × B). E one.0 other.0 && F one.1 other.1)
+pub also : {A B : Type 0} {E : A → A → Bool} {F : B → B → Bool} → Tells E → Tells F → Tells (λ (one other : A × B). E one.0 other.0 && F one.1 other.1)
 also e f one other = Decides-like _ (λ p i. (p.0 i, p.1 i)) (λ p. (ap (λ z. z.0) p, ap (λ z. z.1) p)) (Decides-and _ _ (e one.0 other.0) (f one.1 other.1))
 
 -- the values of a struct's fields
-fields : (N : structs.Record) (own : structs.Propositions N) {E : Values N.parts → Values N.parts → Bool} → Tells E → Tells (λ (one other : N.D). E (N.as_values one) (N.as_values other))
+pub fields : (N : structs.Record) (own : structs.Propositions N) {E : Values N.parts → Values N.parts → Bool} → Tells E → Tells (λ (one other : N.D). E (N.as_values one) (N.as_values other))
 fields N own e one other = Decides-like _ (structs.values_one N own one other) (ap N.as_values) (e (N.as_values one) (N.as_values other))
 
 -- ---- tests of variants
@@ -94,11 +94,11 @@ second_or b (inl x) = b
 second_or b (inr y) = y
 
 -- no variant is left
-end : Tells (λ (one other : ⊥). absurd {A = Bool} one)
+pub end : Tells (λ (one other : ⊥). absurd {A = Bool} one)
 end one other = absurd one
 
 -- a variant and those after it
-or : {A B : Type 0} {E : A → A → Bool} {F : B → B → Bool} → Tells E → Tells F
+pub or : {A B : Type 0} {E : A → A → Bool} {F : B → B → Bool} → Tells E → Tells F
     → Tells (λ (one other : A ⊎ B). ⊎_elim (λ x. ⊎_elim (λ y. E x y) (λ _. false) other) (λ x. ⊎_elim (λ _. false) (λ y. F x y) other) one)
 or e f (inl x) (inl y) = Decides-like _ (ap inl) (ap (first_or x)) (e x y)
 or e f (inl x) (inr y) = (λ p. absurd (true≢false (sym p)), λ p. absurd (true≢false (ap is_first p)))
@@ -106,7 +106,7 @@ or e f (inr x) (inl y) = (λ p. absurd (true≢false (sym p)), λ p. absurd (tru
 or e f (inr x) (inr y) = Decides-like _ (ap inr) (ap (second_or x)) (f x y)
 
 -- the variants of an enum
-variants : (N : enums.Record) {E : enums.Choice N.parts → enums.Choice N.parts → Bool} → Tells E → Tells (λ (one other : N.D). E (N.as_values one) (N.as_values other))
+pub variants : (N : enums.Record) {E : enums.Choice N.parts → enums.Choice N.parts → Bool} → Tells E → Tells (λ (one other : N.D). E (N.as_values one) (N.as_values other))
 variants N e one other = Decides-like _ (enums.values_one N one other) (ap N.as_values) (e (N.as_values one) (N.as_values other))
 
 -- what may be none
@@ -121,36 +121,36 @@ option e (Some x) (Some y) = Decides-like _ (ap Some) (same_Some x y) (e x y)
 pub irp : Tells irp_eq.eq-value.it
 irp = fields irp_ref.struct irp_ref.the_propositions (also unsigned_Decides (last unsigned_Decides))
 
-device : Tells device_eq.eq-value.it
+pub device : Tells device_eq.eq-value.it
 device = fields device_id.struct device_id.the_propositions (last unsigned_Decides)
 
 pub lock : Tells lock_eq.eq-value.it
 lock = fields lock_no.struct lock_no.the_propositions (last unsigned_Decides)
 
-driver : Tells driver_eq.eq-value.it
+pub driver : Tells driver_eq.eq-value.it
 driver = fields driver_id.struct driver_id.the_propositions (last unsigned_Decides)
 
-dispatch : Tells dispatch_eq.eq-value.it
+pub dispatch : Tells dispatch_eq.eq-value.it
 dispatch = fields dispatch_id.struct dispatch_id.the_propositions (last unsigned_Decides)
 
-cancel : Tells cancel_eq.eq-value.it
+pub cancel : Tells cancel_eq.eq-value.it
 cancel = fields cancel_id.struct cancel_id.the_propositions (last unsigned_Decides)
 
-status : Tells status_eq.eq-value.it
+pub status : Tells status_eq.eq-value.it
 status = fields status_no.struct status_no.the_propositions (last unsigned_Decides)
 
-rule : Tells rule_eq.eq-value.it
+pub rule : Tells rule_eq.eq-value.it
 rule one other = search rules
 
-refusal : Tells refusal_eq.eq-value.it
+pub refusal : Tells refusal_eq.eq-value.it
 refusal one other = search rules
 
 -- ---- questions
 
-routine : Tells routine_eq.eq-value.it
+pub routine : Tells routine_eq.eq-value.it
 routine = fields routine_id.struct routine_id.the_propositions (also rule (last unsigned_Decides))
 
-setting : Tells setting_eq.eq-value.it
+pub setting : Tells setting_eq.eq-value.it
 setting =
     fields a_setting.struct a_setting.the_propositions
     (also routine (also unsigned_Decides (also booleans_Decides (also booleans_Decides (last booleans_Decides)))))

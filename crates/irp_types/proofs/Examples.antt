@@ -5,3 +5,4 @@ mod Refusals
 mod Packets
 mod Unwinding
 mod Descent
+mod Limits

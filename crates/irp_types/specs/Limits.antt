@@ -28,6 +28,10 @@ most_drivers = 64
 abbrev pub most_locks : ℕ
 most_locks = 64
 
+-- references that a seat holds
+abbrev pub most_held : ℕ
+most_held = 64
+
 -- seats
 abbrev pub most_seats : ℕ
 most_seats = 64
