@@ -416,7 +416,16 @@ impl<K: Keep> ManagerState<K> {
             } => Ok(self.finish_taken(ask, irp, token, status, information, asked)),
             Call::Cancel { irp } => Ok(self.cancel(ask, irp, asked)),
             Call::Look { irp } => Ok(self.look(irp)),
-            _ => Ok(self.answer_party(ask, call, asked)),
+            Call::SetNext { party, irp, .. }
+            | Call::CopyToNext { party, irp }
+            | Call::Skip { party, irp }
+            | Call::SetRoutine { party, irp, .. }
+            | Call::MarkPending { party, irp }
+            | Call::CallDriver { party, irp, .. }
+            | Call::Complete { party, irp, .. }
+            | Call::SetCancelRoutine { party, irp, .. } => {
+                Ok(self.by_owner(ask, party, irp, call, asked))
+            }
         }
     }
 

@@ -81,31 +81,23 @@ pub fn party_refusal(live: &Live, party: Party, irp: IrpRef) -> Option<Refusal>
     None
 }
 
-/// Fills the next lower location, where the party may.
+/// Fills the next lower location for the owner.
 #[inline]
-pub fn set_next(live: &mut Live, party: Party, irp: IrpRef, major: u8, word: u64) -> Reply
-    ensures goes { Goes (or_else (party_refusal_in (Some live.old) party irp)
-        (set_next_refusal live.old.packet major))
+pub fn set_next(live: &mut Live, major: u8, word: u64) -> Reply
+    ensures goes { Goes (set_next_refusal live.old.packet major)
         (Fills major word [] result live.old.packet) live.old live.new [] result }
 {
-    if let Some(refusal) = party_refusal(live, party, irp) {
-        return Reply::Refused(refusal);
-    }
     match live.packet.set_next(major, word) {
         Ok(()) => Reply::Done,
         Err(refusal) => Reply::Refused(refusal),
     }
 }
 
-/// Copies the current location to the next lower one, where the party may.
-pub fn copy_to_next(live: &mut Live, party: Party, irp: IrpRef) -> Reply
-    ensures goes { Goes (or_else (party_refusal_in (Some live.old) party irp)
-        (copy_to_next_refusal live.old.packet))
+/// Copies the owner's location to the next lower one.
+pub fn copy_to_next(live: &mut Live) -> Reply
+    ensures goes { Goes (copy_to_next_refusal live.old.packet)
         (Copies [] result live.old.packet) live.old live.new [] result }
 {
-    if let Some(refusal) = party_refusal(live, party, irp) {
-        return Reply::Refused(refusal);
-    }
     match live.packet.copy_to_next() {
         Ok(()) => Reply::Done,
         Err(refusal) => Reply::Refused(refusal),
@@ -169,15 +161,11 @@ pub fn leave_check(packet: &Packet) -> Option<Refusal>
     None
 }
 
-/// Gives the current location to the next lower device, where the party may.
-pub fn skip(live: &mut Live, party: Party, irp: IrpRef) -> Reply
-    ensures goes { Goes (or_else (party_refusal_in (Some live.old) party irp)
-        (leave_refusal live.old.packet))
+/// Gives the owner's location to the next lower device.
+pub fn skip(live: &mut Live) -> Reply
+    ensures goes { Goes (leave_refusal live.old.packet)
         (Leaves [] result live.old.packet) live.old live.new [] result }
 {
-    if let Some(refusal) = party_refusal(live, party, irp) {
-        return Reply::Refused(refusal);
-    }
     if let Some(refusal) = leave_check(&live.packet) {
         return Reply::Refused(refusal);
     }
@@ -187,15 +175,11 @@ pub fn skip(live: &mut Live, party: Party, irp: IrpRef) -> Reply
     }
 }
 
-/// Marks the current location pending, where the party may.
-pub fn mark_pending(live: &mut Live, party: Party, irp: IrpRef) -> Reply
-    ensures goes { Goes (or_else (party_refusal_in (Some live.old) party irp)
-        (mark_pending_refusal live.old.packet))
+/// Marks the owner's location pending.
+pub fn mark_pending(live: &mut Live) -> Reply
+    ensures goes { Goes (mark_pending_refusal live.old.packet)
         (Marks [] result live.old.packet) live.old live.new [] result }
 {
-    if let Some(refusal) = party_refusal(live, party, irp) {
-        return Reply::Refused(refusal);
-    }
     match live.packet.mark_pending() {
         Ok(()) => Reply::Done,
         Err(refusal) => Reply::Refused(refusal),
@@ -220,21 +204,11 @@ pub fn cancel_check(packet: &Packet, counts: Known, cancel: Option<CancelId>) ->
     None
 }
 
-/// Puts a cancel routine into the packet, or none, where the party may.
-pub fn set_cancel_routine(
-    live: &mut Live,
-    counts: Known,
-    party: Party,
-    irp: IrpRef,
-    cancel: Option<CancelId>,
-) -> Reply
-    ensures goes { Goes (or_else (party_refusal_in (Some live.old) party irp)
-        (cancel_refusal counts live.old.packet cancel))
+/// Puts the owner's cancel routine into the packet, or none, where so many are there.
+pub fn set_cancel_routine(live: &mut Live, counts: Known, cancel: Option<CancelId>) -> Reply
+    ensures goes { Goes (cancel_refusal counts live.old.packet cancel)
         (SetsCancel cancel [] result live.old.packet) live.old live.new [] result }
 {
-    if let Some(refusal) = party_refusal(live, party, irp) {
-        return Reply::Refused(refusal);
-    }
     if let Some(refusal) = cancel_check(&live.packet, counts, cancel) {
         return Reply::Refused(refusal);
     }
@@ -291,21 +265,11 @@ pub fn routine_check(packet: &Packet, counts: Known, setting: Setting) -> Option
     }
 }
 
-/// Puts a completion routine into the next lower location, where the party may.
-pub fn set_routine(
-    live: &mut Live,
-    counts: Known,
-    party: Party,
-    irp: IrpRef,
-    setting: Setting,
-) -> Reply
-    ensures goes { Goes (or_else (party_refusal_in (Some live.old) party irp)
-        (routine_refusal counts live.old.packet setting))
+/// Puts the owner's completion routine into the next lower location, where so many are there.
+pub fn set_routine(live: &mut Live, counts: Known, setting: Setting) -> Reply
+    ensures goes { Goes (routine_refusal counts live.old.packet setting)
         (Sets setting [] result live.old.packet) live.old live.new [] result }
 {
-    if let Some(refusal) = party_refusal(live, party, irp) {
-        return Reply::Refused(refusal);
-    }
     if let Some(refusal) = routine_check(&live.packet, counts, setting) {
         return Reply::Refused(refusal);
     }
@@ -364,7 +328,7 @@ fn is_wrong_target(stacks: &Stacks, party: Party, target: DeviceId) -> bool
     }
 }
 
-/// Sends the packet to a device, where the party may. The room is for a question to each device from there down, and to
+/// Sends the packet to a device for its owner, this party. The room is for a question to each device from there down, and to
 /// each location that the packet may come to.
 #[inline]
 pub fn send<A: Ask>(
@@ -378,11 +342,11 @@ pub fn send<A: Ask>(
 ) -> Reply
     requires sound { IsSound (A.tables ask.now).counts live.old.packet }
     requires empty { asked.old.items ≡ [] }
+    requires unheld { live.old.packet.slot_held ≡ false }
     requires room { vec_len asked.old + can_ask_down stacks.now.devices live.old.packet target.0
         ≤ vec_capacity asked.old }
     ensures capacity { vec_capacity asked.new ≡ vec_capacity asked.old }
-    ensures goes { Goes (or_else (party_refusal_in (Some live.old) party irp)
-        (send_refusal stacks.now.devices party live.old.packet target.0))
+    ensures goes { Goes (send_refusal stacks.now.devices party live.old.packet target.0)
         (Sends (A.tables ask.now) irp stacks.now.devices target.0 asked.new.items result
         live.old.packet) live.old live.new asked.new.items result }
     ensures may { AreAnswered (A.may_plan ask.now) (A.may_answer ask.now) (A.may_cancel ask.now)
@@ -391,9 +355,6 @@ pub fn send<A: Ask>(
         → StaysUp live.old.packet live.new.packet status }
     ensures sound { IsSound (A.tables ask.now).counts live.new.packet }
 {
-    if let Some(refusal) = party_refusal(live, party, irp) {
-        return Reply::Refused(refusal);
-    }
     if let Some(refusal) = send_check(&live.packet, stacks, party, target) {
         return Reply::Refused(refusal);
     }
@@ -421,32 +382,28 @@ pub fn complete_check(packet: &Packet, status: Status) -> Option<Refusal>
     None
 }
 
-/// Completes the packet, where the party may. The room is for a question to each location from the current one up.
+/// Completes the packet for its owner. The room is for a question to each location from the current one up.
 #[inline]
 pub fn complete<A: Ask>(
     live: &mut Live,
     irp: IrpRef,
     ask: &A,
-    party: Party,
     status: Status,
     information: u64,
     asked: &mut Vec<Asked>,
 ) -> Reply
     requires sound { IsSound (A.tables ask.now).counts live.old.packet }
     requires empty { asked.old.items ≡ [] }
+    requires unheld { live.old.packet.slot_held ≡ false }
     requires room { vec_len asked.old + can_ask_up live.old.packet ≤ vec_capacity asked.old }
     ensures capacity { vec_capacity asked.new ≡ vec_capacity asked.old }
-    ensures goes { Goes (or_else (party_refusal_in (Some live.old) party irp)
-        (complete_refusal live.old.packet status))
+    ensures goes { Goes (complete_refusal live.old.packet status)
         (Finishes irp status information asked.new.items result live.old.packet) live.old live.new
         asked.new.items result }
     ensures may { AreAnswered (A.may_plan ask.now) (A.may_answer ask.now) (A.may_cancel ask.now)
         asked.new.items }
     ensures sound { IsSound (A.tables ask.now).counts live.new.packet }
 {
-    if let Some(refusal) = party_refusal(live, party, irp) {
-        return Reply::Refused(refusal);
-    }
     if let Some(refusal) = complete_check(&live.packet, status) {
         return Reply::Refused(refusal);
     }

@@ -6,6 +6,7 @@ use Rattle.std.specs.Prelude.{◌≡◌, ℕ, ◌%◌, ◌<◌, ◌≤◌, true,
 use Rattle.irp_slots.specs.declared.views.Stage.TheVariants.{Idle, Standing, Done}
 use Rattle.irp_slots.specs.declared.views.Owning.{Owning}
 use Rattle.irp_slots.specs.declared.views.Asking.{Asking}
+use Rattle.irp_slots.specs.declared.views.View.{View}
 use Rattle.irp_slots.specs.declared.views.View.TheVariants.{Owner, Canceller}
 use Rattle.irp_slots.specs.declared.answers.Token.{Token}
 use Rattle.irp_slots.specs.declared.answers.Publication.{Publication}
@@ -89,18 +90,14 @@ abbrev pub ReadFlag : ℕ → Owning → Owning → Type 0
 ReadFlag parity before after =
     (word : ℕ) × (word % 2 ≡ parity) × IsEvent (flag_word before.slot) word word (Owner before) (Owner after)
 
--- one step by an owner: it swapped 0 into its slot, and this was in it
-abbrev pub SwappedOut : ℕ → Owning → Owning → Type 0
-SwappedOut found before after = IsEvent (content_word before.slot) found 0 (Owner before) (Owner after)
-
 -- one step by a canceller: it set the flag of a slot
 abbrev pub FlagSet : ℕ → Asking → Asking → Type 0
 FlagSet slot before after =
     (word : ℕ) × IsEvent (flag_word slot) word (bit_or word 1) (Canceller before) (Canceller after)
 
--- one step by a canceller: it swapped 0 into a slot, and this was in it
-abbrev pub Emptied : ℕ → ℕ → Asking → Asking → Type 0
-Emptied slot found before after = IsEvent (content_word slot) found 0 (Canceller before) (Canceller after)
+-- one step by a party with these views: it swapped 0 into a slot, and this was in it
+abbrev pub Emptied : ℕ → ℕ → View → View → Type 0
+Emptied slot found before after = IsEvent (content_word slot) found 0 before after
 
 -- the steps of publish, one behind the other
 abbrev pub PublishSteps : ℕ → Owning → Owning → Publication → Type 0
@@ -111,36 +108,38 @@ PublishSteps number before after publication.Standing =
 PublishSteps number before after (publication.Taken token) =
     SwappedIn number before (owning_published number before)
     × ReadFlag 1 (owning_published number before) (owning_found_set number before)
-    × SwappedOut token.use_no (owning_found_set number before) after
+    × Emptied before.slot token.use_no (Owner (owning_found_set number before)) (Owner after)
 PublishSteps number before after publication.Lost =
     SwappedIn number before (owning_published number before)
     × ReadFlag 1 (owning_published number before) (owning_found_set number before)
-    × SwappedOut 0 (owning_found_set number before) after
+    × Emptied before.slot 0 (Owner (owning_found_set number before)) (Owner after)
 
 -- the one step of withdraw
 abbrev pub WithdrawSteps : Owning → Owning → Withdrawal → Type 0
 WithdrawSteps before after withdrawal.NotStanding = after ≡ before
-WithdrawSteps before after (withdrawal.Taken token) = SwappedOut token.use_no before after
-WithdrawSteps before after withdrawal.Lost = SwappedOut 0 before after
+WithdrawSteps before after (withdrawal.Taken token) = Emptied before.slot token.use_no (Owner before) (Owner after)
+WithdrawSteps before after withdrawal.Lost = Emptied before.slot 0 (Owner before) (Owner after)
 
 -- the steps of request, one behind the other
 abbrev pub RequestSteps : ℕ → Asking → Asking → Request → Type 0
 RequestSteps slot before after request.NoSlot = after ≡ before
 RequestSteps slot before after (request.Taken token) =
-    FlagSet slot before (asking_flagged slot before) × Emptied slot token.use_no (asking_flagged slot before) after
+    FlagSet slot before (asking_flagged slot before)
+    × Emptied slot token.use_no (Canceller (asking_flagged slot before)) (Canceller after)
 RequestSteps slot before after request.Nothing =
-    FlagSet slot before (asking_flagged slot before) × Emptied slot 0 (asking_flagged slot before) after
+    FlagSet slot before (asking_flagged slot before)
+    × Emptied slot 0 (Canceller (asking_flagged slot before)) (Canceller after)
 
 -- an owner has taken its use out of its slot
 abbrev pub TookBack : Token → Owning → Owning → Type 0
 TookBack token before after =
     (0 < before.published) × (token.use_no ≡ before.published)
     × (after ≡ record before { stage = Done; taken = before.published ∷ before.taken })
-    × SwappedOut token.use_no before after
+    × Emptied before.slot token.use_no (Owner before) (Owner after)
 
 -- an owner has found nothing in its slot
 abbrev pub MissedIt : Owning → Owning → Type 0
-MissedIt before after = (after ≡ record before { stage = Done }) × SwappedOut 0 before after
+MissedIt before after = (after ≡ record before { stage = Done }) × Emptied before.slot 0 (Owner before) (Owner after)
 
 -- a canceller has taken a use out of a slot
 abbrev pub TookOut : ℕ → Token → Asking → Asking → Type 0
@@ -150,9 +149,9 @@ TookOut slot token before after =
       ended = slice_set before.ended slot true;
       taken = (slot, token.use_no) ∷ before.taken;
     })
-    × Emptied slot token.use_no before after
+    × Emptied slot token.use_no (Canceller before) (Canceller after)
 
 -- a canceller has found nothing in a slot
 abbrev pub FoundNone : ℕ → Asking → Asking → Type 0
 FoundNone slot before after =
-    (after ≡ record before { ended = slice_set before.ended slot true }) × Emptied slot 0 before after
+    (after ≡ record before { ended = slice_set before.ended slot true }) × Emptied slot 0 (Canceller before) (Canceller after)
