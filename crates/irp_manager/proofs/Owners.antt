@@ -18,7 +18,6 @@ use Rattle.irp_types.specs.declared.names.DeviceId.{DeviceId}
 use Rattle.irp_types.specs.declared.names.CancelId.{CancelId}
 use Rattle.irp_types.specs.declared.status.Status.{Status}
 use Rattle.irp_types.specs.declared.routine.Setting.{Setting}
-use Rattle.irp_types.specs.declared.routine.Known.{Known}
 use Rattle.irp_types.specs.declared.call.Party.{Party}
 use Rattle.irp_types.specs.declared.call.Call.TheVariants.{CreateDevice, Attach, Detach, Delete, Allocate, Free, Reuse, FinishTaken, Cancel, Look}
 use Rattle.irp_types.specs.declared.call.Call.TheVariants.{SetNext, CopyToNext, Skip, SetRoutine, MarkPending, CallDriver, Complete, SetCancelRoutine}
@@ -30,7 +29,7 @@ use Rattle.irp_manager.specs.Slots.{Slots}
 use Rattle.irp_manager.specs.Calls.{Goes, party_refusal_in}
 use Rattle.irp_manager.specs.Rooms.{can_ask}
 use Rattle.irp_manager.specs.Owning.{owner_named, own_refusal, OwnerDoes}
-use Rattle.irp_manager.specs.ManagerStates.{Stepped, KeepsFixed, SenderStays, state_of}
+use Rattle.irp_manager.specs.ManagerStates.{Stepped, KeepsFixed, state_of}
 use Rattle.irp_manager.specs.declared.manager_state.ManagerState.{ManagerState}
 use Rattle.irp_manager.proofs.OnePacket.{GoesOn, party_goes_on, stands_on, stays_on}
 use Rattle.irp_manager.proofs.Turns.{if_none}
@@ -109,43 +108,43 @@ owners_step fixed drained old call by asked reply new named goes =
     subst (λ given. MatchOption given (Effect fixed old call asked reply new) refused) (sym (owners_refusal fixed old drained call by named))
     (if_none (refusal_of fixed old call by) (Makes fixed old call by asked reply new) (Effect fixed old call asked reply new) refused (owners_effect fixed old asked reply new call by named) goes)
 
--- the owner's call refused before its own checks
-pub refused_step : (fixed : Fixed) (drained : Bool) (state : StateValue) (call : Call) (by : Party × IrpRef) (refusal : Refusal) (asked : List Asked)
-    → owner_named call ≡ Some by → party_refusal state by.0 by.1 ≡ Some refusal → asked ≡ [] → Step fixed state drained call asked (Refused refusal) state
-refused_step fixed drained state call by refusal asked named refused empty =
-    subst (λ given. MatchOption given (Effect fixed state call asked (Refused refusal) state) (λ why. Unasked asked (Refused refusal) state (Refused why) state))
-    (sym (owners_refusal fixed state drained call by named ∙ ap (λ given. or_else given (own_refusal fixed.tables.counts state.devices (packet_of state by.1) call)) refused))
-    (empty, refl, refl)
+-- the checks of the owner's call on a packet, in their order
+abbrev pub checks_in : Tables → DevicesValue → Call → Party × IrpRef → LivePacket → Option Refusal
+checks_in tables devices call by live =
+    or_else (party_refusal_in (Some live) by.0 by.1) (own_refusal tables.counts devices live.packet call)
 
--- what the owner's call did, for the call that it is and the questions that stand in the list
-pub turned : (tables : Tables) (irp : IrpRef) (devices : DevicesValue) (call is : Call) (asked : List Asked) (reply : Reply) (before after : LivePacket)
-    → call ≡ is → asked ≡ []
-    → Goes (own_refusal tables.counts devices before.packet is) (OwnerDoes tables irp devices is [] reply before.packet) before after [] reply
-    → Goes (own_refusal tables.counts devices before.packet call) (OwnerDoes tables irp devices call asked reply before.packet) before after asked reply
-turned tables irp devices call is asked reply before after same empty goes =
-    subst (λ (given : Call × List Asked). Goes (own_refusal tables.counts devices before.packet given.0) (OwnerDoes tables irp devices given.0 given.1 reply before.packet) before after given.1 reply)
-    (λ i. (sym same i, sym empty i)) goes
+-- the owner's call refused before its own checks
+pub refused_goes : (tables : Tables) (devices : DevicesValue) (call : Call) (by : Party × IrpRef) (asked : List Asked) (refusal : Refusal) (becomes : PacketValue → Type 0) (live : LivePacket)
+    → party_refusal_in (Some live) by.0 by.1 ≡ Some refusal → asked ≡ [] → Goes (checks_in tables devices call by live) becomes live live asked (Refused refusal)
+refused_goes tables devices call by asked refusal becomes live refused empty =
+    subst (λ given. Goes (or_else given (own_refusal tables.counts devices live.packet call)) becomes live live asked (Refused refusal)) (sym refused) (empty, refl, refl)
+
+-- what the owner's call did behind the checks of the party, for the call that it is and the questions in the list
+pub owned_goes : (tables : Tables) (devices : DevicesValue) (call is : Call) (by : Party × IrpRef) (asked listed : List Asked) (reply : Reply) (before after : LivePacket)
+    → call ≡ is → asked ≡ listed → party_refusal_in (Some before) by.0 by.1 ≡ None
+    → Goes (own_refusal tables.counts devices before.packet is) (OwnerDoes tables by.1 devices is listed reply before.packet) before after listed reply
+    → Goes (checks_in tables devices call by before) (OwnerDoes tables by.1 devices call asked reply before.packet) before after asked reply
+owned_goes tables devices call is by asked listed reply before after same empty own goes =
+    subst (λ (given : Call × List Asked × Option Refusal). Goes (or_else given.2 (own_refusal tables.counts devices before.packet given.0)) (OwnerDoes tables by.1 devices given.0 given.1 reply before.packet) before after given.1 reply)
+    (λ i. (sym same i, sym empty i, sym own i)) goes
 
 -- the owner's call, made on the packet in its slot
 pub owned : {K : Type 0} (view : K → Slots) (tables : Tables) (drained : Bool) (old new : ManagerState K) (call : Call) (by : Party × IrpRef) (asked : List Asked) (reply : Reply) (before after : LivePacket) (slots : Slots)
     → owner_named call ≡ Some by → live_at (state_of view old) by.1.slot ≡ Some before → slots ≡ fin.insert (state_of view old).live by.1.slot after
-    → party_refusal_in (Some before) by.0 by.1 ≡ None
-    → Goes (own_refusal tables.counts (state_of view old).devices before.packet call) (OwnerDoes tables by.1 (state_of view old).devices call asked reply before.packet) before after asked reply
+    → Goes (checks_in tables (state_of view old).devices call by before) (OwnerDoes tables by.1 (state_of view old).devices call asked reply before.packet) before after asked reply
     → IsSound tables.counts after.packet → StandingFacts tables.counts (state_of view old)
     → state_of view new ≡ record (state_of view old) { live = slots } → KeepsFixed old new
     → Stepped view tables drained old call asked reply new
-owned view tables drained old new call by asked reply before after slots named at put own goes sound stands becomes keeps =
+owned view tables drained old new call by asked reply before after slots named at put goes sound stands becomes keeps =
     let state : StateValue = state_of view old in
     let own_checks : PacketValue → Option Refusal = λ packet. own_refusal tables.counts state.devices packet call in
     let does : PacketValue → PacketValue → Type 0 = OwnerDoes tables by.1 state.devices call asked reply in
-    let checked : Goes (or_else (party_refusal_in (Some before) by.0 by.1) (own_checks before.packet)) (does before.packet) before after asked reply =
-    subst (λ given. Goes (or_else given (own_checks before.packet)) (does before.packet) before after asked reply) (sym own) goes in
     record {
       step = λ fixed same agrees. owners_step fixed drained state call by asked reply (state_of view new) named
           (subst (λ (given : Tables × StateValue). GoesOn (or_else (party_refusal state by.0 by.1) (own_refusal given.0.counts state.devices (packet_of state by.1) call)) (OwnerDoes given.0 by.1 state.devices call asked reply (packet_of state by.1)) state by.1.slot asked reply given.1)
-          (λ i. (sym same i, sym becomes i)) (party_goes_on state by.0 by.1 own_checks does before after asked reply slots at put checked));
+          (λ i. (sym same i, sym becomes i)) (party_goes_on state by.0 by.1 own_checks does before after asked reply slots at put goes));
       stands = subst (StandingFacts tables.counts) (sym becomes)
-          (stands_on tables.counts state by.1.slot (or_else (party_refusal_in (Some before) by.0 by.1) (own_checks before.packet)) (does before.packet) before after asked reply slots at put checked sound stands);
+          (stands_on tables.counts state by.1.slot (checks_in tables state.devices call by before) (does before.packet) before after asked reply slots at put goes sound stands);
       fixed = keeps;
     }
 
@@ -162,13 +161,12 @@ asks_up state call by party irp status information named is =
     ap (can_ask state) is ∙ ap (λ (given : Party × IrpRef). can_ask_up (packet_of state given.1)) (same_Some (party, irp) by (ap owner_named (sym is) ∙ named))
 
 -- where a packet that its owner sent stands
-pub sent_stays : {K : Type 0} (view : K → Slots) (old new : ManagerState K) (call : Call) (by : Party × IrpRef) (reply : Reply) (before after : LivePacket) (slots : Slots)
-    → owner_named call ≡ Some by → live_at (state_of view old) by.1.slot ≡ Some before → slots ≡ fin.insert (state_of view old).live by.1.slot after
-    → state_of view new ≡ record (state_of view old) { live = slots }
+pub sent_stays : (state : StateValue) (call : Call) (by : Party × IrpRef) (reply : Reply) (before after : LivePacket) (slots : Slots)
+    → owner_named call ≡ Some by → live_at state by.1.slot ≡ Some before → slots ≡ fin.insert state.live by.1.slot after
     → ((status : Status) → reply ≡ StatusIs status → StaysUp before.packet after.packet status)
-    → SenderStays view old call reply new
-sent_stays view old new call by reply before after slots named at put becomes stays party irp target is status told =
-    let state : StateValue = state_of view old in
+    → (party : Party) (irp : IrpRef) (target : DeviceId) → call ≡ CallDriver party irp target
+    → (status : Status) → reply ≡ StatusIs status → StaysUp (packet_of state irp) (packet_of (record state { live = slots }) irp) status
+sent_stays state call by reply before after slots named at put stays party irp target is status told =
     let same : (party, irp) ≡ by = same_Some (party, irp) by (ap owner_named (sym is) ∙ named) in
-    subst (λ (given : IrpRef × StateValue). StaysUp (packet_of state given.0) (packet_of given.1 given.0) status) (λ i. ((sym same i).1, sym becomes i))
+    subst (λ (given : Party × IrpRef). StaysUp (packet_of state given.1) (packet_of (record state { live = slots }) given.1) status) (sym same)
     (stays_on state by.1 before after slots status at put (stays status told))

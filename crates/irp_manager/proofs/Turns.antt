@@ -4,25 +4,23 @@ use Rattle.irp_types.specs.Checks.{Check, first_failing, or_else}
 use Rattle.irp_types.specs.Packet.{PacketValue, set_next_refusal, copy_to_next_refusal, mark_pending_refusal, after_set_next, after_copy, after_skip, after_set_routine, after_mark}
 use Rattle.irp_types.specs.Stacks.{delete_checks}
 use Rattle.irp_types.specs.State.{StateValue, LivePacket, Fixed, packet_of, with_packet}
-use Rattle.irp_types.specs.Refusals.{is_in_flight, has_ended, packet_refusal, party_refusal, leave_refusal, routine_refusal, cancel_refusal, send_refusal, complete_refusal, take_refusal}
+use Rattle.irp_types.specs.Refusals.{is_in_flight, has_ended, packet_refusal, leave_refusal, routine_refusal, cancel_refusal, take_refusal}
 use Rattle.irp_types.specs.Steps.{Unasked, Effect, Step}
 use Rattle.irp_types.specs.Standing.{IsSound}
 use Rattle.irp_types.specs.declared.names.IrpRef.{IrpRef}
-use Rattle.irp_types.specs.declared.names.DeviceId.{DeviceId}
 use Rattle.irp_types.specs.declared.names.CancelId.{CancelId}
 use Rattle.irp_types.specs.declared.status.Status.{Status}
 use Rattle.irp_types.specs.declared.routine.Known.{Known}
 use Rattle.irp_types.specs.declared.routine.Setting.{Setting}
-use Rattle.irp_types.specs.declared.call.Party.{Party}
-use Rattle.irp_types.specs.declared.call.Call.TheVariants.{SetNext, CopyToNext, Skip, SetRoutine, MarkPending, CallDriver, Complete, FinishTaken, SetCancelRoutine}
+use Rattle.irp_types.specs.declared.call.Call.TheVariants.{FinishTaken}
 use Rattle.irp_types.specs.declared.asked.Asked.{Asked}
 use Rattle.irp_types.specs.declared.refusal.Refusal.{Refusal}
 use Rattle.irp_types.specs.declared.refusal.Refusal.TheVariants.{InFlight, NotDrained}
 use Rattle.irp_types.specs.declared.reply.Reply.{Reply}
 use Rattle.irp_types.specs.declared.reply.Reply.TheVariants.{Done, Previous, Refused}
-use Rattle.irp_manager.specs.Calls.{Goes, Fills, Copies, Leaves, Sets, Marks, Sends, Finishes, Takes, SetsCancel}
+use Rattle.irp_manager.specs.Calls.{Goes, Fills, Copies, Leaves, Sets, Marks, Takes, SetsCancel}
 use Rattle.irp_manager.proofs.OnePacket.{GoesOn}
-use Rattle.irp_manager.proofs.Sound.{both_passed, sound_set_next, sound_copy, sound_skip, sound_set_routine, sound_mark, sound_set_cancel}
+use Rattle.irp_manager.proofs.Sound.{sound_set_next, sound_copy, sound_skip, sound_set_routine, sound_mark, sound_set_cancel}
 
 -- an effect in place of another, where nothing was refused
 pub if_none : (refusal : Option Refusal) (one two : Type 0) (refused : Refusal → Type 0) → (one → two) → MatchOption refusal one refused → MatchOption refusal two refused

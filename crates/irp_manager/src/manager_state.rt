@@ -54,7 +54,7 @@ pub struct Applied {
 
 /// The state of the sequential manager: its live packets, its devices, the next use number, and how many remove locks
 /// there are (this project's own rule). Each call borrows the asker that answers for the closures.
-#[derive(Drop)]
+#[derive(Clone, Drop)]
 pub struct ManagerState<K> {
     alloc: Global,
     keep: K,

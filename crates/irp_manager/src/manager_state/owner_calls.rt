@@ -1,6 +1,6 @@
 //! The calls that only the owner of a packet may make.
 
-ghost use Rattle.std.specs.Prelude.{◌≡◌, ◌+◌, ◌≤◌, ◌×◌, Some, [], Bool, vec_len, vec_capacity};
+ghost use Rattle.std.specs.Prelude.{◌≡◌, ◌+◌, ◌≤◌, Some, [], Bool, vec_len, vec_capacity};
 ghost use Rattle.irp_types.specs.Standing.{StandingFacts};
 ghost use Rattle.irp_routines.specs.Answers.{AreAnswered};
 ghost use Rattle.irp_manager.specs.Owning.{owner_named};

@@ -83,5 +83,6 @@ returns-in-FinishTaken-clause-stepped g c =
     let tables = g.A.Ask.tables c.args.ask.now in
     subst (λ (given : Call). Stepped g.K.Keep.live tables c.args.drained c.args.self.now given c.finish_taken.new.asked.items c.finish_taken.result c.finish_taken.new.self) (sym c.in-FinishTaken.is) (c.finish_taken.ensures.stepped c.args.drained)
 
-pub returns-in_default-clause-stepped : goal.returns-in_default-clause-stepped
-returns-in_default-clause-stepped g c = c.answer_party.ensures.stepped c.args.drained
+pub returns-in-SetNext-clause-stepped : goal.returns-in-SetNext-clause-stepped
+returns-in-SetNext-clause-stepped g c =
+    subst (λ (given : Call). Stepped g.K.Keep.live (g.A.Ask.tables c.args.ask.now) c.args.drained c.args.self.now given c.by_owner.new.asked.items c.by_owner.result c.by_owner.new.self) c.in-SetNext.call-is (c.by_owner.ensures.stepped c.args.drained)
