@@ -46,7 +46,8 @@ receipt_of entry = record {
 -- an entry is this seat's and this call's, its number is below the limit and after all that the seat had seen, its
 -- `drained` is what the note knows of its lock (and it knew that it was drained, where a deletion is done), it has no
 -- more questions than such a call may ask, and the receipt tells of it
-pub record IsCallOf (seat : Seated) (call : Call) (knows : LockNo → Bool) (receipt : Receipted) (entry : Entry) : Type 0 where
+pub record IsCallOf (seat : Seated) (call : Call) (knows : LockNo → Bool) (receipt : Receipted)
+    (entry : Entry) : Type 0 where
   pub within : entry.number < most_entries
   pub after : seat.seen ≤ entry.number
   pub by : entry.seat ≡ seat.number
@@ -57,7 +58,8 @@ pub record IsCallOf (seat : Seated) (call : Call) (knows : LockNo → Bool) (rec
   pub told : receipt ≡ receipt_of entry
 
 -- the history grew by one entry, which is this seat's call, and whose questions were answered as they may be
-pub record Records (are_answered : List Asked → Type 0) (seat : Seated) (call : Call) (knows : LockNo → Bool) (receipt : Receipted) (old new : List Entry) : Type 0 where
+pub record Records (are_answered : List Asked → Type 0) (seat : Seated) (call : Call) (knows : LockNo → Bool)
+    (receipt : Receipted) (old new : List Entry) : Type 0 where
   pub entry : Entry
   pub appended : new ≡ old ++ entry ∷ []
   pub numbered : entry.number ≡ length old

@@ -41,7 +41,8 @@ flight_refusal_in live irp = or_else (packet_refusal_in (Some live) irp) (first_
 -- the checks of using a packet again under this number, at what stands in the slot
 abbrev pub reuse_refusal_in : LivePacket → IrpRef → ℕ → Option Refusal
 reuse_refusal_in live irp use_no =
-    or_else (packet_refusal_in (Some live) irp) (first_failing (flight_check live.packet ∷ (nat_le use_limit use_no, Full) ∷ []))
+    or_else (packet_refusal_in (Some live) irp) (first_failing
+        (flight_check live.packet ∷ (nat_le use_limit use_no, Full) ∷ []))
 
 -- a packet was refused another use and is as before, or it is as newly allocated, with this status, under this number
 abbrev pub Renews : Option Refusal → Status → ℕ → LivePacket → LivePacket → Type 0
@@ -98,7 +99,8 @@ abbrev pub IsCancelled : Tables → IrpRef → List Asked → Reply → PacketVa
 IsCancelled tables irp asked reply old new = Cancels tables irp old old.cancel_routine asked reply new
 
 -- what follows a cancel routine's answer was done, and what was asked in it stands behind the others
-pub record Followed (are_answered : List Asked → Type 0) (irp : IrpRef) (old new : PacketValue) (answer : CancelAnswer) (before after : List Asked) : Type 0 where
+pub record Followed (are_answered : List Asked → Type 0) (irp : IrpRef) (old new : PacketValue)
+    (answer : CancelAnswer) (before after : List Asked) : Type 0 where
   pub later : List Asked
   pub follows : Follows irp old answer later new
   pub listed : after ≡ before ++ later

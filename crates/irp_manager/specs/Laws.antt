@@ -29,7 +29,8 @@ IsSameSlot call reply other =
 -- the slot of a new packet settle what is asked, the reply and the next state
 abbrev pub StepIsSettled : Type 0
 StepIsSettled =
-    (plan_of : DispatchId → Shown → Plan) (reply_of : RoutineId → Shown → Answer) (cancel_reply_of : CancelId → Shown → CancelAnswer)
+    (plan_of : DispatchId → Shown → Plan) (reply_of : RoutineId → Shown → Answer)
+    (cancel_reply_of : CancelId → Shown → CancelAnswer)
     (fixed : Fixed) (old : StateValue) (drained : Bool) (call : Call)
     (asked others : List Asked) (reply other : Reply) (new another : StateValue)
     → StandingFacts fixed.tables.counts old

@@ -36,7 +36,8 @@ abbrev pub KeepsFixed : {K : Type 0} → ManagerState K → ManagerState K → T
 KeepsFixed old new = (new.locks ≡ old.locks) × (new.stacks.limit ≡ old.stacks.limit)
 
 -- a call was answered by its step, and the standing facts are kept
-pub record Stepped {K : Type 0} (live : K → Slots) (tables : Tables) (drained : Bool) (old : ManagerState K) (call : Call) (asked : List Asked) (reply : Reply) (new : ManagerState K) : Type 0 where
+pub record Stepped {K : Type 0} (live : K → Slots) (tables : Tables) (drained : Bool) (old : ManagerState K)
+    (call : Call) (asked : List Asked) (reply : Reply) (new : ManagerState K) : Type 0 where
   pub step :
       (fixed : Fixed) → fixed.tables ≡ tables → Agrees fixed old
       → Step fixed (state_of live old) drained call asked reply (state_of live new)

@@ -49,5 +49,6 @@ OwnerDoes tables irp devices (CallDriver party own target) asked reply old new =
     Sends tables irp devices target.0 asked reply old new
 OwnerDoes tables irp devices (Complete party own status information) asked reply old new =
     Finishes irp status information asked reply old new
-OwnerDoes tables irp devices (SetCancelRoutine party own cancel) asked reply old new = SetsCancel cancel asked reply old new
+OwnerDoes tables irp devices (SetCancelRoutine party own cancel) asked reply old new =
+    SetsCancel cancel asked reply old new
 OwnerDoes tables irp devices _ asked reply old new = ⊥

@@ -14,17 +14,20 @@ use Rattle.irp_types.specs.declared.asked.Asked.{Asked}
 use Rattle.irp_routines.specs.Answers.{AreAnswered}
 
 -- the tables allow the plan; where they are the other asker's own, it is one that this may give
-pub record PassesPlan (tables : Tables) (own : Type 0) (may : DispatchId → Shown → Plan → Type 0) (id : DispatchId) (shown : Shown) (plan : Plan) : Type 0 where
+pub record PassesPlan (tables : Tables) (own : Type 0) (may : DispatchId → Shown → Plan → Type 0) (id : DispatchId)
+    (shown : Shown) (plan : Plan) : Type 0 where
   pub allowed : IsPlanAllowed tables id shown plan
   pub given : own → may id shown plan
 
 -- the same of a completion routine's answer
-pub record PassesAnswer (tables : Tables) (own : Type 0) (may : RoutineId → Shown → Answer → Type 0) (id : RoutineId) (shown : Shown) (answer : Answer) : Type 0 where
+pub record PassesAnswer (tables : Tables) (own : Type 0) (may : RoutineId → Shown → Answer → Type 0) (id : RoutineId)
+    (shown : Shown) (answer : Answer) : Type 0 where
   pub allowed : IsAnswerAllowed tables id shown answer
   pub given : own → may id shown answer
 
 -- the same of a cancel routine's answer
-pub record PassesCancel (tables : Tables) (own : Type 0) (may : CancelId → Shown → CancelAnswer → Type 0) (id : CancelId) (shown : Shown) (answer : CancelAnswer) : Type 0 where
+pub record PassesCancel (tables : Tables) (own : Type 0) (may : CancelId → Shown → CancelAnswer → Type 0)
+    (id : CancelId) (shown : Shown) (answer : CancelAnswer) : Type 0 where
   pub allowed : IsCancelAllowed tables id answer
   pub given : own → may id shown answer
 
@@ -34,4 +37,5 @@ abbrev pub ArePassed :
     → (CancelId → Shown → CancelAnswer → Type 0)
     → List Asked → Type 0
 ArePassed tables own may_plan may_answer may_cancel =
-    AreAnswered (PassesPlan tables own may_plan) (PassesAnswer tables own may_answer) (PassesCancel tables own may_cancel)
+    AreAnswered (PassesPlan tables own may_plan) (PassesAnswer tables own may_answer)
+        (PassesCancel tables own may_cancel)

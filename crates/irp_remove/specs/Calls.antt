@@ -78,7 +78,8 @@ TriedInVain lock before after =
 -- acquire was refused
 abbrev pub AcquireRefused : ℕ → ℕ → Holder → Holder → AcquireRefusal → Type 0
 AcquireRefused count lock before after acquire.NoLock = (count ≤ lock) × (after ≡ before)
-AcquireRefused count lock before after acquire.SeatFull = (lock < count) × (length before.held ≡ most_held) × (after ≡ before)
+AcquireRefused count lock before after acquire.SeatFull =
+    (lock < count) × (length before.held ≡ most_held) × (after ≡ before)
 AcquireRefused count lock before after acquire.DeletePending =
     (lock < count) × (length before.held < most_held) × KnowsRemoved lock after
     × ((ObserverKnowsRemoved lock before × (after ≡ before))

@@ -57,7 +57,8 @@ IsHeld table reference =
     × ((seen : List ℕ) × (reference.stake.views ≡ Stake (Held reference.lock reference.tag) seen ∷ []))
 
 -- the observer's view is what the flags say, each idle stake is idle, and each other one holds its lock under its tag
-pub record IsSeated (observer : Seat (Unit {0}) View) (idle held : List Reference) (began saw drained : List Bool) : Type 0 where
+pub record IsSeated (observer : Seat (Unit {0}) View) (idle held : List Reference)
+    (began saw drained : List Bool) : Type 0 where
   pub observes : observer.me.0 ≡ Observer (watch_of observer.me.0)
   pub began_is : (watch_of observer.me.0).began ≡ began
   pub saw_is : (watch_of observer.me.0).saw ≡ saw

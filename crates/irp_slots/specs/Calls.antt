@@ -154,4 +154,5 @@ TookOut slot token before after =
 -- a canceller has found nothing in a slot
 abbrev pub FoundNone : ℕ → Asking → Asking → Type 0
 FoundNone slot before after =
-    (after ≡ record before { ended = slice_set before.ended slot true }) × Emptied slot 0 (Canceller before) (Canceller after)
+    (after ≡ record before { ended = slice_set before.ended slot true })
+    × Emptied slot 0 (Canceller before) (Canceller after)
