@@ -42,7 +42,7 @@ flight_refusal_in live irp = or_else (packet_refusal_in (Some live) irp) (first_
 abbrev pub reuse_refusal_in : LivePacket → IrpRef → ℕ → Option Refusal
 reuse_refusal_in live irp use_no =
     or_else (packet_refusal_in (Some live) irp) (first_failing
-        (flight_check live.packet ∷ (nat_le use_limit use_no, Full) ∷ []))
+    (flight_check live.packet ∷ (nat_le use_limit use_no, Full) ∷ []))
 
 -- a packet was refused another use and is as before, or it is as newly allocated, with this status, under this number
 abbrev pub Renews : Option Refusal → Status → ℕ → LivePacket → LivePacket → Type 0

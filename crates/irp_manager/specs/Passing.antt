@@ -38,4 +38,4 @@ abbrev pub ArePassed :
     → List Asked → Type 0
 ArePassed tables own may_plan may_answer may_cancel =
     AreAnswered (PassesPlan tables own may_plan) (PassesAnswer tables own may_answer)
-        (PassesCancel tables own may_cancel)
+    (PassesCancel tables own may_cancel)

@@ -24,7 +24,7 @@ WordLaw =
     → (slice_index state.words lock ≡ total (began lock) state.views + 2 * total (staked lock) state.views)
     × (total (began lock) state.views ≤ 1) × (slice_index state.words lock ≤ 8193)
     × ((party : ℕ) (view : View) → get_elem? state.views party ≡ some view → 0 < saw lock view
-        → total (began lock) state.views ≡ 1)
+    → total (began lock) state.views ≡ 1)
 
 -- where some observer knows a lock drained, its removal has begun and no stake holds it
 abbrev pub IsHeldByNobody : Type 0
