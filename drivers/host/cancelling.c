@@ -38,7 +38,7 @@ PDRIVER_CANCEL WdmIoSetCancelRoutine(PIRP Irp, PDRIVER_CANCEL Routine, WDM_SITE 
     } else {
         if (lives(p))
             settle(p, false);
-        Entry *e = begin(SET_CANCEL, p, party(p));
+        Entry *e = begin(SET_CANCEL, p, party_with_location(p));
         e->routine = Routine;
         const char *no = rules_refusal(e);
         if (no && !strcmp(no, "AlreadyCancelled")) { /* the driver looks at Irp->Cancel next, and takes it back */

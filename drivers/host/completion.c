@@ -213,7 +213,7 @@ VOID WdmIoCompleteRequest(PIRP Irp, WDM_SITE at)
     enter_host(&c, "IoCompleteRequest", at);
     Packet *p = find(Irp);
     await(p);
-    const int by = party(p);
+    const int by = party_with_location(p);
     const bool live = lives(p);
     const ULONG status = live ? (ULONG)Irp->IoStatus.Status : 0;
     const uint64_t information = live ? Irp->IoStatus.Information : 0;

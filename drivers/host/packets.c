@@ -33,9 +33,10 @@ static int calling_device(int driver)
     return ORIGINATOR;
 }
 
-/* In whose name this thread's call on the packet is: that of the routine of this packet that runs; else of whoever is
-   asked about it or has it, where the calling code may be theirs; else of the caller's own device. */
-int party(const Packet *p)
+/* Whether the test may make this call: on a thread of its own, in its own file, which may be a driver's too. */
+static bool may_be_the_test(void) { return !self.frames && !self.is_driver && has_test(self.calls->at.file); }
+
+static int party_of(const Packet *p, bool needs_location)
 {
     if (on_top(p))
         return self.frames->device;
@@ -43,11 +44,18 @@ int party(const Packet *p)
     const int caller = calling_driver();
     if (caller == NOBODY || driver_of(holder) == caller)
         return holder;
-    const bool is_test = !self.frames && !self.is_driver; /* a driver's file may have its test in it */
-    if (holder == ORIGINATOR && (p->allocator == caller || (p->allocator == NOBODY && is_test)))
+    const bool its_own = p->allocator == caller || (p->allocator == NOBODY && may_be_the_test());
+    if (holder == ORIGINATOR && its_own && !needs_location)
         return holder;
     return calling_device(caller);
 }
+
+/* In whose name this thread's call on the packet is: that of the routine of this packet that runs; else of whoever is
+   asked about it or has it, where the calling code may be theirs; else of the caller's own device. */
+int party(const Packet *p) { return party_of(p, false); }
+
+/* The same of a call that needs a location of one's own: an originator has none, so a driver makes it for its device. */
+int party_with_location(const Packet *p) { return party_of(p, true); }
 
 /* The dispatch that this thread is in, if it is still asked about the packet. */
 Frame *dispatching(const Packet *p)
@@ -227,7 +235,7 @@ VOID WdmIoMarkIrpPending(PIRP Irp, WDM_SITE at)
     Packet *p = find(Irp);
     await(p);
     Frame *f = p->asking;
-    const int by = party(p);
+    const int by = party_with_location(p);
     if (f && on_top(p) == f && f->kind != CANCELLING && !(f->kind == DISPATCH && p->skipped)) {
         const int j = f->kind == ROUTINE ? f->location + 1 : f->location;
         f->marked = true;

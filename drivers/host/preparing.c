@@ -79,7 +79,7 @@ VOID WdmIoCopyToNext(PIRP Irp, WDM_SITE at)
         settle(p, false);
         f = NULL;
     }
-    Entry *e = f ? NULL : begin(COPY, p, party(p));
+    Entry *e = f ? NULL : begin(COPY, p, party_with_location(p));
     const char *no = e ? rules_refusal(e) : NULL;
     if (no)
         refuse(e, no);
@@ -111,7 +111,7 @@ VOID WdmIoSkip(PIRP Irp, WDM_SITE at)
         settle(p, false);
         f = NULL;
     }
-    Entry *e = f ? NULL : begin(SKIP, p, party(p));
+    Entry *e = f ? NULL : begin(SKIP, p, party_with_location(p));
     const char *no = e ? rules_refusal(e) : NULL;
     if (no)
         refuse(e, no);

@@ -6,10 +6,11 @@ PDRIVER_OBJECT drivers[MAX_DRIVERS];
 int n_drivers;
 static FILE_OBJECT files[MAX_DEVICES];
 
-PDRIVER_OBJECT WdmLoadDriver(const char *Name, PDRIVER_INITIALIZE Entry)
+PDRIVER_OBJECT WdmLoad(const char *Name, PDRIVER_INITIALIZE Entry, WDM_SITE at)
 {
     Call c;
     UNICODE_STRING path = { 0 };
+    learn_test(at.file);
     enter_host(&c, "WdmLoadDriver", (WDM_SITE){ 0 });
     open_traps();
     PDRIVER_OBJECT d = calloc(1, sizeof *d);
@@ -67,6 +68,7 @@ static PFILE_OBJECT file_of(PDEVICE_OBJECT top)
 PIRP WdmBuild(PDEVICE_OBJECT Top, UCHAR Major, UCHAR Minor, ULONG Length, PIO_STATUS_BLOCK Iosb, PKEVENT Event,
               WDM_SITE at)
 {
+    learn_test(at.file);
     PIRP irp = WdmIoAllocateIrp(Top->StackSize, at);
     if (!irp)
         return NULL;

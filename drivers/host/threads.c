@@ -133,6 +133,26 @@ void learn_file(const char *file, int driver)
     }
 }
 
+/* Which source files have a test in them: those that call what wdm_test.h has. One may be a driver's as well. */
+static const char *test_files[128];
+static int n_test_files;
+
+bool has_test(const char *file)
+{
+    for (int i = 0; file && i < n_test_files; i++)
+        if (!strcmp(test_files[i], file))
+            return true;
+    return false;
+}
+
+void learn_test(const char *file)
+{
+    pthread_mutex_lock(&host_lock);
+    if (file && n_test_files < 128 && !has_test(file))
+        test_files[n_test_files++] = file;
+    pthread_mutex_unlock(&host_lock);
+}
+
 /* Whose code makes this call: by its file; else by the innermost routine that runs; else by who made the thread. */
 int calling_driver(void)
 {

@@ -9,7 +9,8 @@
 #include "wdm_io.h"
 
 /* Calls DriverEntry of a driver. Returns its object, or NULL where DriverEntry fails. The name is for messages. */
-PDRIVER_OBJECT WdmLoadDriver(const char *Name, PDRIVER_INITIALIZE Entry);
+PDRIVER_OBJECT WdmLoad(const char *Name, PDRIVER_INITIALIZE Entry, WDM_SITE at);
+#define WdmLoadDriver(name, entry) WdmLoad((name), (entry), WDM_HERE)
 
 /* Calls DriverUnload, where the driver has one. */
 VOID WdmUnloadDriver(PDRIVER_OBJECT Driver);
