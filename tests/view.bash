@@ -1,6 +1,7 @@
 #!/bin/bash
-# Shows that `irp_view text` and `irp_view packet` show the entries that their words ask for: a use of a packet, a span, or
-# all, with word lines only behind all. IRP_VIEW names the program; without it, it is the one that bin/irp_view runs.
+# Shows that `irp_view text` and `irp_view packet` show the entries that their words ask for: a use of a packet, a span,
+# or all, with word lines only behind all; and what they say of a completion that a right driver leaves out, and of one
+# that is a mistake. IRP_VIEW names the program; without it, it is the one that bin/irp_view runs.
 # Each failure has a line of its own. Ends with status 0 where all was as expected, else with 1.
 set -u
 cd "$(dirname "$(readlink -f "$0")")" || exit 1
@@ -45,6 +46,18 @@ locks=$(grep -l '"tag"' ../examples/removal/*.transcript | head -n 1)
 shows_steps "$(grep -c '"step"' "$locks")" text "$locks"
 shows_steps 0 text --entries 0.. "$locks"
 shows_steps 0 packet 0 1 "$locks"
+
+# Checks that the line of entry $1 of the transcript $3 ends with $2.
+ends() {
+    tried=$((tried + 1))
+    "$irp_view" text --entries "$1..$(($1 + 1))" "$3" | grep -qF -- "$2" && return
+    wrong=$((wrong + 1))
+    echo "failed: view: entry $1 of $3 doesn't say $2"
+}
+
+late=../examples/cancelling/a_completion_after_the_cancel_routine.transcript
+ends 8 ' -> refused: Ended, this use has completed (a right driver makes no such call: its cancel routine' "$late"
+ends 9 ' -> refused: Ended, this use has completed (in Windows: bug check 0x44, MULTIPLE_IRP_COMPLETE_REQUESTS;' "$late"
 
 echo "tried: $tried $wrong shown"
 [ "$wrong" -eq 0 ]

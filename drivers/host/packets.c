@@ -54,7 +54,7 @@ static int party_of(const Packet *p, bool needs_location)
    asked about it or has it, where the calling code may be theirs; else of the caller's own device. */
 int party(const Packet *p) { return party_of(p, false); }
 
-/* The same of a call that needs a location of one's own: an originator has none, so a driver makes it for its device. */
+/* The same of a call that needs a location of one's own: an originator has none, so a driver calls for its device. */
 int party_with_location(const Packet *p) { return party_of(p, true); }
 
 /* The dispatch that this thread is in, if it is still asked about the packet. */

@@ -8,9 +8,10 @@ use crate::outcome::{OutcomeWords, moves, outcome_of};
 use crate::questions::QuestionWords;
 use crate::stacks::Stacks;
 use irp_names::{
-    AnsweredWords, CallWords, PartyWords, RefusalWords, ReplyWords, caller_of, shown_of,
+    AnsweredWords, CallWords, PartyWords, RefusalWords, ReplyWords, caller_of, refusal_meaning,
+    refusal_name, shown_of,
 };
-use irp_types::{Asked, Call, Entry, Reply};
+use irp_types::{Asked, Call, Entry, Refusal, Reply};
 use std::alloc::AllocError;
 use std::fmt;
 
@@ -19,6 +20,8 @@ use std::fmt;
 struct HeadWords<'a> {
     entry: &'a Entry,
     tells_seat: bool,
+    /// Whether it is a completion that a right driver leaves out.
+    is_left_out: bool,
 }
 
 impl fmt::Display for HeadWords<'_> {
@@ -36,10 +39,28 @@ impl fmt::Display for HeadWords<'_> {
         write!(f, "{}", CallerWords { call, drained })?;
         match reply {
             Reply::Done => Ok(()),
+            Reply::Refused(refusal) if self.is_left_out => write!(
+                f,
+                " -> refused: {}",
+                LeftOutWords(refusal)
+            ),
             Reply::Refused(refusal) => write!(f, " -> refused: {}", RefusalWords { call, refusal }),
             _ if moves(self.entry) => Ok(()),
             _ => write!(f, " -> {}", ReplyWords { call, reply }),
         }
+    }
+}
+
+/// The refusal of a completion that a right driver leaves out.
+#[derive(Clone, Copy)]
+struct LeftOutWords(Refusal);
+
+impl fmt::Display for LeftOutWords {
+    fn fmt<W: fmt::Write>(&self, f: &mut fmt::Formatter<W>) -> fmt::Result {
+        f.write_str(refusal_name(self.0))?;
+        f.write_str(", ")?;
+        f.write_str(refusal_meaning(self.0))?;
+        f.write_str(" (a right driver makes no such call: its cancel routine was gone)")
     }
 }
 
@@ -140,7 +161,12 @@ pub fn put_block(
     ensures { OnOk result (AddsBlock entry.now out.old.items out.new.items) }
 {
     words.clear();
-    write!(words, "{}", HeadWords { entry, tells_seat })?;
+    let head = HeadWords {
+        entry,
+        tells_seat,
+        is_left_out: stacks.is_left_out(entry),
+    };
+    write!(words, "{}", head)?;
     put_head(out, entry.number, words.as_str())?;
     put_questions(out, words, stacks, entry.asked.as_slice())?;
     put_outcome(out, words, entry)

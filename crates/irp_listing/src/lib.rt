@@ -3,6 +3,7 @@
 
 mod blocks;
 mod choosing;
+mod leaving;
 mod lines;
 mod listing;
 mod outcome;
@@ -13,6 +14,7 @@ mod writing;
 
 pub use blocks::{CallerWords, put_block};
 pub use choosing::{Choice, is_chosen};
+pub use leaving::{late_completion, taken_out};
 pub use lines::{put_line, put_row};
 pub use listing::{list, stacks_after, words_text};
 pub use outcome::{Outcome, moves, outcome_of};

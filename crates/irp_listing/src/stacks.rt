@@ -1,16 +1,19 @@
-//! Which devices stand above which, as the entries so far tell.
+//! Which devices stand above which, and which of them found a cancel routine gone, as the entries so far tell.
 
 ghost use Rattle.std.specs.Prelude.{◌≤◌};
 
-use irp_types::{Call, DeviceId, Entry, Reply};
+use crate::leaving::{late_completion, taken_out};
+use irp_types::{Call, DeviceId, Entry, IrpRef, Reply};
 
 /// As many devices as there can be.
 const MOST_DEVICES: usize = 64;
 
-/// For each device the one just above it. Entries of any transcript can be followed, also illegal ones.
+/// For each device the one just above it, and the packet whose cancel routine it took out last, where that was gone.
+/// Entries of any transcript can be followed, also illegal ones.
 #[derive(Clone, Copy)]
 pub struct Stacks {
     above: [Option<DeviceId>; MOST_DEVICES],
+    lost: [Option<IrpRef>; MOST_DEVICES],
 }
 
 impl Stacks {
@@ -18,6 +21,7 @@ impl Stacks {
     pub fn new() -> Stacks {
         Stacks {
             above: [None; MOST_DEVICES],
+            lost: [None; MOST_DEVICES],
         }
     }
 
@@ -28,8 +32,29 @@ impl Stacks {
         }
     }
 
+    /// Notes whether an entry's device found its packet's cancel routine gone.
+    fn note_taken_out(&mut self, entry: &Entry) {
+        if let Some((device, is_gone)) = taken_out(entry) {
+            if let Some(place) = self.lost.get_mut(device.0 as usize) {
+                *place = if is_gone { entry.call.packet() } else { None };
+            }
+        }
+    }
+
+    /// Whether an entry is a completion of a packet that has ended, by a device that found its cancel routine gone.
+    pub fn is_left_out(&self, entry: &Entry) -> bool {
+        match late_completion(entry) {
+            Some(device) => match self.lost.get(device.0 as usize) {
+                Some(Some(irp)) => entry.call.packet() == Some(*irp),
+                _ => false,
+            },
+            None => false,
+        }
+    }
+
     /// Follows an entry.
     pub fn follow(&mut self, entry: &Entry) {
+        self.note_taken_out(entry);
         match (entry.call, entry.reply) {
             (Call::Attach { device, .. }, Reply::Device(top)) => self.set(top, Some(device)),
             (Call::Detach { lower }, Reply::Device(_)) => self.set(lower, None),
