@@ -3,6 +3,7 @@
 use crate::fault::{Fault, Step, What};
 use crate::search::{Found, Task, look_at_keys, look_into};
 use crate::shape::{Kind, Name, Sort};
+use crate::told::told_of;
 use serde_json::Value;
 
 /// The kind with this name.
@@ -52,7 +53,7 @@ pub fn look_by_do<'a>(
     kinds: &'static [Kind],
     two: bool,
 ) -> Found<'a> {
-    let noun = task.part.told;
+    let noun = told_of(task.part);
     if !task.value.is_object() {
         return Ok(Some(Fault::at(task.path, What::NoName { noun })));
     }
@@ -79,7 +80,7 @@ fn look_at_text<'a>(
     kinds: &'static [Kind],
     two: bool,
 ) -> Option<Fault<'a>> {
-    let noun = task.part.told;
+    let noun = told_of(task.part);
     let what = match text_named(names, text) {
         Some(name) if name.two && !two => What::FormOneHasNo(name.name),
         Some(_) => return None,
@@ -102,7 +103,7 @@ pub fn look_by_key<'a>(
     object: &'static str,
     two: bool,
 ) -> Found<'a> {
-    let noun = task.part.told;
+    let noun = told_of(task.part);
     if let Value::String(text) = task.value {
         return Ok(look_at_text(task, text.as_str(), names, kinds, two));
     }
@@ -131,7 +132,7 @@ pub fn look_by_first<'a>(
     sorts: &'static [Sort],
     two: bool,
 ) -> Found<'a> {
-    let noun = task.part.told;
+    let noun = told_of(task.part);
     let first = task.value.get(0usize).and_then(Value::as_str);
     let name = first.unwrap_or("");
     let what = match sort_named(sorts, name) {

@@ -1,6 +1,6 @@
 //! What isn't as it should be, and where.
 
-use crate::shape::{Key, Kind, Name, Sort};
+use crate::shape::{Key, Kind, Name, Part, Sort};
 
 /// As many steps as a path has room for. The longest leads to an item of a plan's setting, and has five.
 const MOST_STEPS: usize = 6;
@@ -49,8 +49,8 @@ impl<'a> Path<'a> {
 /// What isn't as it should be. A noun and keys or kinds stand for what may be there.
 #[derive(Clone, Copy)]
 pub enum What {
-    /// The part has another form than this.
-    Told(&'static str),
+    /// The part isn't what such a part may be.
+    Told(Part),
     /// The seat isn't one of so many.
     NoSeat {
         seats: u32,

@@ -12,9 +12,10 @@ mod questions;
 mod replies;
 mod search;
 mod shape;
-mod small;
+mod shapes;
 mod steps;
 mod tables;
 mod telling;
+mod told;
 
 pub use misfit::{Before, Misfit, misfit_of};

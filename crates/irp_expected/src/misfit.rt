@@ -1,10 +1,9 @@
 //! What is told of a line that is refused.
 
 use crate::fault::{Fault, Path, What};
-use crate::lines::{ENTRY, HEADER, HEADER_TWO};
 use crate::place::column_of;
 use crate::search::{Bounds, Found, first_fault};
-use crate::steps::WORD_LINE;
+use crate::shape::Part;
 use crate::tables::fault_of_tables;
 use crate::telling::{PathWords, WhatWords};
 use serde_json::Value;
@@ -36,7 +35,7 @@ fn is_of_form_two(value: &Value) -> bool {
 /// The first fault of a first line.
 fn fault_of_header<'a>(alloc: Global, value: &'a Value) -> Found<'a> {
     let two = is_of_form_two(value);
-    let part = if two { HEADER_TWO } else { HEADER };
+    let part = if two { Part::HeaderTwo } else { Part::Header };
     match first_fault(alloc, value, part, Bounds { two, seats: 0 })? {
         Some(fault) => Ok(Some(fault)),
         None => Ok(fault_of_tables(value)),
@@ -55,12 +54,12 @@ fn has_one_of(value: &Value, keys: &[&str]) -> bool {
 
 /// The first fault of an entry.
 fn fault_of_entry<'a>(alloc: Global, value: &'a Value, bounds: Bounds) -> Found<'a> {
-    first_fault(alloc, value, ENTRY, bounds)
+    first_fault(alloc, value, Part::Entry, bounds)
 }
 
 /// The first fault of a word line.
 fn fault_of_word<'a>(alloc: Global, value: &'a Value, bounds: Bounds) -> Found<'a> {
-    first_fault(alloc, value, WORD_LINE, bounds)
+    first_fault(alloc, value, Part::WordLine, bounds)
 }
 
 /// The first fault of a line behind the header: of an entry where it has a key that only an entry has, and of a word
@@ -90,9 +89,9 @@ fn misfit_for(alloc: Global, line: &[u8], fault: Fault<'_>) -> Result<Misfit, Al
     })
 }
 
-/// What of a line, whose JSON value this is, isn't as docs/FORMATS.md has it behind what stands before it: the first part
-/// in the order of that page's tables. None where all is as it should be. Whether an entry stands behind a word line, and
-/// how many there are, isn't asked.
+/// What of a line, whose JSON value this is, isn't as docs/FORMATS.md has it behind what stands before it: the first
+/// part in the order of that page's tables. None where all is as it should be. Whether an entry stands behind a word
+/// line, and how many there are, isn't asked.
 ///
 /// # Errors
 ///

@@ -1,72 +1,48 @@
 //! What calls are answered.
 
-use crate::shape::{Kind, Name, Part, Shape};
-use crate::small::{
-    CANCEL, CANCEL_ROUTINE_OR_NULL, CANCELLED, DEVICE, INFORMATION, LOCATION, MARKED, OWNER,
-    PACKET, PENDING_RETURNED, REFUSAL, STATUS,
-};
+use crate::shape::{Kind, Name, Part};
 
-const SEEN: Part = Part {
-    told: "seen is [owner,current,status,information,cancel,cancel_routine,pending_returned,marked]",
-    shape: Shape::Items(&[
-        OWNER,
-        LOCATION,
-        STATUS,
-        INFORMATION,
-        CANCEL,
-        CANCEL_ROUTINE_OR_NULL,
-        PENDING_RETURNED,
-        MARKED,
-    ]),
-};
+/// The reply without a value.
+pub static DONE: [Name; 1] = [Name {
+    name: "done",
+    two: false,
+}];
 
 /// The replies with a value, in the order of their keys.
-const VALUED: &[Kind] = &[
+pub static VALUED: [Kind; 7] = [
     Kind {
         name: "cancelled",
-        keys: &[("cancelled", CANCELLED)],
+        keys: &[("cancelled", Part::Cancelled)],
         two: false,
     },
     Kind {
         name: "device",
-        keys: &[("device", DEVICE)],
+        keys: &[("device", Part::Device)],
         two: false,
     },
     Kind {
         name: "irp",
-        keys: &[("irp", PACKET)],
+        keys: &[("irp", Part::Packet)],
         two: false,
     },
     Kind {
         name: "previous",
-        keys: &[("previous", CANCEL_ROUTINE_OR_NULL)],
+        keys: &[("previous", Part::CancelRoutineOrNull)],
         two: false,
     },
     Kind {
         name: "refused",
-        keys: &[("refused", REFUSAL)],
+        keys: &[("refused", Part::Refusal)],
         two: false,
     },
     Kind {
         name: "seen",
-        keys: &[("seen", SEEN)],
+        keys: &[("seen", Part::Seen)],
         two: false,
     },
     Kind {
         name: "status",
-        keys: &[("status", STATUS)],
+        keys: &[("status", Part::Status)],
         two: false,
     },
 ];
-
-pub const REPLY: Part = Part {
-    told: "a reply",
-    shape: Shape::ByKey {
-        names: &[Name {
-            name: "done",
-            two: false,
-        }],
-        kinds: VALUED,
-        object: "this reply",
-    },
-};

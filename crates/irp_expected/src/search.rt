@@ -1,10 +1,10 @@
 //! The first part of a value that isn't as it should be.
 
-use crate::calls::look_at_call;
 use crate::choosing::{look_by_do, look_by_first, look_by_key};
 use crate::fault::{Fault, Path, Step, What};
-use crate::questions::look_at_question;
 use crate::shape::{Key, Part, Shape};
+use crate::shapes::shape_of;
+use crate::told::told_of;
 use irp_forms::named;
 use irp_types::Refusal;
 use serde_json::Value;
@@ -105,7 +105,7 @@ fn look_at_alone<'a>(task: Task<'a>, shape: Shape, bounds: Bounds) -> Option<Fau
         Shape::Seat => What::NoSeat {
             seats: bounds.seats,
         },
-        _ => What::Told(task.part.told),
+        _ => What::Told(task.part),
     };
     Some(Fault::at(task.path, what))
 }
@@ -138,25 +138,20 @@ fn look_at_items<'a>(tasks: &mut Vec<Task<'a>>, task: Task<'a>, parts: &[Part]) 
             look_into(tasks, task.path, items.as_slice(), 0, parts)?;
             Ok(None)
         }
-        _ => Ok(Some(Fault::at(task.path, What::Told(task.part.told)))),
+        _ => Ok(Some(Fault::at(task.path, What::Told(task.part)))),
     }
 }
 
 /// Looks at a list of such parts, at most so many.
-fn look_at_list<'a>(
-    tasks: &mut Vec<Task<'a>>,
-    task: Task<'a>,
-    of: &Part,
-    most: usize,
-) -> Found<'a> {
+fn look_at_list<'a>(tasks: &mut Vec<Task<'a>>, task: Task<'a>, of: Part, most: usize) -> Found<'a> {
     let items = match task.value {
         Value::Array(items) if items.len() <= most => items,
-        _ => return Ok(Some(Fault::at(task.path, What::Told(task.part.told)))),
+        _ => return Ok(Some(Fault::at(task.path, What::Told(task.part)))),
     };
     for (at, value) in items.iter().enumerate().rev() {
         tasks.push(Task {
             value,
-            part: *of,
+            part: of,
             path: task.path.then(Step::At(at)),
         })?;
     }
@@ -225,15 +220,17 @@ pub fn look_at_keys<'a>(
 
 /// Looks at a part, and has its parts looked at in turn.
 fn look<'a>(tasks: &mut Vec<Task<'a>>, task: Task<'a>, bounds: Bounds) -> Found<'a> {
-    let shape = match task.part.shape {
+    let shape = match shape_of(task.part) {
         Shape::OrNull(_) if task.value.is_null() => return Ok(None),
-        Shape::OrNull(inner) => *inner,
+        Shape::OrNull(inner) => shape_of(inner),
         other => other,
     };
     match shape {
         Shape::Items(parts) => look_at_items(tasks, task, parts),
         Shape::List { of, most } => look_at_list(tasks, task, of, most),
-        Shape::Keys(keys) => look_at_keys(tasks, task.value, task.path, task.part.told, keys),
+        Shape::Keys(keys) => {
+            look_at_keys(tasks, task.value, task.path, told_of(task.part), keys)
+        }
         Shape::ByDo(kinds) => look_by_do(tasks, task, kinds, bounds.two),
         Shape::ByKey {
             names,
@@ -241,8 +238,6 @@ fn look<'a>(tasks: &mut Vec<Task<'a>>, task: Task<'a>, bounds: Bounds) -> Found<
             object,
         } => look_by_key(tasks, task, names, kinds, object, bounds.two),
         Shape::ByFirst(sorts) => look_by_first(tasks, task, sorts, bounds.two),
-        Shape::Call => look_at_call(tasks, task, bounds.two),
-        Shape::Question => look_at_question(tasks, task, bounds.two),
         alone => Ok(look_at_alone(task, alone, bounds)),
     }
 }

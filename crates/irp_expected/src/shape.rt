@@ -1,12 +1,80 @@
 //! What a part of a line may be.
 
-/// A part of a line.
+/// A part of a line. `told_of` says what it is, `shape_of` what it may be.
 #[derive(Clone, Copy)]
-#[cycle(shape)]
-pub struct Part {
-    /// What it is, in the words of docs/FORMATS.md; of some shapes only its noun.
-    pub told: &'static str,
-    pub shape: Shape,
+pub enum Part {
+    Any,
+    Device,
+    DeviceOrNull,
+    Driver,
+    Dispatch,
+    Lock,
+    LockOrNull,
+    Status,
+    Slot,
+    Step,
+    Tag,
+    Location,
+    Routine,
+    CancelRoutine,
+    CancelRoutineOrNull,
+    Seat,
+    Size,
+    Major,
+    Word,
+    Information,
+    Context,
+    Use,
+    Token,
+    EntryNumber,
+    Drained,
+    Cancelled,
+    Cancel,
+    PendingReturned,
+    HasLower,
+    Marked,
+    Mark,
+    Party,
+    Owner,
+    Rule,
+    CancelRule,
+    Flags,
+    Refusal,
+    Packet,
+    Setting,
+    SettingOrNull,
+    Replacement,
+    ReplacementOrNull,
+    Call,
+    Question,
+    Asked,
+    Shown,
+    Plan,
+    Completion,
+    CompletionAnswer,
+    CancelAnswer,
+    Reply,
+    Seen,
+    Entry,
+    WordLine,
+    WordReply,
+    WordStatus,
+    Header,
+    HeaderTwo,
+    Form,
+    Locks,
+    Seats,
+    Slots,
+    Cancels,
+    Completions,
+    Count,
+    Dispatches,
+    Counts,
+    NamedCount,
+    Drivers,
+    Table,
+    Member,
+    DriverMajor,
 }
 
 /// A key of an object, and what stands under it.
@@ -14,7 +82,6 @@ pub type Key = (&'static str, Part);
 
 /// An object of one kind, with exactly these keys.
 #[derive(Clone, Copy)]
-#[cycle(shape)]
 pub struct Kind {
     pub name: &'static str,
     pub keys: &'static [Key],
@@ -24,7 +91,6 @@ pub struct Kind {
 
 /// A list of one kind: its name stands first, then these parts.
 #[derive(Clone, Copy)]
-#[cycle(shape)]
 pub struct Sort {
     pub name: &'static str,
     pub told: &'static str,
@@ -43,7 +109,6 @@ pub struct Name {
 
 /// What a part may be.
 #[derive(Clone, Copy)]
-#[cycle(shape)]
 pub enum Shape {
     /// Whatever it is.
     Any,
@@ -64,13 +129,13 @@ pub enum Shape {
     TextOrNumber(&'static [&'static str]),
     /// A refusal's name.
     Refusal,
-    /// Null, or this.
-    OrNull(&'static Shape),
+    /// Null, or what this part may be.
+    OrNull(Part),
     /// A list of exactly these parts.
     Items(&'static [Part]),
     /// A list of such parts, at most so many.
     List {
-        of: &'static Part,
+        of: Part,
         most: usize,
     },
     /// An object with exactly these keys; it is told by its noun.
@@ -86,8 +151,4 @@ pub enum Shape {
     },
     /// A list of one sort; told by its noun.
     ByFirst(&'static [Sort]),
-    /// A call.
-    Call,
-    /// A question.
-    Question,
 }

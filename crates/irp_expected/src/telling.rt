@@ -2,6 +2,7 @@
 
 use crate::fault::{Path, Step, What};
 use crate::shape::{Key, Kind, Name, Sort};
+use crate::told::told_of;
 use std::fmt;
 
 /// As many characters of a key as are told.
@@ -186,7 +187,7 @@ pub struct WhatWords(pub What);
 impl fmt::Display for WhatWords {
     fn fmt<W: fmt::Write>(&self, f: &mut fmt::Formatter<W>) -> fmt::Result {
         match self.0 {
-            What::Told(told) => f.write_str(told),
+            What::Told(part) => f.write_str(told_of(part)),
             What::NoSeat { seats } => {
                 write!(f, "a seat is a number below {seats}, the header's seats")
             }
