@@ -1,23 +1,25 @@
 #!/bin/bash
-# Gives `irpx check` texts that don't fit into one block of its reading: bytes that spoil a line at and beside each edge
-# of a block, texts that end there, lines without an end, entries that aren't legal before a line that is refused. What is
-# told is worked out from the text: the first line that is spoiled. IRPX names the program. Each failure has a line of its
-# own; the last line says how many were tried and how many were wrong.
+# Gives `irpx check` texts that don't fit into one block of its reading, which is four parts of 65,536 bytes, one for each
+# of four threads: bytes that spoil a line at and beside each edge of a part, texts that end there, lines without an end,
+# entries that aren't legal before a line that is refused. What is told is worked out from the text: the first line that is
+# spoiled. IRPX names the program. Each failure has a line of its own; the last line says how many were tried and how many
+# were wrong.
 set -u
 cd "$(dirname "$(readlink -f "$0")")" || exit 1
 irpx=${IRPX:?the path of the program}
 room=$(mktemp -d) || exit 1
 trap 'rm -rf "$room"' EXIT
-block=65536
+# A line has as many bytes at most, too.
+part=65536
 tried=0
 wrong=0
 
 # A program that was built without proofs is slow: it gets shorter texts.
 rounds=3500
-blocks=25
+parts=25
 if [ "${irpx%.unproved}" != "$irpx" ]; then
     rounds=150
-    blocks=2
+    parts=2
 fi
 
 # Checks the text of the file $2. Its name is $1; what is told is $3: `line K`, `legal K` or `illegal I`.
@@ -52,7 +54,7 @@ awk -v rounds="$rounds" -v header="$header" 'BEGIN {
 size=$(wc -c <"$room/legal")
 tells 'a long text' "$room/legal" "legal $((2 * rounds))"
 
-for ((edge = block; edge < size && edge <= blocks * block; edge += block)); do
+for ((edge = part; edge < size && edge <= parts * part; edge += part)); do
     for place in $((edge - 1)) $edge $((edge + 1)); do
         # A byte that is no text stands in this place, for a newline, too.
         { head -c "$place" "$room/legal"; printf '\377'; tail -c +$((place + 2)) "$room/legal"; } >"$room/text"
@@ -66,14 +68,14 @@ for ((edge = block; edge < size && edge <= blocks * block; edge += block)); do
     done
 done
 
-# A line ends at and beside the edge of a block: its length with its newline, and the text goes on.
-for length in $((block - 1)) $block $((block + 1)); do
+# A line ends at and beside the edge of a part: its length with its newline, and the text goes on.
+for length in $((part - 1)) $part $((part + 1)); do
     { printf "%-$((length - 1))s\n" "$header"; tail -n +2 "$room/legal"; } >"$room/text"
     tells "a header of $length bytes" "$room/text" "legal $((2 * rounds))"
     { printf "%-$((length - 1))s\n" "$header"; echo '{}'; tail -n +2 "$room/legal"; } >"$room/text"
     tells "a header of $length bytes before a line that is refused" "$room/text" 'line 2'
 done
-{ printf "%-$((block + 1))s\n" "$header"; tail -n +2 "$room/legal"; } >"$room/text"
+{ printf "%-$((part + 1))s\n" "$header"; tail -n +2 "$room/legal"; } >"$room/text"
 tells 'a header that is too long' "$room/text" 'line 1'
 
 # Of what is wrong a line that is refused counts first, and of several the first.
@@ -99,7 +101,7 @@ spaces 1000000 >"$room/text"
 tells 'a line of spaces' "$room/text" 'line 1'
 { cat "$room/legal"; spaces 1000000; } >"$room/text"
 tells 'spaces behind a text' "$room/text" "line $((2 * rounds + 2))"
-{ cat "$room/illegal"; spaces $block; echo; } >"$room/text"
+{ cat "$room/illegal"; spaces $part; echo; } >"$room/text"
 tells 'a line of spaces behind an illegal entry' "$room/text" "line $((2 * rounds + 2))"
 
 # Texts that come in pieces, through a pipe.

@@ -6,25 +6,30 @@ ghost use Rattle.irpx.specs.Judging.{Ends};
 ghost use Rattle.irpx.specs.Streams.{TakesAtMost, output_of, streams_of};
 
 use crate::fault::{Fault, Phase};
-use crate::input::PIECE;
+use crate::input::BLOCK;
 use crate::judging::{judge_rest, read_header};
 use irp_judge::Verdict;
 use irp_text::Reader;
 use irp_transcript_writer::{Out, put_all};
 use std::alloc::{AllocError, Global};
 use std::io::Read;
+use std::thread::Threads;
 
 /// As many bytes as the text of a transcript may have that is checked.
 pub const MOST_BYTES: usize = 1_073_741_824;
 
 /// The verdict on the transcript that the input holds. The fault where there is none.
-fn judged<R: Read>(alloc: Global, input: &mut R) -> Result<Verdict, Fault>
+fn judged<R: Read, T: Threads + Sync>(
+    rt: &T,
+    alloc: Global,
+    input: &mut R,
+) -> Result<Verdict, Fault>
     ensures { Ends (R.remaining input.old) (R.remaining input.new) result }
 {
-    let mut buffer = [0u8; PIECE];
+    let mut buffer = [0u8; BLOCK];
     let mut reader = Reader::new(alloc);
     match read_header(alloc, input, &mut buffer, &mut reader)? {
-        Some(start) => judge_rest(alloc, input, &mut buffer, &mut reader, &start),
+        Some(start) => judge_rest(rt, alloc, input, &mut buffer, &mut reader, &start),
         None => Ok(Verdict::Legal { entries: 0 }),
     }
 }
@@ -69,7 +74,8 @@ fn tell<O: Out>(alloc: Global, output: &mut O, verdict: Verdict) -> Result<(), F
 /// 1,073,741,824 bytes; `NoMemory` of `Reading` where memory ran out before that line. Where there is one: `Output`
 /// where the output failed, which its count of failures tells, after a beginning of the line; `NoMemory` of `Writing`
 /// before anything goes out.
-pub fn check<R: Read, O: Out>(
+pub fn check<R: Read, O: Out, T: Threads + Sync>(
+    rt: &T,
     alloc: Global,
     input: &mut R,
     output: &mut O,
@@ -78,7 +84,7 @@ pub fn check<R: Read, O: Out>(
         (streams_of (R.remaining input.new) (O.gone output.new) (O.failures output.new)) result }
     ensures took { TakesAtMost most_taken (R.remaining input.old) (R.remaining input.new) }
 {
-    let verdict = judged(alloc, input)?;
+    let verdict = judged(rt, alloc, input)?;
     tell(alloc, output, verdict)?;
     Ok(verdict)
 }

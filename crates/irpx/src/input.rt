@@ -11,6 +11,9 @@ use std::io::Read;
 /// How many bytes are asked for in one turn, at most.
 pub const PIECE: usize = 65_536;
 
+/// How many bytes of a text are judged in one turn, at most. Several threads share the lines of so many.
+pub const BLOCK: usize = 262_144;
+
 /// The first bytes of the input, at most so many; no more are taken from it. Each turn takes a byte or is the last, and
 /// an interrupted read is a failed one (this project's own rule).
 ///

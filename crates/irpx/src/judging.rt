@@ -25,11 +25,12 @@ use crate::checking::MOST_BYTES;
 use crate::fault::{Fault, Phase};
 use crate::input::take_block;
 use irp_judge::{Judge, Verdict};
-use irp_text::{Line, Reader};
+use irp_text::{Ahead, Line, Reader, count_threads};
 use irp_transcript::Header;
 use irp_transcript_reader::ReadFault;
 use std::alloc::{AllocError, Global};
 use std::io::Read;
+use std::thread::Threads;
 
 /// Has the judge judge a line, if it is an entry.
 fn judge_line(judge: &mut Judge, line: Line) -> Result<(), AllocError>
@@ -45,12 +46,13 @@ fn judge_line(judge: &mut Judge, line: Line) -> Result<(), AllocError>
     }
 }
 
-/// Reads the lines that end in a block, and has the judge judge their entries.
+/// Reads the lines that end in a block, of which some were read ahead, and has the judge judge their entries.
 fn judge_block(
     alloc: Global,
     reader: &mut Reader,
     judge: &mut Judge,
     block: &[u8],
+    ahead: &mut Ahead<'_>,
 ) -> Result<(), ReadFault>
     ensures header { (seen judge.new).header ≡ (seen judge.old).header }
     ensures judged { (text : List ℕ) → AreJudged reader.old (seen judge.old) text
@@ -59,7 +61,7 @@ fn judge_block(
 {
     let mut rest = block;
     while !rest.is_empty() {
-        let Some(taken) = reader.next(alloc, rest)? else {
+        let Some(taken) = reader.next_ahead(alloc, rest, ahead)? else {
             return Ok(());
         };
         let (line, count) = taken;
@@ -173,8 +175,9 @@ fn verdict_of(reader: &Reader, judge: &Judge) -> Result<Verdict, Fault>
     }
 }
 
-/// Judges what follows the header of a text.
-pub fn judge_rest<R: Read>(
+/// Judges what follows the header of a text. Several threads read a block's lines ahead, where there are such.
+pub fn judge_rest<R: Read, T: Threads + Sync>(
+    rt: &T,
     alloc: Global,
     input: &mut R,
     buffer: &mut [u8],
@@ -189,10 +192,15 @@ pub fn judge_rest<R: Read>(
     ensures { (old : Bytes) → Starts old (R.remaining input.old) start.now reader.old buffer.old
         → Ends old (R.remaining input.new) result }
 {
+    let threads = count_threads(rt);
     let mut judge = Judge::new(alloc, &start.header);
     let (mut from, mut to, mut left) = (start.from, start.to, start.left);
     loop {
-        if let Err(fault) = judge_block(alloc, reader, &mut judge, &buffer[from..to]) {
+        let block = &buffer[from..to];
+        let mut ahead = Ahead::of(rt, alloc, block, threads);
+        let judged = judge_block(alloc, reader, &mut judge, block, &mut ahead);
+        drop(ahead);
+        if let Err(fault) = judged {
             return Err(refuse(input, buffer, left, fault));
         }
         from = 0;
