@@ -100,5 +100,11 @@ echo '{"form":1,"seats":1,"locks":1,"completions":[],"cancels":[],"dispatches":[
     form_of | cmp -s - <(form_of <"$kept/json")
 meets 'an empty text' [ $? -eq 0 ]
 
+# A file that isn't there is named.
+"$irp_words" json "$kept/no_such_file" >"$kept/output" 2>"$kept/told"
+meets 'no such file: status' [ $? -eq 5 ]
+echo "irp_words: $kept/no_such_file: can't be opened: there is no such file" | cmp -s - "$kept/told"
+meets 'no such file: what is told' [ $? -eq 0 ]
+
 echo "tried: $tried $wrong words"
 [ "$wrong" -eq 0 ]

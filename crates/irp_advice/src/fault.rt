@@ -87,7 +87,10 @@ fn around_of<'t>(whole: Node<'t>) -> Around<'t> {
 
 /// The number under a key; 0 where there is none.
 fn number_under(whole: Node, key: &str) -> u64 {
-    whole.get(key).and_then(Node::number).unwrap_or(0)
+    match whole.get(key) {
+        Some(value) => value.number().unwrap_or(0),
+        None => 0,
+    }
 }
 
 /// What is wrong with a member of a section, if anything is.
@@ -183,8 +186,10 @@ fn add_faults(
     section: Section,
     from: usize,
 ) -> Result<(), AllocError> {
-    let list = around.whole.get(key_of(section));
-    let mut next = list.and_then(|list| list.nth(from));
+    let Some(list) = around.whole.get(key_of(section)) else {
+        return Ok(());
+    };
+    let mut next = list.nth(from);
     for index in from..around.whole.tokens.len() {
         let Some(node) = next else {
             return Ok(());

@@ -75,15 +75,28 @@ impl References {
 
     /// Whether a seat holds a lock under a tag.
     pub fn holds(&self, seat: u32, lock: LockNo, tag: u32) -> bool {
-        self.held.iter().any(|held| {
-            held.seat == seat && held.lock == lock && held.tag == tag && held.count > 0
-        })
+        for held in self.held.iter() {
+            if held.seat == seat && held.lock == lock && held.tag == tag && held.count > 0 {
+                return true;
+            }
+        }
+        false
+    }
+
+    /// Whether the removal of a lock has begun.
+    fn is_removed(&self, lock: LockNo) -> bool {
+        for removed in self.removed.iter() {
+            if *removed == lock {
+                return true;
+            }
+        }
+        false
     }
 
     /// A seat begins the removal, which gives its reference back where none has begun. Whether it holds one. The one
     /// error is want of memory.
     pub fn begin_remove(&mut self, seat: u32, lock: LockNo, tag: u32) -> Result<bool, AllocError> {
-        if self.removed.iter().any(|removed| *removed == lock) {
+        if self.is_removed(lock) {
             return Ok(self.holds(seat, lock, tag));
         }
         if !self.release(seat, lock, tag) {

@@ -132,10 +132,20 @@ pub const FIELDS: &[Field] = fields! {
 
 /// What is told of a key's value. None where no step has the key.
 pub fn field_of(key: &str) -> Option<Field> {
-    FIELDS.iter().copied().find(|field| field.name == key)
+    for field in FIELDS {
+        if field.name == key {
+            return Some(*field);
+        }
+    }
+    None
 }
 
 /// What a step of this name does.
 pub fn act_of(name: &[u8]) -> Option<Act> {
-    ACTS.iter().copied().find(|act| act.name.as_bytes() == name)
+    for act in ACTS {
+        if act.name.as_bytes() == name {
+            return Some(*act);
+        }
+    }
+    None
 }

@@ -6,6 +6,7 @@ mod fault;
 mod held;
 mod keys;
 mod lists;
+mod made;
 mod near;
 mod nodes;
 mod not_json;

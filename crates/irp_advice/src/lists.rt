@@ -108,7 +108,12 @@ const BEHAVIOUR: Choice = Choice {
 
 /// Whether a word is one of these.
 fn is_one_of(word: &[u8], names: &[&'static str]) -> bool {
-    names.iter().any(|name| name.as_bytes() == word)
+    for name in names {
+        if name.as_bytes() == word {
+            return true;
+        }
+    }
+    false
 }
 
 /// What is wrong with a name, if anything is.
@@ -275,14 +280,19 @@ pub struct Around<'t> {
 impl<'t> Around<'t> {
     /// How many members a list has.
     pub fn count(self, key: &str) -> u64 {
-        let list = self.whole.get(key);
-        list.and_then(Node::count).unwrap_or(0) as u64
+        match self.whole.get(key) {
+            Some(list) => list.count().unwrap_or(0) as u64,
+            None => 0,
+        }
     }
 
     /// How many completion routines there are of a rule.
     fn routines(self, rule: &[u8]) -> u64 {
         let mut count = 0u64;
-        let mut next = self.whole.get("completions").and_then(Node::first);
+        let Some(list) = self.whole.get("completions") else {
+            return 0;
+        };
+        let mut next = list.first();
         for _ in 0..self.whole.tokens.len() {
             let Some(routine) = next else {
                 return count;

@@ -1,5 +1,8 @@
 //! What was meant by a word that isn't known.
 
+ghost use Rattle.std.specs.Prelude.{IfSome};
+ghost use Rattle.std.specs.List.{Contains};
+
 use crate::tokens::cut;
 
 /// How many bytes two words have in common at their beginnings.
@@ -52,7 +55,9 @@ pub fn edits(given: &[u8], name: &str) -> Option<u32> {
 /// The name that may be meant by a word: the first of those to which the fewest letters lead, left out, put in or
 /// another. That may be one letter or, in a word of more than four, two. None where there is no such name (this
 /// project's own rule).
-pub fn nearest(given: &[u8], names: &[&'static str]) -> Option<&'static str> {
+pub fn nearest(given: &[u8], names: &[&'static str]) -> Option<&'static str>
+    ensures { IfSome result (Contains names.now) }
+{
     let mut least = 3;
     let mut meant = None;
     for name in names {

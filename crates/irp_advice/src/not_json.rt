@@ -135,8 +135,11 @@ fn word_remedy(word: &[u8]) -> Remedy {
     if let Some(number) = hexadecimal(word) {
         return Remedy::Number(number);
     }
-    if let Some((number, name)) = status_meant(word).or_else(|| major_meant(word)) {
-        return Remedy::Named(number, name);
+    match (status_meant(word), major_meant(word)) {
+        (Some((number, name)), _) | (None, Some((number, name))) => {
+            return Remedy::Named(number, name);
+        }
+        (None, None) => {}
     }
     match word {
         b"True" | b"TRUE" => return Remedy::Do("Write true"),

@@ -139,7 +139,10 @@ pub fn hexadecimal(word: &[u8]) -> Option<u64> {
 fn number_meant(node: Node) -> Option<u64> {
     let raw = node.raw();
     match node.word() {
-        Some(word) => number_of(word).or_else(|| hexadecimal(word)),
+        Some(word) => match number_of(word) {
+            Some(number) => Some(number),
+            None => hexadecimal(word),
+        },
         None => match cut(raw, raw.len().saturating_sub(2), raw.len()) {
             b".0" => number_of(cut(raw, 0, raw.len().saturating_sub(2))),
             _ => None,
@@ -169,18 +172,18 @@ fn status_remedy(number: u64) -> Remedy {
 
 /// What was meant by a value that is no status.
 fn meant_status(node: Node) -> Remedy {
-    if let Some((number, name)) = node.word().and_then(status_meant) {
+    if let Some((number, name)) = status_meant(node.word().unwrap_or(&[])) {
         return Remedy::Named(number, name);
     }
-    match signed_status(node).or_else(|| number_meant(node)) {
-        Some(number) => status_remedy(number),
-        None => Remedy::Unknown,
+    match (signed_status(node), number_meant(node)) {
+        (Some(number), _) | (None, Some(number)) => status_remedy(number),
+        (None, None) => Remedy::Unknown,
     }
 }
 
 /// What was meant by a value that is no major function code.
 fn meant_major(node: Node) -> Remedy {
-    match node.word().and_then(major_meant) {
+    match major_meant(node.word().unwrap_or(&[])) {
         Some((number, name)) => Remedy::Named(number, name),
         None => meant_number(node, 255),
     }
@@ -218,11 +221,12 @@ fn is_label(node: Node) -> bool {
     let Some(word) = node.word() else {
         return false;
     };
-    !word.is_empty()
-        && word.len() <= 32
-        && word
-            .iter()
-            .all(|byte| byte.is_ascii_alphanumeric() || *byte == b'_')
+    for byte in word {
+        if !byte.is_ascii_alphanumeric() && *byte != b'_' {
+            return false;
+        }
+    }
+    !word.is_empty() && word.len() <= 32
 }
 
 /// Whether it is a label, or a slot and a use number.

@@ -14,7 +14,10 @@ fn meant_act(word: &[u8]) -> Remedy {
     let mut least = 3;
     let mut meant = Remedy::Unknown;
     for act in ACTS {
-        let far = edits(word, act.name).or_else(|| edits(word, act.windows));
+        let far = match edits(word, act.name) {
+            Some(count) => Some(count),
+            None => edits(word, act.windows),
+        };
         if let Some(count) = far {
             if count < least {
                 least = count;
@@ -111,7 +114,12 @@ fn nearest_missing(node: Node, word: &[u8], keys: &'static [&'static str]) -> Op
 
 /// Whether a key is one of these.
 fn is_key(key: Node, keys: &[&'static str]) -> bool {
-    keys.iter().any(|name| key.is_word(*name))
+    for name in keys {
+        if key.is_word(*name) {
+            return true;
+        }
+    }
+    false
 }
 
 /// The first key of an object that is none of these.
@@ -188,7 +196,8 @@ fn check_hand(around: Around, node: Node) -> Result<(), Detail> {
         return Ok(());
     };
     check_seat(around, to)?;
-    if node.get("seat").and_then(Node::number) == to.number() {
+    let seat = node.get("seat").unwrap_or(node);
+    if seat.number() == to.number() {
         return Err(not_taken("\"to\"", to, "that is the step's own seat"));
     }
     Ok(())

@@ -1,7 +1,7 @@
 //! What is wrong with the keys of a script and with its numbers. Source: this project's own format (docs/FORMATS.md).
 
 use crate::lists::Around;
-use crate::nodes::Node;
+use crate::nodes::{Node, number_of};
 use crate::small::not_taken;
 use crate::steps::check_keys;
 use crate::tokens::Kind;
@@ -114,7 +114,7 @@ pub fn count_detail(around: Around, section: Section) -> Detail {
         END,
     ];
     let detail = wrong(value, pieces);
-    match value.word().and_then(crate::nodes::number_of) {
+    match number_of(value.word().unwrap_or(&[])) {
         Some(number) if number <= 64 => detail.with(Remedy::Number(number)),
         _ => detail,
     }

@@ -1,4 +1,5 @@
-//! The steps of a script by their words, and the keys that each has. Source: this project's own format (docs/FORMATS.md).
+//! The steps of a script by their words, and the keys that each has. Source: this project's own format
+//! (docs/FORMATS.md).
 
 /// A key of a step.
 #[derive(Clone, Copy, PartialEq, Eq)]
@@ -116,7 +117,12 @@ pub const ACTS: [Act; 26] = [
 impl Act {
     /// The step that a word names; none where it names none.
     pub fn named(word: &str) -> Option<Act> {
-        ACTS.iter().copied().find(|act| act.word() == word)
+        for act in ACTS {
+            if act.word() == word {
+                return Some(act);
+            }
+        }
+        None
     }
 
     /// Its word, which JSON has under `do`.

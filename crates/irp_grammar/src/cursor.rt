@@ -2,7 +2,6 @@
 
 use crate::wanted::Wanted;
 use std::alloc::{AllocError, AllocFailed};
-use std::fmt;
 
 /// A word of a line.
 #[derive(Clone, Copy)]
@@ -38,27 +37,26 @@ impl<'a> WordsFault<'a> {
             hint: None,
         }
     }
-}
 
-/// The fault, on one line without its newline.
-impl fmt::Display for WordsFault<'_> {
-    fn fmt<W: fmt::Write>(&self, f: &mut fmt::Formatter<W>) -> fmt::Result {
+    /// Puts the fault behind what a text holds, on one line without its newline. The one error is want of memory.
+    pub fn write(&self, text: &mut String) -> Result<(), AllocError> {
         match self.word {
-            _ if self.line == 0 => f.write_str("the text")?,
+            _ if self.line == 0 => text.push_str("the text")?,
             Some(word) => write!(
-                f,
+                text,
                 "line {}, column {}: \"{}\"",
                 self.line, self.column, word
             )?,
             None => write!(
-                f,
+                text,
                 "line {}, column {}: the line ends",
                 self.line, self.column
             )?,
         }
-        write!(f, "; expected {}", self.wanted)?;
+        text.push_str("; expected ")?;
+        self.wanted.write(text)?;
         match self.hint {
-            Some(hint) => write!(f, ". Did you mean {}?", hint),
+            Some(hint) => write!(text, ". Did you mean {}?", hint),
             None => Ok(()),
         }
     }
@@ -148,27 +146,26 @@ impl<'a, 'b> Cursor<'a, 'b> {
         self.at = self.at.saturating_add(1);
     }
 
+    /// The next word, which is left there; an empty text where the line ends.
+    pub fn text(&self) -> &'a str {
+        match self.words.get(self.at) {
+            Some(word) => word.text,
+            None => "",
+        }
+    }
+
     /// Whether the next word is this one, which is then taken.
     pub fn takes(&mut self, text: &str) -> bool {
-        let there = self.peek() == Some(text);
+        let there = self.text() == text;
         if there {
             self.pass();
         }
         there
     }
 
-    /// The next word, as what `read` makes of it. It is taken only where it is what was wanted.
-    pub fn take_as<T, F: FnOnce(&'a str) -> Option<T>>(
-        &mut self,
-        wanted: Wanted,
-        read: F,
-    ) -> Result<T, Stop<'a>>
-        requires { F.IsAlwaysCallable read }
-    {
-        let Some(text) = self.peek() else {
-            return Err(self.fault(wanted));
-        };
-        match read(text) {
+    /// What the next word was read as, and passes over it; where it was read as nothing, it isn't what was wanted.
+    pub fn taken<T>(&mut self, read: Option<T>, wanted: Wanted) -> Result<T, Stop<'a>> {
+        match read {
             Some(value) => {
                 self.pass();
                 Ok(value)

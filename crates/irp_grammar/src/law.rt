@@ -1,10 +1,10 @@
-//! The JSON of the script that a text in words says, read again before it is given.
+//! The JSON of the script that lines say, read again before it is given.
 
-ghost use Rattle.std.specs.Prelude.{IfOk, Ok, string_bytes};
+ghost use Rattle.std.specs.Prelude.{[], ◌≢◌, IfErr, IfOk, Ok, string_bytes};
 ghost use Rattle.irp_script_reader.specs.Scripts.{ReadsScript};
+ghost use Rattle.irp_grammar.specs.Saying.{GivesFaults, Says, TellsScript};
 
 use crate::cursor::WordsFault;
-use crate::read::read_lines;
 use crate::said::Said;
 use crate::same::says;
 use crate::to_json::json_text;
@@ -43,7 +43,9 @@ impl<'a, T: Drop> From<AllocFailed<T>> for Untold<'a> {
 }
 
 /// Why there is no JSON of lines: the faults that they have.
-fn faulty<'a>(alloc: Global, faults: &[WordsFault<'a>]) -> Untold<'a> {
+fn faulty<'a>(alloc: Global, faults: &[WordsFault<'a>]) -> Untold<'a>
+    ensures { GivesFaults faults.now result }
+{
     match Vec::from_slice(alloc, faults) {
         Ok(faults) => Untold::Faults(faults),
         Err(_) => Untold::NoMemory,
@@ -60,7 +62,8 @@ fn unread<'a>(alloc: Global, said: &Said<'a>, fault: ScriptFault) -> Untold<'a> 
 
 /// The JSON of the script that lines say, which have no faults.
 fn told_of<'a>(alloc: Global, said: &Said<'a>) -> Result<Told, Untold<'a>>
-    ensures { IfOk result (λ told. ReadsScript (Ok told.script) (string_bytes told.text)) }
+    ensures read { IfOk result (λ told. ReadsScript (Ok told.script) (string_bytes told.text)) }
+    ensures said { IfOk result (λ told. Says said.now told.script) }
 {
     let text = json_text(alloc, said)?;
     match read_script(alloc, text.as_bytes()) {
@@ -70,18 +73,18 @@ fn told_of<'a>(alloc: Global, said: &Said<'a>) -> Result<Told, Untold<'a>>
     }
 }
 
-/// The JSON of the script that a text in words says, and that script (docs/WORDS.md).
+/// The JSON of the script that lines say, and that script (docs/WORDS.md): `read_script` reads it from the JSON.
 ///
 /// # Errors
 ///
-/// `Faults` where a line is none that the grammar has, with at most ten, or where the script is refused, with the one
-/// that `read_script` names; `NoMemory` where memory runs out. `Differs` never comes, as far as tests show.
-pub fn json<'a>(alloc: Global, words: &'a [u8]) -> Result<Told, Untold<'a>>
-    ensures { IfOk result (λ told. ReadsScript (Ok told.script) (string_bytes told.text)) }
+/// `Faults` where the lines have any, and these; else where the script is refused, with the fault that `read_script`
+/// names; `NoMemory` where memory runs out. `Differs` never comes, as far as tests show.
+pub fn json<'a>(alloc: Global, said: &Said<'a>) -> Result<Told, Untold<'a>>
+    ensures told { IfOk result (λ told. TellsScript said.now told) }
+    ensures faults { (said.now.faults.items ≢ []) → IfErr result (λ why. GivesFaults said.now.faults.items why) }
 {
-    let said = read_lines(alloc, words)?;
     if said.faults.is_empty() {
-        told_of(alloc, &said)
+        told_of(alloc, said)
     } else {
         Err(faulty(alloc, said.faults.as_slice()))
     }

@@ -6,6 +6,7 @@ mod cursor;
 mod law;
 mod members;
 mod names;
+mod near;
 mod numbers;
 mod read;
 mod said;
@@ -18,5 +19,7 @@ mod wanted;
 
 pub use cursor::WordsFault;
 pub use law::{Told, Untold, json};
+pub use read::read_lines;
+pub use said::Said;
 pub use to_words::words;
 pub use wanted::Wanted;

@@ -15,18 +15,21 @@ use std::alloc::Global;
 
 /// The number below 2^64 that the next word is.
 pub fn take_number<'a>(words: &mut Cursor<'a, '_>) -> Result<u64, Stop<'a>> {
-    words.take_as(Wanted::Number, number_in)
+    words.taken(number_in(words.text()), Wanted::Number)
+}
+
+/// The status that a word is, by its number or its name.
+fn status_in(text: &str) -> Option<Status> {
+    if begins_with_digit(text) {
+        Some(Status(number_below(text)?))
+    } else {
+        status_named(text)
+    }
 }
 
 /// The status that the next word is.
 pub fn take_status<'a>(words: &mut Cursor<'a, '_>) -> Result<Status, Stop<'a>> {
-    words.take_as(Wanted::Status, |text| {
-        if begins_with_digit(text) {
-            number_below(text).map(Status)
-        } else {
-            status_named(text)
-        }
-    })
+    words.taken(status_in(words.text()), Wanted::Status)
 }
 
 /// The number from 0 to 255 that a word is.
@@ -37,15 +40,18 @@ pub fn byte_in(text: &str) -> Option<u8> {
     }
 }
 
+/// The major function code that a word is, by its number or its name.
+fn major_in(text: &str) -> Option<u8> {
+    if begins_with_digit(text) {
+        byte_in(text)
+    } else {
+        major_named(text)
+    }
+}
+
 /// The major function code that the next word is.
 pub fn take_major<'a>(words: &mut Cursor<'a, '_>) -> Result<u8, Stop<'a>> {
-    words.take_as(Wanted::Major, |text| {
-        if begins_with_digit(text) {
-            byte_in(text)
-        } else {
-            major_named(text)
-        }
-    })
+    words.taken(major_in(words.text()), Wanted::Major)
 }
 
 /// The flags that a word is.
@@ -59,14 +65,12 @@ fn flags_in(text: &str) -> Option<Flags> {
 
 /// The completion routine that the next words are.
 fn take_routine<'a>(said: &Said<'a>, words: &mut Cursor<'a, '_>) -> Result<RoutineId, Stop<'a>> {
-    if let Some(text) = words.peek() {
-        if let Some(routine) = said.names.routine(text) {
-            words.pass();
-            return Ok(routine);
-        }
+    if let Some(routine) = said.names.routine(words.text()) {
+        words.pass();
+        return Ok(routine);
     }
-    let rule = words.take_as(Wanted::Routine, |text| named::<Rule>(text))?;
-    let no = words.take_as(Wanted::Number32, number_below)?;
+    let rule = words.taken(named::<Rule>(words.text()), Wanted::Routine)?;
+    let no = words.taken(number_below(words.text()), Wanted::Number32)?;
     Ok(RoutineId { rule, no })
 }
 
@@ -74,7 +78,7 @@ fn take_routine<'a>(said: &Said<'a>, words: &mut Cursor<'a, '_>) -> Result<Routi
 pub fn take_setting<'a>(said: &Said<'a>, words: &mut Cursor<'a, '_>) -> Result<Setting, Stop<'a>> {
     let routine = take_routine(said, words)?;
     let context = take_number(words)?;
-    let flags = words.take_as(Wanted::Flags, flags_in)?;
+    let flags = words.taken(flags_in(words.text()), Wanted::Flags)?;
     Ok(Setting {
         routine,
         context,
@@ -95,6 +99,15 @@ fn take_setting_or_none<'a>(
     Ok(Some(take_setting(said, words)?))
 }
 
+/// The behaviour that a word is.
+fn behaviour_in(text: &str) -> Option<Behaviour> {
+    match text {
+        "continue" => Some(Behaviour::Continue),
+        "keep" => Some(Behaviour::Keep),
+        _ => None,
+    }
+}
+
 /// The behaviour that the next words are.
 fn take_behaviour<'a>(words: &mut Cursor<'a, '_>) -> Result<Behaviour, Stop<'a>> {
     if words.takes("replace") {
@@ -105,11 +118,7 @@ fn take_behaviour<'a>(words: &mut Cursor<'a, '_>) -> Result<Behaviour, Stop<'a>>
             information,
         }));
     }
-    words.take_as(Wanted::Behaviour, |text| match text {
-        "continue" => Some(Behaviour::Continue),
-        "keep" => Some(Behaviour::Keep),
-        _ => None,
-    })
+    words.taken(behaviour_in(words.text()), Wanted::Behaviour)
 }
 
 /// The behaviours that a rule has where none are written: the only ones that it may have.
@@ -137,41 +146,41 @@ fn take_behaviours<'a>(
     Ok((on_ok, on_err))
 }
 
+/// The plan that the next words are, behind `finish`.
+fn take_finish<'a>(words: &mut Cursor<'a, '_>) -> Result<Plan, Stop<'a>> {
+    let status = take_status(words)?;
+    let information = take_number(words)?;
+    Ok(Plan::Finish {
+        status,
+        information,
+    })
+}
+
+/// The plan that the next words are, behind `hold`.
+fn take_hold<'a>(said: &Said<'a>, words: &mut Cursor<'a, '_>) -> Result<Plan, Stop<'a>> {
+    if words.left() == 0 {
+        return Ok(Plan::Hold { cancel: None });
+    }
+    let cancel = Some(CancelId(said.number(Kind::Cancel, words)?));
+    Ok(Plan::Hold { cancel })
+}
+
 /// The plan that the next words are.
 fn take_plan<'a>(said: &Said<'a>, words: &mut Cursor<'a, '_>) -> Result<Plan, Stop<'a>> {
-    match words.peek() {
-        Some("finish") => {
-            words.pass();
-            let status = take_status(words)?;
-            let information = take_number(words)?;
-            Ok(Plan::Finish {
-                status,
-                information,
-            })
-        }
-        Some("hold") => {
-            words.pass();
-            if words.left() == 0 {
-                return Ok(Plan::Hold { cancel: None });
-            }
-            let cancel = Some(CancelId(said.number(Kind::Cancel, words)?));
-            Ok(Plan::Hold { cancel })
-        }
-        Some("forward") => {
-            words.pass();
-            let set = take_setting_or_none(said, words)?;
-            Ok(Plan::Forward { set })
-        }
-        Some("forward_pend") => {
-            words.pass();
-            let set = take_setting_or_none(said, words)?;
-            Ok(Plan::ForwardPend { set })
-        }
-        _ => words.take_as(Wanted::Plan, |text| match text {
-            "hold_slot" => Some(Plan::HoldSlot),
-            "skip" => Some(Plan::Skip),
-            _ => None,
+    let begin = *words;
+    words.pass();
+    match begin.text() {
+        "finish" => take_finish(words),
+        "hold" => take_hold(said, words),
+        "forward" => Ok(Plan::Forward {
+            set: take_setting_or_none(said, words)?,
         }),
+        "forward_pend" => Ok(Plan::ForwardPend {
+            set: take_setting_or_none(said, words)?,
+        }),
+        "hold_slot" => Ok(Plan::HoldSlot),
+        "skip" => Ok(Plan::Skip),
+        _ => Err(begin.fault(Wanted::Plan)),
     }
 }
 
@@ -261,7 +270,7 @@ impl<'a> Said<'a> {
         if name.is_some() {
             words.pass();
         }
-        let rule = words.take_as(Wanted::Rule, |text| named::<Rule>(text))?;
+        let rule = words.taken(named::<Rule>(words.text()), Wanted::Rule)?;
         if let Some(text) = name {
             let number = self.counts.count_of(rule);
             self.name_routine(Kind::Routine, text, rule, number, &begin)?;
@@ -284,11 +293,10 @@ impl<'a> Said<'a> {
         let answer = if words.takes("finish") {
             let information = take_number(words)?;
             CancelAnswer::Finish { information }
+        } else if words.takes("leave") {
+            CancelAnswer::Leave
         } else {
-            words.take_as(Wanted::CancelAnswer, |text| match text {
-                "leave" => Some(CancelAnswer::Leave),
-                _ => None,
-            })?
+            return Err(words.fault(Wanted::CancelAnswer));
         };
         self.cancels.push(answer)?;
         Ok(())

@@ -99,10 +99,12 @@ impl<'a> Names<'a> {
 
     /// What the word names of this kind.
     fn find(&self, kind: Kind, text: &str) -> Option<Name<'a>> {
-        self.names
-            .iter()
-            .copied()
-            .find(|name| name.kind == kind && name.text == text)
+        for name in self.names.iter() {
+            if name.kind == kind && name.text == text {
+                return Some(*name);
+            }
+        }
+        None
     }
 
     /// Whether the word is a name of this kind.
@@ -140,8 +142,10 @@ impl<'a> Names<'a> {
 
     /// The place of a label, which is added where it is new.
     pub fn label(&mut self, text: &'a str) -> Result<usize, AllocError> {
-        if let Some(place) = self.labels.iter().position(|label| *label == text) {
-            return Ok(place);
+        for (place, label) in self.labels.iter().enumerate() {
+            if *label == text {
+                return Ok(place);
+            }
         }
         let place = self.labels.len();
         self.labels.push(text)?;

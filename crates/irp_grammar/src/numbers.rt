@@ -109,12 +109,10 @@ fn number_of(digits: &str, radix: u32) -> Option<u64>
     requires least { 2 ≤ radix }
     requires most { radix ≤ 36 }
 {
-    if !digits
-        .as_bytes()
-        .iter()
-        .all(|byte| byte.is_ascii_hexdigit())
-    {
-        return None;
+    for byte in digits.as_bytes() {
+        if !byte.is_ascii_hexdigit() {
+            return None;
+        }
     }
     match u64::from_str_radix(digits, radix) {
         Ok(number) => Some(number),

@@ -1,5 +1,7 @@
 //! A text, read line by line.
 
+ghost use Rattle.std.specs.Prelude.{[], ◌<◌, ◌≢◌, IfOk, IsUtf8, length};
+
 use crate::cursor::{Cursor, Stop, Word, WordsFault};
 use crate::members::count_of;
 use crate::names::{Kind, number_below};
@@ -23,6 +25,26 @@ fn heading(text: &str) -> Option<Section> {
         "steps" => Section::Steps,
         _ => return None,
     })
+}
+
+/// The section of the count that a word names, and the top for the form.
+fn count_named(text: &str) -> Option<Section> {
+    match text {
+        "form" => Some(Section::Top),
+        "seats" => Some(Section::Seats),
+        "locks" => Some(Section::Locks),
+        "slots" => Some(Section::Slots),
+        _ => None,
+    }
+}
+
+/// The form that a word is.
+fn form_in(text: &str) -> Option<u32> {
+    match text {
+        "1" => Some(1),
+        "2" => Some(2),
+        _ => None,
+    }
 }
 
 /// Whether a character parts words.
@@ -56,7 +78,7 @@ impl<'a> Said<'a> {
             return Err(words.fault(Wanted::Count));
         };
         if begins_with_digit(first) {
-            return words.take_as(Wanted::Number32, number_below);
+            return words.taken(number_below(first), Wanted::Number32);
         }
         let count = count_of(words.left());
         for number in 0..count {
@@ -71,13 +93,7 @@ impl<'a> Said<'a> {
     /// Takes a line above the sections.
     fn take_top(&mut self, words: &mut Cursor<'a, '_>) -> Result<(), Stop<'a>> {
         let begin = *words;
-        let section = words.take_as(Wanted::Heading, |text| match text {
-            "form" => Some(Section::Top),
-            "seats" => Some(Section::Seats),
-            "locks" => Some(Section::Locks),
-            "slots" => Some(Section::Slots),
-            _ => None,
-        })?;
+        let section = words.taken(count_named(words.text()), Wanted::Heading)?;
         if self.is_placed(section) {
             return Err(begin.fault(Wanted::Once));
         }
@@ -86,13 +102,7 @@ impl<'a> Said<'a> {
             Section::Seats => self.seats = Some(self.take_count(Kind::Seat, words)?),
             Section::Locks => self.locks = Some(self.take_count(Kind::Lock, words)?),
             Section::Slots => self.slots = Some(self.take_count(Kind::Slot, words)?),
-            _ => {
-                self.form = Some(words.take_as(Wanted::Form, |text| match text {
-                    "1" => Some(1),
-                    "2" => Some(2),
-                    _ => None,
-                })?)
-            }
+            _ => self.form = Some(words.taken(form_in(words.text()), Wanted::Form)?),
         }
         Ok(())
     }
@@ -171,7 +181,14 @@ impl<'a> Said<'a> {
 
 /// What the lines of a text say, and what is wrong with them: at most ten faults, in the order of the lines, one of a
 /// line.
-pub fn read_lines<'a>(alloc: Global, bytes: &'a [u8]) -> Result<Said<'a>, AllocError> {
+///
+/// # Errors
+///
+/// Memory runs out.
+pub fn read_lines<'a>(alloc: Global, bytes: &'a [u8]) -> Result<Said<'a>, AllocError>
+    ensures long { (1048576 < length bytes.now) → IfOk result (λ said. said.faults.items ≢ []) }
+    ensures utf8 { ¬ (IsUtf8 bytes.now) → IfOk result (λ said. said.faults.items ≢ []) }
+{
     let mut said = Said::new(alloc);
     if bytes.len() > MOST_BYTES {
         said.faults.push(WordsFault::of_text(Wanted::Shorter))?;

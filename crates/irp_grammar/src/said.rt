@@ -1,9 +1,13 @@
 //! What the lines of a text say, as far as they were read.
 
+ghost use Rattle.std.specs.Prelude.{◌≡◌};
+ghost use Rattle.irp_grammar.specs.Saying.{form_number};
+
 use crate::cursor::{Cursor, Stop, WordsFault};
 use crate::names::{Kind, Name, Names, is_name};
+use crate::near::hint;
 use crate::step_line::StepLine;
-use crate::wanted::{StepFault, Wanted, hint};
+use crate::wanted::{StepFault, Wanted};
 use irp_script_reader::{CompletionRoutine, ScriptRefusal, Section, StepAct};
 use irp_types::{CancelAnswer, DispatchId, Known, Plan, Row, Rule};
 use std::alloc::{AllocError, Global};
@@ -65,7 +69,9 @@ impl<'a> Said<'a> {
     }
 
     /// The form: as the text says; else 2 where it has slots, and 1 where it has none.
-    pub fn form_number(&self) -> u32 {
+    pub fn form_number(&self) -> u32
+        ensures { result ≡ form_number self.now.form self.now.slots }
+    {
         match (self.form, self.slots) {
             (Some(form), _) => form,
             (None, Some(_)) => 2,
@@ -87,12 +93,13 @@ impl<'a> Said<'a> {
 
     /// Whether the section has a line.
     pub fn is_placed(&self, section: Section) -> bool {
-        self.places.iter().any(|place| place.section == section)
+        self.place_of(section, 0).is_some()
     }
 
     /// The number of this kind that the next word is.
     pub fn number(&self, kind: Kind, words: &mut Cursor<'a, '_>) -> Result<u32, Stop<'a>> {
-        words.take_as(Wanted::Of(kind), |text| self.names.number(kind, text))
+        let read = self.names.number(kind, words.text());
+        words.taken(read, Wanted::Of(kind))
     }
 
     /// Gives a name to a number.
@@ -194,10 +201,15 @@ impl<'a> Said<'a> {
 
     /// Where the member of a section with this index stands.
     fn place_of(&self, section: Section, index: usize) -> Option<Place<'a>> {
-        self.places
-            .iter()
-            .copied()
-            .filter(|place| place.section == section)
-            .nth(index)
+        let mut before = 0usize;
+        for place in self.places.iter() {
+            if place.section == section {
+                if before == index {
+                    return Some(*place);
+                }
+                before = before.saturating_add(1);
+            }
+        }
+        None
     }
 }

@@ -1,30 +1,89 @@
 //! Whether a script is what lines say.
 
+ghost use Rattle.std.specs.Prelude.{◌≡◌, ◌↔◌, map, true};
+ghost use Rattle.irp_grammar.specs.Saying.{Says, form_of, step_of};
+
 use crate::said::Said;
 use crate::step_line::StepLine;
-use irp_script_reader::{ScriptForm, ScriptParts, Step};
-use irp_types::{DispatchId, Row};
+use irp_script_reader::{CompletionRoutine, ScriptForm, ScriptParts, Step};
+use irp_types::{CancelAnswer, DispatchId, Plan, Row};
 
-/// Whether the steps are those of the lines, in order.
-fn are_steps(lines: &[StepLine], steps: &[Step]) -> bool {
-    lines.len() == steps.len()
-        && lines
-            .iter()
-            .zip(steps.iter())
-            .all(|(line, step)| line.step() == *step)
+/// Whether two forms are equal.
+fn is_form(one: ScriptForm, other: ScriptForm) -> bool
+    ensures { (result ≡ true) ↔ (one ≡ other) }
+{
+    one == other
 }
 
-/// Whether the drivers are those of the lines, in order.
-fn are_drivers(lines: &[Row<(u8, DispatchId)>], drivers: &[Row<(u8, DispatchId)>]) -> bool {
-    lines.len() == drivers.len()
-        && lines
-            .iter()
-            .zip(drivers.iter())
-            .all(|(line, driver)| line.as_slice() == driver.as_slice())
+/// Whether two lists have equal completion routines in the same order.
+fn are_completions(one: &[CompletionRoutine], other: &[CompletionRoutine]) -> bool
+    ensures { (result ≡ true) ↔ (one.now ≡ other.now) }
+{
+    one == other
+}
+
+/// Whether two lists have equal answers of cancel routines in the same order.
+fn are_cancels(one: &[CancelAnswer], other: &[CancelAnswer]) -> bool
+    ensures { (result ≡ true) ↔ (one.now ≡ other.now) }
+{
+    one == other
+}
+
+/// Whether two lists have equal plans in the same order.
+fn are_plans(one: &[Plan], other: &[Plan]) -> bool
+    ensures { (result ≡ true) ↔ (one.now ≡ other.now) }
+{
+    one == other
+}
+
+/// Whether two tables of drivers are equal.
+fn is_table(one: &[(u8, DispatchId)], other: &[(u8, DispatchId)]) -> bool
+    ensures { (result ≡ true) ↔ (one.now ≡ other.now) }
+{
+    one == other
+}
+
+/// Whether two lists have equal drivers in the same order.
+fn are_drivers(one: &[Row<(u8, DispatchId)>], other: &[Row<(u8, DispatchId)>]) -> bool
+    ensures { (result ≡ true) ↔ (one.now ≡ other.now) }
+{
+    if one.len() != other.len() {
+        return false;
+    }
+    for place in 0..one.len() {
+        if !is_table(one[place].as_slice(), other[place].as_slice()) {
+            return false;
+        }
+    }
+    true
+}
+
+/// Whether two steps are equal.
+fn is_step(one: Step, other: Step) -> bool
+    ensures { (result ≡ true) ↔ (one ≡ other) }
+{
+    one == other
+}
+
+/// Whether the steps are those of the lines, in order.
+fn are_steps(lines: &[StepLine], steps: &[Step]) -> bool
+    ensures { (result ≡ true) ↔ (steps.now ≡ map step_of lines.now) }
+{
+    if lines.len() != steps.len() {
+        return false;
+    }
+    for place in 0..lines.len() {
+        if !is_step(steps[place], lines[place].step()) {
+            return false;
+        }
+    }
+    true
 }
 
 /// The form that lines say.
-fn form_of(said: &Said<'_>) -> ScriptForm {
+fn form_said(said: &Said<'_>) -> ScriptForm
+    ensures { result ≡ form_of said.now.form said.now.slots }
+{
     if said.form_number() == 2 {
         ScriptForm::Two {
             slots: said.slots.unwrap_or(0),
@@ -35,14 +94,16 @@ fn form_of(said: &Said<'_>) -> ScriptForm {
 }
 
 /// Whether a script's counts and lists are what the lines say, member by member in order.
-pub fn says(said: &Said<'_>, parts: &ScriptParts) -> bool {
-    form_of(said) == parts.form
-        && said.seats.unwrap_or(1) == parts.seats
-        && said.locks.unwrap_or(1) == parts.locks
-        && said.completions.as_slice() == parts.completions.as_slice()
-        && said.cancels.as_slice() == parts.cancels.as_slice()
-        && said.dispatches.as_slice() == parts.dispatches.as_slice()
-        && are_drivers(said.drivers.as_slice(), parts.drivers.as_slice())
+pub fn says(said: &Said<'_>, parts: &ScriptParts) -> bool
+    ensures { (result ≡ true) ↔ Says said.now parts.now }
+{
+    is_form(parts.form, form_said(said))
+        && parts.seats == said.seats.unwrap_or(1)
+        && parts.locks == said.locks.unwrap_or(1)
+        && are_completions(parts.completions.as_slice(), said.completions.as_slice())
+        && are_cancels(parts.cancels.as_slice(), said.cancels.as_slice())
+        && are_plans(parts.dispatches.as_slice(), said.dispatches.as_slice())
+        && are_drivers(parts.drivers.as_slice(), said.drivers.as_slice())
         && are_steps(said.setup.as_slice(), parts.setup.as_slice())
         && are_steps(said.steps.as_slice(), parts.steps.as_slice())
 }

@@ -1,5 +1,8 @@
 //! A step as its line says it: its word, and the values of its keys.
 
+ghost use Rattle.std.specs.Prelude.{◌≡◌};
+ghost use Rattle.irp_grammar.specs.Saying.{other_act, party_call, step_of};
+
 use crate::act::Act;
 use irp_script_reader::{Named, Step, StepAct};
 use irp_types::{
@@ -75,15 +78,23 @@ pub struct StepLine {
 
 impl StepLine {
     /// The step that a script has for it.
-    pub fn step(self) -> Step {
+    pub fn step(self) -> Step
+        ensures { result ≡ step_of self }
+    {
+        let act = match self.party_call() {
+            Some(call) => StepAct::Call(call),
+            None => self.other_act(),
+        };
         Step {
             seat: self.seat,
-            act: self.act_of(),
+            act,
         }
     }
 
-    /// What it does, if that isn't on a party's packet.
-    fn act_of(self) -> StepAct {
+    /// What it does, where that isn't a party's call on a packet's content.
+    fn other_act(self) -> StepAct
+        ensures { result ≡ other_act self.act self.values }
+    {
         let Values {
             driver,
             lock,
@@ -91,7 +102,7 @@ impl StepLine {
             to,
             size,
             label,
-            packet,
+            packet: irp,
             status,
             information,
             tag,
@@ -105,13 +116,10 @@ impl StepLine {
             Act::Detach => StepAct::Call(Call::Detach { lower: device }),
             Act::Delete => StepAct::Call(Call::Delete { device }),
             Act::Allocate => StepAct::Allocate { size, label },
-            Act::Free => StepAct::Call(Call::Free { irp: packet }),
-            Act::Cancel => StepAct::Call(Call::Cancel { irp: packet }),
-            Act::Look => StepAct::Call(Call::Look { irp: packet }),
-            Act::Reuse => StepAct::Call(Call::Reuse {
-                irp: packet,
-                status,
-            }),
+            Act::Free => StepAct::Call(Call::Free { irp }),
+            Act::Cancel => StepAct::Call(Call::Cancel { irp }),
+            Act::Look => StepAct::Call(Call::Look { irp }),
+            Act::Reuse => StepAct::Call(Call::Reuse { irp, status }),
             Act::Acquire => StepAct::OnLock(LockAct::Acquire { lock, tag }),
             Act::Release => StepAct::OnLock(LockAct::Release { lock, tag }),
             Act::BeginRemove => StepAct::OnLock(LockAct::BeginRemove { lock, tag }),
@@ -121,21 +129,22 @@ impl StepLine {
                 tag,
                 to: seat,
             }),
-            Act::Publish => StepAct::Publish { slot, irp: packet },
+            Act::Publish => StepAct::Publish { slot, irp },
             Act::Withdraw => StepAct::Withdraw { slot },
             Act::Request => StepAct::Request { slot },
-            Act::FinishTaken => StepAct::Call(Call::FinishTaken {
-                irp: packet,
+            _ => StepAct::Call(Call::FinishTaken {
+                irp,
                 token: slot,
                 status,
                 information,
             }),
-            _ => StepAct::Call(self.party_call()),
         }
     }
 
-    /// The call that a party makes on a packet's content.
-    fn party_call(self) -> Call<Named, u32> {
+    /// The call that a party makes on a packet's content; none where it does something else.
+    fn party_call(self) -> Option<Call<Named, u32>>
+        ensures { result ≡ party_call self.act self.values }
+    {
         let Values {
             device,
             packet: irp,
@@ -148,7 +157,7 @@ impl StepLine {
             cancel,
             ..
         } = self.values;
-        match self.act {
+        Some(match self.act {
             Act::SetNext => Call::SetNext {
                 party,
                 irp,
@@ -174,7 +183,8 @@ impl StepLine {
                 status,
                 information,
             },
-            _ => Call::SetCancelRoutine { party, irp, cancel },
-        }
+            Act::SetCancelRoutine => Call::SetCancelRoutine { party, irp, cancel },
+            _ => return None,
+        })
     }
 }

@@ -40,7 +40,7 @@ fn packet_in<'a>(text: &'a str) -> Option<Packet<'a>> {
 
 /// The label that a word is.
 fn label_in<'a>(text: &'a str) -> Option<&'a str> {
-    is_label(text).then_some(text)
+    if is_label(text) { Some(text) } else { None }
 }
 
 /// The word of a location.
@@ -55,7 +55,7 @@ fn word_in(text: &str) -> Option<u64> {
 impl<'a> Said<'a> {
     /// The packet that the next word names.
     fn take_packet(&mut self, words: &mut Cursor<'a, '_>) -> Result<Named, Stop<'a>> {
-        match words.take_as(Wanted::Packet, packet_in)? {
+        match words.taken(packet_in(words.text()), Wanted::Packet)? {
             Packet::Label(label) => Ok(Named::Label(self.names.label(label)?)),
             Packet::Irp(irp) => Ok(Named::Irp(irp)),
         }
@@ -63,13 +63,13 @@ impl<'a> Said<'a> {
 
     /// The party that the next word is.
     fn take_party(&self, words: &mut Cursor<'a, '_>) -> Result<Party, Stop<'a>> {
-        words.take_as(Wanted::Party, |text| match text {
-            "o" | "originator" => Some(Party::Originator),
-            device => self
-                .names
-                .number(Kind::Device, device)
-                .map(|number| Party::Device(DeviceId(number))),
-        })
+        let text = words.text();
+        if text == "o" || text == "originator" {
+            words.pass();
+            return Ok(Party::Originator);
+        }
+        let read = self.names.number(Kind::Device, text);
+        Ok(Party::Device(DeviceId(words.taken(read, Wanted::Party)?)))
     }
 
     /// The cancel routine that the next word is, or none.
@@ -77,10 +77,8 @@ impl<'a> Said<'a> {
         if words.takes("none") {
             return Ok(None);
         }
-        let number = words.take_as(Wanted::Cancel, |text| {
-            self.names.number(Kind::Cancel, text)
-        })?;
-        Ok(Some(CancelId(number)))
+        let read = self.names.number(Kind::Cancel, words.text());
+        Ok(Some(CancelId(words.taken(read, Wanted::Cancel)?)))
     }
 
     /// Takes the value of a key that has a number below 2^32 or a name.
@@ -96,7 +94,7 @@ impl<'a> Said<'a> {
             Key::To => values.to = DeviceId(self.number(Kind::Device, words)?),
             Key::Slot => values.slot = self.number(Kind::Slot, words)?,
             Key::ToSeat => values.seat = self.number(Kind::Seat, words)?,
-            Key::Tag => values.tag = words.take_as(Wanted::Number32, number_below)?,
+            Key::Tag => values.tag = words.taken(number_below(words.text()), Wanted::Number32)?,
             _ => values.device = DeviceId(self.number(Kind::Device, words)?),
         }
         Ok(())
@@ -110,15 +108,15 @@ impl<'a> Said<'a> {
         words: &mut Cursor<'a, '_>,
     ) -> Result<(), Stop<'a>> {
         match key {
-            Key::Size => values.size = words.take_as(Wanted::Number8, byte_in)?,
+            Key::Size => values.size = words.taken(byte_in(words.text()), Wanted::Number8)?,
             Key::As => {
-                let label = words.take_as(Wanted::Label, label_in)?;
+                let label = words.taken(label_in(words.text()), Wanted::Label)?;
                 values.label = self.names.label(label)?;
             }
             Key::Irp => values.packet = self.take_packet(words)?,
             Key::By => values.party = self.take_party(words)?,
             Key::Major => values.major = take_major(words)?,
-            Key::Word => values.word = words.take_as(Wanted::Minor, word_in)?,
+            Key::Word => values.word = words.taken(word_in(words.text()), Wanted::Minor)?,
             Key::Status => values.status = take_status(words)?,
             Key::Set => values.setting = take_setting(self, words)?,
             Key::Information => values.information = take_number(words)?,
@@ -133,8 +131,8 @@ impl<'a> Said<'a> {
         let mut values = Values::NONE;
         let mut taken = [false; 4];
         for _ in act.keys() {
-            let key = words.take_as(Wanted::Key(act), |text| key_of(act, text, &taken))?;
-            mark(act, key, &mut taken);
+            let read = key_of(act, words.text(), &mut taken);
+            let key = words.taken(read, Wanted::Key(act))?;
             self.take_value(key, &mut values, words)?;
         }
         Ok(values)
@@ -166,9 +164,9 @@ impl<'a> Said<'a> {
         Ok(())
     }
 
-    /// Takes the line of a stack: from the bottom up the drivers of its devices, each perhaps with a name, behind the lock
-    /// that it and those above it have. It stands for the steps that create the devices, and those that attach each to
-    /// the one below it.
+    /// Takes the line of a stack: from the bottom up the drivers of its devices, each perhaps with a name, behind the
+    /// lock that it and those above it have. It stands for the steps that create the devices, and those that attach
+    /// each to the one below it.
     fn take_stack(
         &mut self,
         section: Section,
@@ -241,7 +239,7 @@ impl<'a> Said<'a> {
         if words.takes("stack") {
             return self.take_stack(section, seat, words);
         }
-        let act = words.take_as(Wanted::Act, Act::named)?;
+        let act = words.taken(Act::named(words.text()), Wanted::Act)?;
         let values = self.take_values(act, words)?;
         if act == Act::CreateDevice {
             self.take_device_name(words)?;
@@ -250,20 +248,13 @@ impl<'a> Said<'a> {
     }
 }
 
-/// The key of a step that a word names, and that wasn't taken.
-fn key_of(act: Act, text: &str, taken: &[bool]) -> Option<Key> {
-    let place = act.keys().iter().position(|key| key.word() == text)?;
-    match (act.keys().get(place), taken.get(place)) {
-        (Some(key), Some(false)) => Some(*key),
-        _ => None,
-    }
-}
-
-/// Marks a key as taken.
-fn mark(act: Act, key: Key, taken: &mut [bool]) {
-    if let Some(place) = act.keys().iter().position(|other| *other == key) {
-        if let Some(flag) = taken.get_mut(place) {
-            *flag = true;
+/// The key of a step that a word names, and that wasn't taken; from then on it is.
+fn key_of(act: Act, text: &str, taken: &mut [bool]) -> Option<Key> {
+    for (key, is_taken) in act.keys().iter().zip(taken.iter_mut()) {
+        if key.word() == text && !*is_taken {
+            *is_taken = true;
+            return Some(*key);
         }
     }
+    None
 }

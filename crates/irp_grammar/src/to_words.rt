@@ -1,4 +1,4 @@
-//! A script of JSON, written in words.
+//! A script of JSON, written in words. What writes a word writes a blank before it.
 
 use crate::act::{Act, Key};
 use crate::members::{count_of, with_one};
@@ -10,134 +10,71 @@ use irp_script_reader::{
     Behaviour, CompletionRoutine, ScriptFault, ScriptForm, ScriptParts, read_script,
 };
 use irp_types::{
-    CancelAnswer, CancelId, DispatchId, IrpRef, Known, Party, Plan, RoutineId, Row, Setting, Status,
+    CancelAnswer, CancelId, DispatchId, IrpRef, Known, Party, Plan, Row, Setting, Status,
 };
 use serde_json::Value;
 use std::alloc::{AllocError, Global};
-use std::fmt;
 
 /// How many there are of what a text names.
 #[derive(Clone, Copy)]
-struct Counts<'b> {
+struct Counts {
     known: Known,
-    plans: &'b [Plan],
     drivers: usize,
 }
 
-/// A number: below ten as decimal digits, else hexadecimal.
-#[derive(Clone, Copy)]
-struct NumberWord(u64);
-
-impl fmt::Display for NumberWord {
-    fn fmt<W: fmt::Write>(&self, f: &mut fmt::Formatter<W>) -> fmt::Result {
-        if self.0 < 10 {
-            write!(f, "{}", self.0)
-        } else {
-            write!(f, "{:#x}", self.0)
-        }
+/// Writes a number: below ten as decimal digits, else hexadecimal.
+fn put_number(text: &mut String, number: u64) -> Result<(), AllocError> {
+    if number < 10 {
+        write!(text, " {}", number)
+    } else {
+        write!(text, " {:#x}", number)
     }
 }
 
-/// A status by its name, or by its number.
-#[derive(Clone, Copy)]
-struct StatusWord(Status);
-
-impl fmt::Display for StatusWord {
-    fn fmt<W: fmt::Write>(&self, f: &mut fmt::Formatter<W>) -> fmt::Result {
-        match status_name(self.0) {
-            Some(name) => f.write_str(name),
-            None => write!(f, "{:#x}", self.0.0),
-        }
+/// Writes a status by its name, or by its number.
+fn put_status(text: &mut String, status: Status) -> Result<(), AllocError> {
+    match status_name(status) {
+        Some(name) => write!(text, " {}", name),
+        None => write!(text, " {:#x}", status.0),
     }
 }
 
-/// A major function code by its name, or by its number.
-#[derive(Clone, Copy)]
-struct MajorWord(u8);
-
-impl fmt::Display for MajorWord {
-    fn fmt<W: fmt::Write>(&self, f: &mut fmt::Formatter<W>) -> fmt::Result {
-        match major_name(self.0) {
-            Some(name) => f.write_str(name),
-            None => write!(f, "{}", self.0),
-        }
+/// Writes a major function code by its name, or by its number.
+fn put_major(text: &mut String, major: u8) -> Result<(), AllocError> {
+    match major_name(major) {
+        Some(name) => write!(text, " {}", name),
+        None => write!(text, " {}", major),
     }
 }
 
-/// A completion routine by its made-up name, such as watch_0, or by rule and number where the script lacks it.
-#[derive(Clone, Copy)]
-struct RoutineWord(RoutineId, Known);
-
-impl fmt::Display for RoutineWord {
-    fn fmt<W: fmt::Write>(&self, f: &mut fmt::Formatter<W>) -> fmt::Result {
-        let RoutineId { rule, no } = self.0;
-        let join = if no < self.1.count_of(rule) { "_" } else { " " };
-        write!(f, "{}{}{}", rule.name(), join, no)
+/// Writes a setting. Its routine is given by a made-up name, such as watch_0, or by rule and number where the script
+/// lacks it.
+fn put_setting(text: &mut String, setting: Setting, known: Known) -> Result<(), AllocError> {
+    let (rule, no) = (setting.routine.rule, setting.routine.no);
+    let join = if no < known.count_of(rule) { "_" } else { " " };
+    write!(text, " {}{}{}", rule.name(), join, no)?;
+    put_number(text, setting.context)?;
+    match letters(setting) {
+        "" => text.push_str(" -"),
+        letters => write!(text, " {}", letters),
     }
 }
 
-/// A setting.
-#[derive(Clone, Copy)]
-struct SettingWord(Setting, Known);
-
-impl fmt::Display for SettingWord {
-    fn fmt<W: fmt::Write>(&self, f: &mut fmt::Formatter<W>) -> fmt::Result {
-        let flags = match letters(self.0) {
-            "" => "-",
-            letters => letters,
-        };
-        write!(
-            f,
-            "{} {} {}",
-            RoutineWord(self.0.routine, self.1),
-            NumberWord(self.0.context),
-            flags
-        )
-    }
+/// Writes a cancel routine by its made-up name, or by its number where the script lacks it.
+fn put_cancel_id(text: &mut String, id: CancelId, known: Known) -> Result<(), AllocError> {
+    let name = if id.0 < known.cancel { "cancel_" } else { "" };
+    write!(text, " {}{}", name, id.0)
 }
 
-/// A cancel routine by its made-up name, or by its number where the script lacks it.
-#[derive(Clone, Copy)]
-struct CancelWord(CancelId, Known);
-
-impl fmt::Display for CancelWord {
-    fn fmt<W: fmt::Write>(&self, f: &mut fmt::Formatter<W>) -> fmt::Result {
-        if self.0.0 < self.1.cancel {
-            write!(f, "cancel_{}", self.0.0)
-        } else {
-            write!(f, "{}", self.0.0)
-        }
-    }
-}
-
-/// A behaviour.
-#[derive(Clone, Copy)]
-struct BehaviourWord(Behaviour);
-
-impl fmt::Display for BehaviourWord {
-    fn fmt<W: fmt::Write>(&self, f: &mut fmt::Formatter<W>) -> fmt::Result {
-        match self.0 {
-            Behaviour::Continue => f.write_str("continue"),
-            Behaviour::Keep => f.write_str("keep"),
-            Behaviour::Replace(put) => write!(
-                f,
-                "replace {} {}",
-                StatusWord(put.status),
-                NumberWord(put.information)
-            ),
-        }
-    }
-}
-
-/// What a cancel routine answers.
-#[derive(Clone, Copy)]
-struct AnswerWord(CancelAnswer);
-
-impl fmt::Display for AnswerWord {
-    fn fmt<W: fmt::Write>(&self, f: &mut fmt::Formatter<W>) -> fmt::Result {
-        match self.0 {
-            CancelAnswer::Finish { information } => write!(f, "finish {}", NumberWord(information)),
-            CancelAnswer::Leave => f.write_str("leave"),
+/// Writes a behaviour.
+fn put_behaviour(text: &mut String, behaviour: Behaviour) -> Result<(), AllocError> {
+    match behaviour {
+        Behaviour::Continue => text.push_str(" continue"),
+        Behaviour::Keep => text.push_str(" keep"),
+        Behaviour::Replace(put) => {
+            text.push_str(" replace")?;
+            put_status(text, put.status)?;
+            put_number(text, put.information)
         }
     }
 }
@@ -154,50 +91,21 @@ fn plan_word(plan: Plan) -> &'static str {
     }
 }
 
-/// A plan.
-#[derive(Clone, Copy)]
-struct PlanWord(Plan, Known);
-
-impl fmt::Display for PlanWord {
-    fn fmt<W: fmt::Write>(&self, f: &mut fmt::Formatter<W>) -> fmt::Result {
-        f.write_str(plan_word(self.0))?;
-        match self.0 {
-            Plan::Finish {
-                status,
-                information,
-            } => write!(f, " {} {}", StatusWord(status), NumberWord(information)),
-            Plan::Hold { cancel: Some(id) } => write!(f, " {}", CancelWord(id, self.1)),
-            Plan::Forward { set: Some(set) } | Plan::ForwardPend { set: Some(set) } => {
-                write!(f, " {}", SettingWord(set, self.1))
-            }
-            _ => Ok(()),
+/// Writes what follows the word of a plan.
+fn put_plan(text: &mut String, plan: Plan, known: Known) -> Result<(), AllocError> {
+    match plan {
+        Plan::Finish {
+            status,
+            information,
+        } => {
+            put_status(text, status)?;
+            put_number(text, information)
         }
-    }
-}
-
-/// A dispatch by its made-up name, such as hold_0, or by its number where the script lacks it.
-#[derive(Clone, Copy)]
-struct DispatchWord<'b>(DispatchId, &'b [Plan]);
-
-impl fmt::Display for DispatchWord<'_> {
-    fn fmt<W: fmt::Write>(&self, f: &mut fmt::Formatter<W>) -> fmt::Result {
-        match self.1.get(self.0.0 as usize) {
-            Some(plan) => write!(f, "{}_{}", plan_word(*plan), self.0.0),
-            None => write!(f, "{}", self.0.0),
+        Plan::Hold { cancel: Some(id) } => put_cancel_id(text, id, known),
+        Plan::Forward { set: Some(set) } | Plan::ForwardPend { set: Some(set) } => {
+            put_setting(text, set, known)
         }
-    }
-}
-
-/// A packet by its label, or by its reference.
-#[derive(Clone, Copy)]
-struct PacketWord<'b>(&'b Value);
-
-impl fmt::Display for PacketWord<'_> {
-    fn fmt<W: fmt::Write>(&self, f: &mut fmt::Formatter<W>) -> fmt::Result {
-        if let Some(irp) = under::<IrpRef>("irp", self.0) {
-            return write!(f, "{}.{}", irp.slot, irp.use_no);
-        }
-        f.write_str(text_under("irp", self.0))
+        _ => Ok(()),
     }
 }
 
@@ -217,91 +125,88 @@ fn number_under(key: &str, step: &Value) -> u64 {
     }
 }
 
-/// The value of a key of a step.
-#[derive(Clone, Copy)]
-struct ValueWord<'b> {
+/// Writes the packet of a step by its label, or by its reference.
+fn put_packet(text: &mut String, step: &Value) -> Result<(), AllocError> {
+    match under::<IrpRef>("irp", step) {
+        Some(irp) => write!(text, " {}.{}", irp.slot, irp.use_no),
+        None => write!(text, " {}", text_under("irp", step)),
+    }
+}
+
+/// Writes the party of a step.
+fn put_party(text: &mut String, step: &Value) -> Result<(), AllocError> {
+    match under::<Party>("by", step) {
+        Some(Party::Device(device)) => write!(text, " D{}", device.0),
+        _ => text.push_str(" o"),
+    }
+}
+
+/// The name of the minor function code that a step sets, where it has one.
+fn minor_of(step: &Value) -> Option<&'static str> {
+    minor_name(under::<u8>("major", step)?, number_under("word", step))
+}
+
+/// Writes the word that a step sets.
+fn put_minor(text: &mut String, step: &Value) -> Result<(), AllocError> {
+    match minor_of(step) {
+        Some(name) => write!(text, " {}", name),
+        None => put_number(text, number_under("word", step)),
+    }
+}
+
+/// Writes the number that a step has under a key.
+fn put_numbered(
+    text: &mut String,
     key: Key,
-    step: &'b Value,
-    counts: Counts<'b>,
-}
-
-impl ValueWord<'_> {
-    /// Writes the value of a key whose numbers have names.
-    fn put_named<W: fmt::Write>(&self, number: u64, f: &mut fmt::Formatter<W>) -> fmt::Result {
-        match self.key {
-            Key::Device | Key::To | Key::Lower | Key::Target => write!(f, "D{}", number),
-            Key::Driver if number < self.counts.drivers as u64 => write!(f, "driver_{}", number),
-            Key::Major => match u8::try_from(number) {
-                Ok(major) => write!(f, "{}", MajorWord(major)),
-                Err(_) => write!(f, "{}", number),
-            },
-            Key::Status => match u32::try_from(number) {
-                Ok(status) => write!(f, "{}", StatusWord(Status(status))),
-                Err(_) => write!(f, "{}", number),
-            },
-            Key::Information => write!(f, "{}", NumberWord(number)),
-            _ => write!(f, "{}", number),
-        }
-    }
-
-    /// Writes the word of a location.
-    fn put_word<W: fmt::Write>(&self, f: &mut fmt::Formatter<W>) -> fmt::Result {
-        let word = number_under("word", self.step);
-        let name = match under::<u8>("major", self.step) {
-            Some(major) => minor_name(major, word),
-            None => None,
-        };
-        match name {
-            Some(name) => f.write_str(name),
-            None => write!(f, "{}", NumberWord(word)),
-        }
+    number: u64,
+    drivers: usize,
+) -> Result<(), AllocError> {
+    match key {
+        Key::Device | Key::To | Key::Lower | Key::Target => write!(text, " D{}", number),
+        Key::Driver if number < drivers as u64 => write!(text, " driver_{}", number),
+        Key::Information => put_number(text, number),
+        _ => write!(text, " {}", number),
     }
 }
 
-impl fmt::Display for ValueWord<'_> {
-    fn fmt<W: fmt::Write>(&self, f: &mut fmt::Formatter<W>) -> fmt::Result {
-        match self.key {
-            Key::As => f.write_str(text_under("as", self.step)),
-            Key::Irp => write!(f, "{}", PacketWord(self.step)),
-            Key::Word => self.put_word(f),
-            Key::By => match under::<Party>("by", self.step) {
-                Some(Party::Device(device)) => write!(f, "D{}", device.0),
-                _ => f.write_str("o"),
-            },
-            Key::Set => match under::<Setting>("set", self.step) {
-                Some(set) => write!(f, "{}", SettingWord(set, self.counts.known)),
-                None => Ok(()),
-            },
-            Key::Cancel => match under::<CancelId>("cancel", self.step) {
-                Some(id) => write!(f, "{}", CancelWord(id, self.counts.known)),
-                None => f.write_str("none"),
-            },
-            key => self.put_named(number_under(key.word(), self.step), f),
-        }
+/// Writes the value of a key of a step.
+fn put_value(text: &mut String, key: Key, step: &Value, counts: Counts) -> Result<(), AllocError> {
+    match key {
+        Key::As => write!(text, " {}", text_under("as", step)),
+        Key::Irp => put_packet(text, step),
+        Key::Word => put_minor(text, step),
+        Key::By => put_party(text, step),
+        Key::Major => match under::<u8>("major", step) {
+            Some(major) => put_major(text, major),
+            None => Ok(()),
+        },
+        Key::Status => match under::<Status>("status", step) {
+            Some(status) => put_status(text, status),
+            None => Ok(()),
+        },
+        Key::Set => match under::<Setting>("set", step) {
+            Some(set) => put_setting(text, set, counts.known),
+            None => Ok(()),
+        },
+        Key::Cancel => match under::<CancelId>("cancel", step) {
+            Some(id) => put_cancel_id(text, id, counts.known),
+            None => text.push_str(" none"),
+        },
+        _ => put_numbered(text, key, number_under(key.word(), step), counts.drivers),
     }
 }
 
-/// A step.
-#[derive(Clone, Copy)]
-struct StepWords<'b>(&'b Value, Counts<'b>);
-
-impl fmt::Display for StepWords<'_> {
-    fn fmt<W: fmt::Write>(&self, f: &mut fmt::Formatter<W>) -> fmt::Result {
-        let StepWords(step, counts) = *self;
-        let Some(act) = Act::named(text_under("do", step)) else {
-            return Ok(());
-        };
-        write!(f, "  seat {} {}", number_under("seat", step), act.word())?;
-        for key in act.keys() {
-            let value = ValueWord {
-                key: *key,
-                step,
-                counts,
-            };
-            write!(f, " {} {}", key.word(), value)?;
-        }
-        f.write_str("\n")
+/// Writes a step, on a line.
+fn put_step(text: &mut String, step: &Value, counts: Counts) -> Result<(), AllocError> {
+    let Some(act) = Act::named(text_under("do", step)) else {
+        return Ok(());
+    };
+    write!(text, "  seat {} {}", number_under("seat", step), act.word())?;
+    for key in act.keys() {
+        write!(text, " {}", key.word())?;
+        put_value(text, *key, step, counts)?;
     }
+    text.push_str("\n")
 }
 
 /// Writes the steps under a key, below their heading.
@@ -309,7 +214,7 @@ fn put_steps(
     text: &mut String,
     key: &str,
     whole: &Value,
-    counts: Counts<'_>,
+    counts: Counts,
 ) -> Result<(), AllocError> {
     let Some(steps) = whole.get(key).and_then(Value::as_array) else {
         return Ok(());
@@ -319,7 +224,7 @@ fn put_steps(
     }
     write!(text, "\n{}\n", key)?;
     for step in steps.iter() {
-        write!(text, "{}", StepWords(step, counts))?;
+        put_step(text, step, counts)?;
     }
     Ok(())
 }
@@ -327,24 +232,19 @@ fn put_steps(
 /// Writes the completion routines, below their heading, and counts them.
 fn put_completions(text: &mut String, routines: &[CompletionRoutine]) -> Result<Known, AllocError> {
     let mut known = Known::NONE;
-    for routine in routines {
-        let CompletionRoutine {
-            rule,
-            on_ok,
-            on_err,
-        } = *routine;
-        if known == Known::NONE {
-            text.push_str("\ncompletions\n")?;
-        }
-        let no = known.count_of(rule);
-        write!(text, "  {}_{}: {} ", rule.name(), no, rule.name())?;
-        write!(text, "{} {}\n", BehaviourWord(on_ok), BehaviourWord(on_err))?;
+    for (at, routine) in routines.iter().enumerate() {
+        let (heading, rule) = (heading(at, "\ncompletions\n"), routine.rule);
+        let (name, no) = (rule.name(), known.count_of(rule));
+        write!(text, "{}  {}_{}: {}", heading, name, no, name)?;
+        put_behaviour(text, routine.on_ok)?;
+        put_behaviour(text, routine.on_err)?;
+        text.push_str("\n")?;
         known = with_one(known, rule);
     }
     Ok(known)
 }
 
-/// What stands before the first member of a list: the heading.
+/// What stands before the member of a list at this place: the heading before the first one.
 fn heading(at: usize, words: &'static str) -> &'static str {
     if at == 0 { words } else { "" }
 }
@@ -352,8 +252,15 @@ fn heading(at: usize, words: &'static str) -> &'static str {
 /// Writes what the cancel routines answer, below their heading.
 fn put_cancels(text: &mut String, answers: &[CancelAnswer]) -> Result<(), AllocError> {
     for (at, answer) in answers.iter().enumerate() {
-        text.push_str(heading(at, "\ncancels\n"))?;
-        write!(text, "  cancel_{}: {}\n", at, AnswerWord(*answer))?;
+        write!(text, "{}  cancel_{}:", heading(at, "\ncancels\n"), at)?;
+        match *answer {
+            CancelAnswer::Finish { information } => {
+                text.push_str(" finish")?;
+                put_number(text, information)?
+            }
+            CancelAnswer::Leave => text.push_str(" leave")?,
+        }
+        text.push_str("\n")?;
     }
     Ok(())
 }
@@ -361,37 +268,36 @@ fn put_cancels(text: &mut String, answers: &[CancelAnswer]) -> Result<(), AllocE
 /// Writes the plans of the dispatches, below their heading.
 fn put_plans(text: &mut String, plans: &[Plan], known: Known) -> Result<(), AllocError> {
     for (at, plan) in plans.iter().enumerate() {
-        text.push_str(heading(at, "\ndispatches\n"))?;
-        write!(
-            text,
-            "  {}_{}: {}\n",
-            plan_word(*plan),
-            at,
-            PlanWord(*plan, known)
-        )?;
+        let (heading, word) = (heading(at, "\ndispatches\n"), plan_word(*plan));
+        write!(text, "{}  {}_{}: {}", heading, word, at, word)?;
+        put_plan(text, *plan, known)?;
+        text.push_str("\n")?;
     }
     Ok(())
 }
 
-/// A driver's table.
-#[derive(Clone, Copy)]
-struct TableWords<'b>(&'b [(u8, DispatchId)], &'b [Plan]);
-
-impl fmt::Display for TableWords<'_> {
-    fn fmt<W: fmt::Write>(&self, f: &mut fmt::Formatter<W>) -> fmt::Result {
-        if self.0.is_empty() {
-            return f.write_str(" nothing");
-        }
-        for entry in self.0 {
-            write!(
-                f,
-                " {} {}",
-                MajorWord(entry.0),
-                DispatchWord(entry.1, self.1)
-            )?;
-        }
-        Ok(())
+/// Writes a dispatch by its made-up name, such as hold_0, or by its number where the script lacks it.
+fn put_dispatch(text: &mut String, id: DispatchId, plans: &[Plan]) -> Result<(), AllocError> {
+    match plans.get(id.0 as usize) {
+        Some(plan) => write!(text, " {}_{}", plan_word(*plan), id.0),
+        None => write!(text, " {}", id.0),
     }
+}
+
+/// Writes a driver's table, and ends its line.
+fn put_table(
+    text: &mut String,
+    table: &[(u8, DispatchId)],
+    plans: &[Plan],
+) -> Result<(), AllocError> {
+    if table.is_empty() {
+        return text.push_str(" nothing\n");
+    }
+    for entry in table {
+        put_major(text, entry.0)?;
+        put_dispatch(text, entry.1, plans)?;
+    }
+    text.push_str("\n")
 }
 
 /// Writes the drivers, below their heading.
@@ -401,13 +307,8 @@ fn put_drivers(
     plans: &[Plan],
 ) -> Result<(), AllocError> {
     for (at, table) in drivers.iter().enumerate() {
-        text.push_str(heading(at, "\ndrivers\n"))?;
-        write!(
-            text,
-            "  driver_{}:{}\n",
-            at,
-            TableWords(table.as_slice(), plans)
-        )?;
+        write!(text, "{}  driver_{}:", heading(at, "\ndrivers\n"), at)?;
+        put_table(text, table.as_slice(), plans)?;
     }
     Ok(())
 }
@@ -433,7 +334,6 @@ fn put_script(text: &mut String, parts: &ScriptParts, whole: &Value) -> Result<(
     put_drivers(text, parts.drivers.as_slice(), plans)?;
     let counts = Counts {
         known,
-        plans,
         drivers: parts.drivers.as_slice().len(),
     };
     put_steps(text, "setup", whole, counts)?;

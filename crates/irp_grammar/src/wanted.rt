@@ -1,14 +1,9 @@
-//! What was expected in the place of a word, and what may be meant.
+//! What was expected in the place of a word.
 
-use crate::act::{ACTS, Act};
-use crate::names::{Kind, Names};
-use crate::numbers::{MINORS, PNP, STATUSES};
-use irp_names::{major_name, status_name};
+use crate::act::Act;
+use crate::names::Kind;
 use irp_script_reader::{Fault, ScriptRefusal, Section};
-use irp_types::Status;
-use std::alloc::{AllocError, Global};
-use std::fmt;
-use strsim::levenshtein;
+use std::alloc::AllocError;
 
 /// What was expected in the place of a word (this project's own rule).
 #[derive(Clone, Copy)]
@@ -142,7 +137,8 @@ impl Wanted {
             Wanted::Act => "a step such as allocate, stack, or seat and a seat",
             Wanted::StackLock => "lock",
             Wanted::Name => {
-                "a name: a letter or underscore, then letters, digits or underscores, 32 in all; no word that means something here"
+                "a name: a letter or underscore, then letters, digits or underscores, 32 in all; \
+                 no word that means something here"
             }
             Wanted::Nothing => "the end of the line",
             Wanted::Shorter => "a text of at most 1,048,576 bytes",
@@ -156,42 +152,36 @@ impl Wanted {
             | Wanted::Step(..) => "",
         }
     }
-}
 
-/// What was expected.
-impl fmt::Display for Wanted {
-    fn fmt<W: fmt::Write>(&self, f: &mut fmt::Formatter<W>) -> fmt::Result {
+    /// Puts what was expected behind what a text holds. The one error is want of memory.
+    pub fn write(self, text: &mut String) -> Result<(), AllocError> {
         match self {
-            Wanted::Of(Kind::Device) => f.write_str(self.words()),
+            Wanted::Of(Kind::Device) => text.push_str(self.words()),
             Wanted::Of(kind) => write!(
-                f,
+                text,
                 "a {}: a number, or a name that a line above gives",
-                kind_word(*kind)
+                kind_word(kind)
             ),
-            Wanted::NewName(kind) => write!(
-                f,
-                "a {} name that no line above gives",
-                kind_word(*kind)
-            ),
-            Wanted::Key(act) => write!(f, "a key of {}, each once:{}", act.word(), KeysOf(*act)),
-            Wanted::Script(refusal) => write!(f, "{} ({})", reason(*refusal), refusal),
-            Wanted::Step(refusal, fault) => write!(f, "{} ({})", step_reason(*fault), refusal),
-            other => f.write_str(other.words()),
+            Wanted::NewName(kind) => {
+                write!(text, "a {} name that no line above gives", kind_word(kind))
+            }
+            Wanted::Key(act) => {
+                write!(text, "a key of {}, each once:", act.word())?;
+                put_keys(text, act)
+            }
+            Wanted::Script(refusal) => write!(text, "{} ({})", reason(refusal), refusal),
+            Wanted::Step(refusal, fault) => write!(text, "{} ({})", step_reason(fault), refusal),
+            other => text.push_str(other.words()),
         }
     }
 }
 
-/// The keys of a step, each behind a blank.
-#[derive(Clone, Copy)]
-struct KeysOf(Act);
-
-impl fmt::Display for KeysOf {
-    fn fmt<W: fmt::Write>(&self, f: &mut fmt::Formatter<W>) -> fmt::Result {
-        for key in self.0.keys() {
-            write!(f, " {}", key.word())?;
-        }
-        Ok(())
+/// Puts the keys of a step, each behind a blank.
+fn put_keys(text: &mut String, act: Act) -> Result<(), AllocError> {
+    for key in act.keys() {
+        write!(text, " {}", key.word())?;
     }
+    Ok(())
 }
 
 /// What a script that is taken has, where one that is refused so doesn't.
@@ -212,10 +202,13 @@ fn reason_at(fault: Fault, section: Section) -> &'static str {
         (Fault::BadField, Section::Dispatches) => "a plan of this form: only form 2 has hold_slot",
         (Fault::BadField, _) => "a step that the script may have",
         (Fault::RuleBroken, Section::Completions) => {
-            "behaviours of the rule: watch continues twice, change continues or replaces, keeper keeps twice, keep_on_error continues and then keeps; what replaces is a status that completes"
+            "behaviours of the rule: watch continues twice, change continues or replaces, \
+             keeper keeps twice, keep_on_error continues and then keeps; \
+             what replaces is a status that completes"
         }
         (Fault::RuleBroken, _) => {
-            "a finish with a status that completes, so neither STATUS_PENDING nor STATUS_MORE_PROCESSING_REQUIRED, and a forward with a watch"
+            "a finish with a status that completes, so neither STATUS_PENDING nor \
+             STATUS_MORE_PROCESSING_REQUIRED, and a forward with a watch"
         }
         (Fault::NoRoutine, _) => "a routine that the text has",
         (Fault::BadDispatch, _) => {
@@ -227,192 +220,4 @@ fn reason_at(fault: Fault, section: Section) -> &'static str {
         (Fault::TooMany, Section::Drivers) => "at most 64 drivers",
         (Fault::TooMany, _) => "at most 4,096 labels",
     }
-}
-
-/// The word that is nearest to one that was given.
-#[derive(Clone, Copy)]
-struct Nearest<'a> {
-    given: &'a str,
-    word: Option<&'a str>,
-    /// A nearer word needs fewer edits than this.
-    edits: usize,
-}
-
-impl<'a> Nearest<'a> {
-    /// Takes this word, where it is nearer than those before.
-    fn offer(&mut self, alloc: Global, word: &'a str) -> Result<(), AllocError> {
-        if self.given == word {
-            return Ok(());
-        }
-        let edits = if self.given.eq_ignore_ascii_case(word) {
-            0
-        } else {
-            levenshtein(alloc, self.given, word)?
-        };
-        if edits < self.edits {
-            self.edits = edits;
-            self.word = Some(word);
-        }
-        Ok(())
-    }
-
-    /// Offers these words.
-    fn offer_all(&mut self, alloc: Global, words: &[&'static str]) -> Result<(), AllocError> {
-        for word in words {
-            self.offer(alloc, word)?;
-        }
-        Ok(())
-    }
-
-    /// Offers the words of all steps.
-    fn offer_acts(&mut self, alloc: Global) -> Result<(), AllocError> {
-        for act in ACTS {
-            self.offer(alloc, act.word())?;
-        }
-        self.offer_all(alloc, &["seat", "stack"])?;
-        self.offer_all(alloc, HEADINGS)
-    }
-
-    /// Offers the keys of a step.
-    fn offer_keys(&mut self, alloc: Global, act: Act) -> Result<(), AllocError> {
-        for key in act.keys() {
-            self.offer(alloc, key.word())?;
-        }
-        Ok(())
-    }
-
-    /// Offers the names of statuses.
-    fn offer_statuses(&mut self, alloc: Global) -> Result<(), AllocError> {
-        for number in STATUSES {
-            if let Some(name) = status_name(Status(number)) {
-                self.offer(alloc, name)?;
-            }
-        }
-        Ok(())
-    }
-
-    /// Offers the names of major function codes.
-    fn offer_majors(&mut self, alloc: Global) -> Result<(), AllocError> {
-        for major in 0..=PNP {
-            if let Some(name) = major_name(major) {
-                self.offer(alloc, name)?;
-            }
-        }
-        Ok(())
-    }
-
-    /// Offers the names of minor function codes.
-    fn offer_minors(&mut self, alloc: Global) -> Result<(), AllocError> {
-        for minor in MINORS {
-            self.offer(alloc, minor.2)?;
-        }
-        Ok(())
-    }
-
-    /// Offers the names of a kind that a text gave.
-    fn offer_names(
-        &mut self,
-        alloc: Global,
-        kind: Kind,
-        names: &Names<'a>,
-    ) -> Result<(), AllocError> {
-        for name in names.names() {
-            if name.kind == kind {
-                self.offer(alloc, name.text)?;
-            }
-        }
-        Ok(())
-    }
-
-    /// Offers what may stand in the place.
-    fn offer_wanted(
-        &mut self,
-        alloc: Global,
-        wanted: Wanted,
-        names: &Names<'a>,
-    ) -> Result<(), AllocError> {
-        match wanted {
-            Wanted::Heading => self.offer_all(alloc, HEADINGS),
-            Wanted::Of(kind) => self.offer_names(alloc, kind, names),
-            Wanted::Rule => {
-                self.offer_all(alloc, RULES)?;
-                self.offer_all(alloc, HEADINGS)
-            }
-            Wanted::Routine => {
-                self.offer_all(alloc, RULES)?;
-                self.offer_names(alloc, Kind::Routine, names)
-            }
-            Wanted::Behaviour => self.offer_all(alloc, &["continue", "keep", "replace"]),
-            Wanted::CancelAnswer => {
-                self.offer_all(alloc, &["finish", "leave"])?;
-                self.offer_all(alloc, HEADINGS)
-            }
-            Wanted::Plan => {
-                self.offer_all(alloc, PLANS)?;
-                self.offer_all(alloc, HEADINGS)
-            }
-            Wanted::Major => self.offer_majors(alloc),
-            Wanted::Minor => self.offer_minors(alloc),
-            Wanted::Status => self.offer_statuses(alloc),
-            Wanted::Party => {
-                self.offer(alloc, "originator")?;
-                self.offer_names(alloc, Kind::Device, names)
-            }
-            Wanted::Cancel => {
-                self.offer(alloc, "none")?;
-                self.offer_names(alloc, Kind::Cancel, names)
-            }
-            Wanted::Act => self.offer_acts(alloc),
-            Wanted::Key(act) => self.offer_keys(alloc, act),
-            Wanted::StackLock => self.offer(alloc, "lock"),
-            _ => Ok(()),
-        }
-    }
-}
-
-/// The words that begin a line above the sections, or a section.
-pub const HEADINGS: &[&str] = &[
-    "form",
-    "seats",
-    "locks",
-    "slots",
-    "completions",
-    "cancels",
-    "dispatches",
-    "drivers",
-    "setup",
-    "steps",
-];
-
-/// The words of plans.
-const PLANS: &[&str] = &[
-    "finish",
-    "hold",
-    "hold_slot",
-    "skip",
-    "forward",
-    "forward_pend",
-];
-
-/// The rules of completion routines.
-const RULES: &[&str] = &["watch", "change", "keeper", "keep_on_error", "free"];
-
-/// What may be meant by a word in a place where something was expected: what differs from it in a third of its letters
-/// at most; none where nothing is so near.
-pub fn hint<'a>(
-    alloc: Global,
-    given: &'a str,
-    wanted: Wanted,
-    names: &Names<'a>,
-) -> Result<Option<&'a str>, AllocError> {
-    if given.len() > 64 {
-        return Ok(None);
-    }
-    let mut nearest = Nearest {
-        given,
-        word: None,
-        edits: given.len() / 3 + 1,
-    };
-    nearest.offer_wanted(alloc, wanted, names)?;
-    Ok(nearest.word)
 }

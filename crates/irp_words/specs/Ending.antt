@@ -1,5 +1,5 @@
 -- The exit statuses, and the lines for standard error.
-use Rattle.std.specs.Prelude.{ℕ, List, codes, Bool, true, false, Option, Some}
+use Rattle.std.specs.Prelude.{ℕ, List, ◌++◌, codes, Bool, true, false, Option, Some, string_bytes}
 use Rattle.irp_words.specs.declared.ending.Ending.{Ending}
 use Rattle.irp_words.specs.declared.ending.Ending.TheVariants.{
   Done,
@@ -27,7 +27,7 @@ status_of Differs = 1
 status_of Warned = 2
 status_of NoMemory = 3
 status_of OtherWords = 4
-status_of NoFile = 5
+status_of (NoFile name reason) = 5
 status_of Failed = 5
 
 -- whether an ending has a line for standard error
@@ -47,5 +47,6 @@ complaint_of Differs =
 complaint_of NoMemory = Some (codes "irp_words: out of memory")
 complaint_of OtherWords =
     Some (codes "irp_words: usage: irp_words json, words or faults, then [FILE]; see irp_words --help")
-complaint_of NoFile = Some (codes "irp_words: the file can't be opened")
+complaint_of (NoFile name reason) =
+    Some (codes "irp_words: " ++ (string_bytes name ++ (codes ": can't be opened: " ++ reason.now)))
 complaint_of Failed = Some (codes "irp_words: input or output failed")

@@ -9,7 +9,7 @@ use std::fmt;
 use std::process::ExitCode;
 
 /// How the program ends: its exit status, and the line for standard error (this project's own command line).
-#[derive(Clone, Copy)]
+#[derive(Drop)]
 pub enum Ending {
     /// All was done, and nothing is wrong: status 0, and no line.
     Done,
@@ -23,16 +23,16 @@ pub enum Ending {
     NoMemory,
     /// The words are none that the program takes: status 4.
     OtherWords,
-    /// The file can't be opened: status 5.
-    NoFile,
+    /// The file of this name can't be opened, for this reason: status 5.
+    NoFile { name: String, reason: &'static str },
     /// The input or the output failed: status 5.
     Failed,
 }
 
 impl Ending {
     /// The exit status.
-    pub fn status(self) -> u8
-        ensures { result ≡ status_of self }
+    pub fn status(&self) -> u8
+        ensures { result ≡ status_of self.now }
     {
         match self {
             Ending::Done => 0,
@@ -40,20 +40,20 @@ impl Ending {
             Ending::Warned => 2,
             Ending::NoMemory => 3,
             Ending::OtherWords => 4,
-            Ending::NoFile | Ending::Failed => 5,
+            Ending::NoFile { .. } | Ending::Failed => 5,
         }
     }
 
     /// The exit status, as a process ends with it.
-    pub fn code(self) -> ExitCode
-        ensures { exit_status result ≡ status_of self }
+    pub fn code(&self) -> ExitCode
+        ensures { exit_status result ≡ status_of self.now }
     {
         ExitCode::from(self.status())
     }
 
     /// Whether there is a line for standard error.
-    pub fn has_line(self) -> bool
-        ensures { result ≡ has_line self }
+    pub fn has_line(&self) -> bool
+        ensures { result ≡ has_line self.now }
     {
         !matches!(self, Ending::Done | Ending::Faulty | Ending::Warned)
     }
@@ -66,17 +66,20 @@ impl fmt::Display for Ending {
     ghost output = { λ ending. complaint_of ending };
 
     fn fmt<W: fmt::Write>(&self, f: &mut fmt::Formatter<W>) -> fmt::Result {
-        f.write_str(match self {
-            Ending::Done | Ending::Faulty | Ending::Warned => "",
-            Ending::Differs =>
+        match self {
+            Ending::Done | Ending::Faulty | Ending::Warned => Ok(()),
+            Ending::Differs => f.write_str(
                 "irp_words: a fault of this program: the JSON isn't read as what the words say",
-            Ending::NoMemory => "irp_words: out of memory",
-            Ending::OtherWords => {
-                "irp_words: usage: irp_words json, words or faults, then [FILE]; see irp_words --help"
+            ),
+            Ending::NoMemory => f.write_str("irp_words: out of memory"),
+            Ending::OtherWords => f.write_str(
+                "irp_words: usage: irp_words json, words or faults, then [FILE]; see irp_words --help",
+            ),
+            Ending::NoFile { name, reason } => {
+                write!(f, "irp_words: {name}: can't be opened: {reason}")
             }
-            Ending::NoFile => "irp_words: the file can't be opened",
-            Ending::Failed => "irp_words: input or output failed",
-        })
+            Ending::Failed => f.write_str("irp_words: input or output failed"),
+        }
     }
 }
 

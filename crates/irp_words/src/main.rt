@@ -42,6 +42,19 @@ fn run<R: Read + Drop, O: Out, E: Out>(
     }
 }
 
+/// How the program ends where the file of this name can't be opened.
+fn no_file(alloc: Global, name: &str, kind: io::ErrorKind) -> Ending {
+    let reason = match kind {
+        io::ErrorKind::NotFound => "there is no such file",
+        io::ErrorKind::PermissionDenied => "it may not be read",
+        _ => "the system refuses it",
+    };
+    match name.to_string(alloc) {
+        Ok(name) => Ending::NoFile { name, reason },
+        Err(_) => Ending::NoMemory,
+    }
+}
+
 /// Does what is asked for, with the file or with standard input.
 fn run_on<O: Out, E: Out>(
     rt: &HostRuntime,
@@ -58,7 +71,7 @@ fn run_on<O: Out, E: Out>(
     };
     match File::open(rt, name) {
         Ok(file) => run(rt.alloc(), file, output, errors, task),
-        Err(_) => Ending::NoFile,
+        Err(error) => no_file(rt.alloc(), name, error.kind()),
     }
 }
 

@@ -1,10 +1,12 @@
 //! What is told of a text.
 
+ghost use Rattle.std.specs.Prelude.{IfOk, Ok, string_bytes};
+ghost use Rattle.irp_script_reader.specs.Scripts.{ReadsScript};
 ghost use Rattle.irp_words.specs.Telling.{Fails, Prints};
 
 use crate::ending::Ending;
 use irp_advice::{Fault, Warning, faults, warnings};
-use irp_grammar::{Untold, WordsFault, json, words};
+use irp_grammar::{Told, Untold, WordsFault, json, read_lines, words};
 use irp_script_reader::{ScriptFault, read_script};
 use irp_transcript_writer::{Out, put_all};
 use std::alloc::{AllocError, Global};
@@ -23,9 +25,18 @@ fn put_faults<E: Out>(errors: &mut E, lines: &str) -> Ending
 fn lines_of(alloc: Global, faults: &[WordsFault<'_>]) -> Result<String, AllocError> {
     let mut text = String::new(alloc);
     for fault in faults {
-        write!(text, "{}\n", fault)?;
+        fault.write(&mut text)?;
+        text.push_str("\n")?;
     }
     Ok(text)
+}
+
+/// The JSON of a text in words, and the script that `read_script` reads from it.
+fn told_of<'a>(alloc: Global, text: &'a [u8]) -> Result<Told, Untold<'a>>
+    ensures { IfOk result (λ told. ReadsScript (Ok told.script) (string_bytes told.text)) }
+{
+    let said = read_lines(alloc, text)?;
+    json(alloc, &said)
 }
 
 /// Tells why there is no JSON of a text.
@@ -64,7 +75,7 @@ pub fn tell_json<O: Out, E: Out>(
 ) -> Ending
     ensures { Prints result (O.gone output.old) (O.gone output.new) }
 {
-    match json(alloc, text) {
+    match told_of(alloc, text) {
         Ok(told) => match put_all(output, told.text.as_bytes()) {
             Ok(()) => Ending::Done,
             Err(_) => Ending::Failed,
@@ -159,7 +170,7 @@ pub fn tell_faults<O: Out>(alloc: Global, output: &mut O, strict: bool, text: &[
             ending => ending,
         };
     }
-    match json(alloc, text) {
+    match told_of(alloc, text) {
         Ok(_) => Ending::Done,
         Err(untold) => tell_untold(alloc, output, untold),
     }

@@ -1,0 +1,2 @@
+mod Deciding
+mod Mapped

@@ -1,0 +1,166 @@
+//! What may be meant by a word.
+
+use crate::act::ACTS;
+use crate::names::{Kind, Names};
+use crate::numbers::{MINORS, STATUSES};
+use crate::wanted::Wanted;
+use irp_names::{major_name, status_name};
+use irp_types::Status;
+use std::alloc::{AllocError, Global};
+use strsim::levenshtein;
+
+/// The words that begin a line above the sections, or a section.
+const HEADINGS: &[&str] = &[
+    "form",
+    "seats",
+    "locks",
+    "slots",
+    "completions",
+    "cancels",
+    "dispatches",
+    "drivers",
+    "setup",
+    "steps",
+];
+
+/// The words of plans.
+const PLANS: &[&str] = &[
+    "finish",
+    "hold",
+    "hold_slot",
+    "skip",
+    "forward",
+    "forward_pend",
+];
+
+/// The rules of completion routines.
+const RULES: &[&str] = &["watch", "change", "keeper", "keep_on_error", "free"];
+
+/// The words that may stand where this was expected, and whether a heading may.
+fn words_at(wanted: Wanted) -> (&'static [&'static str], bool) {
+    match wanted {
+        Wanted::Heading => (&[], true),
+        Wanted::Rule => (RULES, true),
+        Wanted::Routine => (RULES, false),
+        Wanted::Behaviour => (&["continue", "keep", "replace"], false),
+        Wanted::CancelAnswer => (&["finish", "leave"], true),
+        Wanted::Plan => (PLANS, true),
+        Wanted::Party => (&["originator"], false),
+        Wanted::Cancel => (&["none"], false),
+        Wanted::Act => (&["seat", "stack"], true),
+        Wanted::StackLock => (&["lock"], false),
+        _ => (&[], false),
+    }
+}
+
+/// The kind of which a name may stand where this was expected.
+fn kind_at(wanted: Wanted) -> Option<Kind> {
+    match wanted {
+        Wanted::Of(kind) => Some(kind),
+        Wanted::Routine => Some(Kind::Routine),
+        Wanted::Party => Some(Kind::Device),
+        Wanted::Cancel => Some(Kind::Cancel),
+        _ => None,
+    }
+}
+
+/// The name with this number, from 0, of those that may stand where this was expected: of a status, of a function code,
+/// of a step or of a key.
+fn name_at(wanted: Wanted, number: u8) -> Option<&'static str> {
+    let place = usize::from(number);
+    match wanted {
+        Wanted::Status => status_name(Status(*STATUSES.get(place)?)),
+        Wanted::Major => major_name(number),
+        Wanted::Minor => Some(MINORS.get(place)?.2),
+        Wanted::Act => Some(ACTS.get(place)?.word()),
+        Wanted::Key(act) => Some(act.keys().get(place)?.word()),
+        _ => None,
+    }
+}
+
+/// Appends the names that may stand where this was expected.
+fn add_names(found: &mut Vec<&str>, wanted: Wanted) -> Result<(), AllocError> {
+    for number in 0..=u8::MAX {
+        match name_at(wanted, number) {
+            Some(name) => found.push(name)?,
+            None => return Ok(()),
+        }
+    }
+    Ok(())
+}
+
+/// Appends the names of a kind that a text gave.
+fn add_given<'a>(
+    found: &mut Vec<&'a str>,
+    kind: Kind,
+    names: &Names<'a>,
+) -> Result<(), AllocError> {
+    for name in names.names() {
+        if name.kind == kind {
+            found.push(name.text)?;
+        }
+    }
+    Ok(())
+}
+
+/// What may stand where this was expected.
+fn known<'a>(alloc: Global, wanted: Wanted, names: &Names<'a>) -> Result<Vec<&'a str>, AllocError> {
+    let mut found = Vec::new(alloc);
+    add_names(&mut found, wanted)?;
+    let (words, headings) = words_at(wanted);
+    found.extend_from_slice(words)?;
+    if headings {
+        found.extend_from_slice(HEADINGS)?;
+    }
+    if let Some(kind) = kind_at(wanted) {
+        add_given(&mut found, kind, names)?;
+    }
+    Ok(found)
+}
+
+/// How many letters are left out, put in or others in a word that is meant as another; none where the case alone
+/// differs.
+fn edits(alloc: Global, given: &str, word: &str) -> Result<usize, AllocError> {
+    if given.eq_ignore_ascii_case(word) {
+        Ok(0)
+    } else {
+        levenshtein(alloc, given, word)
+    }
+}
+
+/// The first of the nearest words, where that is nearer than so many edits; none where no word is so near. The word
+/// itself isn't meant.
+fn nearest<'a>(
+    alloc: Global,
+    given: &str,
+    words: &[&'a str],
+    limit: usize,
+) -> Result<Option<&'a str>, AllocError> {
+    let mut least = limit;
+    let mut found = None;
+    for word in words {
+        if given != *word {
+            let edits = edits(alloc, given, *word)?;
+            if edits < least {
+                least = edits;
+                found = Some(*word);
+            }
+        }
+    }
+    Ok(found)
+}
+
+/// What may be meant by a word in a place where something was expected: what differs from it in a third of its letters
+/// at most; none where nothing is so near.
+pub fn hint<'a>(
+    alloc: Global,
+    given: &str,
+    wanted: Wanted,
+    names: &Names<'a>,
+) -> Result<Option<&'a str>, AllocError> {
+    if given.len() > 64 {
+        return Ok(None);
+    }
+    let words = known(alloc, wanted, names)?;
+    nearest(alloc, given, words.as_slice(), given.len() / 3 + 1)
+}
