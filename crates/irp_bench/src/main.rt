@@ -2,6 +2,7 @@
 //! transcripts, and their judging.
 #![tactic(auto)]
 
+mod blocks;
 mod caller;
 mod done;
 mod fault;

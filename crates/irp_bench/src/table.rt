@@ -1,5 +1,6 @@
 //! The table of all loads, and the loop that times them.
 
+use crate::blocks::read_and_judge;
 use crate::done::Done;
 use crate::fault::Fault;
 use crate::loads::{Calls, time_calls};
@@ -22,6 +23,7 @@ enum Load {
     Alone(Calls),
     Recorded(Calls),
     Text(Task),
+    Blocks,
 }
 
 /// What a word asks for: a load, with its name, and another that is timed beside it, for each of some numbers.
@@ -36,7 +38,7 @@ struct Row {
 }
 
 /// All that the program times, in this order.
-const TABLE: [Row; 10] = [
+const TABLE: [Row; 11] = [
     Row {
         word: "locks",
         name: "acquire and release, threads",
@@ -117,7 +119,18 @@ const TABLE: [Row; 10] = [
         beside: Load::Text(Task::Read),
         numbers: &[10_000, 100_000, 1_000_000],
     },
+    Row {
+        word: "check",
+        name: "read and judged in blocks, threads",
+        load: Load::Blocks,
+        beside_name: "read_transcript",
+        beside: Load::Text(Task::Read),
+        numbers: &[1, 2, 4],
+    },
 ];
+
+/// How many entries the text has that is read and judged in blocks.
+const ENTRIES: u32 = 1_000_000;
 
 /// Runs a load once.
 fn run<R: Threads + Wait + Sync + Clock + AllocGlobal>(
@@ -134,6 +147,10 @@ fn run<R: Threads + Wait + Sync + Clock + AllocGlobal>(
         Load::Recorded(calls) => time_calls(rt, calls, number, true),
         Load::Text(task) => match sample {
             Some(sample) => perform(rt, rt.alloc(), task, sample),
+            None => Err(Fault::Failed),
+        },
+        Load::Blocks => match sample {
+            Some(sample) => read_and_judge(rt, rt.alloc(), sample, number),
             None => Err(Fault::Failed),
         },
     }
@@ -161,11 +178,13 @@ fn least<R: Threads + Wait + Sync + Clock + AllocGlobal>(
     row: Row,
     number: u32,
 ) -> Result<(Done, Done), Fault> {
-    if let Load::Text(_) = row.load {
-        let sample = record_sample(rt, number)?;
-        return take_turns(rt, row, number, Some(&sample));
-    }
-    take_turns(rt, row, number, None)
+    let entries = match row.load {
+        Load::Text(_) => number,
+        Load::Blocks => ENTRIES,
+        _ => return take_turns(rt, row, number, None),
+    };
+    let sample = record_sample(rt, entries)?;
+    take_turns(rt, row, number, Some(&sample))
 }
 
 /// Times a row for each of its numbers, and writes a line for each to standard error.

@@ -49,9 +49,9 @@ pub enum Task {
 /// A transcript, its text, and the values of the text's first lines.
 #[derive(Drop)]
 pub struct Sample {
-    entries: u32,
-    transcript: Transcript,
-    text: Vec<u8>,
+    pub entries: u32,
+    pub transcript: Transcript,
+    pub text: Vec<u8>,
     values: Vec<Value>,
     /// How many bytes the lines of these values have.
     bytes: u64,

@@ -1,0 +1,81 @@
+//! A transcript's text, read and judged block after block, as `irpx check` does.
+
+ghost use Rattle.irp_transcript.specs.Headers.{IsHeader};
+
+use crate::done::Done;
+use crate::fault::Fault;
+use crate::texts::Sample;
+use irp_judge::{Judge, Verdict};
+use irp_shared::Header;
+use irp_text::{Ahead, Line, Reader};
+use std::alloc::Global;
+use std::rt::Clock;
+use std::thread::Threads;
+use std::time::Instant;
+
+/// How many bytes a block has, but for the last one.
+const BLOCK: usize = 262_144;
+
+/// Reads the lines that end in a block, of which some were read ahead, and has the judge judge their entries.
+fn judge_block(
+    alloc: Global,
+    reader: &mut Reader,
+    judge: &mut Judge,
+    block: &[u8],
+    ahead: &mut Ahead<'_>,
+) -> Result<(), Fault> {
+    let mut rest = block;
+    while !rest.is_empty() {
+        let Some(taken) = reader.next_ahead(alloc, rest, ahead)? else {
+            return Ok(());
+        };
+        let (line, count) = taken;
+        if let Line::Entry(entry) = &line {
+            judge.feed(entry)?;
+        }
+        rest = &rest[count..];
+    }
+    Ok(())
+}
+
+/// The verdict on a text with this header, whose lines so many threads read ahead.
+fn verdict_on<R: Threads + Sync>(
+    rt: &R,
+    alloc: Global,
+    header: &Header,
+    text: &[u8],
+    threads: u32,
+) -> Result<Verdict, Fault>
+    requires { IsHeader header.now }
+{
+    let mut reader = Reader::new(alloc);
+    let mut judge = Judge::new(alloc, header);
+    for block in text.chunks(BLOCK) {
+        let mut ahead = Ahead::of(rt, alloc, block, threads as usize);
+        judge_block(alloc, &mut reader, &mut judge, block, &mut ahead)?;
+    }
+    reader.finish()?;
+    Ok(judge.verdict())
+}
+
+/// Times the reading and judging of a sample's text, whose lines so many threads read ahead. `NotLegal` unless it is
+/// legal, with all of its entries.
+pub fn read_and_judge<R: Threads + Sync + Clock>(
+    rt: &R,
+    alloc: Global,
+    sample: &Sample,
+    threads: u32,
+) -> Result<Done, Fault> {
+    sample.transcript.is_one();
+    let Some(header) = sample.transcript.header() else {
+        return Err(Fault::Failed);
+    };
+    let start = Instant::now(rt)?;
+    let verdict = verdict_on(rt, alloc, header, sample.text.as_slice(), threads)?;
+    let taken = start.elapsed(rt)?;
+    let entries = u64::from(sample.entries);
+    if verdict != (Verdict::Legal { entries }) {
+        return Err(Fault::NotLegal);
+    }
+    Ok(Done::new(sample.entries, sample.text.len() as u64, taken))
+}
