@@ -363,7 +363,7 @@ pub fn example_of(name: ExampleName) -> &'static Example {
 }
 
 /// Of each kind one who is asked, but of completion routines two.
-pub const EACH: [Asked; 5] = [
+pub static EACH: [Asked; 5] = [
     Asked::Routine(Rule::Change),
     Asked::Routine(Rule::Free),
     Asked::Cancel(CancelRule::MustLeave, CancelAnswer::Leave),

@@ -46,7 +46,7 @@ pub enum Work {
 }
 
 /// The scenarios.
-pub const SCENARIOS: [(&str, Work); 14] = [
+pub static SCENARIOS: [(&str, Work); 14] = [
     ("finished_in_a_session", Work::Play(ExampleName::Finished)),
     ("kept_in_a_session", Work::Play(ExampleName::Kept)),
     ("cancelled_in_a_session", Work::Play(ExampleName::Cancelled)),

@@ -13,7 +13,7 @@ use std::alloc::Global;
 use std::io::{self, Write};
 
 /// The transcript of one device that finishes one packet, byte by byte as the formats have it (docs/FORMATS.md).
-const TRANSCRIPT: &[u8] =
+static TRANSCRIPT: &[u8] =
     b"{\"cancels\":[],\"completions\":[0,0,0,0,0],\"dispatches\":[[0,0,0,0,0,0]],\"drivers\":[[[3,0]]],\"form\":1,\"locks\":1,\"seats\":1}
 {\"asked\":[],\"call\":{\"do\":\"create_device\",\"driver\":0,\"lock\":0},\"n\":0,\"reply\":{\"device\":0},\"seat\":0}
 {\"asked\":[],\"call\":{\"do\":\"allocate\",\"size\":1},\"n\":1,\"reply\":{\"irp\":[0,1]},\"seat\":0}
@@ -25,14 +25,14 @@ const TRANSCRIPT: &[u8] =
 const HEADER_LENGTH: usize = 119;
 
 /// A script with a routine, a cancel routine, a dispatch, a driver, a label, a call and an act on a remove lock.
-const SCRIPT: &[u8] =
+static SCRIPT: &[u8] =
     b"{\"form\":1,\"seats\":1,\"locks\":1,\"completions\":[[\"watch\",\"continue\",\"continue\"]],
  \"cancels\":[[\"finish\",0]],\"dispatches\":[[\"hold\",0]],\"drivers\":[[[3,0]]],
  \"setup\":[{\"seat\":0,\"do\":\"create_device\",\"driver\":0,\"lock\":0}],
  \"steps\":[{\"seat\":0,\"do\":\"allocate\",\"size\":1,\"as\":\"a\"},{\"seat\":0,\"do\":\"cancel\",\"irp\":\"a\"},
   {\"seat\":0,\"do\":\"acquire\",\"lock\":0,\"tag\":1}]}";
 
-/// The transcript's text. The constant is named here alone: a proof takes it in for each function that names it.
+/// The transcript's text. It is named here alone: a proof takes it in for each function that names it.
 fn transcript_text() -> &'static [u8] {
     TRANSCRIPT
 }

@@ -100,7 +100,7 @@ const CANCEL_SECOND: Call = Call::Cancel { irp: SECOND };
 
 /// A packet is sent, and cancelled; both are tried again and refused. A second packet, whose Watch is for a success
 /// alone, is sent and cancelled.
-const STEPS: [Step; 13] = [
+static STEPS: [Step; 13] = [
     (CREATE, Reply::Device(DeviceId(0))),
     (ALLOCATE, Reply::Irp(FIRST)),
     (FILL, Reply::Done),

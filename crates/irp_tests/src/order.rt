@@ -73,7 +73,7 @@ const SEND: Call = Call::CallDriver {
 };
 
 /// A packet goes down through two devices, and comes back.
-const STEPS: [Step; 7] = [
+static STEPS: [Step; 7] = [
     (CREATE, Reply::Device(DeviceId(0))),
     (CREATE, Reply::Device(DeviceId(1))),
     (ATTACH, Reply::Device(DeviceId(0))),

@@ -18,7 +18,7 @@ use std::test::Fail;
 const ALLOCATE: Call = Call::Allocate { size: 1 };
 
 /// The other history.
-const ELSEWHERE: [Step; 3] = [
+static ELSEWHERE: [Step; 3] = [
     (ALLOCATE, Reply::Irp(IrpRef { slot: 0, use_no: 1 })),
     (ALLOCATE, Reply::Irp(IrpRef { slot: 1, use_no: 2 })),
     (ALLOCATE, Reply::Irp(IrpRef { slot: 2, use_no: 3 })),
@@ -26,7 +26,7 @@ const ELSEWHERE: [Step; 3] = [
 
 /// Which seat allocates a packet, and the number of the entry. The first has learned of three entries elsewhere, and is
 /// refused until the history is as long.
-const CALLS: [(usize, Result<u64, NotRecorded>); 5] = [
+static CALLS: [(usize, Result<u64, NotRecorded>); 5] = [
     (0, Err(NotRecorded::Behind { length: 0 })),
     (1, Ok(0)),
     (1, Ok(1)),

@@ -29,7 +29,7 @@ use std::thread::Threads;
 const IRP: IrpRef = IrpRef { slot: 0, use_no: 1 };
 
 /// A packet is sent to the one device, which finishes it, and is looked at.
-const CALLS: [Call; 5] = [
+static CALLS: [Call; 5] = [
     Call::CreateDevice {
         driver: DriverId(0),
         lock: LOCK,
