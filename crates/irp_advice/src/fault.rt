@@ -211,7 +211,7 @@ fn add_faults(
 }
 
 /// The sections that are lists, in the order in which they are read.
-const LISTS: &[Section] = &[
+static LISTS: &[Section] = &[
     Section::Completions,
     Section::Cancels,
     Section::Dispatches,

@@ -77,7 +77,7 @@ pub struct Act {
 }
 
 /// What a step may do.
-pub const ACTS: &[Act] = acts! {
+pub static ACTS: &[Act] = acts! {
     "create_device" "\"create_device\"" "IoCreateDevice" ["seat" "do" "driver" "lock"] Anywhere;
     "attach" "\"attach\"" "IoAttachDeviceToDeviceStack" ["seat" "do" "device" "to"] Anywhere;
     "detach" "\"detach\"" "IoDetachDevice" ["seat" "do" "lower"] Anywhere;
@@ -107,7 +107,7 @@ pub const ACTS: &[Act] = acts! {
 };
 
 /// The keys of steps.
-pub const FIELDS: &[Field] = fields! {
+pub static FIELDS: &[Field] = fields! {
     "seat" "\"seat\"" Number "a seat is a number below \"seats\"";
     "do" "\"do\"" Call "it names what the step does";
     "driver" "\"driver\"" Number "a driver is a number below 4294967296, its place in \"drivers\" from 0";

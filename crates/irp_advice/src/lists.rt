@@ -13,10 +13,10 @@ use irp_script_reader::Fault;
 use irp_types::Status;
 
 /// The rules of completion routines.
-const RULES: &[&str] = &["watch", "change", "keeper", "keep_on_error", "free"];
+static RULES: &[&str] = &["watch", "change", "keeper", "keep_on_error", "free"];
 
 /// The plans of dispatches.
-const PLANS: &[&str] = &[
+static PLANS: &[&str] = &[
     "finish",
     "hold",
     "hold_slot",

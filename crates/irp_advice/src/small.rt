@@ -11,7 +11,7 @@ use irp_types::Status;
 use irp_types::limits::LAST_MAJOR;
 
 /// The numbers of the statuses that have a name here.
-const STATUSES: &[u32] = &[
+static STATUSES: &[u32] = &[
     0x0000_0000,
     0x0000_0102,
     0x0000_0103,

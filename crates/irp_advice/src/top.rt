@@ -10,7 +10,7 @@ use Piece::{Number, Say, Show};
 use irp_script_reader::Section;
 
 /// The keys of a script of form 1.
-const KEYS: &[&str] = &[
+static KEYS: &[&str] = &[
     "form",
     "seats",
     "locks",
@@ -23,7 +23,7 @@ const KEYS: &[&str] = &[
 ];
 
 /// The keys of a script of form 2.
-const KEYS_OF_TWO: &[&str] = &[
+static KEYS_OF_TWO: &[&str] = &[
     "form",
     "seats",
     "locks",

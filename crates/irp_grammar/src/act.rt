@@ -85,7 +85,7 @@ pub enum Act {
 }
 
 /// Every step.
-pub const ACTS: [Act; 26] = [
+pub static ACTS: [Act; 26] = [
     Act::CreateDevice,
     Act::Attach,
     Act::Detach,

@@ -10,7 +10,7 @@ use std::alloc::{AllocError, Global};
 use strsim::levenshtein;
 
 /// The words that begin a line above the sections, or a section.
-const HEADINGS: &[&str] = &[
+static HEADINGS: &[&str] = &[
     "form",
     "seats",
     "locks",
@@ -24,7 +24,7 @@ const HEADINGS: &[&str] = &[
 ];
 
 /// The words of plans.
-const PLANS: &[&str] = &[
+static PLANS: &[&str] = &[
     "finish",
     "hold",
     "hold_slot",
@@ -34,7 +34,7 @@ const PLANS: &[&str] = &[
 ];
 
 /// The rules of completion routines.
-const RULES: &[&str] = &["watch", "change", "keeper", "keep_on_error", "free"];
+static RULES: &[&str] = &["watch", "change", "keeper", "keep_on_error", "free"];
 
 /// The words that may stand where this was expected, and whether a heading may.
 fn words_at(wanted: Wanted) -> (&'static [&'static str], bool) {

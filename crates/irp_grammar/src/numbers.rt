@@ -6,7 +6,7 @@ use irp_names::{major_name, status_name};
 use irp_types::Status;
 
 /// The statuses that have a name.
-pub const STATUSES: [u32; 35] = [
+pub static STATUSES: [u32; 35] = [
     0x0000_0000,
     0x0000_0102,
     0x0000_0103,
@@ -54,7 +54,7 @@ pub const POWER: u8 = 0x16;
 pub struct Minor(pub u8, pub u8, pub &'static str);
 
 /// The minor function codes (WDK: "Plug and Play Minor IRPs", "Power Management Minor IRPs").
-pub const MINORS: [Minor; 27] = [
+pub static MINORS: [Minor; 27] = [
     Minor(PNP, 0x00, "IRP_MN_START_DEVICE"),
     Minor(PNP, 0x01, "IRP_MN_QUERY_REMOVE_DEVICE"),
     Minor(PNP, 0x02, "IRP_MN_REMOVE_DEVICE"),
