@@ -60,6 +60,8 @@ while IFS='|' read -r name condition; do
 done <<'END'
 a_cancel_against_a_completion|live(a) and owner(a) != ended
 a_cancel_against_a_completion|reply(1) == done and reply(2) == true
+a_cancel_against_a_completion|owner(a) == D0
+a_cancel_against_a_completion|owner(a) == device 0 or deleted(D0) or deleted(device 0)
 a_cancel_against_a_completion_by_a_slot|reply(2) == done and reply(4) == done
 a_cancel_against_a_completion_by_a_slot|not owner(a) == ended
 a_removal_against_a_send|reply(4) == STATUS_SUCCESS and reply(5) == DeviceGone
@@ -72,14 +74,16 @@ while IFS='|' read -r name condition line; do
     run --never "$condition" "$examples/$name.script"
     ended "$name, never $condition" 2 '' "$line"
 done <<'END'
-a_lost_pending_mark|reply(1) == NotOwner|it holds in 2 of 3 orders, 2 of 3 outcomes; the shortest:
-a_cancel_against_a_completion|status(a) == 0xC0000120|it holds in 1 of 3 orders, 1 of 3 outcomes; the shortest:
-a_cancel_against_a_completion|reply(2) == Ended or reply(2) == false|it holds in 2 of 3 orders, 2 of 3 outcomes; the shortest:
-a_removal_against_a_send|reply(5) == DeviceGone|it holds in 6 of 71 orders, 1 of 5 outcomes; the shortest:
-a_hand_over_against_a_drain|held(lock 0) == 1 and removing(lock 0)|it holds in 38 of 143 orders, 1 of 5 outcomes; the shortest:
-a_hand_over_against_a_drain|reply(5) == not_held and held(0) >= 1|it holds in 38 of 143 orders, 1 of 5 outcomes; the shortest:
-a_reuse_against_a_late_cancel|reply(4) == true|it holds in 3 of 15 orders, 1 of 5 outcomes; the shortest:
-a_reuse_against_a_late_cancel|current(a) < 2 and status(a) <= 0|it holds in 9 of 15 orders, 3 of 5 outcomes; the shortest:
+a_lost_pending_mark|reply(1) == NotOwner|it holds in 2 of 3 orders, 2 of 3 outcomes; one of them:
+a_cancel_against_a_completion|status(a) == 0xC0000120|it holds in 1 of 3 orders, 1 of 3 outcomes; one of them:
+a_cancel_against_a_completion|reply(2) == Ended or reply(2) == false|it holds in 2 of 3 orders, 2 of 3 outcomes; one of them:
+a_cancel_against_a_completion|information(a) > 0|it holds in 2 of 3 orders, 2 of 3 outcomes; one of them:
+a_cancel_against_a_completion|cancel(a) and status(a) == STATUS_SUCCESS|it holds in 1 of 3 orders, 1 of 3 outcomes; one of them:
+a_removal_against_a_send|reply(5) == DeviceGone|it holds in 6 of 71 orders, 1 of 5 outcomes; one of them:
+a_hand_over_against_a_drain|held(lock 0) == 1 and removing(lock 0)|it holds in 38 of 143 orders, 1 of 5 outcomes; one of them:
+a_hand_over_against_a_drain|reply(5) == not_held and held(0) >= 1|it holds in 38 of 143 orders, 1 of 5 outcomes; one of them:
+a_reuse_against_a_late_cancel|reply(4) == true|it holds in 3 of 15 orders, 1 of 5 outcomes; one of them:
+a_reuse_against_a_late_cancel|current(a) < 2 and status(a) <= 0|it holds in 9 of 15 orders, 3 of 5 outcomes; one of them:
 END
 
 # Texts that are no conditions: the column, and what was expected there.
@@ -88,27 +92,28 @@ while IFS='|' read -r condition column expected; do
     run --never "$condition" "$examples"/a_cancel_against_a_completion.script
     ended "never '$condition'" 4 "irp_orders: condition refused: column $column: expected $expected"
 done <<'END'
-|1|not, a parenthesis, or reply, owner, status, current, live, deleted, held or removing
+|1|not, a parenthesis, or reply, owner, status, information, current, live, cancel, deleted, held or removing
 owner(b) == ended|7|a label of the script, as in owner(a)
 owner a == ended|7|an opening parenthesis, as in owner(a)
 owner(a == ended|9|a closing parenthesis
 owner(a)|9|==, !=, <, <=, > or >=
 owner(a) = ended|10|==, !=, <, <=, > or >=
-owner(a) == Ended|13|originator, ended, device 2 or none
+owner(a) == Ended|13|originator, ended, D2 or none
 reply(3) == Ended|7|the place of one of the script's steps, from 0, as in reply(7)
-reply(2) == Endd|13|a refusal as Ended, a number, a status, done, an answer as standing, device 2, true, false or none
+reply(2) == Endd|13|a refusal as Ended, a number, a status, done, an answer as standing, D2, true, false or none
 held(lock 1) > 0|11|the number of a remove lock, as in held(lock 0)
 held(0) > many|11|a number as 5 or 0x103, or a status as STATUS_PENDING
+owner(a) == D64|13|originator, ended, D2 or none
 deleted(64)|9|the number of a device, as in deleted(0)
 deleted(0) == 1|15|true or false
 live(a) live(a)|9|and, or, or the end
-live(a) and|12|not, a parenthesis, or reply, owner, status, current, live, deleted, held or removing
+live(a) and|12|not, a parenthesis, or reply, owner, status, information, current, live, cancel, deleted, held or removing
 END
 deep=$(printf 'not %.0s' $(seq 33))
 run --never "${deep}live(a)" "$examples"/a_cancel_against_a_completion.script
 meets 'thirty-three nots' grep -q 'at most 32 parentheses and nots within each other' "$room/errors"
 run --never "${deep#not }live(a)" "$examples"/a_cancel_against_a_completion.script
-ended 'thirty-two nots' 2 '' 'it holds in 3 of 3 orders, 3 of 3 outcomes; the shortest:'
+ended 'thirty-two nots' 2 '' 'it holds in 3 of 3 orders, 3 of 3 outcomes; one of them:'
 
 # Outcomes by their ends: two of the first race look alike.
 run --ends "$examples"/a_cancel_against_a_completion.script
@@ -172,7 +177,7 @@ done <<'END'
 one two
 END
 run "$room/none.script"
-ended 'no such file' 5 "irp_orders: the file can't be opened"
+ended 'no such file' 5 "irp_orders: $room/none.script: can't be opened: there is no such file"
 run <.
 ended 'a directory' 5 'irp_orders: input or output failed'
 timeout 300 "$irp_orders" "$examples"/a_lost_pending_mark.script >/dev/full 2>"$room/errors"

@@ -70,7 +70,9 @@ reply_value (Some (Some told)) = told_value told
 abbrev pub packet_value : Fact → Packet → Value
 packet_value (fact.Owner label) packet = Owner packet.owner
 packet_value (fact.Status label) packet = Number packet.status.0
+packet_value (fact.Information label) packet = Number packet.information
 packet_value (fact.Current label) packet = Number packet.current
+packet_value (fact.Cancel label) packet = Truth packet.cancel
 packet_value fact packet = Missing
 
 -- a fact of the packet that a label names; missing where it names no live packet
@@ -103,7 +105,9 @@ abbrev pub value_of : Facts → Fact → Value
 value_of facts (fact.Reply step) = reply_value (slice_get facts.replies step)
 value_of facts (fact.Owner label) = label_value (fact.Owner label) (slice_get facts.labels label)
 value_of facts (fact.Status label) = label_value (fact.Status label) (slice_get facts.labels label)
+value_of facts (fact.Information label) = label_value (fact.Information label) (slice_get facts.labels label)
 value_of facts (fact.Current label) = label_value (fact.Current label) (slice_get facts.labels label)
+value_of facts (fact.Cancel label) = label_value (fact.Cancel label) (slice_get facts.labels label)
 value_of facts (fact.Live label) = Truth (is_live (slice_get facts.labels label))
 value_of facts (fact.Deleted device) = Truth (is_true (slice_get facts.deleted device))
 value_of facts (fact.Held lock) = held_value (slice_get facts.locks lock)

@@ -1,2 +1,3 @@
 pub mod Holding
 pub mod Naming
+pub mod Tokens

@@ -12,7 +12,9 @@ abbrev pub IsFactOf : ℕ → ℕ → ℕ → Fact → Type 0
 IsFactOf labels steps locks (fact.Reply step) = step < steps
 IsFactOf labels steps locks (fact.Owner label) = label < labels
 IsFactOf labels steps locks (fact.Status label) = label < labels
+IsFactOf labels steps locks (fact.Information label) = label < labels
 IsFactOf labels steps locks (fact.Current label) = label < labels
+IsFactOf labels steps locks (fact.Cancel label) = label < labels
 IsFactOf labels steps locks (fact.Live label) = label < labels
 IsFactOf labels steps locks (fact.Deleted device) = device < 64
 IsFactOf labels steps locks (fact.Held lock) = lock < locks

@@ -11,8 +11,12 @@ pub enum Fact {
     Owner(u32),
     /// The status in the packet of this label.
     Status(u32),
+    /// The information in the packet of this label.
+    Information(u32),
     /// The number of the current location of the packet of this label.
     Current(u32),
+    /// Whether the packet of this label was cancelled.
+    Cancel(u32),
     /// Whether the label names a live packet.
     Live(u32),
     /// Whether this device was deleted.

@@ -15,8 +15,11 @@ pub enum Told {
 pub struct Packet {
     pub owner: Owner,
     pub status: Status,
+    pub information: u64,
     /// The number of its current location.
     pub current: u32,
+    /// Whether it was cancelled.
+    pub cancel: bool,
 }
 
 /// What an order leaves.

@@ -31,7 +31,7 @@ impl fmt::Display for Expected {
     fn fmt<W: fmt::Write>(&self, f: &mut fmt::Formatter<W>) -> fmt::Result {
         f.write_str(match self {
             Expected::Condition => {
-                "not, a parenthesis, or reply, owner, status, current, live, deleted, held or removing"
+                "not, a parenthesis, or reply, owner, status, information, current, live, cancel, deleted, held or removing"
             }
             Expected::Open => "an opening parenthesis, as in owner(a)",
             Expected::Close => "a closing parenthesis",
@@ -42,9 +42,9 @@ impl fmt::Display for Expected {
             Expected::Comparison => "==, !=, <, <=, > or >=",
             Expected::Number => "a number as 5 or 0x103, or a status as STATUS_PENDING",
             Expected::Truth => "true or false",
-            Expected::Owner => "originator, ended, device 2 or none",
+            Expected::Owner => "originator, ended, D2 or none",
             Expected::Reply => {
-                "a refusal as Ended, a number, a status, done, an answer as standing, device 2, true, false or none"
+                "a refusal as Ended, a number, a status, done, an answer as standing, D2, true, false or none"
             }
             Expected::End => "no reply and no deleted beside --ends, which leaves replies out",
             Expected::Joint => "and, or, or the end",

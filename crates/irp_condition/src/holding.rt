@@ -76,7 +76,9 @@ fn packet_value(fact: Fact, packet: Packet) -> Value
     match fact {
         Fact::Owner(_) => Value::Owner(packet.owner),
         Fact::Status(_) => Value::Number(packet.status.0 as u64),
+        Fact::Information(_) => Value::Number(packet.information),
         Fact::Current(_) => Value::Number(packet.current as u64),
+        Fact::Cancel(_) => Value::Truth(packet.cancel),
         _ => Value::Missing,
     }
 }
@@ -141,9 +143,11 @@ fn value_of(fact: Fact, facts: &Facts) -> Value
 {
     match fact {
         Fact::Reply(step) => reply_value(step, facts.replies.as_slice()),
-        Fact::Owner(label) | Fact::Status(label) | Fact::Current(label) => {
-            label_value(fact, label, facts.labels.as_slice())
-        }
+        Fact::Owner(label)
+        | Fact::Status(label)
+        | Fact::Information(label)
+        | Fact::Current(label)
+        | Fact::Cancel(label) => label_value(fact, label, facts.labels.as_slice()),
         Fact::Live(label) => Value::Truth(is_live(label, facts.labels.as_slice())),
         Fact::Deleted(device) => Value::Truth(is_deleted(device, facts.deleted.as_slice())),
         Fact::Held(lock) => held_value(lock, facts.locks.as_slice()),

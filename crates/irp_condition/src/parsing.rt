@@ -8,7 +8,7 @@ use crate::fault::{Expected, Fault, Unread};
 use crate::scope::Scope;
 use crate::tokens::{Kind, Token, tokens_of};
 use crate::value::Value;
-use crate::words::{number_of, number_value, reply_value, truth_value};
+use crate::words::{device_named, number_of, number_value, owner_value, reply_value, truth_value};
 use irp_types::{DeviceId, Owner};
 use std::alloc::Global;
 
@@ -27,8 +27,10 @@ enum Name {
     Reply,
     Owner,
     Status,
+    Information,
     Current,
     Live,
+    Cancel,
     Deleted,
     Held,
     Removing,
@@ -40,8 +42,10 @@ fn name_of(word: &[u8]) -> Option<Name> {
         b"reply" => Name::Reply,
         b"owner" => Name::Owner,
         b"status" => Name::Status,
+        b"information" => Name::Information,
         b"current" => Name::Current,
         b"live" => Name::Live,
+        b"cancel" => Name::Cancel,
         b"deleted" => Name::Deleted,
         b"held" => Name::Held,
         b"removing" => Name::Removing,
@@ -60,16 +64,6 @@ fn comparison_of(sign: &[u8]) -> Option<Comparison> {
         b">=" => Comparison::AtLeast,
         _ => return None,
     })
-}
-
-/// The owner that one word writes: no device.
-fn owner_value(word: &[u8]) -> Option<Value> {
-    match word {
-        b"originator" => Some(Value::Owner(Owner::Originator)),
-        b"ended" => Some(Value::Owner(Owner::Ended)),
-        b"none" => Some(Value::Missing),
-        _ => None,
-    }
 }
 
 /// The tokens of a text, and how many were taken.
@@ -154,6 +148,21 @@ impl Cursor {
         Ok(place)
     }
 
+    /// Takes a device, as `D2`, `device 2` or `2`.
+    fn device(&mut self) -> Result<u32, Unread>
+        ensures { IfOk result (λ device. device < 64) }
+    {
+        let named = match self.word() {
+            Some(word) => device_named(word),
+            None => None,
+        };
+        let Some(device) = named else {
+            return self.number_below(b"device", MOST_DEVICES, Expected::Device);
+        };
+        self.pass();
+        Ok(device)
+    }
+
     /// Takes a label of the script: its place.
     fn label(&mut self, labels: &[String]) -> Result<u32, Unread>
         ensures { IfOk result (λ place. place < length labels.now) }
@@ -197,11 +206,11 @@ fn take_argument(cursor: &mut Cursor, name: Name, scope: Scope<'_>) -> Result<Fa
         Name::Reply => Fact::Reply(cursor.number_below(b"step", steps, Expected::Step)?),
         Name::Owner => Fact::Owner(cursor.label(labels)?),
         Name::Status => Fact::Status(cursor.label(labels)?),
+        Name::Information => Fact::Information(cursor.label(labels)?),
         Name::Current => Fact::Current(cursor.label(labels)?),
         Name::Live => Fact::Live(cursor.label(labels)?),
-        Name::Deleted => {
-            Fact::Deleted(cursor.number_below(b"device", MOST_DEVICES, Expected::Device)?)
-        }
+        Name::Cancel => Fact::Cancel(cursor.label(labels)?),
+        Name::Deleted => Fact::Deleted(cursor.device()?),
         Name::Held => Fact::Held(cursor.number_below(b"lock", locks, Expected::Lock)?),
         Name::Removing => Fact::Removing(cursor.number_below(b"lock", locks, Expected::Lock)?),
     })
@@ -234,18 +243,15 @@ fn expected_of(name: Name) -> Expected {
     match name {
         Name::Reply => Expected::Reply,
         Name::Owner => Expected::Owner,
-        Name::Status | Name::Current | Name::Held => Expected::Number,
-        Name::Live | Name::Deleted | Name::Removing => Expected::Truth,
+        Name::Status | Name::Information | Name::Current | Name::Held => Expected::Number,
+        Name::Live | Name::Cancel | Name::Deleted | Name::Removing => Expected::Truth,
     }
 }
 
 /// The value that one word writes, where a fact of this name can have it.
 fn value_named(name: Name, word: &[u8]) -> Option<Value> {
     match expected_of(name) {
-        Expected::Reply => match owner_value(word) {
-            Some(value) => Some(value),
-            None => reply_value(word),
-        },
+        Expected::Reply => reply_value(word),
         Expected::Owner => owner_value(word),
         Expected::Truth => truth_value(word),
         _ => number_value(word),

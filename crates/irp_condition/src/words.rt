@@ -1,8 +1,13 @@
 //! The words and numbers that values are written by. Source: this project's own rules.
 
+ghost use Rattle.std.specs.Prelude.{◌<◌, IfSome};
+
 use crate::value::{Answer, Value};
 use irp_names::{refusal_name, status_name};
-use irp_types::{Refusal, Status};
+use irp_types::{DeviceId, Owner, Refusal, Status};
+
+/// There are at most so many devices.
+const MOST_DEVICES: u64 = 64;
 
 /// The statuses that have names.
 const STATUSES: [Status; 35] = [
@@ -154,6 +159,30 @@ pub fn number_of(word: &[u8]) -> Option<u64> {
     }
 }
 
+/// The device that a word names: `D` and its number, below 64.
+pub fn device_named(word: &[u8]) -> Option<u32>
+    ensures { IfSome result (λ device. device < 64) }
+{
+    let [b'D', digits @ ..] = word else {
+        return None;
+    };
+    let number = number_in(digits, 10)?;
+    if number < MOST_DEVICES {
+        return Some(number as u32);
+    }
+    None
+}
+
+/// The owner that a word writes, or that there is none.
+pub fn owner_value(word: &[u8]) -> Option<Value> {
+    match word {
+        b"originator" => Some(Value::Owner(Owner::Originator)),
+        b"ended" => Some(Value::Owner(Owner::Ended)),
+        b"none" => Some(Value::Missing),
+        _ => Some(Value::Owner(Owner::Device(DeviceId(device_named(word)?)))),
+    }
+}
+
 /// The number or status that a word writes.
 pub fn number_value(word: &[u8]) -> Option<Value> {
     match number_of(word) {
@@ -181,11 +210,14 @@ fn answer_value(word: &[u8]) -> Option<Value> {
 
 /// The reply that a word alone writes.
 pub fn reply_value(word: &[u8]) -> Option<Value> {
-    match number_value(word) {
+    if let Some(value) = owner_value(word) {
+        return Some(value);
+    }
+    if let Some(value) = number_value(word) {
+        return Some(value);
+    }
+    match truth_value(word) {
         Some(value) => Some(value),
-        None => match truth_value(word) {
-            Some(value) => Some(value),
-            None => answer_value(word),
-        },
+        None => answer_value(word),
     }
 }

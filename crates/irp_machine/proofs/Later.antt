@@ -15,7 +15,7 @@ drop_suc [] k d low = absurd (omega (arith, low))
 drop_suc (first ∷ others) zero d low = refl
 drop_suc (first ∷ others) (suc k) d low = drop_suc others k d (omega (arith, low))
 
-drop_here : {X : Type 0} (items : List X) (k : ℕ) (d : X) → k < length items → drop k items ≡ get_or items k d ∷ drop (k + 1) items
+pub drop_here : {X : Type 0} (items : List X) (k : ℕ) (d : X) → k < length items → drop k items ≡ get_or items k d ∷ drop (k + 1) items
 drop_here items k d low = drop_suc items k d low ∙ ap (λ n. get_or items k d ∷ drop n items) (next k)
 
 -- nothing is left past the end

@@ -1,15 +1,22 @@
 -- How a script has ended.
-use Rattle.std.specs.Prelude.{ℕ, zero, suc, List, [], length, Option}
+use Rattle.std.specs.Prelude.{ℕ, zero, suc, ◌==◌, if◌then◌else◌, List, [], ◌∷◌, ◌++◌, map, length, slice_index_or, Option}
+use Rattle.std.specs.List.{fold}
 use Rattle.std.specs.Option.{option_map}
 use Rattle.irp_types.specs.State.{StateValue, LivePacket, live_at}
 use Rattle.irp_machine.specs.declared.live_end.LiveEnd.{LiveEnd}
+use Rattle.irp_machine.specs.declared.outcome.End.{End}
+use Rattle.irp_machine.specs.declared.outcome.Holder.{Holder}
+use Rattle.irp_machine.specs.declared.outcome.LockEnd.{LockEnd}
+use Rattle.irp_machine.specs.declared.outcome.Replies.{Replies}
+use Rattle.irp_machine.specs.declared.outcome.SlotEnd.{SlotEnd}
+use Rattle.irp_machine.specs.declared.parts.Held.{Held}
+use Rattle.irp_machine.specs.declared.parts.Slot.{Slot}
 use Rattle.irp_machine.specs.Lists.{with_more}
+use Rattle.irp_machine.specs.Marks.{told_mark}
+use Rattle.irp_machine.specs.Seats.{SeatValue, new_seat}
 use Rattle.irp_machine.specs.Standings.{StandingValue}
 
--- where the script stands, without the calls that led there, and its live packets
-pub record EndingValue : Type 0 where
-  pub standing : StandingValue
-  pub packets : List LiveEnd
+-- ---- packets
 
 -- the live packet of a slot, if there is one
 abbrev pub live_end : StateValue → ℕ → Option LiveEnd
@@ -19,6 +26,8 @@ live_end state slot = option_map (λ (live : LivePacket). record {
   owner = live.packet.owner;
   current = live.packet.current;
   status = live.packet.status;
+  information = live.packet.information;
+  cancel = live.packet.cancel;
 }) (live_at state slot)
 
 -- the live packets of the slots below this one
@@ -26,9 +35,49 @@ abbrev pub packets_below : StateValue → ℕ → List LiveEnd
 packets_below state zero = []
 packets_below state (suc slot) = with_more (live_end state slot) (packets_below state slot)
 
--- how a script has ended that stands so, where the manager's state is this
-abbrev pub ending_of : StateValue → StandingValue → EndingValue
-ending_of state standing = record {
-  standing = record standing { made = [] };
+-- ---- remove locks and cancel slots
+
+-- a seat's references to a lock
+abbrev pub holds_of : ℕ → ℕ → List Held → List Holder
+holds_of seat lock [] = []
+holds_of seat lock (held ∷ rest) =
+    if held.lock == lock then record { seat = seat; tag = held.tag } ∷ holds_of seat lock rest
+    else holds_of seat lock rest
+
+-- the references of the seats below this one to a lock
+abbrev pub holders_below : List SeatValue → ℕ → ℕ → List Holder
+holders_below seats lock zero = []
+holders_below seats lock (suc seat) =
+    holders_below seats lock seat ++ holds_of seat lock (slice_index_or seats seat new_seat).held
+
+-- the remove locks below this one
+abbrev pub locks_below : List ℕ → List SeatValue → ℕ → List LockEnd
+locks_below words seats zero = []
+locks_below words seats (suc lock) =
+    locks_below words seats lock
+    ++ record { word = slice_index_or words lock 0; holders = holders_below seats lock (length seats) } ∷ []
+
+abbrev pub slot_end : Slot → SlotEnd
+slot_end slot = record { flag = slot.flag; content = slot.content }
+
+abbrev pub replies_of : SeatValue → Replies
+replies_of seat = record { told = seat.told }
+
+-- ---- the end
+
+-- what is told of the end of a script that stands so, where the manager's state is this
+abbrev pub end_of : StateValue → StandingValue → End
+end_of state standing = record {
+  replies = map replies_of standing.seats;
   packets = packets_below state (length standing.made);
+  labels = standing.labels;
+  locks = locks_below standing.words standing.seats (length standing.words);
+  slots = map slot_end standing.slots;
 }
+
+-- a number by which ends are sorted
+abbrev pub replies_mark : ℕ → Replies → ℕ
+replies_mark mark replies = fold told_mark mark replies.told
+
+abbrev pub end_mark : End → ℕ
+end_mark end = fold replies_mark 0 end.replies

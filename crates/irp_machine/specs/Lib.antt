@@ -12,3 +12,6 @@ pub mod Settled
 pub mod Planning
 pub mod Orders
 pub mod Replays
+pub mod Headers
+pub mod Openings
+pub mod Limits

@@ -17,7 +17,8 @@ use Rattle.irp_machine.specs.Seats.{SeatValue, new_seat, is_drained}
 use Rattle.irp_machine.specs.Standings.{StandingValue, after_change}
 use Rattle.irp_machine.specs.Next.{next_of, called}
 use Rattle.irp_machine.specs.Calling.{IsCalled, Leads}
-use Rattle.irp_machine.specs.Endings.{EndingValue, ending_of}
+use Rattle.irp_machine.specs.declared.outcome.End.{End}
+use Rattle.irp_machine.specs.Endings.{end_of, end_mark}
 
 -- what is fixed of the manager, the script that tells what its closures answer, the acts of each seat, and whether what
 -- they are answered is kept
@@ -82,13 +83,13 @@ abbrev pub has_ended : RulesValue → StandingValue → Bool
 has_ended rules standing = has_ended_below rules standing (length rules.acts)
 
 -- the last step: how the script has ended is told, once no seat has an act left
-abbrev pub ClosesIf : RulesValue → StandingValue → Bool → Option EndingValue → Type 0
+abbrev pub ClosesIf : RulesValue → StandingValue → Bool → Option End → Type 0
 ClosesIf rules standing true after =
     (state : StateValue) × Leads rules.fixed rules.script standing.made opening_state state
-    × (after ≡ Some (ending_of state standing))
+    × (after ≡ Some (end_of state standing))
 ClosesIf rules standing false after = after ≡ None
 
-abbrev pub ClosesTo : RulesValue → StandingValue → Option EndingValue → Type 0
+abbrev pub ClosesTo : RulesValue → StandingValue → Option End → Type 0
 ClosesTo rules standing after = ClosesIf rules standing (has_ended rules standing) after
 
 -- the step of a seat below the number of seats, or the last step, which the number of seats stands for
@@ -97,16 +98,16 @@ RunningSteps rules standing seat true after =
     (next : Option StandingValue) × StepsTo rules standing seat (act_of rules standing seat) next
     × (after ≡ option_map (λ (one : StandingValue). Running one) next)
 RunningSteps rules standing seat false after =
-    (ending : Option EndingValue) × ClosesTo rules standing ending
-    × (after ≡ option_map (λ (one : EndingValue). Over one) ending)
+    (end : Option End) × ClosesTo rules standing end
+    × (after ≡ option_map (λ (one : End). Over one) end)
 
 -- what the next step of a seat makes of a place
 abbrev pub PlaceSteps : RulesValue → Place → ℕ → Option Place → Type 0
 PlaceSteps rules (Running standing) seat after =
     RunningSteps rules standing seat (nat_lt seat (length rules.acts)) after
-PlaceSteps rules (Over ending) seat after = after ≡ None
+PlaceSteps rules (Over end) seat after = after ≡ None
 
 -- the mark of a place
 abbrev pub place_mark : Place → ℕ
 place_mark (Running standing) = standing.mark
-place_mark (Over ending) = ending.standing.mark
+place_mark (Over end) = end_mark end

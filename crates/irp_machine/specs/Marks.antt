@@ -7,6 +7,7 @@ use Rattle.irp_transcript.specs.declared.word_line.WordReply.TheVariants.{Busy, 
 use Rattle.irp_machine.specs.declared.parts.After.{After}
 use Rattle.irp_machine.specs.declared.parts.After.TheVariants.{In, Told, Binds, Bound}
 use Rattle.irp_machine.specs.declared.told.Answered.{Answered}
+use Rattle.irp_machine.specs.declared.told.Told.{Told as ToldOf}
 use Rattle.irp_machine.specs.declared.told.Answered.TheVariants.{Reply as Replied, Word}
 
 -- of a reply of the manager
@@ -46,3 +47,7 @@ after_mark Bound = 0
 abbrev pub mark_after : ℕ → After → ℕ → Bool → ℕ
 mark_after mark after step tells =
     if tells then (mark + ((step + 1) * after_mark after) % 2 ^ 64) % 2 ^ 64 else mark
+
+-- the mark behind something that was told
+abbrev pub told_mark : ℕ → ToldOf → ℕ
+told_mark mark told = (mark + ((told.step + 1) * answer_mark told.answer) % 2 ^ 64) % 2 ^ 64

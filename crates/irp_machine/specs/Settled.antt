@@ -33,7 +33,8 @@ use Rattle.irp_machine.specs.Asking.{AreTold, plan_told, answer_told, cancel_tol
 use Rattle.irp_machine.specs.Standings.{StandingValue, after_change}
 use Rattle.irp_machine.specs.Next.{next_of, called}
 use Rattle.irp_machine.specs.Calling.{IsLowest, IsCalled, Leads}
-use Rattle.irp_machine.specs.Endings.{EndingValue, ending_of}
+use Rattle.irp_machine.specs.declared.outcome.End.{End}
+use Rattle.irp_machine.specs.Endings.{end_of}
 use Rattle.irp_machine.specs.Machine.{RulesValue, IsCallOf, IsNext, Makes, StepsTo, ClosesIf, RunningSteps, PlaceSteps, act_of, has_ended, seat_at, knows_of}
 
 -- ---- calls
@@ -122,10 +123,10 @@ module _ (rules : RulesValue) (standing : StandingValue) where
   steps_settled seat (Some planned) after other one two =
       one.1 ∙ ap (λ (new : StandingValue). Some new) (makes_settled seat planned (next_of standing (seat_at standing seat) planned) one.0 two.0 one.2 two.2) ∙ sym two.1
 
-  closes_settled : (ended : Bool) (after other : Option EndingValue)
+  closes_settled : (ended : Bool) (after other : Option End)
       → ClosesIf rules standing ended after → ClosesIf rules standing ended other → after ≡ other
   closes_settled true after other one two =
-      one.2 ∙ ap (λ (state : StateValue). Some (ending_of state standing)) (leads_settled rules.fixed rules.script standing.made opening_state one.0 two.0 one.1 two.1) ∙ sym two.2
+      one.2 ∙ ap (λ (state : StateValue). Some (end_of state standing)) (leads_settled rules.fixed rules.script standing.made opening_state one.0 two.0 one.1 two.1) ∙ sym two.2
   closes_settled false after other one two = one ∙ sym two
 
   running_settled : (seat : ℕ) (below : Bool) (after other : Option Place)
@@ -133,9 +134,9 @@ module _ (rules : RulesValue) (standing : StandingValue) where
   running_settled seat true after other one two =
       one.2 ∙ ap (λ (next : Option StandingValue). option_map (λ (each : StandingValue). Running each) next) (steps_settled seat (act_of rules standing seat) one.0 two.0 one.1 two.1) ∙ sym two.2
   running_settled seat false after other one two =
-      one.2 ∙ ap (λ (ending : Option EndingValue). option_map (λ (each : EndingValue). Over each) ending) (closes_settled (has_ended rules standing) one.0 two.0 one.1 two.1) ∙ sym two.2
+      one.2 ∙ ap (λ (end : Option End). option_map (λ (each : End). Over each) end) (closes_settled (has_ended rules standing) one.0 two.0 one.1 two.1) ∙ sym two.2
 
 pub moves_settled : (rules : RulesValue) → IsSettled (PlaceSteps rules)
 moves_settled rules (Running standing) seat one other first second =
     running_settled rules standing seat (nat_lt seat (length rules.acts)) one other first second
-moves_settled rules (Over ending) seat one other first second = first ∙ sym second
+moves_settled rules (Over end) seat one other first second = first ∙ sym second

@@ -1,39 +1,28 @@
 //! How a script has ended.
 
-ghost use Rattle.std.specs.Prelude.{◌≡◌, IfOk, [], true};
-ghost use mathlib.Core.Logic.{◌↔◌};
+ghost use Rattle.std.specs.Prelude.{◌≡◌, ◌++◌, IfOk, OnOk, length, map};
+ghost use Rattle.std.specs.List.{fold};
 ghost use Rattle.irp_manager.specs.ManagerStates.{state_of};
 ghost use Rattle.irp_manager.specs.Slots.{live_of};
-ghost use Rattle.irp_machine.specs.Endings.{live_end, packets_below, ending_of};
+ghost use Rattle.irp_machine.specs.Endings as spec;
+ghost use Rattle.irp_machine.specs.Marks as marks;
 
 use crate::lists::push_if;
 use crate::live_end::LiveEnd;
+use crate::marks::told_mark;
+use crate::outcome::{End, Holder, LockEnd, Replies, SlotEnd};
+use crate::parts::{Held, Slot};
+use crate::seat_state::SeatState;
 use crate::standing::Standing;
+use crate::told::Told;
 use irp_manager::ManagerState;
-use irp_plain::{PlainKeep, are_same};
+use irp_plain::PlainKeep;
+use irp_types::Row;
 use std::alloc::{AllocError, Global};
-use std::marker::Model;
-
-/// How a script has ended: where it stands, without the calls that led there, and its live packets.
-///
-/// Contracts see it as the record `EndingValue` of this crate.
-#[derive(Drop)]
-pub struct Ending {
-    standing: Standing,
-    packets: Vec<LiveEnd>,
-}
-
-impl Model for Ending {
-    ghost use Rattle.irp_machine.specs.Endings.{EndingValue};
-
-    ghost Value = { EndingValue };
-
-    ghost view = { λ own. record { standing = own.standing; packets = own.packets.items } };
-}
 
 /// The live packet of a slot, if there is one.
 fn live_end(manager: &ManagerState<PlainKeep>, slot: usize) -> Option<LiveEnd>
-    ensures { result ≡ live_end (state_of live_of manager.now) slot }
+    ensures { result ≡ spec.live_end (state_of live_of manager.now) slot }
 {
     let live = manager.live(slot)?;
     Some(LiveEnd {
@@ -42,6 +31,8 @@ fn live_end(manager: &ManagerState<PlainKeep>, slot: usize) -> Option<LiveEnd>
         owner: live.packet.owner(),
         current: live.packet.current(),
         status: live.packet.status(),
+        information: live.packet.information(),
+        cancel: live.packet.cancel(),
     })
 }
 
@@ -52,7 +43,7 @@ fn packets_below(
     below: usize,
 ) -> Result<Vec<LiveEnd>, AllocError>
     ensures { IfOk result (λ packets.
-        packets.items ≡ packets_below (state_of live_of manager.now) below) }
+        packets.items ≡ spec.packets_below (state_of live_of manager.now) below) }
 {
     let mut packets = Vec::new(alloc);
     for slot in 0..below {
@@ -61,47 +52,113 @@ fn packets_below(
     Ok(packets)
 }
 
-/// How a script has ended that stands so, with this manager. A packet's slot is below the number of calls.
-pub fn ending_of(
+/// Appends a seat's references to a lock.
+fn add_holds(
+    holders: &mut Vec<Holder>,
+    held: &[Held],
+    seat: usize,
+    lock: usize,
+) -> Result<(), AllocError>
+    ensures { OnOk result (holders.new.items
+        ≡ holders.old.items ++ spec.holds_of seat lock held.now) }
+{
+    for one in held {
+        if one.lock as usize == lock {
+            let tag = one.tag;
+            holders.push(Holder { seat, tag })?;
+        }
+    }
+    Ok(())
+}
+
+/// The references to a lock, by rising seat.
+fn holders_of(alloc: Global, seats: &[SeatState], lock: usize) -> Result<Vec<Holder>, AllocError>
+    ensures { IfOk result (λ holders.
+        holders.items ≡ spec.holders_below seats.now lock (length seats.now)) }
+{
+    let mut holders = Vec::new(alloc);
+    for seat in 0..seats.len() {
+        add_holds(&mut holders, seats[seat].held(), seat, lock)?;
+    }
+    Ok(holders)
+}
+
+/// The remove locks at the end.
+fn locks_of(alloc: Global, words: &[u64], seats: &[SeatState]) -> Result<Vec<LockEnd>, AllocError>
+    ensures { IfOk result (λ locks.
+        locks.items ≡ spec.locks_below words.now seats.now (length words.now)) }
+{
+    let mut locks = Vec::new(alloc);
+    for lock in 0..words.len() {
+        let holders = Row::from_vec(holders_of(alloc, seats, lock)?);
+        let word = words[lock];
+        locks.push(LockEnd { word, holders })?;
+    }
+    Ok(locks)
+}
+
+/// The cancel slots at the end.
+fn slots_of(alloc: Global, slots: &[Slot]) -> Result<Vec<SlotEnd>, AllocError>
+    ensures { IfOk result (λ ends. ends.items ≡ map spec.slot_end slots.now) }
+{
+    let mut ends = Vec::new(alloc);
+    for slot in slots {
+        let (flag, content) = (slot.flag, slot.content);
+        ends.push(SlotEnd { flag, content })?;
+    }
+    Ok(ends)
+}
+
+/// What each seat was told.
+fn replies_of(alloc: Global, seats: &[SeatState]) -> Result<Vec<Replies>, AllocError>
+    ensures { IfOk result (λ replies. replies.items ≡ map spec.replies_of seats.now) }
+{
+    let mut replies = Vec::new(alloc);
+    for seat in seats {
+        let told = Row::from_vec(seat.told().to_vec(alloc)?);
+        replies.push(Replies { told })?;
+    }
+    Ok(replies)
+}
+
+/// What is told of the end of a script that stands so, with this manager. A packet's slot is below the number of calls.
+pub fn end_of(
     alloc: Global,
     manager: &ManagerState<PlainKeep>,
     standing: &Standing,
-) -> Result<Ending, AllocError>
-    ensures { IfOk result (λ ending.
-        ending ≡ ending_of (state_of live_of manager.now) standing.now) }
+) -> Result<End, AllocError>
+    ensures { IfOk result (λ end.
+        end ≡ spec.end_of (state_of live_of manager.now) standing.now) }
 {
     let packets = packets_below(alloc, manager, standing.made().len())?;
-    let mut standing = standing.clone()?;
-    standing.forget();
-    Ok(Ending { standing, packets })
+    let (words, seats) = (standing.words(), standing.seats());
+    Ok(End {
+        replies: Row::from_vec(replies_of(alloc, seats)?),
+        packets: Row::from_vec(packets),
+        labels: Row::from_vec(standing.labels().to_vec(alloc)?),
+        locks: Row::from_vec(locks_of(alloc, words, seats)?),
+        slots: Row::from_vec(slots_of(alloc, standing.slots())?),
+    })
 }
 
-impl Ending {
-    /// A number by which endings are sorted.
-    pub fn mark(&self) -> u64
-        ensures { result ≡ self.now.standing.mark }
-    {
-        self.standing.mark()
+/// The mark behind what a seat was told.
+fn replies_mark(mark: u64, told: &[Told]) -> u64
+    ensures { result ≡ fold marks.told_mark mark told.now }
+{
+    let mut after = mark;
+    for one in told {
+        after = told_mark(after, *one);
     }
+    after
+}
 
-    /// Where the script stands, without its calls.
-    pub fn standing(&self) -> &Standing
-        ensures { result.now ≡ self.now.standing }
-    {
-        &self.standing
+/// A number by which ends are sorted.
+pub fn end_mark(end: &End) -> u64
+    ensures { result ≡ spec.end_mark end.now }
+{
+    let mut mark = 0;
+    for replies in end.replies.as_slice() {
+        mark = replies_mark(mark, replies.told.as_slice());
     }
-
-    /// Its live packets.
-    pub fn packets(&self) -> &[LiveEnd]
-        ensures { result.now ≡ self.now.packets }
-    {
-        self.packets.as_slice()
-    }
-
-    /// Whether two endings are equal.
-    pub fn is_same(&self, other: &Ending) -> bool
-        ensures { (result ≡ true) ↔ (self.now ≡ other.now) }
-    {
-        self.standing.is_same(&other.standing) && are_same(&self.packets, &other.packets)
-    }
+    mark
 }

@@ -1,95 +1,43 @@
 //! Every order of a script.
 
-ghost use Rattle.std.specs.Prelude.{◌≡◌, ◌+◌, IfOk, length};
+ghost use Rattle.std.specs.Prelude.{◌≡◌, ◌≤◌, ◌+◌, ◌==◌, IfOk, length, vec_len};
+ghost use Rattle.irp_transcript.specs.Headers.{fixed_of};
 ghost use Rattle.irp_machine.specs.Machine.{PlaceSteps, place_mark};
 ghost use Rattle.irp_machine.specs.declared.place.Place.TheVariants.{Running};
-ghost use Rattle.irp_machine.specs.Orders.{AreOrders};
+ghost use Rattle.irp_machine.specs.Limits.{tells_replies};
+ghost use Rattle.irp_machine.specs.Orders.{AllTell, AreOrders, AreOutcomesOf, Tells};
 
-use crate::ending::Ending;
 use crate::header::header_of;
 use crate::limits::{Compared, Limits, NotFound};
 use crate::machine::ScriptMachine;
 use crate::opening::{machine_of, opening};
-use crate::outcome::{End, Holder, LockEnd, Outcome, SlotEnd};
+use crate::outcome::Outcome;
 use crate::place::Place;
-use crate::seat_state::SeatState;
 use crate::standing::Standing;
 use irp_explore::{Node, explore};
 use irp_script_reader::Script;
-use std::alloc::{AllocError, Global};
+use std::alloc::Global;
 
-/// Who holds a lock.
-fn holders_of(alloc: Global, seats: &[SeatState], lock: usize) -> Result<Vec<Holder>, AllocError> {
-    let mut holders = Vec::new(alloc);
-    let mut seat = 0u32;
-    for own in seats {
-        for held in own.held() {
-            if held.lock as usize == lock {
-                let tag = held.tag;
-                holders.push(Holder { seat, tag })?;
-            }
-        }
-        seat = seat.saturating_add(1);
-    }
-    Ok(holders)
+/// What a state tells in which an order has ended.
+fn outcome_of(node: Node<Place>) -> Result<Outcome, NotFound>
+    ensures { IfOk result (Tells node) }
+{
+    let (state, orders, mut path) = (node.state, node.orders, node.path);
+    let (Place::Over(end), Some(_closing)) = (state, path.pop()) else {
+        return Err(NotFound::Script);
+    };
+    Ok(Outcome { orders, path, end })
 }
 
-/// The remove locks at the end.
-fn locks_of(alloc: Global, standing: &Standing) -> Result<Vec<LockEnd>, AllocError> {
-    let mut locks = Vec::new(alloc);
-    for (lock, word) in standing.words().iter().enumerate() {
-        let holders = holders_of(alloc, standing.seats(), lock)?;
-        locks.push(LockEnd {
-            word: *word,
-            holders,
-        })?;
-    }
-    Ok(locks)
-}
-
-/// The cancel slots at the end.
-fn slots_of(alloc: Global, standing: &Standing) -> Result<Vec<SlotEnd>, AllocError> {
-    let mut slots = Vec::new(alloc);
-    for slot in standing.slots() {
-        slots.push(SlotEnd {
-            flag: u64::from(slot.flag),
-            content: slot.content,
-        })?;
-    }
-    Ok(slots)
-}
-
-/// An ending as it is told.
-fn end_of(alloc: Global, ending: &Ending) -> Result<End, AllocError> {
-    let standing = ending.standing();
-    let mut replies = Vec::new(alloc);
-    for seat in standing.seats() {
-        replies.push(seat.told().to_vec(alloc)?)?;
-    }
-    Ok(End {
-        replies,
-        packets: ending.packets().to_vec(alloc)?,
-        labels: standing.labels().to_vec(alloc)?,
-        locks: locks_of(alloc, standing)?,
-        slots: slots_of(alloc, standing)?,
-    })
-}
-
-/// The outcomes of what was found.
-fn outcomes_of(alloc: Global, mut found: Vec<Node<Place>>) -> Result<Vec<Outcome>, AllocError> {
+/// The outcomes of what was found, in its order.
+fn outcomes_of(alloc: Global, mut found: Vec<Node<Place>>) -> Result<Vec<Outcome>, NotFound>
+    ensures { IfOk result (λ outcomes. AllTell found.items outcomes.items) }
+{
     let mut outcomes = Vec::new(alloc);
-    for _left in 0..found.len() {
-        let Some(node) = found.pop() else {
-            return Ok(outcomes);
-        };
-        let (state, orders, mut path) = (node.state, node.orders, node.path);
-        let Place::Over(ending) = state else {
-            continue;
-        };
-        let _closing = path.pop();
-        let end = end_of(alloc, &ending)?;
-        outcomes.push(Outcome { orders, path, end })?;
+    while let Some(node) = found.pop() {
+        outcomes.push(outcome_of(node)?)?;
     }
+    outcomes.reverse();
     Ok(outcomes)
 }
 
@@ -98,16 +46,17 @@ fn outcomes_of(alloc: Global, mut found: Vec<Node<Place>>) -> Result<Vec<Outcome
 ///
 /// # Errors
 ///
-/// Those of `explore`.
+/// Those of `explore`, and `Outcomes` where more places are found than there may be outcomes.
 fn explored(
     alloc: Global,
     machine: &ScriptMachine,
     standing: Standing,
     limits: Limits,
 ) -> Result<Vec<Node<Place>>, NotFound>
-    ensures { IfOk result (λ found.
+    ensures orders { IfOk result (λ found.
         AreOrders (PlaceSteps machine.now) (length machine.now.acts + 1) (Running standing)
         found.items) }
+    ensures few { IfOk result (λ found. vec_len found ≤ limits.outcomes) }
 {
     let start = Place::Running(standing);
     let found = explore(alloc, machine, start, limits.steps, limits.states)?;
@@ -117,9 +66,8 @@ fn explored(
     Ok(found)
 }
 
-/// Each way in which the orders of a script's atomic steps end, behind its setup. What is explored keeps the clauses of
-/// `explored`. (Not proved, but tested: that the setup is made as `run` makes it, and that an outcome tells what was
-/// found as it is.)
+/// Each way in which the orders of a script's atomic steps end, behind its setup, with how many orders do and one of
+/// them (this project's own rule).
 ///
 /// # Errors
 ///
@@ -129,7 +77,11 @@ pub fn orders(
     script: &Script,
     limits: Limits,
     compared: Compared,
-) -> Result<Vec<Outcome>, NotFound> {
+) -> Result<Vec<Outcome>, NotFound>
+    ensures outcomes { IfOk result (λ outcomes.
+        AreOutcomesOf script.now (tells_replies compared) outcomes.items) }
+    ensures few { IfOk result (λ outcomes. vec_len outcomes ≤ limits.outcomes) }
+{
     let script = script.parts();
     let header = header_of(alloc, script)?;
     if !header.is_accepted() {
@@ -137,8 +89,7 @@ pub fn orders(
     }
     let standing = opening(alloc, &header, script)?;
     let steps = script.steps.as_slice();
-    let tells = matches!(compared, Compared::Replies);
-    let machine = machine_of(alloc, &header, script, steps, steps, tells)?;
+    let machine = machine_of(alloc, &header, script, steps, steps, compared.tells())?;
     let found = explored(alloc, &machine, standing, limits)?;
     let outcomes = outcomes_of(alloc, found)?;
     Ok(outcomes)

@@ -29,6 +29,6 @@ mod told;
 pub use exploring::orders;
 pub use limits::{Compared, Limits, NotFound};
 pub use live_end::LiveEnd;
-pub use outcome::{End, Holder, LockEnd, Outcome, SlotEnd};
+pub use outcome::{End, Holder, LockEnd, Outcome, Replies, SlotEnd};
 pub use replaying::replay;
 pub use told::{Answered, Told};

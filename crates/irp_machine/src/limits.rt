@@ -1,5 +1,8 @@
 //! What an exploration may take, and why it was given up.
 
+ghost use Rattle.std.specs.Prelude.{◌≡◌};
+ghost use Rattle.irp_machine.specs.Limits.{tells_replies};
+
 use irp_explore::NotExplored;
 use std::alloc::{AllocError, AllocFailed};
 
@@ -21,6 +24,15 @@ pub enum Compared {
     Replies,
     /// The end alone: no reply is kept.
     Ends,
+}
+
+impl Compared {
+    /// Whether replies are kept.
+    pub(crate) fn tells(self) -> bool
+        ensures { result ≡ tells_replies self }
+    {
+        matches!(self, Compared::Replies)
+    }
 }
 
 /// Why an exploration was given up (this project's own rule).

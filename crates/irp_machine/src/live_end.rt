@@ -11,4 +11,7 @@ pub struct LiveEnd {
     /// The number of its current location.
     pub current: u32,
     pub status: Status,
+    pub information: u64,
+    /// Whether it was cancelled.
+    pub cancel: bool,
 }

@@ -10,9 +10,11 @@ ghost use Rattle.irp_machine.specs.Settled.{moves_settled};
 
 use crate::asker::ScriptAsker;
 use crate::calling::{call, manager_after};
-use crate::ending::{Ending, ending_of};
+use crate::ending::{end_mark, end_of};
+use crate::equal::is_end;
 use crate::next::{called, next_of};
 use crate::note::SeatNote;
+use crate::outcome::End;
 use crate::parts::{Calling, Change, Learned, Next, Planned};
 use crate::place::Place;
 use crate::standing::Standing;
@@ -71,9 +73,17 @@ impl<'a> ScriptMachine<'a> {
         acts.as_slice().get(own.made()).copied()
     }
 
+    /// Whether it tells what its acts are answered.
+    pub fn tells(&self) -> bool
+        ensures { result ≡ self.now.tells }
+    {
+        self.tells
+    }
+
     /// Who is asked.
     pub fn asker(&self) -> &ScriptAsker<'a>
-        ensures { fixed_of result.now.header.now ≡ self.now.fixed }
+        ensures fixed { fixed_of result.now.header.now ≡ self.now.fixed }
+        ensures script { result.now.script.now ≡ self.now.script }
     {
         &self.asker
     }
@@ -168,15 +178,15 @@ impl<'a> ScriptMachine<'a> {
     }
 
     /// Closes a standing in which no seat has an act left.
-    fn close(&self, alloc: Global, standing: &Standing) -> Result<Option<Ending>, AllocError>
+    fn close(&self, alloc: Global, standing: &Standing) -> Result<Option<End>, AllocError>
         ensures { IfOk result (ClosesTo self.now standing.now) }
     {
         if !self.has_ended(standing) {
             return Ok(None);
         }
         let manager = manager_after(alloc, &self.asker, standing.made())?;
-        let ending = ending_of(alloc, &manager, standing)?;
-        Ok(Some(ending))
+        let end = end_of(alloc, &manager, standing)?;
+        Ok(Some(end))
     }
 }
 
@@ -203,21 +213,21 @@ impl<'a> Machine for ScriptMachine<'a> {
             let next = self.step_of(alloc, standing, seat as usize)?;
             return Ok(next.map(Place::Running));
         }
-        let ending = self.close(alloc, standing)?;
-        Ok(ending.map(Place::Over))
+        let end = self.close(alloc, standing)?;
+        Ok(end.map(Place::Over))
     }
 
     fn mark(&self, state: &Place) -> u64 {
         match state {
             Place::Running(standing) => standing.mark(),
-            Place::Over(ending) => ending.mark(),
+            Place::Over(end) => end_mark(end),
         }
     }
 
     fn is_same(&self, one: &Place, other: &Place) -> bool {
         match (one, other) {
             (Place::Running(one), Place::Running(other)) => one.is_same(other),
-            (Place::Over(one), Place::Over(other)) => one.is_same(other),
+            (Place::Over(one), Place::Over(other)) => is_end(one, other),
             _ => false,
         }
     }

@@ -4,7 +4,7 @@ ghost use Rattle.std.specs.Prelude.{◌≡◌};
 ghost use Rattle.irp_machine.specs.Marks as spec;
 
 use crate::parts::After;
-use crate::told::Answered;
+use crate::told::{Answered, Told};
 use irp_transcript::WordReply;
 use irp_types::Reply;
 
@@ -40,19 +40,32 @@ fn word_mark(reply: WordReply) -> u64
     }
 }
 
+/// A number for an answer.
+fn answer_mark(answer: Answered) -> u64
+    ensures { result ≡ spec.answer_mark answer }
+{
+    match answer {
+        Answered::Reply(reply) => reply_mark(reply),
+        Answered::Word(reply) => word_mark(reply),
+    }
+}
+
 /// A number for what is told behind a step.
 fn after_mark(after: After) -> u64
     ensures { result ≡ spec.after_mark after }
 {
     match after {
-        After::Told(Answered::Reply(reply)) | After::Binds(Answered::Reply(reply), _) => {
-            reply_mark(reply)
-        }
-        After::Told(Answered::Word(reply)) | After::Binds(Answered::Word(reply), _) => {
-            word_mark(reply)
-        }
+        After::Told(answer) | After::Binds(answer, _) => answer_mark(answer),
         After::In(_) | After::Bound => 0,
     }
+}
+
+/// The mark behind something that was told.
+pub fn told_mark(mark: u64, told: Told) -> u64
+    ensures { result ≡ spec.told_mark mark told }
+{
+    let weight = u64::from(told.step) + 1;
+    mark.wrapping_add(weight.wrapping_mul(answer_mark(told.answer)))
 }
 
 /// The mark behind a step. It doesn't hang on the order of the steps of different seats.

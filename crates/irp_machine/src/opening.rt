@@ -1,9 +1,12 @@
 //! Where a script stands before its seats' steps.
 
-ghost use Rattle.std.specs.Prelude.{◌≡◌, IfOk};
+ghost use Rattle.std.specs.Prelude.{◌≡◌, IfOk, replicate};
 ghost use Rattle.irp_types.specs.State.{AreTables};
 ghost use Rattle.irp_transcript.specs.Headers.{fixed_of};
 ghost use Rattle.irp_machine.specs.Planning.{acts_below};
+ghost use Rattle.irp_machine.specs.Seats.{new_seat};
+ghost use Rattle.irp_machine.specs.Openings as spec;
+ghost use Rattle.irp_machine.specs.Openings.{MakesAll, Opens};
 
 use crate::asker::ScriptAsker;
 use crate::limits::NotFound;
@@ -27,7 +30,10 @@ const EMPTY: Slot = Slot {
 };
 
 /// So many seats that have made nothing.
-fn new_seats(alloc: Global, seats: u32) -> Result<Vec<SeatState>, AllocError> {
+#[tactic(auto, using(crate::proofs::Repeats::replicate_push))]
+fn new_seats(alloc: Global, seats: u32) -> Result<Vec<SeatState>, AllocError>
+    ensures { IfOk result (λ all. all.items ≡ replicate seats new_seat) }
+{
     let mut all = Vec::new(alloc);
     for _seat in 0..seats {
         all.push(SeatState::new(alloc))?;
@@ -36,12 +42,14 @@ fn new_seats(alloc: Global, seats: u32) -> Result<Vec<SeatState>, AllocError> {
 }
 
 /// Where a script stands whose manager has these calls behind it, and whose labels stand for this.
-fn standing_of(
+fn begun(
     alloc: Global,
     header: &Header,
     made: &[Made],
     labels: &[IrpRef],
-) -> Result<Standing, AllocError> {
+) -> Result<Standing, AllocError>
+    ensures { IfOk result (λ standing. standing ≡ spec.begun header.now made.now labels.now) }
+{
     Ok(Standing::new(
         made.to_vec(alloc)?,
         labels.to_vec(alloc)?,
@@ -85,29 +93,62 @@ pub fn first_standing(
     alloc: Global,
     header: &Header,
     script: &ScriptParts,
-) -> Result<Standing, AllocError> {
+) -> Result<Standing, AllocError>
+    ensures { IfOk result (λ standing.
+        standing ≡ spec.first_standing header.now script.now) }
+{
     let labels = Vec::from_elem(alloc, UNBOUND, script.labels)?;
-    standing_of(alloc, header, &[], &labels)
+    begun(alloc, header, &[], &labels)
 }
 
 /// Where a script stands whose setup ended so: nobody has made a step.
-pub fn opened(alloc: Global, header: &Header, ended: &Standing) -> Result<Standing, AllocError> {
-    standing_of(alloc, header, ended.made(), ended.labels())
+pub fn opened(alloc: Global, header: &Header, ended: &Standing) -> Result<Standing, AllocError>
+    ensures { IfOk result (λ standing.
+        standing ≡ spec.begun header.now ended.now.made ended.now.labels) }
+{
+    begun(alloc, header, ended.made(), ended.labels())
+}
+
+/// The seats of steps.
+pub fn seats_of(alloc: Global, steps: &[Step]) -> Result<Vec<u32>, AllocError>
+    ensures { IfOk result (λ seats. seats.items ≡ spec.seats_of steps.now) }
+{
+    let mut seats = Vec::new(alloc);
+    for step in steps {
+        seats.push(step.seat)?;
+    }
+    Ok(seats)
+}
+
+/// Makes the next steps of these seats, one after another.
+fn make_all(
+    alloc: Global,
+    machine: &ScriptMachine,
+    first: Standing,
+    seats: &[u32],
+) -> Result<Standing, NotFound>
+    ensures { IfOk result (MakesAll machine.now first seats.now) }
+{
+    let mut standing = first;
+    for seat in seats {
+        let Some(next) = machine.step_of(alloc, &standing, *seat as usize)? else {
+            return Err(NotFound::Script);
+        };
+        standing = next;
+    }
+    Ok(standing)
 }
 
 /// Where a script stands behind its setup, which is made in the order of the script.
 pub fn opening(alloc: Global, header: &Header, script: &ScriptParts) -> Result<Standing, NotFound>
     requires { AreTables (fixed_of header.now).tables }
+    ensures { IfOk result (Opens header.now script.now) }
 {
-    let mut standing = first_standing(alloc, header, script)?;
     let setup = script.setup.as_slice();
     let machine = machine_of(alloc, header, script, &[], setup, false)?;
-    for step in setup {
-        let Some(next) = machine.step_of(alloc, &standing, step.seat as usize)? else {
-            return Err(NotFound::Script);
-        };
-        standing = next;
-    }
-    let opened = opened(alloc, header, &standing)?;
+    let first = first_standing(alloc, header, script)?;
+    let seats = seats_of(alloc, setup)?;
+    let ended = make_all(alloc, &machine, first, &seats)?;
+    let opened = opened(alloc, header, &ended)?;
     Ok(opened)
 }

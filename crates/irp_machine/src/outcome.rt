@@ -1,13 +1,19 @@
-//! How orders end, as it is told.
+//! How orders end, as it is told. A file of its own, since definitions that clauses cite name these.
 
 use crate::live_end::LiveEnd;
 use crate::told::Told;
-use irp_types::IrpRef;
+use irp_types::{IrpRef, Row};
+
+/// What a seat was told, in the order of its steps.
+#[derive(Drop)]
+pub struct Replies {
+    pub told: Row<Told>,
+}
 
 /// Who holds a reference to a remove lock.
 #[derive(Clone, Copy, PartialEq, Eq, Debug)]
 pub struct Holder {
-    pub seat: u32,
+    pub seat: usize,
     pub tag: u32,
 }
 
@@ -17,14 +23,14 @@ pub struct LockEnd {
     /// Its word: the removed bit, and twice the number of references.
     pub word: u64,
     /// Who holds it, by rising seat.
-    pub holders: Vec<Holder>,
+    pub holders: Row<Holder>,
 }
 
 /// A cancel slot at the end.
 #[derive(Clone, Copy, PartialEq, Eq, Debug)]
 pub struct SlotEnd {
-    /// 1 where somebody asked, else 0.
-    pub flag: u64,
+    /// Whether somebody asked.
+    pub flag: bool,
     /// The use that stands in it, 0 where none does.
     pub content: u64,
 }
@@ -32,14 +38,14 @@ pub struct SlotEnd {
 /// How orders end (this project's own rule).
 #[derive(Drop)]
 pub struct End {
-    /// What each seat was told, in the order of its steps.
-    pub replies: Vec<Vec<Told>>,
+    /// What each seat was told; nothing where replies are left out.
+    pub replies: Row<Replies>,
     /// The live packets by rising slot.
-    pub packets: Vec<LiveEnd>,
+    pub packets: Row<LiveEnd>,
     /// What each label stands for: a reference that is never live where it isn't bound.
-    pub labels: Vec<IrpRef>,
-    pub locks: Vec<LockEnd>,
-    pub slots: Vec<SlotEnd>,
+    pub labels: Row<IrpRef>,
+    pub locks: Row<LockEnd>,
+    pub slots: Row<SlotEnd>,
 }
 
 /// One way in which orders end, how many do, and one of them (this project's own rule).

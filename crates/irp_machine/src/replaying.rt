@@ -14,7 +14,7 @@ use crate::limits::NotFound;
 use crate::machine::ScriptMachine;
 use crate::next::{called, next_of};
 use crate::note::SeatNote;
-use crate::opening::{first_standing, machine_of, opened};
+use crate::opening::{first_standing, machine_of, opened, seats_of};
 use crate::parts::Next;
 use crate::recorded::Recorded;
 use crate::standing::Standing;
@@ -99,15 +99,6 @@ fn play_all(
         play(machine, kept, standing, *seat)?;
     }
     Ok(())
-}
-
-/// The seats of steps.
-fn seats_of(alloc: Global, steps: &[Step]) -> Result<Vec<u32>, AllocError> {
-    let mut seats = Vec::new(alloc);
-    for step in steps {
-        seats.push(step.seat)?;
-    }
-    Ok(seats)
 }
 
 /// Makes the setup of a script, and records its calls. Returns where the script stands then.

@@ -1,6 +1,6 @@
 //! Where a script stands between two atomic steps.
 
-ghost use Rattle.std.specs.Prelude.{◌≡◌, IfOk, OnOk, true, []};
+ghost use Rattle.std.specs.Prelude.{◌≡◌, IfOk, OnOk, true};
 ghost use mathlib.Core.Logic.{◌↔◌};
 ghost use Rattle.irp_machine.specs.Standings.{after_change, with_word, with_slot, with_label, with_given, with_seat_changed};
 
@@ -134,13 +134,6 @@ impl Standing {
         ensures { result ≡ self.now.mark }
     {
         self.mark
-    }
-
-    /// Leaves out the calls.
-    pub fn forget(&mut self)
-        ensures { self.new ≡ record self.old { made = [] } }
-    {
-        self.made.clear();
     }
 
     /// The calls that changed the manager's state, in order.

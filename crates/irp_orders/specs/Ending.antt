@@ -24,7 +24,7 @@ status_of (Met met) = 3
 status_of OtherWords = 4
 status_of (RefusedCondition fault) = 4
 status_of (NoOutcome count) = 4
-status_of NoFile = 5
+status_of (NoFile name reason) = 5
 status_of Failed = 5
 
 -- whether an ending has a line for standard error

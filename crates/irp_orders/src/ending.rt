@@ -14,8 +14,29 @@ use std::alloc::{AllocError, AllocFailed};
 use std::fmt;
 use std::process::ExitCode;
 
-/// How the program ends: its exit status, and the line for standard error (this project's own command line).
+/// Why a file can't be opened.
 #[derive(Clone, Copy)]
+pub enum NoOpen {
+    /// There is none of this name.
+    Missing,
+    /// It may not be read.
+    Denied,
+    /// Any other reason.
+    Other,
+}
+
+impl fmt::Display for NoOpen {
+    fn fmt<W: fmt::Write>(&self, f: &mut fmt::Formatter<W>) -> fmt::Result {
+        f.write_str(match self {
+            NoOpen::Missing => "there is no such file",
+            NoOpen::Denied => "it may not be read",
+            NoOpen::Other => "the system refuses it",
+        })
+    }
+}
+
+/// How the program ends: its exit status, and the line for standard error (this project's own command line).
+#[derive(Drop)]
 pub enum Ending {
     /// All was done, and the condition never holds where one was asked: status 0, and no line.
     Done,
@@ -33,16 +54,16 @@ pub enum Ending {
     RefusedCondition(Fault),
     /// There are only so many outcomes: status 4.
     NoOutcome(u64),
-    /// The file can't be opened: status 5.
-    NoFile,
+    /// The file of this name can't be opened: status 5.
+    NoFile { name: String, reason: NoOpen },
     /// The input or the output failed: status 5.
     Failed,
 }
 
 impl Ending {
     /// The exit status.
-    pub fn status(self) -> u8
-        ensures { result ≡ status_of self }
+    pub fn status(&self) -> u8
+        ensures { result ≡ status_of self.now }
     {
         match self {
             Ending::Done => 0,
@@ -50,20 +71,20 @@ impl Ending {
             Ending::Broken => 2,
             Ending::NoMemory | Ending::Met(_) => 3,
             Ending::OtherWords | Ending::RefusedCondition(_) | Ending::NoOutcome(_) => 4,
-            Ending::NoFile | Ending::Failed => 5,
+            Ending::NoFile { .. } | Ending::Failed => 5,
         }
     }
 
     /// The exit status, as a process ends with it.
-    pub fn code(self) -> ExitCode
-        ensures { exit_status result ≡ status_of self }
+    pub fn code(&self) -> ExitCode
+        ensures { exit_status result ≡ status_of self.now }
     {
         ExitCode::from(self.status())
     }
 
     /// Whether there is a line for standard error.
-    pub fn has_line(self) -> bool
-        ensures { result ≡ has_line self }
+    pub fn has_line(&self) -> bool
+        ensures { result ≡ has_line self.now }
     {
         !matches!(self, Ending::Done | Ending::Broken)
     }
@@ -96,7 +117,9 @@ impl fmt::Display for Ending {
             ),
             Ending::RefusedCondition(fault) => write!(f, "irp_orders: condition refused: {fault}"),
             Ending::NoOutcome(count) => write!(f, "irp_orders: outcomes are numbered 1 to {count}"),
-            Ending::NoFile => f.write_str("irp_orders: the file can't be opened"),
+            Ending::NoFile { name, reason } => {
+                write!(f, "irp_orders: {name}: can't be opened: {reason}")
+            }
             Ending::Failed => f.write_str("irp_orders: input or output failed"),
         }
     }

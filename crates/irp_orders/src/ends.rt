@@ -54,7 +54,7 @@ impl fmt::Display for LockWords<'_> {
         } else {
             ", removal hasn't begun"
         })?;
-        for holder in &self.lock.holders {
+        for holder in self.lock.holders.as_slice() {
             write!(f, "{}", HolderWords(*holder))?;
         }
         Ok(())
@@ -75,10 +75,10 @@ impl fmt::Display for SlotWords {
             0 => f.write_str("empty")?,
             use_no => write!(f, "use {use_no} stands in it")?,
         }
-        f.write_str(if self.slot.flag == 0 {
-            ", not asked for"
-        } else {
+        f.write_str(if self.slot.flag {
             ", asked for"
+        } else {
+            ", not asked for"
         })
     }
 }

@@ -35,8 +35,8 @@ fn rank_of(path: &[u32]) -> u128 {
 /// What each of so many steps was answered, by its place.
 fn answers_of(alloc: Global, end: &End, steps: usize) -> Result<Vec<Option<Answered>>, AllocError> {
     let mut answers = Vec::from_elem(alloc, None, steps)?;
-    for seat in &end.replies {
-        for told in seat {
+    for seat in end.replies.as_slice() {
+        for told in seat.told.as_slice() {
             if let Some(place) = answers.get_mut(told.step as usize) {
                 *place = Some(told.answer);
             }
@@ -72,7 +72,9 @@ fn packet_of(live: &LiveEnd) -> Packet {
     Packet {
         owner: live.owner,
         status: live.status,
+        information: live.information,
         current: live.current,
+        cancel: live.cancel,
     }
 }
 
@@ -87,7 +89,7 @@ fn live_of(packets: &[LiveEnd], irp: IrpRef) -> Option<Packet> {
 /// For each label the live packet that it names.
 fn labelled(alloc: Global, end: &End) -> Result<Vec<Option<Packet>>, AllocError> {
     let mut labels = Vec::new(alloc);
-    for irp in &end.labels {
+    for irp in end.labels.as_slice() {
         labels.push(live_of(end.packets.as_slice(), *irp))?;
     }
     Ok(labels)
@@ -143,7 +145,7 @@ pub fn facts_of(
         replies.push(told_of(*answer))?;
     }
     let mut locks = Vec::new(alloc);
-    for lock in &found.outcome.end.locks {
+    for lock in found.outcome.end.locks.as_slice() {
         locks.push(lock.word)?;
     }
     Ok(Facts {

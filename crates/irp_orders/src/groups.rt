@@ -57,7 +57,12 @@ impl Pairs {
 
     /// Whether the labels name partners.
     fn labels(&mut self, one: &End, other: &End) -> Result<bool, AllocError> {
-        for (one, other) in one.labels.iter().zip(other.labels.iter()) {
+        for (one, other) in one
+            .labels
+            .as_slice()
+            .iter()
+            .zip(other.labels.as_slice().iter())
+        {
             if !self.pair(one.use_no, other.use_no)? {
                 return Ok(false);
             }
@@ -67,7 +72,12 @@ impl Pairs {
 
     /// Whether the cancel slots have partners in them.
     fn slots(&mut self, one: &End, other: &End) -> Result<bool, AllocError> {
-        for (one, other) in one.slots.iter().zip(other.slots.iter()) {
+        for (one, other) in one
+            .slots
+            .as_slice()
+            .iter()
+            .zip(other.slots.as_slice().iter())
+        {
             if one.flag != other.flag || !self.pair(one.content, other.content)? {
                 return Ok(false);
             }
@@ -80,7 +90,9 @@ impl Pairs {
         for other in others {
             let as_far = one.owner == other.owner
                 && one.current == other.current
-                && one.status == other.status;
+                && one.status == other.status
+                && one.information == other.information
+                && one.cancel == other.cancel;
             if as_far && self.pair(one.use_no, other.use_no)? {
                 return Ok(true);
             }
@@ -90,11 +102,12 @@ impl Pairs {
 
     /// Whether the live packets are partners.
     fn packets(&mut self, one: &End, other: &End) -> Result<bool, AllocError> {
-        if one.packets.len() != other.packets.len() {
+        let (packets, others) = (one.packets.as_slice(), other.packets.as_slice());
+        if packets.len() != others.len() {
             return Ok(false);
         }
-        for packet in &one.packets {
-            if !self.has_partner(packet, other.packets.as_slice())? {
+        for packet in packets {
+            if !self.has_partner(packet, others)? {
                 return Ok(false);
             }
         }
@@ -109,12 +122,12 @@ fn is_same_holder(one: &Holder, other: &Holder) -> bool {
 
 /// Whether two locks have one word, and the same holders.
 fn is_same_lock(one: &LockEnd, other: &LockEnd) -> bool {
+    let (holders, others) = (one.holders.as_slice(), other.holders.as_slice());
     one.word == other.word
-        && one.holders.len() == other.holders.len()
-        && one
-            .holders
+        && holders.len() == others.len()
+        && holders
             .iter()
-            .zip(other.holders.iter())
+            .zip(others.iter())
             .all(|pair| is_same_holder(pair.0, pair.1))
 }
 

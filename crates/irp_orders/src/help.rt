@@ -17,17 +17,18 @@ most frequent first: how many orders end so, the replies in which outcomes diffe
 the cancel slots.
 
   --show K           prints a transcript that leads to outcome K
-  --never CONDITION  tells whether no order ends so; where one does, the shortest that does
+  --never CONDITION  tells whether no order ends so; where one does, shows one that does
   --ends             joins outcomes that end alike, whatever was replied: for larger scripts
   --groups           joins outcomes that differ in the numbers of uses and slots of packets alone
   --states N         at most N states side by side; 200,000 without it
   --outcomes N       at most N outcomes; 20,000 without it
   --help             prints this
 
-A condition joins facts by and, or, not and parentheses. deleted(0), live(a), removing(lock 0) are true or false; owner(a),
-status(a), current(a), held(lock 0) and reply(7) are compared by ==, !=, <, <=, > or >=. A packet is named by its label, a
-step by its place among the script's steps, from 0. Owners are originator, ended, device 2 and none; replies are a
-refusal as Ended, a status as STATUS_PENDING or 0x103, a number, done, standing, taken, lost, yes, busy and so on.
+A condition joins facts by and, or, not and parentheses. deleted(0), live(a), cancel(a) and removing(lock 0) are true or
+false; owner(a), status(a), information(a), current(a), held(lock 0) and reply(7) are compared by ==, !=, <, <=, > or >=. A
+packet is named by its label, a step by its place among the script's steps, from 0. Owners are originator, ended, D2 (or
+device 2) and none; replies are a refusal as Ended, a status as STATUS_PENDING or 0x103, a number, done, standing, taken,
+lost, yes, busy and so on.
 
 Exit status: 0 done (--never: it never holds), 1 the script is refused, 2 --never: it holds in an order, 3 out of memory or
 a bound is met, 4 other words, 5 input or output failed.

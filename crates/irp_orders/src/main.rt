@@ -16,13 +16,27 @@ mod table;
 mod words;
 
 use crate::asked::{Asked, Order, Unasked};
-use crate::ending::Ending;
+use crate::ending::{Ending, NoOpen};
 use crate::exploring::explore;
 use irp_transcript_writer::{Out, WriterOut};
+use std::alloc::Global;
 use std::env;
 use std::fs::File;
 use std::io::{self, Write};
 use std::process::ExitCode;
+
+/// How the program ends where the file of this name can't be opened.
+fn no_file(alloc: Global, name: &str, kind: io::ErrorKind) -> Ending {
+    let reason = match kind {
+        io::ErrorKind::NotFound => NoOpen::Missing,
+        io::ErrorKind::PermissionDenied => NoOpen::Denied,
+        _ => NoOpen::Other,
+    };
+    match name.to_string(alloc) {
+        Ok(name) => Ending::NoFile { name, reason },
+        Err(_) => Ending::NoMemory,
+    }
+}
 
 /// Tells what is asked of the script in the file, or in standard input.
 fn explore_in<O: Out>(
@@ -37,7 +51,7 @@ fn explore_in<O: Out>(
     };
     match File::open(rt, name) {
         Ok(mut file) => explore(rt.alloc(), &mut file, output, order),
-        Err(_) => Ending::NoFile,
+        Err(error) => no_file(rt.alloc(), name, error.kind()),
     }
 }
 

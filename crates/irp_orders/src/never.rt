@@ -8,12 +8,12 @@ use irp_listing::put_line;
 use irp_script_reader::Script;
 use std::alloc::{AllocError, Global};
 
-/// Which outcomes make a condition hold, by their places, and the one of these with the shortest order.
+/// Which outcomes make a condition hold, by their places, and one of these to be shown.
 #[derive(Drop)]
 pub struct Broken {
     places: Vec<usize>,
-    /// Of orders that are equally long, the one with the fewest changes of seat.
-    shortest: Option<usize>,
+    /// The one whose order has the fewest steps; of equally long ones, that with the fewest changes of seat.
+    shown: Option<usize>,
 }
 
 /// How often the seat changes along an order.
@@ -43,14 +43,14 @@ impl Broken {
     fn note(&mut self, founds: &[Found], place: usize) -> Result<(), AllocError> {
         self.places.push(place)?;
         let is_best = match (
-            self.shortest.and_then(|best| founds.get(best)),
+            self.shown.and_then(|best| founds.get(best)),
             founds.get(place),
         ) {
             (Some(best), Some(found)) => is_shorter(found, best),
             _ => true,
         };
         if is_best {
-            self.shortest = Some(place);
+            self.shown = Some(place);
         }
         Ok(())
     }
@@ -66,7 +66,7 @@ pub fn broken_by(
 ) -> Result<Broken, AllocError> {
     let mut broken = Broken {
         places: Vec::new(alloc),
-        shortest: None,
+        shown: None,
     };
     for (place, found) in founds.iter().enumerate() {
         let facts = facts_of(alloc, script, deleted, found)?;
@@ -107,7 +107,7 @@ pub fn told(
 ) -> Result<(Vec<u8>, Ending), AllocError> {
     let mut out = Vec::new(alloc);
     let (count, all) = (founds.len(), orders_of(founds));
-    let Some(place) = broken.shortest else {
+    let Some(place) = broken.shown else {
         let line = format!(in alloc; "never: it holds in none of {all} orders, {count} outcomes")?;
         put_line(&mut out, line.as_str())?;
         return Ok((out, Ending::Done));
@@ -117,7 +117,7 @@ pub fn told(
         orders_at(founds, broken.places.as_slice()),
     );
     let line = format!(in alloc;
-        "it holds in {orders} of {all} orders, {outcomes} of {count} outcomes; the shortest:"
+        "it holds in {orders} of {all} orders, {outcomes} of {count} outcomes; one of them:"
     )?;
     put_line(&mut out, line.as_str())?;
     if let Some(found) = founds.get(place) {

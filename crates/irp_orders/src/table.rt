@@ -44,7 +44,10 @@ fn differing(alloc: Global, founds: &[Found], steps: usize) -> Result<Vec<bool>,
 fn touched_locks(alloc: Global, founds: &[Found], locks: usize) -> Result<Vec<bool>, AllocError> {
     let mut touched = Vec::from_elem(alloc, false, locks)?;
     for found in founds {
-        for (place, lock) in touched.iter_mut().zip(found.outcome.end.locks.iter()) {
+        for (place, lock) in touched
+            .iter_mut()
+            .zip(found.outcome.end.locks.as_slice().iter())
+        {
             *place = *place || lock.word != 0;
         }
     }
@@ -55,8 +58,11 @@ fn touched_locks(alloc: Global, founds: &[Found], locks: usize) -> Result<Vec<bo
 fn touched_slots(alloc: Global, founds: &[Found], slots: usize) -> Result<Vec<bool>, AllocError> {
     let mut touched = Vec::from_elem(alloc, false, slots)?;
     for found in founds {
-        for (place, slot) in touched.iter_mut().zip(found.outcome.end.slots.iter()) {
-            *place = *place || slot.flag != 0 || slot.content != 0;
+        for (place, slot) in touched
+            .iter_mut()
+            .zip(found.outcome.end.slots.as_slice().iter())
+        {
+            *place = *place || slot.flag || slot.content != 0;
         }
     }
     Ok(touched)
@@ -187,7 +193,7 @@ fn put_packets(
     found: &Found,
 ) -> Result<(), AllocError> {
     let end = &found.outcome.end;
-    for live in &end.packets {
+    for live in end.packets.as_slice() {
         let words = LiveWords {
             live: *live,
             labels: columns.labels,
@@ -205,7 +211,7 @@ fn put_locks(
     columns: &Columns<'_>,
     found: &Found,
 ) -> Result<(), AllocError> {
-    for (number, lock) in found.outcome.end.locks.iter().enumerate() {
+    for (number, lock) in found.outcome.end.locks.as_slice().iter().enumerate() {
         if columns.locks.get(number).copied() == Some(true) {
             put_further(alloc, out, &LockWords { number, lock })?;
         }
@@ -220,7 +226,7 @@ fn put_slots(
     columns: &Columns<'_>,
     found: &Found,
 ) -> Result<(), AllocError> {
-    for (number, slot) in found.outcome.end.slots.iter().enumerate() {
+    for (number, slot) in found.outcome.end.slots.as_slice().iter().enumerate() {
         if columns.slots.get(number).copied() == Some(true) {
             put_further(
                 alloc,

@@ -1,0 +1,215 @@
+-- The states that were found, told as outcomes.
+use Rattle.std.proofs.Common.{◌≡◌, ℕ, ◌+◌, ◌*◌, ◌<◌, zero, suc, Bool, true, false, List, [], ◌∷◌, ◌++◌, Option, Some, None, length, get_or, Contains, nat_lt, refl, ap, sym, subst, ◌∙◌, arith}
+use Rattle.std.specs.Option.{option_map, option_and_then}
+use Rattle.std.specs.Prelude.{slice_get}
+use Rattle.std.proofs.lemmas.List.Sums.{sum_by-cons}
+use Rattle.std.proofs.lemmas.Bool.{lt-ltb, le-ltb}
+use Rattle.std.proofs.lemmas.Option.{slice_get_within, same_Some, none-some}
+use Rattle.irp_explore.specs.Orders.{Leads, HasEnded}
+use Rattle.irp_explore.specs.Nodes.{states_of, weigh}
+use Rattle.irp_explore.specs.declared.node.Node.{Node}
+use Rattle.irp_machine.specs.declared.outcome.End.{End}
+use Rattle.irp_machine.specs.declared.outcome.Outcome.{Outcome}
+use Rattle.irp_machine.specs.declared.parts.Planned.{Planned}
+use Rattle.irp_machine.specs.declared.place.Place.{Place}
+use Rattle.irp_machine.specs.declared.place.Place.TheVariants.{Running, Over}
+use Rattle.irp_machine.specs.Machine.{RulesValue, PlaceSteps, RunningSteps, ClosesTo, StepsTo, act_of}
+use Rattle.irp_machine.specs.Openings.{MakesAll}
+use Rattle.irp_machine.specs.Orders.{AreOrders, AreOutcomes, IsOrder, Tells, AllTell, ends_of, weigh_outcomes}
+use Rattle.irp_machine.specs.Seats.{SeatValue}
+use Rattle.irp_machine.specs.Standings.{StandingValue}
+
+-- ---- places
+
+-- a place that is over, as an end
+abbrev end_in : Place → End → End
+end_in (Over end) other = end
+end_in (Running standing) other = other
+
+same_over : (one other : End) → Over one ≡ Over other → one ≡ other
+same_over one other same = ap (λ (place : Place). end_in place one) same
+
+abbrev standing_in : Place → StandingValue → StandingValue
+standing_in (Running standing) other = standing
+standing_in (Over end) other = other
+
+same_running : (one other : StandingValue) → Running one ≡ Running other → one ≡ other
+same_running one other same = ap (λ (place : Place). standing_in place one) same
+
+abbrev is_over : Place → Bool
+is_over (Running standing) = false
+is_over (Over end) = true
+
+never_over : (standing : StandingValue) (end : End) → Running standing ≡ Over end → ⊥
+never_over standing end same = let no : false ≡ true = ap is_over same in cc
+
+-- ---- steps of a seat
+
+-- a seat that has an act is below their number
+acts_at : (rules : RulesValue) (acts : Option (List Planned)) (seat : ℕ) (own : SeatValue) (planned : Planned) → slice_get rules.acts seat ≡ acts
+    → option_and_then (λ (acts : List Planned). slice_get acts own.made) acts ≡ Some planned → seat < length rules.acts
+acts_at rules None seat own planned at is = absurd (none-some planned is)
+acts_at rules (Some acts) seat own planned at is = slice_get_within rules.acts seat acts at
+
+acts_of : (rules : RulesValue) (own : Option SeatValue) (seat : ℕ) (planned : Planned)
+    → option_and_then (λ (own : SeatValue). option_and_then (λ (acts : List Planned). slice_get acts own.made) (slice_get rules.acts seat)) own ≡ Some planned
+    → seat < length rules.acts
+acts_of rules None seat planned is = absurd (none-some planned is)
+acts_of rules (Some own) seat planned is = acts_at rules (slice_get rules.acts seat) seat own planned refl is
+
+-- a seat that makes a step is below their number
+step_within_by : (rules : RulesValue) (old new : StandingValue) (seat : ℕ) (act : Option Planned) → act_of rules old seat ≡ act
+    → StepsTo rules old seat act (Some new) → seat < length rules.acts
+step_within_by rules old new seat None at steps = absurd (none-some new (sym steps))
+step_within_by rules old new seat (Some planned) at steps = acts_of rules (slice_get old.seats seat) seat planned at
+
+step_within : (rules : RulesValue) (old new : StandingValue) (seat : ℕ) → StepsTo rules old seat (act_of rules old seat) (Some new) → seat < length rules.acts
+step_within rules old new seat steps = step_within_by rules old new seat (act_of rules old seat) refl steps
+
+-- what a step of a seat leads to
+seat_step : (rules : RulesValue) (old : StandingValue) (seat : ℕ) (place : Place) (next : Option StandingValue) → StepsTo rules old seat (act_of rules old seat) next
+    → Some place ≡ option_map (λ (one : StandingValue). Running one) next
+    → (new : StandingValue) × (place ≡ Running new) × StepsTo rules old seat (act_of rules old seat) (Some new)
+seat_step rules old seat place None steps is = absurd (none-some place (sym is))
+seat_step rules old seat place (Some new) steps is = (new, same_Some place (Running new) is, steps)
+
+-- what the closing step leads to
+close_step : (rules : RulesValue) (old : StandingValue) (place : Place) (next : Option End) → ClosesTo rules old next
+    → Some place ≡ option_map (λ (one : End). Over one) next
+    → (end : End) × (place ≡ Over end) × ClosesTo rules old (Some end)
+close_step rules old place None closes is = absurd (none-some place (sym is))
+close_step rules old place (Some end) closes is = (end, same_Some place (Over end) is, closes)
+
+-- ---- orders
+
+-- nothing follows an end
+over_stays : (rules : RulesValue) (path : List ℕ) (seat : ℕ) (end : End) (last : Place) → Leads (PlaceSteps rules) (length rules.acts + 1) (Over end) (path ++ seat ∷ []) last → ⊥
+over_stays rules [] seat end last leads = none-some leads.0 (sym leads.2)
+over_stays rules (first ∷ path) seat end last leads = none-some leads.0 (sym leads.2)
+
+-- the last step closes
+last_step : (rules : RulesValue) (start : StandingValue) (closing : ℕ) (end : End) (middle : Place) (below : Bool)
+    → RunningSteps rules start closing below (Some middle) → middle ≡ Over end → IsOrder rules start [] end
+last_step rules start closing end middle true steps is =
+    let next = seat_step rules start closing middle steps.0 steps.1 steps.2 in
+    absurd (never_over next.0 end (sym next.1 ∙ is))
+last_step rules start closing end middle false steps is =
+    let next = close_step rules start middle steps.0 steps.1 steps.2 in
+    let same : next.0 ≡ end = same_over next.0 end (sym next.1 ∙ is) in
+    (start, refl, subst (λ (end : End). ClosesTo rules start (Some end)) same next.2)
+
+-- each other one is a seat's
+next_step : (rules : RulesValue) (start : StandingValue) (seat : ℕ) (path : List ℕ) (closing : ℕ) (end : End) (middle : Place) (below : Bool)
+    → RunningSteps rules start seat below (Some middle) → Leads (PlaceSteps rules) (length rules.acts + 1) middle (path ++ closing ∷ []) (Over end)
+    → (new : StandingValue) × StepsTo rules start seat (act_of rules start seat) (Some new)
+    × Leads (PlaceSteps rules) (length rules.acts + 1) (Running new) (path ++ closing ∷ []) (Over end)
+next_step rules start seat path closing end middle true steps leads =
+    let next = seat_step rules start seat middle steps.0 steps.1 steps.2 in
+    (next.0, next.2, subst (λ (place : Place). Leads (PlaceSteps rules) (length rules.acts + 1) place (path ++ closing ∷ []) (Over end)) next.1 leads)
+next_step rules start seat path closing end middle false steps leads =
+    let next = close_step rules start middle steps.0 steps.1 steps.2 in
+    absurd (over_stays rules path closing next.0 (Over end)
+    (subst (λ (place : Place). Leads (PlaceSteps rules) (length rules.acts + 1) place (path ++ closing ∷ []) (Over end)) next.1 leads))
+
+-- an order of places is one of the seats' steps, and the last step closes it
+order_of : (rules : RulesValue) (start : StandingValue) (path : List ℕ) (closing : ℕ) (end : End)
+    → Leads (PlaceSteps rules) (length rules.acts + 1) (Running start) (path ++ closing ∷ []) (Over end) → IsOrder rules start path end
+order_of rules start [] closing end leads = last_step rules start closing end leads.0 (nat_lt closing (length rules.acts)) leads.2 leads.3
+order_of rules start (seat ∷ path) closing end leads =
+    let next = next_step rules start seat path closing end leads.0 (nat_lt seat (length rules.acts)) leads.2 leads.3 in
+    let rest = order_of rules next.0 path closing end next.2 in
+    (rest.0, (next.0, next.1, rest.1), rest.2)
+
+-- and the other way round
+steps_at : (rules : RulesValue) (old : StandingValue) (seat : ℕ) (new : StandingValue) → StepsTo rules old seat (act_of rules old seat) (Some new)
+    → PlaceSteps rules (Running old) seat (Some (Running new))
+steps_at rules old seat new steps =
+    subst (λ (below : Bool). RunningSteps rules old seat below (Some (Running new)))
+    (sym (lt-ltb seat (length rules.acts) (step_within rules old new seat steps))) (Some new, steps, refl)
+
+closes_at : (rules : RulesValue) (old : StandingValue) (end : End) → ClosesTo rules old (Some end)
+    → PlaceSteps rules (Running old) (length rules.acts) (Some (Over end))
+closes_at rules old end closes =
+    subst (λ (below : Bool). RunningSteps rules old (length rules.acts) below (Some (Over end)))
+    (sym (le-ltb (length rules.acts) (length rules.acts) (omega arith))) (Some end, closes, refl)
+
+leads_by : (rules : RulesValue) (start : StandingValue) (path : List ℕ) (last : StandingValue) (end : End) → MakesAll rules start path last → ClosesTo rules last (Some end)
+    → Leads (PlaceSteps rules) (length rules.acts + 1) (Running start) (path ++ length rules.acts ∷ []) (Over end)
+leads_by rules start [] last end makes closes =
+    (Over end, omega arith, closes_at rules start end (subst (λ (standing : StandingValue). ClosesTo rules standing (Some end)) (sym makes) closes), refl)
+leads_by rules start (seat ∷ path) last end makes closes =
+    (Running makes.0, (let below = step_within rules start makes.0 seat makes.1 in omega (arith, below)), steps_at rules start seat makes.0 makes.1, leads_by rules makes.0 path last end makes.2 closes)
+
+-- ---- outcomes
+
+over_ended : (rules : RulesValue) (end : End) → HasEnded (PlaceSteps rules) (length rules.acts + 1) (Over end)
+over_ended rules end seat below = refl
+
+-- as many outcomes as states, each of which tells the state at its place
+pub tell_long : (found : List (Node Place)) (outcomes : List Outcome) → AllTell found outcomes → length found ≡ length outcomes
+tell_long [] [] tell = refl
+tell_long [] (outcome ∷ outcomes) tell = absurd tell
+tell_long (node ∷ found) [] tell = absurd tell
+tell_long (node ∷ found) (outcome ∷ outcomes) tell = ap suc (tell_long found outcomes tell.1)
+
+tell_at : (found : List (Node Place)) (outcomes : List Outcome) (k : ℕ) (node : Node Place) (outcome : Outcome) → AllTell found outcomes → k < length outcomes
+    → Tells (get_or found k node) (get_or outcomes k outcome)
+tell_at [] [] k node outcome tell below = absurd (omega (arith, below))
+tell_at [] (first ∷ outcomes) k node outcome tell below = absurd tell
+tell_at (first ∷ found) [] k node outcome tell below = absurd tell
+tell_at (first ∷ found) (told ∷ outcomes) zero node outcome tell below = tell.0
+tell_at (first ∷ found) (told ∷ outcomes) (suc k) node outcome tell below = tell_at found outcomes k node outcome tell.1 (omega (arith, below))
+
+-- a list with a place in it has an item
+some_node : (found : List (Node Place)) (outcomes : List Outcome) (k : ℕ) → AllTell found outcomes → k < length outcomes → Node Place
+some_node [] [] k tell below = absurd (omega (arith, below))
+some_node [] (first ∷ outcomes) k tell below = absurd tell
+some_node (node ∷ found) outcomes k tell below = node
+
+contained : (found : List (Node Place)) (outcomes : List Outcome) (end : End) → AllTell found outcomes → Contains (states_of found) (Over end) → Contains (ends_of outcomes) end
+contained [] [] end tell (zero, below, is) = absurd (omega (arith, below))
+contained [] [] end tell (suc k, below, is) = absurd (omega (arith, below))
+contained [] (outcome ∷ outcomes) end tell held = absurd tell
+contained (node ∷ found) [] end tell held = absurd tell
+contained (node ∷ found) (outcome ∷ outcomes) end tell (zero, below, is) =
+    (zero, omega arith, same_over outcome.end end (sym tell.0.state ∙ is))
+contained (node ∷ found) (outcome ∷ outcomes) end tell (suc k, below, is) =
+    let rest = contained found outcomes end tell.1 (k, omega (arith, below), is) in
+    (suc rest.0, (let within = rest.1 in omega (arith, within)), rest.2)
+
+weighed : (number : Place → ℕ) (found : List (Node Place)) (outcomes : List Outcome) → AllTell found outcomes → weigh_outcomes number outcomes ≡ weigh number found
+weighed number [] [] tell = refl
+weighed number [] (outcome ∷ outcomes) tell = absurd tell
+weighed number (node ∷ found) [] tell = absurd tell
+weighed number (node ∷ found) (outcome ∷ outcomes) tell =
+    let first = sum_by-cons (λ (outcome : Outcome). outcome.orders * number (Over outcome.end)) outcome outcomes in
+    let second = sum_by-cons (λ (node : Node Place). node.orders * number node.state) node found in
+    let one : node.orders * number node.state ≡ outcome.orders * number (Over outcome.end) =
+    ap (λ orders. orders * number node.state) tell.0.orders ∙ ap (λ place. outcome.orders * number place) tell.0.state in
+    let rest = weighed number found outcomes tell.1 in
+    omega (arith, first, second, one, rest)
+
+-- what is found is told by the outcomes
+pub outcomes_hold : (rules : RulesValue) (start : StandingValue) (found : List (Node Place)) (outcomes : List Outcome)
+    → AreOrders (PlaceSteps rules) (length rules.acts + 1) (Running start) found → AllTell found outcomes → AreOutcomes rules start outcomes
+outcomes_hold rules start found outcomes orders tell = record {
+  sound = λ k outcome below.
+      let some = some_node found outcomes k tell below in
+      let told = tell_at found outcomes k some outcome tell below in
+      let long = tell_long found outcomes tell in
+      let is = (orders.sound k some (omega (arith, below, long))).path in
+      let outcome = get_or outcomes k outcome in
+      let leads = subst (λ (path : List ℕ). Leads (PlaceSteps rules) (length rules.acts + 1) (Running start) path (get_or found k some).state) told.path is in
+      order_of rules start outcome.path.items told.closing outcome.end
+      (subst (λ (place : Place). Leads (PlaceSteps rules) (length rules.acts + 1) (Running start) (outcome.path.items ++ told.closing ∷ []) place) told.state leads);
+  complete = λ path end order.
+      contained found outcomes end tell
+      (orders.complete (path ++ length rules.acts ∷ []) (Over end) (leads_by rules start path order.0 end order.1 order.2) (over_ended rules end));
+  once = λ i j outcome before below.
+      let some = some_node found outcomes j tell below in
+      let long = tell_long found outcomes tell in
+      let one = tell_at found outcomes i some outcome tell (omega (arith, before, below)) in
+      let other = tell_at found outcomes j some outcome tell below in
+      λ same. orders.once i j some before (omega (arith, below, long)) (one.state ∙ ap (λ (end : End). Over end) same ∙ sym other.state);
+  orders = λ number shared. weighed number found outcomes tell ∙ orders.orders number shared;
+}

@@ -1,0 +1,32 @@
+-- The header of a script's transcripts.
+use Rattle.std.specs.Prelude.{◌≡◌, List, [], ◌∷◌, length, map, replicate, IsPermutation}
+use Rattle.irp_types.specs.State.{Entrance}
+use Rattle.irp_transcript.specs.declared.header.Form.{Form}
+use Rattle.irp_transcript.specs.declared.header.Form.TheVariants as form
+use Rattle.irp_transcript.specs.declared.header.Header.{Header}
+use Rattle.irp_script.specs.Behaviours.{cancel_rule_of}
+use Rattle.irp_script_reader.specs.Sound.{known_of}
+use Rattle.irp_script_reader.specs.declared.script.ScriptForm.{ScriptForm}
+use Rattle.irp_script_reader.specs.declared.script.ScriptForm.TheVariants as script
+use Rattle.irp_script_reader.specs.declared.script.ScriptParts.{ScriptParts}
+
+-- the form of a script's transcripts
+abbrev pub form_of : ScriptForm → Form
+form_of script.One = form.One
+form_of (script.Two slots) = form.Two slots
+
+-- each driver has the pairs of the one at its place, in some order
+abbrev pub AreSorted : List (List Entrance) → List (List Entrance) → Type 0
+AreSorted [] [] = Unit {0}
+AreSorted (driver ∷ drivers) (sorted ∷ others) = IsPermutation driver sorted × AreSorted drivers others
+AreSorted drivers others = ⊥
+
+-- the header tells the routines, rules and drivers of the script, its form, and how many locks and seats it has
+pub record IsHeaderOf (script : ScriptParts) (header : Header) : Type 0 where
+  pub cancels : header.cancels ≡ map cancel_rule_of script.cancels
+  pub completions : header.completions ≡ known_of script
+  pub dispatches : header.dispatches ≡ replicate (length script.dispatches) (known_of script)
+  pub drivers : AreSorted script.drivers header.drivers
+  pub form : header.form ≡ form_of script.form
+  pub locks : header.locks ≡ script.locks
+  pub seats : header.seats ≡ script.seats
