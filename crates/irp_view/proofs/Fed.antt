@@ -17,17 +17,17 @@ use Rattle.irp_text.specs.Fed.{Gives, HasRead, IsInPlace, with_line}
 use Rattle.irp_text.specs.declared.line.Line.{Line}
 use Rattle.irp_text.specs.declared.line.Line.TheVariants.{Header as HeaderLine, Entry as EntryLine, Word as WordLine}
 use Rattle.irp_text.specs.declared.reader.Reader.{Reader}
-use Rattle.irp_judge.specs.declared.verdict.Verdict.TheVariants.{Legal, Illegal}
+use Rattle.irp_judge.specs.declared.verdict.Verdict.TheVariants.{Illegal}
 use Rattle.irp_types.specs.declared.entry.Entry.{Entry}
 use Rattle.irp_types.specs.State.{Fixed}
 use Rattle.irp_types.specs.Histories.{IsLegal}
-use Rattle.irp_judge.specs.Checked.{IsExplained, IsFirstIllegal, IsFirstWrong, IsFirstWrongWith, IsVerdictOn, verdict_of}
+use Rattle.irp_judge.specs.Checked.{IsExplained, IsFirstIllegal, IsFirstWrong, IsFirstWrongWith, verdict_of}
 use Rattle.irp_judge.specs.declared.verdict.Wrong.{Wrong}
 use Rattle.irp_judge.proofs.Feeding.{wrong_stays}
 use Rattle.irp_judge.proofs.Verdicts.{illegal_verdict, legal_verdict, verdict_with}
 use Rattle.irp_listing.specs.Bytes.{Bytes}
-use Rattle.irp_view.specs.Reading.{Holds, HoldsNone, IsInput, IsRefused, IsTextOf, IsTextOfNone, TakesAtMost, most_bytes, most_taken}
-use Rattle.irp_view.specs.Judging.{AreJudged, Concludes, Ends, Fails, IsFound, IsHopeless, IsKept, IsSoFar, Reads, piece_of, unread_of}
+use Rattle.irp_view.specs.Reading.{IsInput, IsTextOf, IsTextOfNone, TakesAtMost, most_bytes, most_taken}
+use Rattle.irp_view.specs.Judging.{AreJudged, Concludes, Ends, Fails, IsFound, IsHopeless, IsKept, IsSoFar, piece_of, unread_of}
 use Rattle.irp_page.specs.declared.draft.Draft.{Draft}
 use Rattle.irp_page.specs.declared.choosing.Choice.{Choice}
 use Rattle.irp_view.specs.Drafts.{AreDrafted, choice_of}

@@ -1,5 +1,5 @@
 -- What of the text of a history went out.
-use Rattle.std.proofs.Common.{◌≡◌, ◌≤◌, ◌⊎◌, inl, inr, ℕ, List, [], ◌++◌, Option, None, Some, take, length, is_some, false, refl, sym, ap, subst, ◌∙◌, append_assoc, append-nil, arith}
+use Rattle.std.proofs.Common.{◌≡◌, ◌≤◌, ◌⊎◌, inl, inr, ℕ, List, [], ◌++◌, Option, None, Some, take, length, is_some, true, false, refl, sym, ap, subst, ◌∙◌, append_assoc, append-nil, arith}
 use mathlib.Core.Bool.{true≢false}
 use Rattle.std.proofs.lemmas.Grind.{common_steps}
 use Rattle.irp_types.specs.declared.entry.Entry.{Entry}
@@ -9,7 +9,7 @@ use Rattle.irp_transcript_writer.proofs.Puts.{appends_then}
 use Rattle.irp_transcript.specs.declared.word_line.WordLine.{WordLine}
 use Rattle.irp_listing.specs.Bytes.{Bytes}
 use Rattle.irp_listing.specs.Listing.{IsListing, Lists, ListsPart, AreWordLines}
-use Rattle.irp_listing.specs.Writing.{count_after}
+use Rattle.irp_listing.specs.Writing.{Written, count_after}
 use Rattle.irp_listing.specs.declared.writing.Unwritten.{Unwritten}
 use Rattle.irp_view.specs.Showing.{AreWordsFor, Shows, ShowsPart, WordsOff, WordsOut, part_of}
 use Rattle.irp_view.specs.declared.orders.Span.{Span}
@@ -50,6 +50,24 @@ all_shown None None transcript entries words old mid new before between after on
     all_out transcript old mid new before between after
     (subst (λ (given : List Entry). Lists None given old mid before between) these lists)
     (subst (λ (given : List WordLine). WordsOut given mid new between after) those out)
+
+-- no word lines go out where some entries are chosen
+no_words : (only : Option IrpRef) (span : Option Span) (words : List WordLine) → (is_some only ≡ true) ⊎ (is_some span ≡ true) → AreWordsFor only span words []
+no_words (Some irp) span words chosen = refl
+no_words None (Some some) words chosen = refl
+no_words None None words (inl one) = absurd (true≢false (sym one))
+no_words None None words (inr two) = absurd (true≢false (sym two))
+
+-- the listing of the chosen entries went out
+pub chosen_shown : (only : Option IrpRef) (span : Option Span) (transcript : TranscriptValue) (entries : List Entry) (old new : Bytes) (before after : ℕ)
+    → (is_some only ≡ true) ⊎ (is_some span ≡ true) → entries ≡ part_of span transcript.entries → Lists only entries old new before after → Shows only span transcript old new before after
+chosen_shown only span transcript entries old new before after chosen these lists = record {
+  listing = lists.text;
+  is_listing = subst (λ (given : List Entry). IsListing only given lists.text) these lists.listing;
+  words = [];
+  are_words = no_words only span transcript.words chosen;
+  written = subst (λ (text : List ℕ). Written text old new before after) (sym (append-nil lists.text)) lists.written;
+}
 
 either : (transcript : TranscriptValue) (text : List ℕ) → (text ≡ []) ⊎ AreWordLines (length transcript.words) text → (text ≡ []) ⊎ ((length transcript.entries ≤ length transcript.entries) × AreWordsFor None None transcript.words text)
 either transcript text (inl none) = inl none

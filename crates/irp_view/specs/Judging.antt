@@ -1,5 +1,5 @@
 -- How the text of an input is judged, block after block.
-use Rattle.std.specs.Prelude.{⊤, ℕ, ◌≡◌, ◌+◌, ◌-◌, ◌≤◌, List, ◌++◌, length, drop, take, slice_get, Option, Some, None, Result, Ok, Err}
+use Rattle.std.specs.Prelude.{ℕ, ◌≡◌, ◌+◌, ◌-◌, ◌≤◌, List, ◌++◌, length, drop, take, slice_get, Option, Some, None, Result, Ok, Err}
 use Rattle.std.specs.Io.KnownBytes.{Consumes}
 use Rattle.irp_types.specs.declared.entry.Entry.{Entry}
 use Rattle.irp_transcript.specs.Headers.{IsHeader}

@@ -10,6 +10,9 @@ use std::io::Read;
 /// How many bytes are asked for in one turn, at most.
 pub const PIECE: usize = 65_536;
 
+/// How many bytes of a text are judged in one turn, at most. Several threads share the lines of so many.
+pub const BLOCK: usize = 262_144;
+
 /// Why an input was not read, or an output not written whole.
 #[derive(Clone, Copy)]
 pub enum StreamFault {

@@ -26,16 +26,17 @@ ghost use Rattle.irp_view.specs.Judging.{
 };
 
 use crate::drawing::draft_line;
-use crate::input::{PIECE, take_block};
+use crate::input::{BLOCK, take_block};
 use crate::lines::{Lines, before_more};
 use crate::reading::{MOST_BYTES, Unread};
 use irp_judge::{Judge, Wrong};
 use irp_page::Draft;
-use irp_text::Line;
+use irp_text::{Ahead, Line, count_threads};
 use irp_transcript::Header;
 use irp_types::Entry;
 use std::alloc::{AllocError, Global};
 use std::io::Read;
+use std::thread::Threads;
 
 /// What is kept of the lines that were judged.
 #[derive(Drop)]
@@ -133,13 +134,14 @@ fn take_line(judge: &mut Judge, kept: &mut Kept, line: Line) -> Result<(), Alloc
     judge_line(judge, kept, line)
 }
 
-/// Reads the lines that end in a block, and has the judge judge their entries.
+/// Reads the lines that end in a block, of which some were read ahead, and has the judge judge their entries.
 fn judge_block(
     alloc: Global,
     lines: &mut Lines,
     judge: &mut Judge,
     kept: &mut Kept,
     block: &[u8],
+    ahead: &mut Ahead<'_>,
 ) -> Result<(), Unread>
     ensures header { (seen judge.new).header ≡ (seen judge.old).header }
     ensures choice { choice_of kept.new.draft ≡ choice_of kept.old.draft }
@@ -149,7 +151,7 @@ fn judge_block(
 {
     let mut rest = block;
     while !rest.is_empty() {
-        let Some(taken) = lines.next(alloc, rest)? else {
+        let Some(taken) = lines.next(alloc, rest, ahead)? else {
             return Ok(());
         };
         let (line, count) = taken;
@@ -223,7 +225,7 @@ fn read_header<R: Read>(
             };
         }
         left -= to;
-        let read = match lines.next(alloc, &buffer[..to]) {
+        let read = match lines.next(alloc, &buffer[..to], &mut Ahead::none(alloc)) {
             Ok(read) => read,
             Err(unread) => return Err(refuse(input, buffer, left, unread)),
         };
@@ -259,8 +261,9 @@ fn found_in(lines: &Lines, judge: Judge, kept: Kept) -> Result<Found, Unread>
     })
 }
 
-/// Judges what follows the header of a text.
-fn judge_rest<R: Read>(
+/// Judges what follows the header of a text. Several threads read a block's lines ahead, where there are such.
+fn judge_rest<R: Read, T: Threads + Sync>(
+    rt: &T,
     alloc: Global,
     input: &mut R,
     buffer: &mut [u8],
@@ -278,6 +281,7 @@ fn judge_rest<R: Read>(
     ensures ends { (old : Bytes) → Starts old (R.remaining input.old) start.now lines.old.reader buffer.old
         → Ends old (R.remaining input.new) result }
 {
+    let threads = count_threads(rt);
     let mut judge = Judge::new(alloc, &start.header);
     let mut kept = Kept {
         words: 0,
@@ -286,7 +290,11 @@ fn judge_rest<R: Read>(
     };
     let (mut from, mut to, mut left) = (start.from, start.to, start.left);
     loop {
-        if let Err(unread) = judge_block(alloc, lines, &mut judge, &mut kept, &buffer[from..to]) {
+        let block = &buffer[from..to];
+        let mut ahead = Ahead::of(rt, alloc, block, threads);
+        let judged = judge_block(alloc, lines, &mut judge, &mut kept, block, &mut ahead);
+        drop(ahead);
+        if let Err(unread) = judged {
             return Err(refuse(input, buffer, left, unread));
         }
         from = 0;
@@ -309,7 +317,8 @@ fn judge_rest<R: Read>(
 ///
 /// Those of `reading::transcript_of`.
 #[tactic(auto, using(crate::proofs::Fed::finds_nothing))]
-pub fn judge_input<R: Read>(
+pub fn judge_input<R: Read, T: Threads + Sync>(
+    rt: &T,
     alloc: Global,
     input: &mut R,
     draft: Option<Draft>,
@@ -318,7 +327,7 @@ pub fn judge_input<R: Read>(
     ensures choice { IfOk result (λ judged. choice_of judged.found.draft ≡ choice_of draft) }
     ensures ends { EndsWith (R.remaining input.old) (R.remaining input.new) result }
 {
-    let mut buffer = [0u8; PIECE];
+    let mut buffer = [0u8; BLOCK];
     let mut lines = Lines::new(alloc);
     let Some(start) = read_header(alloc, input, &mut buffer, &mut lines)? else {
         return Ok(Judged {
@@ -332,7 +341,7 @@ pub fn judge_input<R: Read>(
             },
         });
     };
-    let found = judge_rest(alloc, input, &mut buffer, &mut lines, &start, draft)?;
+    let found = judge_rest(rt, alloc, input, &mut buffer, &mut lines, &start, draft)?;
     Ok(Judged {
         header: Some(start.header),
         found,

@@ -8,7 +8,7 @@ ghost use Rattle.irp_view.specs.Judging.{IsEnd, IsHopeless, Reads, unread_of};
 use crate::reading::Unread;
 use crate::refusal::{Before, Expected, bounds_of, expected_in};
 use irp_expected::Before as Bounds;
-use irp_text::{Line, Reader};
+use irp_text::{Ahead, Line, Reader};
 use irp_transcript_reader::ReadFault;
 use memchr::memchr;
 use std::alloc::Global;
@@ -78,15 +78,20 @@ impl Lines {
         }
     }
 
-    /// Reads on in a block, as `irp_text::Reader` does.
-    pub fn next(&mut self, alloc: Global, block: &[u8]) -> Result<Option<(Line, usize)>, Unread>
+    /// Reads on in a block, of which some lines were read ahead, as `irp_text::Reader` does.
+    pub fn next(
+        &mut self,
+        alloc: Global,
+        block: &[u8],
+        ahead: &mut Ahead<'_>,
+    ) -> Result<Option<(Line, usize)>, Unread>
         ensures within { IfOk result (λ read.
             IfSome read (λ given. (0 < given.1) × (given.1 ≤ length block.now))) }
         ensures reads { (text : List ℕ) (before : TranscriptValue) → HasRead self.old.reader text before
             → length text + length block.now + 1 < 2 ^ 64
             → Reads result self.new.reader text before block.now }
     {
-        match self.reader.next(alloc, block) {
+        match self.reader.next_ahead(alloc, block, ahead) {
             Ok(Some(taken)) => {
                 self.pass(&taken.0);
                 Ok(Some(taken))

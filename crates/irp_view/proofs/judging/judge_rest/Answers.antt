@@ -29,7 +29,7 @@ returns-then-to-eq0-clause-ends g c = λ old starts.
 
 pub returns-then-to-eq0-clause-choice : goal.returns-then-to-eq0-clause-choice
 returns-then-to-eq0-clause-choice g c =
-    choice_through c.found_in.result _ _ (c.judge_block.ensures.choice ∙ c.loop-unread.invariant.choice) c.found_in.ensures.choice
+    choice_through c.found_in.result _ _ (c.judge_block-judged.ensures.choice ∙ c.loop-unread.invariant.choice) c.found_in.ensures.choice
 
 pub loop-unread-preserved : goal.loop-unread-preserved
 loop-unread-preserved g c = record {
@@ -37,7 +37,7 @@ loop-unread-preserved g c = record {
   room = c.in-Ok.ensures.room ∙ c.loop-unread.invariant.room;
   order = omega arith;
   within = c.in-Ok.ensures.bound.1;
-  choice = c.judge_block.ensures.choice ∙ c.loop-unread.invariant.choice;
+  choice = c.judge_block-judged.ensures.choice ∙ c.loop-unread.invariant.choice;
   so_far = λ old starts.
       (let inv = c.loop-unread.invariant.so_far old starts in
       let block : List ℕ = piece_of c.loop-unread.buffer c.loop-unread.from c.loop-unread.to in

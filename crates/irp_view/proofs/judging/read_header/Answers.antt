@@ -46,3 +46,19 @@ returns-in-loop-to-clause-start g c =
       within = c.in-Ok.ensures.bound.1;
       so_far = subst (IsSoFar (g.R.Read.remaining c.args.input.now) (g.R.Read.remaining c.take_block.new.reader) (c.loop-to.left - to)) (sym whole) on;
     }
+
+pub loop-to-preserved : goal.loop-to-preserved
+loop-to-preserved g c =
+    let text : List ℕ = c.loop-to.invariant.text in
+    let block : List ℕ = take c.in-Ok.to c.take_block.new.buffer in
+    let on = so_far_on (g.R.Read.remaining c.args.input.now) (g.R.Read.remaining c.loop-to.input) (g.R.Read.remaining c.take_block.new.reader) c.loop-to.left c.in-Ok.to text block c.loop-to.invariant.so_far c.in-Ok.ensures.bytes
+    (length-take-le c.in-Ok.to c.take_block.new.buffer c.in-Ok.ensures.bound.1) c.in-Ok.ensures.bound.0 in
+    let few = few_so_far (g.R.Read.remaining c.args.input.now) (g.R.Read.remaining c.take_block.new.reader) (c.loop-to.left - c.in-Ok.to) text block on in
+    let gives = c.in-Ok-next.ensures.reads text no_lines c.loop-to.invariant.read (omega (arith, few)) in
+    record {
+      few = omega (arith, c.loop-to.invariant.few);
+      room = c.in-Ok.ensures.room ∙ c.loop-to.invariant.room;
+      text = text ++ block;
+      read = subst (λ (given : Option (Line × ℕ)). Gives (Ok given) c.next.new.self.reader text no_lines block) c.in_default.is gives;
+      so_far = on;
+    }

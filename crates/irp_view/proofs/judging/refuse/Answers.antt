@@ -1,6 +1,6 @@
 -- The rest of the input was taken, or couldn't be.
 use Rattle.std.proofs.Common.{ℕ, ◌≡◌, ◌<◌, List, ◌++◌, take, sym, subst, arith, length-take-le}
-use Rattle.irp_view.specs.Judging.{Fails, IsSoFar}
+use Rattle.irp_view.specs.Judging.{IsSoFar}
 use Rattle.irp_view.proofs.Fed.{refused_fails, so_far_end, so_far_more, takes_more}
 use Rattle.irp_view.proofs.judging.refuse.Goals as goal
 

@@ -1,0 +1,20 @@
+-- The header was read, and then the rest; or what stopped it.
+use Rattle.std.proofs.Common.{Option, Ok, subst}
+use Rattle.std.proofs.lemmas.Result.{err_from_is_err_and}
+use Rattle.irp_view.specs.Judging.{IsStart}
+use Rattle.irp_view.specs.declared.judging.Start.{Start}
+use Rattle.irp_view.proofs.judging.judge_input.Goals as goal
+
+pub returns-in_err-found-clause-ends : goal.returns-in_err-found-clause-ends
+returns-in_err-found-clause-ends g c =
+    let p = err_from_is_err_and c.from_residual-in_err-found.result c.from_residual-in_err-found.ensures.1 in
+    let old = g.R.Read.remaining c.args.input.now in
+    rw (p.1, p.2)
+    (c.in_err-found.ensures.ends old
+    (subst (λ (start : Option Start). IsStart old (g.R.Read.remaining c.read_header.new.input) (Ok start) c.read_header.new.lines.reader c.read_header.new.buffer) c.in-Some.is c.in_ok-start.ensures.start))
+
+pub returns-clause-ends : goal.returns-clause-ends
+returns-clause-ends g c =
+    let old = g.R.Read.remaining c.args.input.now in
+    c.in_ok-found.ensures.ends old
+    (subst (λ (start : Option Start). IsStart old (g.R.Read.remaining c.read_header.new.input) (Ok start) c.read_header.new.lines.reader c.read_header.new.buffer) c.in-Some.is c.in_ok-start.ensures.start)
