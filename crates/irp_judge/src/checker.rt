@@ -1,4 +1,5 @@
-//! Whether a recorded history is legal, and what is wrong with one that is not.
+//! Whether a recorded history is legal, and what is wrong with one that is not. Source: this project's own rule, and of
+//! texts its own format (docs/FORMATS.md).
 
 ghost use Rattle.std.specs.Prelude.{IfOk, length};
 ghost use Rattle.irp_transcript.specs.Headers.{IsHeader, fixed_of};
@@ -26,10 +27,9 @@ fn first_wrong(
     Ok(judge.into_wrong())
 }
 
-/// What is wrong with the history of a transcript, and none exactly where `check` answers `Legal`: the first entry that
-/// isn't legal, what the manager makes of its call in its place, and the first part in which the two differ. The
-/// closures answer what the entry says that they answered, where the header's tables allow that (this project's own
-/// rule).
+/// What is wrong with the history of a transcript, and none exactly where `check` answers `Legal`: the first entry
+/// that isn't legal, what the manager makes of its call in its place, and the first part in which the two differ. The
+/// closures answer what the entry says that they answered, where the header's tables allow that.
 ///
 /// # Errors
 ///
@@ -48,10 +48,10 @@ pub fn explain(alloc: Global, transcript: &Transcript) -> Result<Option<Wrong>, 
 
 /// Whether the sequential manager could have made the history of a transcript, with what its header fixes: `Legal`
 /// exactly where it could, and else `Illegal` with the number of the first entry that isn't legal. An entry is legal
-/// where its number is its place, and the manager, in the state that the entries before lead to, makes it of its call:
-/// lock, `drained`, questions with what was shown and answers that the tables allow, and reply. Of a new packet's slot
-/// it is asked only that it isn't live, and `drained` is taken as it stands where there is a lock. A transcript without
-/// a header has no entries, and is legal (this project's own format, docs/FORMATS.md).
+/// where its number is its place, and the manager, in the state that the entries before lead to, makes it of its
+/// call: lock, `drained`, questions with what was shown and answers that the tables allow, and reply. Of a new
+/// packet's slot it is asked only that it isn't live, and `drained` is taken as it stands where there is a lock. A
+/// transcript without a header has no entries, and is legal.
 ///
 /// # Errors
 ///

@@ -1,5 +1,5 @@
 //! A packet, its readers, and the calls that a packet answers by itself. That refusals come in the order in which they
-//! are listed is this project's own rule.
+//! are listed, and what names no page of the WDK, is this project's own rule.
 
 mod steps;
 
@@ -97,7 +97,7 @@ impl Packet {
     ///
     /// # Errors
     ///
-    /// `BadSize` exactly where `size` is 0 or above 32 (this project's own rule).
+    /// `BadSize` exactly where `size` is 0 or above 32.
     #[inline(always)]
     pub fn new(alloc: Global, size: u8) -> Result<Packet, Refusal>
         ensures { result ≡ (if (size == 0) || nat_lt most_locations size
@@ -194,7 +194,7 @@ impl Packet {
         self.cancel_routine
     }
 
-    /// Who owns it (this project's own rule).
+    /// Who owns it.
     #[inline]
     pub fn owner(&self) -> Owner
         ensures { result ≡ self.now.owner }
@@ -202,8 +202,8 @@ impl Packet {
         self.owner
     }
 
-    /// How far it is prepared for the next lower device (this project's own rule). A packet that is prepared at all
-    /// has a `current` of 2 or more.
+    /// How far it is prepared for the next lower device. A packet that is prepared at all has a `current` of 2 or
+    /// more.
     #[inline]
     pub fn preparation(&self) -> Preparation
         ensures preparation { result ≡ self.now.preparation }
@@ -212,7 +212,7 @@ impl Packet {
         self.preparation
     }
 
-    /// Whether it stands in a cancel slot, where FinishTaken alone completes it (this project's own rule).
+    /// Whether it stands in a cancel slot, where FinishTaken alone completes it.
     #[inline]
     pub fn slot_held(&self) -> bool
         ensures { result ≡ self.now.slot_held }

@@ -1,5 +1,6 @@
 //! The calls on remove locks. A refusal that leaves a seat as it was leaves each view of the seat's parties as it was.
-//! That refusals come in the order in which they are listed is this project's own rule.
+//! That refusals come in the order in which they are listed, and what names no page of the WDK, is this project's own
+//! rule.
 ghost use Rattle.std.specs.Prelude.{◌≡◌, ◌<◌, ◌≤◌, Contains, Err, length, MatchResult, IfSome, IfNone, slice_get, Some};
 ghost use Rattle.std.specs.Prelude.{map};
 ghost use Rattle.irp_types.specs.Limits.{most_held};
@@ -177,7 +178,7 @@ impl Locks {
     }
 
     /// Makes one reference of the giver to a lock under a tag the taker's, also after removal has begun. No view
-    /// changes (this project's own rule).
+    /// changes.
     ///
     /// It is refused, and leaves both seats as they were, with the first of these that holds: `NoLock` if there is no
     /// such lock; `NotHeld` if the giver holds no reference to the lock under the tag; `SeatFull` if the taker holds 64

@@ -1,4 +1,5 @@
-//! Answers that are allowed, whoever gave them: an answer that isn't is replaced by a fixed one that always is.
+//! Answers that are allowed, whoever gave them: an answer that isn't is replaced by a fixed one that always is. Source:
+//! this project's own rule.
 
 ghost use Rattle.std.specs.Prelude.{◌≡◌};
 ghost use Rattle.irp_routines.specs.Guarded.{fixed_keep, fixed_answer, guarded_answer, guarded_plan, guarded_cancel};
@@ -30,7 +31,7 @@ pub(crate) fn fixed_answer(rule: Rule, shown: Shown) -> Answer
 }
 
 /// The answer of a completion routine where its rule allows it, else one that replaces nothing, and that keeps only
-/// where the rule asks for it (this project's own rule).
+/// where the rule asks for it.
 pub fn guarded_answer(rule: Rule, shown: Shown, answer: Answer) -> Answer
     ensures { result ≡ guarded_answer rule shown answer }
 {
@@ -40,8 +41,7 @@ pub fn guarded_answer(rule: Rule, shown: Shown, answer: Answer) -> Answer
     fixed_answer(rule, shown)
 }
 
-/// The plan of a dispatch where it is allowed to it, else a finish with INVALID_DEVICE_REQUEST and information 0 (this
-/// project's own rule).
+/// The plan of a dispatch where it is allowed to it, else a finish with INVALID_DEVICE_REQUEST and information 0.
 pub fn guarded_plan(known: Known, shown: Shown, plan: Plan) -> Plan
     ensures { result ≡ guarded_plan known shown plan }
 {
@@ -54,8 +54,8 @@ pub fn guarded_plan(known: Known, shown: Shown, plan: Plan) -> Plan
     }
 }
 
-/// The answer of a cancel routine where its rule allows it, else Leave, and a finish with information 0 where the rule
-/// asks for one (this project's own rule).
+/// The answer of a cancel routine where its rule allows it, else Leave, and a finish with information 0 where the
+/// rule asks for one.
 pub fn guarded_cancel(rule: CancelRule, answer: CancelAnswer) -> CancelAnswer
     ensures { result ≡ guarded_cancel rule answer }
 {

@@ -1,4 +1,4 @@
-//! What the closures of a script answer.
+//! What the closures of a script answer. Source: this project's own format (docs/FORMATS.md).
 
 ghost use Rattle.std.specs.Prelude.{◌≡◌, true};
 ghost use Rattle.irp_types.specs.Rules.{is_allowed, is_cancel_allowed, is_plan_allowed};
@@ -26,9 +26,9 @@ fn behaves_so(behaviour: Behaviour, shown: Shown) -> Answer
     }
 }
 
-/// What a completion routine of a script answers to what it is shown: it behaves by `on_ok` where the shown status is a
-/// success, else by `on_err`, and makes the one mark that any answer may have. A routine whose behaviours are those of
-/// its rule answers what its rule allows (this project's own format, docs/FORMATS.md). It takes no memory.
+/// What a completion routine of a script answers to what it is shown: it behaves by `on_ok` where the shown status is
+/// a success, else by `on_err`, and makes the one mark that any answer may have. A routine whose behaviours are those
+/// of its rule answers what its rule allows. It takes no memory.
 pub fn table_answer(routine: CompletionRoutine, shown: Shown) -> Answer
     ensures answer { result ≡ answer_of routine shown }
     ensures allowed { obeys_its_rule routine ≡ true → is_allowed routine.rule shown result ≡ true }
@@ -44,8 +44,7 @@ pub fn table_answer(routine: CompletionRoutine, shown: Shown) -> Answer
 /// What a dispatch of a script with this plan answers to what it is shown: its plan, but a finish with
 /// INVALID_DEVICE_REQUEST and information 0 where the plan passes down and no device stands below, and a finish with
 /// CANCELLED and information 0 where the plan holds with a cancel routine a packet that is cancelled. A sound plan
-/// whose routine is among those that the dispatch may name is answered by what is allowed to it (this project's own
-/// format, docs/FORMATS.md). It takes no memory.
+/// whose routine is among those that the dispatch may name is answered by what is allowed to it. It takes no memory.
 pub fn table_plan(plan: Plan, shown: Shown) -> Plan
     ensures plan { result ≡ plan_of plan shown }
     ensures allowed { (known : Known) → is_plan_sound plan ≡ true → names_known known plan ≡ true
@@ -66,8 +65,8 @@ pub fn table_plan(plan: Plan, shown: Shown) -> Plan
     }
 }
 
-/// The rule of a cancel routine of a script that answers this: one that finishes must finish, and one that leaves must
-/// leave (this project's own format, docs/FORMATS.md). It takes no memory.
+/// The rule of a cancel routine of a script that answers this: one that finishes must finish, and one that leaves
+/// must leave. It takes no memory.
 pub fn cancel_rule(answer: CancelAnswer) -> CancelRule
     ensures { result ≡ cancel_rule_of answer }
 {
@@ -77,8 +76,8 @@ pub fn cancel_rule(answer: CancelAnswer) -> CancelRule
     }
 }
 
-/// What a cancel routine of a script with this answer answers, whatever it is shown. Its rule allows it (this project's
-/// own format, docs/FORMATS.md). It takes no memory.
+/// What a cancel routine of a script with this answer answers, whatever it is shown. Its rule allows it. It takes no
+/// memory.
 pub fn table_cancel(answer: CancelAnswer, shown: Shown) -> CancelAnswer
     ensures answer { result ≡ answer }
     ensures allowed { is_cancel_allowed (cancel_rule_of answer) result ≡ true }

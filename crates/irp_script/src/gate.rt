@@ -1,7 +1,7 @@
-//! What is called when workers begin and end a step.
+//! What is called when workers begin and end a step. Source: this project's own rule.
 
-/// Called when a step begins and when it was answered. It may wait, to order the steps of different workers. Both calls
-/// come outside the session's lock (this project's own call).
+/// Called when a step begins and when it was answered. It may wait, to order the steps of different workers. Both
+/// calls come outside the session's lock.
 pub trait Gate {
     /// A step of this seat begins: its place among the script's steps, from 0.
     fn enter(&self, seat: u32, step: u32);
@@ -10,7 +10,7 @@ pub trait Gate {
     fn answered(&self, seat: u32, step: u32);
 }
 
-/// A gate that lets each step begin at once (this project's own call).
+/// A gate that lets each step begin at once.
 #[derive(Clone, Copy, PartialEq, Eq, Debug)]
 pub struct AlwaysOpen;
 

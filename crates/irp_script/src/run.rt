@@ -1,4 +1,4 @@
-//! Running a script.
+//! Running a script. Source: this project's own rule, and of texts its own format (docs/FORMATS.md).
 
 ghost use Rattle.std.specs.Prelude.{◌≡◌, ◌<◌, ℕ, Bool, All, IfOk, slice_index_or, vec_len};
 ghost use Rattle.std.specs.List.{count_by};
@@ -46,7 +46,7 @@ use std::sync::Wait;
 use std::thread;
 use std::thread::Threads;
 
-/// What became of a script's steps (this project's own call).
+/// What became of a script's steps.
 #[derive(Drop)]
 pub struct Worked<'a, L: Session> {
     /// All seats that were handed in, each once and with its own remove seat.
@@ -233,9 +233,9 @@ fn gather<'a, L: Session>(
 /// Labels are shared by all seats: one that isn't bound yet stands for a packet that is never live. A step whose seat
 /// isn't there, one whose call isn't recorded, a hand to a seat that its worker doesn't have, and a publish or a
 /// withdraw in a slot of another seat stops its worker, which says so; in the setup, nothing more is run. The gate is
-/// called before and after each of the script's `steps`, with its seat and its place, outside the session's lock (tests
-/// show it, no clause). A step of the setup on a lock or a slot, which no script that was read has, has no word line
-/// (this project's own format, docs/FORMATS.md).
+/// called before and after each of the script's `steps`, with its seat and its place, outside the session's lock
+/// (tests show it, no clause). A step of the setup on a lock or a slot, which no script that was read has, has no
+/// word line.
 ///
 /// All remove seats were opened with these locks, and all that the seats have at slots with these slots, which are the
 /// conditions of this call.

@@ -1,8 +1,9 @@
-//! The steps of a script.
+//! The steps of a script. Where no page of the WDK is named, the source is this project's own rule, and of texts its
+//! own format (docs/FORMATS.md).
 
 use irp_types::{Call, Hand, IrpRef, LockAct};
 
-/// How a step names a packet (this project's own format, docs/FORMATS.md).
+/// How a step names a packet.
 #[derive(Clone, Copy, PartialEq, Eq, Debug)]
 pub enum Named {
     /// By a label: its place among the script's labels, from 0, in the order in which the script first names them,
@@ -12,8 +13,7 @@ pub enum Named {
     Irp(IrpRef),
 }
 
-/// What a step does: a call of the manager, or an act on a remove lock or on a cancel slot (this project's own format,
-/// docs/FORMATS.md).
+/// What a step does: a call of the manager, or an act on a remove lock or on a cancel slot.
 #[derive(Clone, Copy, PartialEq, Eq, Debug)]
 pub enum StepAct {
     /// A call of the manager. It names its packet as a step does, and a token by the cancel slot from which the seat
@@ -25,18 +25,18 @@ pub enum StepAct {
     Allocate { size: u8, label: usize },
     /// An act on a remove lock, in the step's own seat alone.
     OnLock(LockAct),
-    /// The step's own seat gives one of its references to a remove lock, by lock and tag, to another seat (this
-    /// project's own call). Only form 2 has it. In a script that was read the other seat is there, and isn't the own.
+    /// The step's own seat gives one of its references to a remove lock, by lock and tag, to another seat. Only form
+    /// 2 has it. In a script that was read the other seat is there, and isn't the own.
     Hand(Hand),
-    /// Puts the use of a packet into a cancel slot (this project's own call). Only form 2 has it.
+    /// Puts the use of a packet into a cancel slot. Only form 2 has it.
     Publish { slot: u32, irp: Named },
-    /// Takes the seat's own use out of a cancel slot again (this project's own call). Only form 2 has it.
+    /// Takes the seat's own use out of a cancel slot again. Only form 2 has it.
     Withdraw { slot: u32 },
-    /// Takes what stands in a cancel slot, to cancel it (this project's own call). Only form 2 has it.
+    /// Takes what stands in a cancel slot, to cancel it. Only form 2 has it.
     Request { slot: u32 },
 }
 
-/// A step of a script, and the seat that makes it (this project's own format, docs/FORMATS.md).
+/// A step of a script, and the seat that makes it.
 #[derive(Clone, Copy, PartialEq, Eq, Debug)]
 pub struct Step {
     /// The seat, from 0. In a script that was read it is below the script's `seats`.

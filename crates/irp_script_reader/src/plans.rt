@@ -1,4 +1,4 @@
-//! What the plans and the drivers of a script may name.
+//! What the plans and the drivers of a script may name. Source: this project's own format (docs/FORMATS.md).
 
 ghost use Rattle.std.specs.Prelude.{◌≡◌};
 ghost use Rattle.irp_script_reader.specs.Plans.{has_major, is_driver, is_handler, is_plan_sound, names_known};
@@ -7,7 +7,7 @@ use irp_types::limits::LAST_MAJOR;
 use irp_types::{DispatchId, Known, Plan, Rule};
 
 /// Whether a plan that finishes has a status that can complete a packet, and one that forwards sets a routine of rule
-/// watch (this project's own format, docs/FORMATS.md).
+/// watch.
 pub fn is_plan_sound(plan: Plan) -> bool
     ensures { result ≡ is_plan_sound plan }
 {
@@ -18,7 +18,7 @@ pub fn is_plan_sound(plan: Plan) -> bool
     }
 }
 
-/// Whether the routine that a plan names is there (this project's own format, docs/FORMATS.md).
+/// Whether the routine that a plan names is there.
 pub fn names_known(known: Known, plan: Plan) -> bool
     ensures { result ≡ names_known known plan }
 {
@@ -44,8 +44,7 @@ fn has_major(major: u8, handlers: &[(u8, DispatchId)]) -> bool
     handlers.iter().any(|handler| handler.0 == major)
 }
 
-/// Whether each of a driver's major function codes is one and is named once, and each dispatch is there
-/// (this project's own format, docs/FORMATS.md).
+/// Whether each of a driver's major function codes is one and is named once, and each dispatch is there.
 pub fn is_driver(dispatches: usize, handlers: &[(u8, DispatchId)]) -> bool
     ensures { result ≡ is_driver dispatches handlers.now }
 {

@@ -1,8 +1,8 @@
-//! Why a script isn't read.
+//! Why a script isn't read. Source: this project's own rule, and of texts its own format (docs/FORMATS.md).
 
 use thiserror::Error;
 
-/// What is wrong with a part of a script, with its number in the formats (this project's own format, docs/FORMATS.md).
+/// What is wrong with a part of a script, with its number in the formats.
 #[derive(Clone, Copy, PartialEq, Eq, Debug, Error)]
 pub enum Fault {
     /// A key is missing, unknown or of a wrong shape or range; a seat is not below `seats`; a step on a remove lock or
@@ -24,7 +24,7 @@ pub enum Fault {
     TooMany,
 }
 
-/// A part of a script (this project's own format, docs/FORMATS.md).
+/// A part of a script.
 #[derive(Clone, Copy, PartialEq, Eq, Debug, Error)]
 pub enum Section {
     /// The keys of the object.
@@ -59,8 +59,7 @@ pub enum Section {
     Steps,
 }
 
-/// Why a script is refused: its first fault (this project's own format, docs/FORMATS.md). It is displayed as `S4 steps
-/// 3`.
+/// Why a script is refused: its first fault. It is displayed as `S4 steps 3`.
 #[derive(Clone, Copy, PartialEq, Eq, Debug, Error)]
 pub enum ScriptRefusal {
     /// The text has more than 1,048,576 bytes.
@@ -84,7 +83,7 @@ pub enum ScriptRefusal {
     },
 }
 
-/// Why a script wasn't read (this project's own rule).
+/// Why a script wasn't read.
 #[derive(Clone, Copy, PartialEq, Eq, Debug, Error)]
 pub enum ScriptFault {
     /// It is refused.

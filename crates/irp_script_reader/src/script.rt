@@ -1,4 +1,4 @@
-//! Scripts.
+//! Scripts. Source: this project's own format (docs/FORMATS.md).
 
 ghost use Rattle.std.specs.Prelude.{◌≡◌};
 ghost use Rattle.irp_script_reader.specs.Forms.{slots_of};
@@ -8,7 +8,7 @@ use crate::act::Step;
 use irp_types::{CancelAnswer, DispatchId, Plan, Replacement, Row, Rule};
 use std::marker::Model;
 
-/// What a completion routine of a script does (this project's own format, docs/FORMATS.md).
+/// What a completion routine of a script does.
 #[derive(Clone, Copy, PartialEq, Eq, Debug)]
 pub enum Behaviour {
     /// Continues, and replaces nothing.
@@ -19,7 +19,7 @@ pub enum Behaviour {
     Replace(Replacement),
 }
 
-/// A completion routine of a script (this project's own format, docs/FORMATS.md).
+/// A completion routine of a script.
 #[derive(Clone, Copy, PartialEq, Eq, Debug)]
 pub struct CompletionRoutine {
     /// The rule that its behaviours are of.
@@ -30,7 +30,7 @@ pub struct CompletionRoutine {
     pub on_err: Behaviour,
 }
 
-/// Which steps a script may have, as its key `form` tells (this project's own format, docs/FORMATS.md).
+/// Which steps a script may have, as its key `form` tells.
 #[derive(Clone, Copy, PartialEq, Eq, Debug)]
 pub enum ScriptForm {
     /// Calls of the manager, and acts on remove locks. Packets have 16 locations at most, and stacks 16 devices.
@@ -44,7 +44,7 @@ pub enum ScriptForm {
 }
 
 impl ScriptForm {
-    /// How many cancel slots there are: none in form 1 (this project's own format, docs/FORMATS.md).
+    /// How many cancel slots there are: none in form 1.
     pub fn slots(self) -> u32
         ensures { result ≡ slots_of self }
     {
@@ -55,7 +55,7 @@ impl ScriptForm {
     }
 }
 
-/// What a script says, key by key, whether or not it is sound (this project's own format, docs/FORMATS.md).
+/// What a script says, key by key, whether or not it is sound.
 #[derive(Drop)]
 pub struct ScriptParts {
     /// Which steps it may have.
@@ -81,8 +81,8 @@ pub struct ScriptParts {
     pub labels: usize,
 }
 
-/// A script, which is sound: its closures keep their rules, its drivers name only dispatches that it has, and each seat
-/// may do its steps (this project's own format, docs/FORMATS.md).
+/// A script, which is sound: its closures keep their rules, its drivers name only dispatches that it has, and each
+/// seat may do its steps.
 ///
 /// Contracts see it as its parts.
 #[derive(Drop)]
@@ -102,8 +102,7 @@ impl Model for Script {
 }
 
 impl Script {
-    /// The script of these parts, on condition that they are sound (this project's own format, docs/FORMATS.md). It
-    /// takes no memory.
+    /// The script of these parts, on condition that they are sound. It takes no memory.
     pub fn new(parts: ScriptParts) -> Script
         requires { IsSound parts }
         ensures { result ≡ parts }
@@ -111,7 +110,7 @@ impl Script {
         Script { parts }
     }
 
-    /// What it says, key by key, and that it is sound (this project's own format, docs/FORMATS.md).
+    /// What it says, key by key, and that it is sound.
     pub fn parts(&self) -> &ScriptParts
         ensures parts { result.now ≡ self.now }
         ensures sound { IsSound self.now }

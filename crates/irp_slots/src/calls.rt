@@ -1,4 +1,5 @@
-//! The calls on cancel slots. Each makes three atomic steps at most.
+//! The calls on cancel slots. Each makes three atomic steps at most. The slot and the answers are this project's own
+//! rule.
 ghost use Rattle.std.specs.Prelude.{◌≡◌, ◌<◌, ◌≤◌, true, false, IfSome, IfNone};
 ghost use mathlib.Core.Logic.{◌↔◌};
 ghost use Rattle.irp_slots.specs.declared.answers.Publication.TheVariants.{Used};
@@ -25,8 +26,7 @@ impl Slots {
     /// it.
     ///
     /// It answers `Used`, and changes nothing, exactly where the owner has published before; `Standing` where the
-    /// flag is clear; else `Taken` with what it took out, or `Lost` where that was gone. (The slot and the answers
-    /// are this project's own rule.)
+    /// flag is clear; else `Taken` with what it took out, or `Lost` where that was gone.
     pub fn publish(&self, owner: &mut SlotOwner, irp: IrpRef) -> Publication
         requires { IsOwnerOf self.now owner.old }
         ensures table { owner.new.table ≡ owner.old.table }
@@ -53,8 +53,7 @@ impl Slots {
     /// completed).
     ///
     /// It answers `NotStanding`, and changes nothing, exactly where the owner's publish has not answered `Standing`
-    /// or it has withdrawn since; else `Taken` with what it took out, or `Lost` where that was gone. (The slot and
-    /// the answers are this project's own rule.)
+    /// or it has withdrawn since; else `Taken` with what it took out, or `Lost` where that was gone.
     pub fn withdraw(&self, owner: &mut SlotOwner) -> Withdrawal
         requires { IsOwnerOf self.now owner.old }
         ensures table { owner.new.table ≡ owner.old.table }
@@ -76,7 +75,7 @@ impl Slots {
     /// another request takes it out first (WDK: "IoCancelIrp"). It sets the flag, then swaps 0 in.
     ///
     /// It answers `NoSlot`, and changes nothing, exactly where there is no such slot; else `Taken` with what it took
-    /// out, or `Nothing` where the slot was empty. (The slot and the answers are this project's own rule.)
+    /// out, or `Nothing` where the slot was empty.
     pub fn request(&self, canceller: &mut Canceller, slot: u32) -> Request
         requires { IsCancellerOf self.now canceller.old }
         ensures table { canceller.new.table ≡ canceller.old.table }

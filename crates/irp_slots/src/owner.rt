@@ -1,4 +1,4 @@
-//! The owner of a slot.
+//! The owner of a slot. Source: this project's own rule.
 ghost use Rattle.std.specs.Prelude.{◌≡◌, ◌<◌};
 ghost use Rattle.irp_types.specs.Limits.{most_slots};
 
@@ -6,7 +6,7 @@ use crate::views::View;
 use atomic_table::Seat;
 use std::marker::Model;
 
-/// The one party that may publish a use in a slot, and withdraw it (this project's own rule).
+/// The one party that may publish a use in a slot, and withdraw it.
 ///
 /// It can be moved to another thread. An owner that is dropped while its use stands leaves it to the cancellers.
 ///
@@ -34,7 +34,7 @@ impl Model for SlotOwner {
 }
 
 impl SlotOwner {
-    /// The number of its slot among those that were opened together, from 0 (this project's own rule).
+    /// The number of its slot among those that were opened together, from 0.
     pub fn slot(&self) -> u32
         ensures slot { result ≡ self.now.owning.slot }
         ensures few { result < most_slots }

@@ -1,4 +1,5 @@
-//! The devices and their stacks. That refusals come in the order in which they are listed is this project's own rule.
+//! The devices and their stacks. That refusals come in the order in which they are listed, and what names no page of the
+//! WDK, is this project's own rule.
 
 mod looks;
 
@@ -63,7 +64,7 @@ pub struct Facts {
     pub live: bool,
 }
 
-/// Why no device was created (this project's own rule).
+/// Why no device was created.
 #[derive(Clone, Copy, PartialEq, Eq, Debug)]
 pub enum NotCreated {
     /// 64 devices were created before.
@@ -208,7 +209,7 @@ impl Stacks {
         Ok(())
     }
 
-    /// Why [`delete`](Stacks::delete) refuses the device, or `None` where it would delete it (this project's own rule).
+    /// Why [`delete`](Stacks::delete) refuses the device, or `None` where it would delete it.
     pub fn delete_refusal(&self, device: DeviceId) -> Option<Refusal>
         ensures { result ≡ first_failing (delete_checks self.now.devices device.0) }
     {
@@ -241,8 +242,7 @@ impl Stacks {
         record_at(&self.devices, device).size
     }
 
-    /// Driver and remove lock of a device, and whether it is live. `None` exactly if the device was never created
-    /// (this project's own rule).
+    /// Driver and remove lock of a device, and whether it is live. `None` exactly if the device was never created.
     pub fn facts(&self, device: DeviceId) -> Option<Facts>
         ensures { result ≡ option_map facts_shown (slice_get self.now.devices.facts device.0) }
     {
@@ -254,7 +254,7 @@ impl Stacks {
         })
     }
 
-    /// The limit on stacks, as it was given (this project's own rule).
+    /// The limit on stacks, as it was given.
     pub fn limit(&self) -> Limit
         ensures { result ≡ self.now.limit }
     {
@@ -262,7 +262,7 @@ impl Stacks {
     }
 
     /// Tells that each device is at one place of one stack, that no stack has more than 32 devices, and that the
-    /// members of a stack of two or more are live. It changes nothing and answers nothing (this project's own rule).
+    /// members of a stack of two or more are live. It changes nothing and answers nothing.
     pub fn are_stacks(&self)
         ensures { AreStacks self.now.devices }
     {

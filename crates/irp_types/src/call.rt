@@ -1,11 +1,12 @@
-//! Calls of the manager.
+//! Calls of the manager. Where no page of the WDK is named, the source is this project's own rule.
 
-ghost use Rattle.std.specs.Prelude.{◌≡◌, true};
+ghost use Rattle.std.specs.Prelude.{◌≡◌, true, ⊤};
 ghost use Rattle.irp_types.specs.Calls.{packet_named, names_party, call_with};
 
 use crate::names::{CancelId, DeviceId, DriverId, IrpRef, LockNo};
 use crate::routine::Setting;
 use crate::status::Status;
+use std::alloc::AllocError;
 
 /// Who makes a call on a packet's content.
 #[derive(Clone, Copy, PartialEq, Eq, Debug)]
@@ -18,7 +19,7 @@ pub enum Party {
 ///
 /// `P` is what names a packet in it, `T` what names a token: a reference and the token's number where the manager makes
 /// the call.
-#[derive(Clone, Copy, PartialEq, Eq, Debug)]
+#[derive(Copy, PartialEq, Eq, Debug)]
 pub enum Call<P = IrpRef, T = u64> {
     /// A new device of this driver, alone in its stack (WDK: "IoCreateDevice").
     CreateDevice {
@@ -114,15 +115,25 @@ pub enum Call<P = IrpRef, T = u64> {
     Cancel {
         irp: P,
     },
-    /// Reads the packet and changes nothing (this project's own call).
+    /// Reads the packet and changes nothing.
     Look {
         irp: P,
     },
 }
 
+impl<P: Copy, T: Copy> Clone for Call<P, T> {
+    ghost is_clone = { λ x y. y ≡ x };
+
+    ghost is_infallible = { λ _. ⊤ };
+
+    fn clone(&self) -> Result<Call<P, T>, AllocError> {
+        Ok(*self)
+    }
+}
+
 impl<P: Copy, T: Copy> Call<P, T> {
     /// The packet that the call names. None where it names none: where it creates, attaches, detaches or deletes a
-    /// device, or allocates a packet (this project's own rule).
+    /// device, or allocates a packet.
     pub fn packet(self) -> Option<P>
         ensures { result ≡ packet_named self }
     {
@@ -148,7 +159,7 @@ impl<P: Copy, T: Copy> Call<P, T> {
         }
     }
 
-    /// The same call with this packet and this token in the places of its own (this project's own rule).
+    /// The same call with this packet and this token in the places of its own.
     pub fn with<Q: Copy, U: Copy>(self, packet: Q, token: U) -> Call<Q, U>
         ensures { result ≡ call_with self packet token }
     {

@@ -1,4 +1,4 @@
-//! The questions of an entry.
+//! The questions of an entry. Source: this project's own rule.
 
 ghost use Rattle.std.specs.Prelude.{◌≡◌, IfSome, OnErr};
 
@@ -15,7 +15,7 @@ pub enum Place {
 }
 
 /// What was asked of closures in one call, in order, which contracts see as a list. Copies of an entry share its
-/// questions where these were put into a `SharedPlace` (this project's own rule).
+/// questions where these were put into a `SharedPlace`.
 #[derive(Drop)]
 pub struct Questions {
     place: Place,
@@ -72,7 +72,7 @@ impl Questions {
     }
 }
 
-/// A place for questions that are to be shared, in which there are none yet (this project's own rule).
+/// A place for questions that are to be shared, in which there are none yet.
 #[derive(Drop)]
 pub struct SharedPlace {
     place: Option<Arc<Vec<Asked>, Global>>,

@@ -1,4 +1,4 @@
-//! Why a call is refused.
+//! Why a call is refused. Source: this project's own rule.
 
 ghost use Rattle.std.specs.Prelude.{◌≡◌};
 ghost use Rattle.irp_types.specs.Refusal.{refusal_number};
@@ -67,7 +67,7 @@ pub enum Refusal {
 }
 
 impl Refusal {
-    /// The refusal's number, from 1 to 29, the same in every release (this project's own rule).
+    /// The refusal's number, from 1 to 29, the same in every release.
     pub fn number(self) -> u32
         ensures { result ≡ refusal_number self }
     {

@@ -1,4 +1,4 @@
-//! The tests of whether a packet may be unwound, and sent.
+//! The tests of whether a packet may be unwound, and sent. Source: this project's own rule.
 
 ghost use Rattle.std.specs.Prelude.{◌≡◌, ◌↔◌, ◌≤◌, true};
 ghost use Rattle.irp_unwind.specs.Descents.{CanDescend};
@@ -45,9 +45,9 @@ fn has_routines(packet: &Packet, lowest: u32, counts: Known) -> bool
     true
 }
 
-/// Whether a packet may be unwound: it stands in a location, each location above it has a device, and each routine from
-/// there up is there. In a manager the packet of a device that did not skip is always so; a packet that was made by
-/// hand may be otherwise (this project's own rule).
+/// Whether a packet may be unwound: it stands in a location, each location above it has a device, and each routine
+/// from there up is there. In a manager the packet of a device that did not skip is always so; a packet that was made
+/// by hand may be otherwise.
 pub fn can_unwind<A: Ask>(packet: &Packet, ask: &A) -> bool
     ensures { result ≡ true ↔ CanUnwind (A.tables ask.now).counts packet.now }
 {
@@ -59,7 +59,7 @@ pub fn can_unwind<A: Ask>(packet: &Packet, ask: &A) -> bool
 
 /// Whether a packet may be sent to a device: the device was created, the packet has a location for each device from
 /// there down, each location in use has a device, and from the prepared one up each routine is there. A packet that a
-/// manager has, and that passes the checks of CallDriver, is always so (this project's own rule).
+/// manager has, and that passes the checks of CallDriver, is always so.
 pub fn can_descend<A: Ask>(packet: &Packet, stacks: &Stacks, ask: &A, target: DeviceId) -> bool
     ensures { result ≡ true
         ↔ CanDescend (A.tables ask.now).counts stacks.now.devices packet.now target.0 }

@@ -1,4 +1,4 @@
-//! What is read of the state, and what a call would be refused with. Nothing changes.
+//! What is read of the state, and what a call would be refused with. Nothing changes. Source: this project's own rule.
 
 ghost use Rattle.std.specs.Prelude.{◌≡◌, Bool, [], ◌∷◌, length};
 ghost use Rattle.std.specs.Option.{option_copied};
@@ -32,28 +32,28 @@ fn no_more(packet: &Packet) -> Option<Refusal>
 }
 
 impl<K: Keep> ManagerState<K> {
-    /// The live packet of a slot, if there is one (this project's own rule).
+    /// The live packet of a slot, if there is one.
     pub fn live(&self, slot: usize) -> Option<&Live>
         ensures { option_copied result ≡ live_at (state_of K.live self.now) slot }
     {
         self.keep.get(slot)
     }
 
-    /// How many packets are live (this project's own rule).
+    /// How many packets are live.
     pub fn packets(&self) -> usize
         ensures { result ≡ fin.len (state_of K.live self.now).live }
     {
         self.keep.len()
     }
 
-    /// The number that the next use gets (this project's own rule).
+    /// The number that the next use gets.
     pub fn next_use(&self) -> u64
         ensures { result ≡ (state_of K.live self.now).next_use }
     {
         self.next_use
     }
 
-    /// The devices and their stacks (this project's own rule).
+    /// The devices and their stacks.
     pub fn stacks(&self) -> &Stacks
         ensures devices { result.now.devices ≡ (state_of K.live self.now).devices }
         ensures limit { result.now.limit ≡ self.now.stacks.limit }
@@ -181,8 +181,8 @@ impl<K: Keep> ManagerState<K> {
         self.owning(counts, &live.packet, call)
     }
 
-    /// What a call would be refused with, where there are so many routines and drivers, and the caller knows so of the
-    /// lock of the device that a Delete names; none where it would be carried out (this project's own rule).
+    /// What a call would be refused with, where there are so many routines and drivers, and the caller knows so of
+    /// the lock of the device that a Delete names; none where it would be carried out.
     pub fn first_refusal(
         &self,
         counts: Known,

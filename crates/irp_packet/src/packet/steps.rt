@@ -1,4 +1,5 @@
-//! The steps of which a descent, an unwinding and the manager's calls are made.
+//! The steps of which a descent, an unwinding and the manager's calls are made. Where no page of the WDK is named, the
+//! source is this project's own rule.
 
 ghost use Rattle.std.specs.Prelude.{◌≡◌, ◌+◌, ◌<◌, ◌≤◌, false};
 ghost use Rattle.irp_types.specs.Limits.{most_locations};
@@ -89,7 +90,7 @@ impl Packet {
         self.pending_returned = pending;
     }
 
-    /// Writes who owns the packet (this project's own rule).
+    /// Writes who owns the packet.
     #[inline]
     pub fn set_owner(&mut self, owner: Owner)
         ensures { self.new ≡ record self.old { owner = owner } }
@@ -106,7 +107,7 @@ impl Packet {
         self.cancel_routine = routine;
     }
 
-    /// Writes whether the packet stands in a cancel slot (this project's own rule).
+    /// Writes whether the packet stands in a cancel slot.
     #[inline]
     pub fn set_slot_held(&mut self, slot_held: bool)
         ensures { self.new ≡ record self.old { slot_held = slot_held } }

@@ -1,4 +1,4 @@
-//! What is read of the stacks, and which calls they would refuse. Nothing changes.
+//! What is read of the stacks, and which calls they would refuse. Nothing changes. Source: this project's own rule.
 
 ghost use Rattle.std.specs.Prelude.{◌≡◌, length};
 ghost use Rattle.std.specs.Option.{option_map};
@@ -11,23 +11,23 @@ use crate::device::{live_device, record_at};
 use irp_types::{DeviceId, Refusal};
 
 impl Stacks {
-    /// How many devices were created, deleted ones among them, at most 64 (this project's own rule).
+    /// How many devices were created, deleted ones among them, at most 64.
     pub fn len(&self) -> u32
         ensures { result ≡ length self.now.devices.facts }
     {
         self.devices.len() as u32
     }
 
-    /// The device just above. `None` if nothing stands above, or if the device was never created (this project's own
-    /// rule). It takes constant time.
+    /// The device just above. `None` if nothing stands above, or if the device was never created. It takes constant
+    /// time.
     pub fn upper(&self, device: DeviceId) -> Option<DeviceId>
         ensures { result ≡ option_map id (upper_of self.now.devices device.0) }
     {
         self.devices.get(device.0 as usize)?.upper
     }
 
-    /// How many devices the stack of a device has, at most 32; 0 if the device was never created (this project's own
-    /// rule). It takes constant time.
+    /// How many devices the stack of a device has, at most 32; 0 if the device was never created. It takes constant
+    /// time.
     pub fn height(&self, device: DeviceId) -> u32
         ensures { result ≡ length (stack_of self.now.devices device.0) }
     {
@@ -39,8 +39,7 @@ impl Stacks {
         record_at(&self.devices, base.top).size
     }
 
-    /// Why [`attach`](Stacks::attach) refuses the two devices, or `None` where it would attach them (this project's own
-    /// rule).
+    /// Why [`attach`](Stacks::attach) refuses the two devices, or `None` where it would attach them.
     pub fn attach_refusal(&self, device: DeviceId, to: DeviceId) -> Option<Refusal>
         ensures { result
             ≡ first_failing (attach_checks self.now.limit self.now.devices device.0 to.0) }
@@ -66,8 +65,7 @@ impl Stacks {
         None
     }
 
-    /// Why [`detach`](Stacks::detach) refuses the device, or `None` where it would cut the stack (this project's own
-    /// rule).
+    /// Why [`detach`](Stacks::detach) refuses the device, or `None` where it would cut the stack.
     pub fn detach_refusal(&self, lower: DeviceId) -> Option<Refusal>
         ensures { result ≡ first_failing (detach_checks self.now.devices lower.0) }
     {
