@@ -28,7 +28,9 @@ Makes {C} making (step ∷ rest) old new = (next : C) × making old step.0 step.
 -- the calls were made that one packet has: in a round a completion is refused, and giving the packet back once more
 abbrev pub MakesPacket : {C : Type 0} → Making C → Packet → C → C → Type 0
 MakesPacket making Round old new = (irp : IrpRef) × (completed again : Refusal)
-    × Makes making ((Allocate 1, Irp irp) ∷ (Complete Originator irp pending 0, Refused completed) ∷ (Free irp, Done) ∷ (Free irp, Refused again) ∷ []) old new
+    × Makes making
+    ((Allocate 1, Irp irp) ∷ (Complete Originator irp pending 0, Refused completed)
+    ∷ (Free irp, Done) ∷ (Free irp, Refused again) ∷ []) old new
 MakesPacket making Unused old new = (irp : IrpRef)
     × Makes making ((Allocate 16, Irp irp) ∷ (Free irp, Done) ∷ []) old new
 

@@ -7,4 +7,5 @@ use Rattle.irp_transcript.specs.declared.header.Header.{Header}
 
 -- the transcript has a header, and its history is one that the sequential manager could have made with what that tells
 abbrev pub HasLegalHistory : TranscriptValue → Type 0
-HasLegalHistory transcript = (header : Header) × (transcript.header ≡ Some header) × IsLegal (fixed_of header) transcript.entries
+HasLegalHistory transcript =
+    (header : Header) × (transcript.header ≡ Some header) × IsLegal (fixed_of header) transcript.entries

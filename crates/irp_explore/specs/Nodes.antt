@@ -27,7 +27,8 @@ HasOrderOf {S} moves seats start steps =
 
 -- a node's path leads to its state, and its mark is the state's. In a layer each path has the same number of steps;
 -- where no number is given, the state has ended
-pub record IsReached {S : Type 0} (moves : Moves S) (seats : ℕ) (mark : S → ℕ) (start : S) (steps : Option ℕ) (node : Node S) : Type 0 where
+pub record IsReached {S : Type 0} (moves : Moves S) (seats : ℕ) (mark : S → ℕ) (start : S) (steps : Option ℕ)
+    (node : Node S) : Type 0 where
   pub path : Leads moves seats start node.path.items node.state
   pub long : IfSome steps (λ steps. length node.path.items ≡ steps)
   pub ended : IfNone steps (HasEnded moves seats node.state)
@@ -44,7 +45,8 @@ IsFloor mark nodes = All (λ node. mark ≤ node.mark) nodes
 -- orders of equally many steps, or orders that have ended, lead to more different states than so many
 abbrev pub HasMoreStates : {S : Type 0} → Moves S → ℕ → (S → ℕ) → S → ℕ → Type 0
 HasMoreStates {S} moves seats mark start most =
-    (steps : Option ℕ) × (nodes : List (Node S)) × (most < length nodes) × All (IsReached moves seats mark start steps) nodes
+    (steps : Option ℕ) × (nodes : List (Node S)) × (most < length nodes)
+    × All (IsReached moves seats mark start steps) nodes
     × AreApart nodes
 
 -- so many steps lead from one of the nodes to a state
@@ -54,13 +56,15 @@ IsAhead {S} moves seats nodes steps last =
     × (length path ≡ steps)
 
 -- behind the old nodes there is a node for each successor of a node
-pub record AddsSuccessors {S : Type 0} (moves : Moves S) (seats : ℕ) (node : Node S) (old new : List (Node S)) : Type 0 where
+pub record AddsSuccessors {S : Type 0} (moves : Moves S) (seats : ℕ) (node : Node S)
+    (old new : List (Node S)) : Type 0 where
   pub states : List S
   pub follow : AreSuccessors moves seats node.state states
   pub listed : states_of new ≡ states_of old ++ states
   pub weight : (number : S → ℕ) → weigh number new ≡ weigh number old + node.orders * sum_by number states
 
 -- each successor of a state is in the next layer, and the state is found where it has ended
-pub record IsExpanded {S : Type 0} (moves : Moves S) (seats : ℕ) (found nexts : List (Node S)) (state : S) : Type 0 where
+pub record IsExpanded {S : Type 0} (moves : Moves S) (seats : ℕ) (found nexts : List (Node S))
+    (state : S) : Type 0 where
   pub follow : (seat : ℕ) (after : S) → seat < seats → moves state seat (Some after) → Contains (states_of nexts) after
   pub ended : HasEnded moves seats state → Contains (states_of found) state

@@ -144,8 +144,8 @@ Says text old new = (new.left ≡ old.left) × Puts text old.output new.output
 abbrev pub Stops : List ℕ → Streams → Streams → Type 0
 Stops text old new = (new.left ≡ old.left) × IsCut text old.output new.output
 
--- what came of the further lines and the verdict: the lines were answered, and the verdict on the entries went out; or it
--- stopped, in an answer or in the verdict
+-- what came of the further lines and the verdict: the lines were answered, and the verdict on the entries went out; or
+-- it stopped, in an answer or in the verdict
 abbrev pub IsFinished : SessionValue → Streams → Result Verdict StreamFault → Streams → Type 0
 IsFinished begun old (Ok verdict) new =
     (session : SessionValue) × (mid : Streams) × IsConversed begun old (Ok tt) session mid
@@ -198,7 +198,8 @@ abbrev pub IsStream : Result Verdict LiveFault → Type 0
 IsStream (Err (Stream fault)) = Unit {0}
 IsStream other = ⊥
 
--- what came of the program: of the first line, and behind it; or there is no line, and the verdict on no entries went out
+-- what came of the program: of the first line, and behind it; or there is no line, and the verdict on no entries went
+-- out
 abbrev pub IsLived : Streams → Result Verdict LiveFault → Streams → Type 0
 IsLived old result new =
     ((line : List ℕ) × (mid : Streams) × Read old line true mid × IsFirst line mid result new)

@@ -86,8 +86,8 @@ stakes (First observers_left stakes_left) = stakes_left
 stakes (Observer watch) = 0
 stakes (Stake stage seen) = 1
 
--- What holds between any two steps. The removed bit of a lock is the number of observers that began its removal, 0 or 1.
--- The observers and the stakes, made and not yet made, are as many as the key tells, so that there are no others
+-- What holds between any two steps. The removed bit of a lock is the number of observers that began its removal, 0 or
+-- 1. The observers and the stakes, made and not yet made, are as many as the key tells, so that there are no others
 pub record Kept (key : Parties) (state : State (Unit {0}) View) : Type 0 where
   pub wide : length state.words ≡ key.locks
   pub word_is : (lock : ℕ) → lock < length state.words
@@ -146,14 +146,19 @@ looked lock word (First observers_left stakes_left) = First observers_left stake
 looked lock word (Observer watch) = Observer (watch_looked lock word watch)
 looked lock word (Stake stage seen) = Stake stage seen
 
--- One step that the rule allows: there is a state that keeps it, in which some party has the view and the word of the lock
--- is as given. The word and the party's view become what is given behind each, nothing else changes, and the rule is kept
+-- One step that the rule allows: there is a state that keeps it, in which some party has the view and the word of the
+-- lock is as given. The word and the party's view become what is given behind each, nothing else changes, and the rule
+-- is kept
 abbrev pub IsEvent : ℕ → ℕ → ℕ → View → View → Type 0
 IsEvent lock word word_after view view_after =
     (key : Parties) × (state : State (Unit {0}) View) × (party : ℕ)
     × Kept key state × (lock < key.locks) × (get_elem? state.views party ≡ some view)
     × (slice_index state.words lock ≡ word)
-    × Kept key (record { words = slice_set state.words lock word_after; homes = state.homes; views = slice_set state.views party view_after })
+    × Kept key (record {
+      words = slice_set state.words lock word_after;
+      homes = state.homes;
+      views = slice_set state.views party view_after;
+    })
 
 -- a party of the table, in a step
 abbrev pub Party : Type 0

@@ -44,7 +44,8 @@ numbers_below (suc count) = numbers_below count ++ count ∷ []
 abbrev pub AreFresh : TableId → ℕ → List Holder → Type 0
 AreFresh table count holders = All (IsFresh table) holders × (map number_of holders ≡ numbers_below count)
 
--- the parties of a table of so many locks and seats: one observer a seat, and a stake for each reference that it may hold
+-- the parties of a table of so many locks and seats: one observer a seat, and a stake for each reference that it may
+-- hold
 abbrev pub parties_of : ℕ → ℕ → Parties
 parties_of locks seats = record { locks = locks; observers = seats; stakes = seats * most_held }
 

@@ -11,7 +11,8 @@ use Rattle.irp_remove.specs.Core.{new_watch, new_stake}
 use Rattle.irp_remove.specs.declared.reference.Reference.{Reference}
 
 -- What a remove seat is to a caller: its table of words, its number, what its observer knows, the (lock, tag) of each
--- reference that it holds, the views of the stakes that hold these, in the same order, and the views of its other stakes
+-- reference that it holds, the views of the stakes that hold these, in the same order, and the views of its other
+-- stakes
 pub record Holder : Type 0 where
   pub table : TableId
   pub number : ℕ

@@ -23,7 +23,8 @@ use Rattle.irp_routines.specs.AnswerTables.{IsTableCancel}
 use Rattle.irp_routines.specs.declared.behaviour.Behaviour.{Behaviour}
 
 -- what is true of one answer is true of the same
-some_allowed : (rule : Rule) (shown : Shown) (given answer : Answer) → is_allowed rule shown given ≡ true → Some given ≡ Some answer → is_allowed rule shown answer ≡ true
+some_allowed : (rule : Rule) (shown : Shown) (given answer : Answer) → is_allowed rule shown given ≡ true
+    → Some given ≡ Some answer → is_allowed rule shown answer ≡ true
 some_allowed rule shown given answer allowed is =
     let same : given ≡ answer = cc in
     subst (λ each. is_allowed rule shown each ≡ true) same allowed
@@ -32,7 +33,8 @@ behaved_allowed : (rule : Rule) (shown : Shown) (found : Option Behaviour) (answ
     → option_map (behaved rule shown) found ≡ Some answer → is_allowed rule shown answer ≡ true
 behaved_allowed rule shown None answer is = absurd (none-some answer is)
 behaved_allowed rule shown (Some behaviour) answer is =
-    some_allowed rule shown (behaved rule shown behaviour) answer (guarded_allowed rule shown (as_answer shown (reaction_to behaviour shown))) is
+    some_allowed rule shown (behaved rule shown behaviour) answer
+    (guarded_allowed rule shown (as_answer shown (reaction_to behaviour shown))) is
 
 allowed_of : (change free : List Behaviour) (rule : Rule) (number : ℕ) (shown : Shown) (answer : Answer)
     → table_answer change free rule number shown ≡ Some answer → is_allowed rule shown answer ≡ true
@@ -45,7 +47,8 @@ allowed_of change free KeepOnError number shown answer is =
     some_allowed KeepOnError shown (fixed_answer KeepOnError shown) answer (fixed_allowed KeepOnError shown) is
 allowed_of change free Free number shown answer is = behaved_allowed Free shown _ answer is
 
-pub table_answer_allowed : (tables : Tables) (change free : List Behaviour) (id : RoutineId) (shown : Shown) (answer : Answer)
+pub table_answer_allowed : (tables : Tables) (change free : List Behaviour) (id : RoutineId) (shown : Shown)
+    (answer : Answer)
     → IsTableAnswer tables change free id shown answer → IsAnswerAllowed tables id shown answer
 table_answer_allowed tables change free id shown answer is =
     record { there = is.there; allowed = allowed_of change free id.rule id.no shown answer is.answered }
@@ -55,7 +58,9 @@ pub table_plan_allowed : (tables : Tables) (plans : List Plan) (id : DispatchId)
 table_plan_allowed tables plans id shown plan is = record {
   known = is.known;
   there = is.there;
-  allowed = subst (λ each. is_plan_allowed is.known shown each ≡ true) (sym is.guarded) (guarded_plan_allowed is.known shown is.planned);
+  allowed =
+      subst (λ each. is_plan_allowed is.known shown each ≡ true) (sym is.guarded)
+      (guarded_plan_allowed is.known shown is.planned);
 }
 
 pub table_cancel_allowed : (tables : Tables) (answers : List CancelAnswer) (id : CancelId) (answer : CancelAnswer)
@@ -63,5 +68,6 @@ pub table_cancel_allowed : (tables : Tables) (answers : List CancelAnswer) (id :
 table_cancel_allowed tables answers id answer is = record {
   rule = is.rule;
   there = is.there;
-  allowed = subst (λ each. is_cancel_allowed is.rule each ≡ true) (sym is.guarded) (guarded_cancel_allowed is.rule is.given);
+  allowed =
+      subst (λ each. is_cancel_allowed is.rule each ≡ true) (sym is.guarded) (guarded_cancel_allowed is.rule is.given);
 }

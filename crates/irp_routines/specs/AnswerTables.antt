@@ -42,12 +42,14 @@ table_answer change free KeepOnError number shown = Some (fixed_answer KeepOnErr
 table_answer change free Free number shown = option_map (behaved Free shown) (slice_get free number)
 
 -- a completion routine is there, and this is the table's answer
-pub record IsTableAnswer (tables : Tables) (change free : List Behaviour) (id : RoutineId) (shown : Shown) (answer : Answer) : Type 0 where
+pub record IsTableAnswer (tables : Tables) (change free : List Behaviour) (id : RoutineId) (shown : Shown)
+    (answer : Answer) : Type 0 where
   pub there : id.no < count_of_rule tables.counts id.rule
   pub answered : table_answer change free id.rule id.no shown ≡ Some answer
 
 -- a dispatch is there, and its plan in the table, guarded, is this one
-pub record IsTablePlan (tables : Tables) (plans : List Plan) (id : DispatchId) (shown : Shown) (plan : Plan) : Type 0 where
+pub record IsTablePlan (tables : Tables) (plans : List Plan) (id : DispatchId) (shown : Shown)
+    (plan : Plan) : Type 0 where
   pub known : Known
   pub planned : Plan
   pub there : known_of tables id ≡ Some known
@@ -55,7 +57,8 @@ pub record IsTablePlan (tables : Tables) (plans : List Plan) (id : DispatchId) (
   pub guarded : plan ≡ guarded_plan known shown planned
 
 -- a cancel routine is there, and its answer in the table, guarded, is this one
-pub record IsTableCancel (tables : Tables) (answers : List CancelAnswer) (id : CancelId) (answer : CancelAnswer) : Type 0 where
+pub record IsTableCancel (tables : Tables) (answers : List CancelAnswer) (id : CancelId)
+    (answer : CancelAnswer) : Type 0 where
   pub rule : CancelRule
   pub given : CancelAnswer
   pub there : slice_get tables.cancel_rules id.0 ≡ Some rule

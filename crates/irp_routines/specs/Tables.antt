@@ -97,7 +97,8 @@ cancel_refusal tables = full_at most_routines (length tables.cancel_rules)
 abbrev pub is_within : Known → Known → Bool
 is_within known counts =
     nat_le known.watch counts.watch && (nat_le known.change counts.change && (nat_le known.keeper counts.keeper
-    && (nat_le known.keep_on_error counts.keep_on_error && (nat_le known.free counts.free && nat_le known.cancel counts.cancel))))
+    && (nat_le known.keep_on_error counts.keep_on_error
+    && (nat_le known.free counts.free && nat_le known.cancel counts.cancel))))
 
 -- why a dispatch isn't added: it may name more routines than there are, else there are as many as there may be
 abbrev pub dispatch_refusal : Tables → Known → Option Reason

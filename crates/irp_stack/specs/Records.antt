@@ -136,7 +136,8 @@ made driver lock device = record {
 -- a device stands above `top` at this position, and is the top of the stack over `bottom`
 abbrev pub put_above : List Device → DeviceId → DeviceId → DeviceId → ℕ → List Device
 put_above records device top bottom size =
-    edit (edit (edit records top.0 (λ old. record old { upper = Some device })) bottom.0 (λ old. record old { top = device }))
+    edit (edit (edit records top.0 (λ old. record old { upper = Some device })) bottom.0
+    (λ old. record old { top = device }))
     device.0 (λ old. record old { lower = Some top; bottom = bottom; size = size })
 
 -- nobody stands above `lower`, the top of the stack over `bottom`, or below `upper`, over which `top` is the top

@@ -86,9 +86,9 @@ pub record HasRead (reader : Reader) (text : List ℕ) (before : TranscriptValue
   pub counted : reader.count ≡ length (cut text).0
   pub taken : HasTaken reader.lines before
 
--- what it makes of one more block, behind this text and this transcript: it gives the next line, and with how many bytes
--- of the block that ends; or none, where the block ends before the line does. Or the line is refused, whatever follows
--- the block; or memory ran out
+-- what it makes of one more block, behind this text and this transcript: it gives the next line, and with how many
+-- bytes of the block that ends; or none, where the block ends before the line does. Or the line is refused, whatever
+-- follows the block; or memory ran out
 abbrev pub Gives : Result (Option (Line × ℕ)) ReadFault → Reader → List ℕ → TranscriptValue
     → List ℕ → Type 0
 Gives (Ok None) reader text before block = HasRead reader (text ++ block) before

@@ -119,7 +119,8 @@ IsPlanOf tables dispatch shown plan =
 -- allowed
 abbrev pub IsPlannedAs : Tables → DevicesValue → Frame → Shown → Type 0
 IsPlannedAs tables devices frame shown =
-    MatchOption (dispatch_at tables devices frame.device shown.major) (frame.plan ≡ None) (λ dispatch. IsPlanOf tables dispatch shown frame.plan)
+    MatchOption (dispatch_at tables devices frame.device shown.major) (frame.plan ≡ None)
+    (λ dispatch. IsPlanOf tables dispatch shown frame.plan)
 
 -- a frame of the descent of this packet was asked what it is shown of it, and planned as it may
 abbrev pub IsPlanned : Tables → IrpRef → PacketValue → DevicesValue → Frame → Type 0
@@ -147,10 +148,14 @@ devices_down devices target count = take count (reverse (take (stack_size_of dev
 
 -- the frames of one descent: they go down the stack from the target; the location of each is the first one less the
 -- copies made before it; all but the last pass the packet down; each has its plan
-pub record AreFrames (tables : Tables) (irp : IrpRef) (devices : DevicesValue) (packet : PacketValue) (target : ℕ) (frames : List Frame) : Type 0 where
+pub record AreFrames (tables : Tables) (irp : IrpRef) (devices : DevicesValue) (packet : PacketValue) (target : ℕ)
+    (frames : List Frame) : Type 0 where
   pub some : 0 < length frames
   pub devices_are : map (λ frame. frame.device) frames ≡ devices_down devices target (length frames)
-  pub locations : EachIndex frames (λ place. (slice_index_or frames place no_frame).location + count_by (plans is_copying) (take place frames) ≡ first_location packet)
+  pub locations :
+      EachIndex frames
+      (λ place. (slice_index_or frames place no_frame).location + count_by (plans is_copying) (take place frames)
+      ≡ first_location packet)
   pub down : AllByRecursion (λ frame. plans is_passing frame ≡ true) (take (length frames - 1) frames)
   pub stops : plans is_passing (last_frame frames) ≡ false
   pub planned : AllByRecursion (IsPlanned tables irp packet devices) frames
@@ -220,7 +225,8 @@ replied_status frames =
     if list_any (plans marks_location) frames then pending else final_status (last_frame frames).plan
 
 -- a packet was sent to the target: what was asked, the packet that is left, and the status of the reply
-pub record Descended (tables : Tables) (irp : IrpRef) (devices : DevicesValue) (old : PacketValue) (target : ℕ) (asked : List Asked) (new : PacketValue) (status : Status) : Type 0 where
+pub record Descended (tables : Tables) (irp : IrpRef) (devices : DevicesValue) (old : PacketValue) (target : ℕ)
+    (asked : List Asked) (new : PacketValue) (status : Status) : Type 0 where
   pub frames : List Frame
   pub reached : PacketValue
   pub unwinding : List Asking

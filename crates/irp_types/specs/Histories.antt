@@ -88,7 +88,8 @@ is_ended state use_no =
 abbrev pub completions : List StateValue → ℕ → List ℕ
 completions states use_no =
     filter
-    (λ number. is_open (slice_index_or states number opening_state) use_no && is_ended (slice_index_or states (number + 1) opening_state) use_no)
+    (λ number. is_open (slice_index_or states number opening_state) use_no
+    && is_ended (slice_index_or states (number + 1) opening_state) use_no)
     (range_with_len 0 (length states - 1))
 
 -- in a legal history each use of a packet is completed at most once

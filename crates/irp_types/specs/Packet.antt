@@ -145,7 +145,8 @@ after_set_next packet major word =
 abbrev pub after_copy : PacketValue → Option Setting → PacketValue
 after_copy packet setting =
     let here = location_at packet packet.current in
-    record (with_location packet (packet.current - 1) (record (location_with here.major here.word) { setting = setting })) { preparation = Filled }
+    record (with_location packet (packet.current - 1)
+    (record (location_with here.major here.word) { setting = setting })) { preparation = Filled }
 
 -- the next lower device is to use the owner's location, and a filled next location is cleared
 abbrev pub after_skip : PacketValue → PacketValue
@@ -156,7 +157,8 @@ after_skip packet =
 -- the next lower location has this setting in place of what was set
 abbrev pub after_set_routine : PacketValue → Setting → PacketValue
 after_set_routine packet setting =
-    with_location packet (packet.current - 1) (record (location_at packet (packet.current - 1)) { setting = Some setting })
+    with_location packet (packet.current - 1)
+    (record (location_at packet (packet.current - 1)) { setting = Some setting })
 
 -- one location is marked pending
 abbrev pub after_mark : PacketValue → ℕ → PacketValue
@@ -166,7 +168,10 @@ after_mark packet number = with_location packet number (record (location_at pack
 abbrev pub after_enter : PacketValue → DeviceId → PacketValue
 after_enter packet device =
     let next = packet.current - 1 in
-    record (with_location packet next (record (location_at packet next) { device = Some device })) { current = next; preparation = Nothing }
+    record (with_location packet next (record (location_at packet next) { device = Some device })) {
+      current = next;
+      preparation = Nothing;
+    }
 
 -- the next higher location becomes the current one
 abbrev pub after_rise : PacketValue → PacketValue

@@ -76,7 +76,9 @@ slot_check packet = (packet.slot_held, SlotHeld)
 abbrev pub party_refusal : StateValue → Party → IrpRef → Option Refusal
 party_refusal state party irp =
     let owner = (packet_of state irp).owner in
-    first_failing (packet_checks state irp ++ (has_ended owner, HasEnded) ∷ (not (is_owner party owner), NotOwner) ∷ slot_check (packet_of state irp) ∷ [])
+    first_failing
+    (packet_checks state irp
+    ++ (has_ended owner, HasEnded) ∷ (not (is_owner party owner), NotOwner) ∷ slot_check (packet_of state irp) ∷ [])
 
 -- why the owner can't skip, or none
 abbrev pub leave_refusal : PacketValue → Option Refusal

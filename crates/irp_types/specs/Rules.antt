@@ -34,7 +34,8 @@ right_mark shown keep = not keep && (shown.pending_returned && is_some shown.dev
 abbrev pub is_allowed : Rule → Shown → Answer → Bool
 is_allowed rule shown answer =
     beq answer.mark (right_mark shown answer.keep)
-    && (option_map_or (λ (replacement : Replacement). is_completable replacement.status) answer.replacement true && obeys rule shown answer)
+    && (option_map_or (λ (replacement : Replacement). is_completable replacement.status) answer.replacement true
+    && obeys rule shown answer)
 
 -- what a cancel routine of a rule may answer
 abbrev pub is_cancel_allowed : CancelRule → CancelAnswer → Bool

@@ -107,4 +107,6 @@ packet_of state irp = (packet_at state irp.slot).packet
 -- the state with another packet at a slot, of the same use
 abbrev pub with_packet : StateValue → ℕ → PacketValue → StateValue
 with_packet state slot packet =
-    record state { live = fin.insert state.live slot (record { packet = packet; use_no = (packet_at state slot).use_no }) }
+    record state {
+      live = fin.insert state.live slot (record { packet = packet; use_no = (packet_at state slot).use_no });
+    }

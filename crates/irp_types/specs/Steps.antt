@@ -104,20 +104,25 @@ Cancels tables irp old (Some routine) asked reply new =
 -- what a call does that no check refuses
 abbrev pub Effect : Fixed → StateValue → Call → List Asked → Reply → StateValue → Type 0
 Effect fixed old (CreateDevice driver lock) asked reply new =
-    Unasked asked reply new (Device (record { 0 = length old.devices.facts })) (record old { devices = after_create old.devices driver lock })
+    Unasked asked reply new (Device (record { 0 = length old.devices.facts }))
+    (record old { devices = after_create old.devices driver lock })
 Effect fixed old (Attach device to) asked reply new =
-    Unasked asked reply new (Device (record { 0 = top_of old.devices to.0 })) (record old { devices = after_attach old.devices device.0 to.0 })
+    Unasked asked reply new (Device (record { 0 = top_of old.devices to.0 }))
+    (record old { devices = after_attach old.devices device.0 to.0 })
 Effect fixed old (Detach lower) asked reply new =
-    Unasked asked reply new (Device (record { 0 = cut_off_by old.devices lower.0 })) (record old { devices = after_detach old.devices lower.0 })
+    Unasked asked reply new (Device (record { 0 = cut_off_by old.devices lower.0 }))
+    (record old { devices = after_detach old.devices lower.0 })
 Effect fixed old (Delete device) asked reply new =
     Unasked asked reply new Done (record old { devices = after_delete old.devices device.0 })
 Effect fixed old (Allocate size) asked reply new =
     (slot : ℕ) × (live_at old slot ≡ None)
-    × Unasked asked reply new (Irp (record { slot = slot; use_no = old.next_use })) (with_new_packet old slot (new_packet size))
+    × Unasked asked reply new (Irp (record { slot = slot; use_no = old.next_use }))
+    (with_new_packet old slot (new_packet size))
 Effect fixed old (Free irp) asked reply new =
     Unasked asked reply new Done (record old { live = fin.remove old.live irp.slot })
 Effect fixed old (Reuse irp status) asked reply new =
-    Unasked asked reply new (Irp (record { slot = irp.slot; use_no = old.next_use })) (with_new_packet old irp.slot (after_reset (packet_of old irp) status))
+    Unasked asked reply new (Irp (record { slot = irp.slot; use_no = old.next_use }))
+    (with_new_packet old irp.slot (after_reset (packet_of old irp) status))
 Effect fixed old (SetNext party irp major word) asked reply new =
     Unasked asked reply new Done (with_packet old irp.slot (after_set_next (packet_of old irp) major word))
 Effect fixed old (CopyToNext party irp) asked reply new =
@@ -141,7 +146,8 @@ Effect fixed old (FinishTaken irp token status information) asked reply new =
     × Completes irp (with_status (after_take (packet_of old irp)) status information) asked packet
     × (reply ≡ Done) × (new ≡ with_packet old irp.slot packet)
 Effect fixed old (SetCancelRoutine party irp cancel) asked reply new =
-    Unasked asked reply new (Previous (packet_of old irp).cancel_routine) (with_packet old irp.slot (record (packet_of old irp) { cancel_routine = cancel }))
+    Unasked asked reply new (Previous (packet_of old irp).cancel_routine)
+    (with_packet old irp.slot (record (packet_of old irp) { cancel_routine = cancel }))
 Effect fixed old (Cancel irp) asked reply new =
     (packet : PacketValue)
     × Cancels fixed.tables irp (packet_of old irp) (packet_of old irp).cancel_routine asked reply packet

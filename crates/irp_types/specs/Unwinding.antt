@@ -48,7 +48,8 @@ replaced_below number asking = if nat_lt (place_of asking) number then asking.an
 -- the status and information in force at a location: the last replacement below it, or the packet's own
 abbrev pub outcome_at : PacketValue → List Asking → ℕ → Replacement
 outcome_at packet asked number =
-    last_from (record { status = packet.status; information = packet.information }) (filter_map (replaced_below number) asked)
+    last_from (record { status = packet.status; information = packet.information })
+    (filter_map (replaced_below number) asked)
 
 -- whether a status, or the cancel flag, meets the flags of a setting
 abbrev pub meets_flags : Setting → Bool → Status → Bool
@@ -59,7 +60,8 @@ meets_flags setting cancel status =
 -- whether a location has a routine whose flags are met there
 abbrev pub is_met_at : PacketValue → List Asking → ℕ → Bool
 is_met_at packet asked number =
-    option_map_or (λ (setting : Setting). meets_flags setting packet.cancel (outcome_at packet asked number).status) (location_at packet number).setting false
+    option_map_or (λ (setting : Setting). meets_flags setting packet.cancel (outcome_at packet asked number).status)
+    (location_at packet number).setting false
 
 -- the numbers from the first to the last
 abbrev pub from_to : ℕ → ℕ → List ℕ

@@ -14,7 +14,8 @@ use Rattle.irp_unwind.specs.Devices.{ending_at}
 
 -- a descent: what it asked stands behind the others in the list of what was asked, each answered as it may, and the
 -- packet that is left, the status of the reply and how it ended are those of the frames
-pub record Descends (may : Asked → Type 0) (tables : Tables) (irp : IrpRef) (devices : DevicesValue) (old : PacketValue) (target : ℕ) (new : PacketValue) (before after : List Asked) (sent : Sent) : Type 0 where
+pub record Descends (may : Asked → Type 0) (tables : Tables) (irp : IrpRef) (devices : DevicesValue) (old : PacketValue)
+    (target : ℕ) (new : PacketValue) (before after : List Asked) (sent : Sent) : Type 0 where
   pub asked : List Asked
   pub descended : Descended tables irp devices old target asked new sent.status
   pub listed : after ≡ before ++ asked
@@ -28,8 +29,8 @@ pub record Descends (may : Asked → Type 0) (tables : Tables) (irp : IrpRef) (d
 abbrev pub within_reach : PacketValue → ℕ → ℕ
 within_reach packet depth = size_of packet - ((packet.current - 1) - depth)
 
--- how many questions a descent can ask: one to each device from the target down, and one to each location that the packet
--- may come to
+-- how many questions a descent can ask: one to each device from the target down, and one to each location that the
+-- packet may come to
 abbrev pub can_ask_down : DevicesValue → PacketValue → ℕ → ℕ
 can_ask_down devices packet target = stack_size_of devices target + within_reach packet (stack_size_of devices target)
 

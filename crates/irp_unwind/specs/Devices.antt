@@ -63,7 +63,8 @@ shown_here irp packet devices device = record {
 }
 
 -- the dispatch of a device, if its driver has one, was asked and put behind the others
-pub record IsPlannedHere (may : Asked → Type 0) (tables : Tables) (irp : IrpRef) (devices : DevicesValue) (packet : PacketValue) (frame : Frame) (before after : List Asked) : Type 0 where
+pub record IsPlannedHere (may : Asked → Type 0) (tables : Tables) (irp : IrpRef) (devices : DevicesValue)
+    (packet : PacketValue) (frame : Frame) (before after : List Asked) : Type 0 where
   pub planned : IsPlannedAs tables devices frame (shown_here irp packet devices frame.device)
   pub listed : after ≡ before ++ question_at tables devices frame (shown_here irp packet devices frame.device)
   pub given : AllByRecursion may (question_at tables devices frame (shown_here irp packet devices frame.device))
@@ -80,7 +81,8 @@ ending_at last reached asked (Some (Forward set)) = Ended
 ending_at last reached asked (Some (ForwardPend set)) = Ended
 
 -- the device of the current location holds the packet, or it is finished and unwound
-pub record EndsHere (may_answer : RoutineId → Shown → Answer → Type 0) (irp : IrpRef) (packet : PacketValue) (device : ℕ) (plan : Option Plan) (new : PacketValue) (before after : List Asked) (ending : Ending) : Type 0 where
+pub record EndsHere (may_answer : RoutineId → Shown → Answer → Type 0) (irp : IrpRef) (packet : PacketValue)
+    (device : ℕ) (plan : Option Plan) (new : PacketValue) (before after : List Asked) (ending : Ending) : Type 0 where
   pub asked : List Asking
   pub ends : Ends irp (frame_at packet device plan) (stopped packet plan) asked new plan
   pub listed : after ≡ before ++ map as_asked asked

@@ -25,7 +25,8 @@ IsGiven may_answer asking = may_answer asking.id asking.shown asking.answer
 
 -- an unwinding: the routines that it asked stand behind the others in the list of what was asked, each answered as it
 -- may, and they settle the packet that is left and how it ended
-pub record Unwinds (may_answer : RoutineId → Shown → Answer → Type 0) (irp : IrpRef) (old new : PacketValue) (before after : List Asked) (ending : Ending) : Type 0 where
+pub record Unwinds (may_answer : RoutineId → Shown → Answer → Type 0) (irp : IrpRef) (old new : PacketValue)
+    (before after : List Asked) (ending : Ending) : Type 0 where
   pub asked : List Asking
   pub unwound : Unwound irp old asked new
   pub listed : after ≡ before ++ map as_asked asked

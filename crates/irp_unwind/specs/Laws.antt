@@ -39,13 +39,15 @@ UnwindingIsSettled =
 abbrev pub IsReplyOf :
     (DispatchId → Shown → Plan) → (RoutineId → Shown → Answer) → (CancelId → Shown → CancelAnswer) → Asked → Type 0
 IsReplyOf plan_of reply cancel_reply asked =
-    IsAnswered (λ id shown plan. plan ≡ plan_of id shown) (λ id shown answer. answer ≡ reply id shown) (λ id shown answer. answer ≡ cancel_reply id shown) asked
+    IsAnswered (λ id shown plan. plan ≡ plan_of id shown) (λ id shown answer. answer ≡ reply id shown)
+    (λ id shown answer. answer ≡ cancel_reply id shown) asked
 
 -- where each closure has one answer to what it is shown, a packet, the target and its stack settle the frames, what is
 -- asked, what is left of the packet, and the status of the reply
 abbrev pub DescentIsSettled : Type 0
 DescentIsSettled =
-    (plan_of : DispatchId → Shown → Plan) (reply : RoutineId → Shown → Answer) (cancel_reply : CancelId → Shown → CancelAnswer)
+    (plan_of : DispatchId → Shown → Plan) (reply : RoutineId → Shown → Answer)
+    (cancel_reply : CancelId → Shown → CancelAnswer)
     (tables : Tables) (irp : IrpRef) (devices : DevicesValue) (packet : PacketValue) (target : ℕ)
     (first second : PacketValue) (asked others : List Asked) (status other : Status)
     → packet.current ≤ size_of packet + 1

@@ -66,7 +66,8 @@ abbrev pub IsMark : PacketValue → Answer → Type 0
 IsMark packet answer = answer.mark ≡ (not answer.keep && mark_above packet)
 
 -- the routine of the current location was asked, answered as it may, and stands behind the others
-pub record IsListed (may_answer : RoutineId → Shown → Answer → Type 0) (irp : IrpRef) (packet : PacketValue) (before after : List Asked) (answer : Answer) : Type 0 where
+pub record IsListed (may_answer : RoutineId → Shown → Answer → Type 0) (irp : IrpRef) (packet : PacketValue)
+    (before after : List Asked) (answer : Answer) : Type 0 where
   pub asking : Asking
   pub met : is_met_now packet ≡ true
   pub asked : IsAskedNow irp packet asking
