@@ -1,7 +1,7 @@
 //! The small forms that scripts and transcripts are made of, read from JSON values.
 #![tactic(auto)]
 
-mod calls;
+mod call_forms;
 mod from_value;
 mod list;
 mod names;
@@ -11,7 +11,7 @@ mod seat_acts;
 mod unread;
 mod values;
 
-pub use calls::call_named;
+pub use call_forms::call_named;
 pub use from_value::{FromValue, nth, under};
 pub use list::{FromJson, list_at};
 pub use names::{Flags, HasName, flags_named, named};

@@ -1,6 +1,6 @@
 //! What a caller knows of remove locks.
 
-ghost use Rattle.std.specs.Prelude.{◌≡◌, Bool, false, true};
+ghost use Rattle.std.specs.Prelude.{◌≡◌, Bool, false};
 ghost use Rattle.irp_types.specs.declared.names.LockNo.{LockNo};
 
 use irp_types::LockNo;
@@ -25,18 +25,5 @@ impl DrainNote for KnowsNothing {
     fn knows(&self, lock: LockNo) -> bool {
         let _ = lock;
         false
-    }
-}
-
-/// A note that takes each lock for drained, for tests and for teaching: nothing was drained for it.
-#[derive(Clone, Copy, Debug, PartialEq, Eq)]
-pub struct KnowsAll;
-
-impl DrainNote for KnowsAll {
-    ghost knows_drained = { λ note lock. true };
-
-    fn knows(&self, lock: LockNo) -> bool {
-        let _ = lock;
-        true
     }
 }

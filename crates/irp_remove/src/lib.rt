@@ -4,8 +4,8 @@
 //! allocator, and none is given a handle to wait with.
 #![tactic(auto)]
 
-mod calls;
-mod laws;
+mod lock_calls;
+mod lock_laws;
 mod opening;
 mod plays;
 mod reference;
@@ -14,7 +14,7 @@ mod seat;
 mod table;
 mod views;
 
-pub use laws::{drained_for_good, table_keeps_rule, word_counts_references};
+pub use lock_laws::{drained_for_good, table_keeps_rule, word_counts_references};
 pub use opening::open;
 pub use plays::{Counted, Tagged};
 pub use reference::Reference;

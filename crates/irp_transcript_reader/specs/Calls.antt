@@ -8,7 +8,7 @@ use Rattle.irp_forms.specs.Values.{device_at, irp_at, lock_at, status_at}
 use Rattle.irp_forms.specs.Calls.{call_named}
 use Rattle.irp_types.specs.Calls.{Call}
 use Rattle.irp_types.specs.declared.call.Call.TheVariants as calls
-use Rattle.irp_transcript_reader.specs.declared.calls.EntryCall.{EntryCall}
+use Rattle.irp_transcript_reader.specs.declared.entry_calls.EntryCall.{EntryCall}
 
 -- a delete, with the entry's lock, or null, and whether that was known to be drained
 unfoldable pub delete_at : Data → Option EntryCall

@@ -4,7 +4,7 @@ ghost use Rattle.serde_json.specs.View.{view};
 ghost use Rattle.irp_forms.specs.Parts.{Gives};
 ghost use Rattle.irp_transcript_reader.specs.Lines as spec;
 
-use crate::calls::entry_call_at;
+use crate::entry_calls::entry_call_at;
 use crate::headers::list_under;
 use crate::replies::reply_at;
 use irp_forms::{Unread, form_of, only_keys, under};

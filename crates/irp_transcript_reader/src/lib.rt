@@ -1,8 +1,8 @@
 //! Transcripts read from lines of JSON.
 #![tactic(auto)]
 
-mod calls;
 mod entries;
+mod entry_calls;
 mod forms;
 mod headers;
 mod read;
@@ -11,7 +11,7 @@ mod reading;
 mod replies;
 mod word_lines;
 
-pub use calls::{EntryCall, entry_call_at};
+pub use entry_calls::{EntryCall, entry_call_at};
 pub use read::{TakeLine, read_lines};
 pub use read_fault::ReadFault;
 pub use reading::{MOST_BYTES, Reading};

@@ -1,7 +1,7 @@
 //! Transcripts as lines of JSON, and where they go.
 #![tactic(auto)]
 
-mod calls;
+mod call_lines;
 mod form;
 mod lines;
 mod names;

@@ -6,7 +6,7 @@ ghost use Rattle.serde_json.specs.Written.{compact_text};
 ghost use Rattle.irp_transcript_writer.specs.Json.{list};
 ghost use Rattle.irp_transcript_writer.specs.Lines.{asked_json, completions_json, entry_json, header_json, reply_json};
 
-use crate::calls::put_call;
+use crate::call_lines::put_call;
 use crate::form::{Written, put, put_list, put_one, put_text, put_two};
 use irp_transcript::{Form, Header};
 use irp_types::{Asked, Entry, Known, Questions, Reply};

@@ -6,7 +6,7 @@ mod answer;
 mod asked;
 mod call;
 mod entry;
-mod laws;
+mod history_laws;
 mod limit;
 pub mod limits;
 mod location;
@@ -24,7 +24,7 @@ pub use answer::{Answer, CancelAnswer, Plan, Replacement};
 pub use asked::Asked;
 pub use call::{Call, Party};
 pub use entry::Entry;
-pub use laws::{
+pub use history_laws::{
     entry_settles_next_state, held_packet_is_finished_taken, history_completes_once,
     history_goes_on, history_settles_states, standing_facts_stay,
 };

@@ -6,12 +6,12 @@ mod conditions;
 mod descent;
 mod device;
 mod ending;
-mod laws;
 mod turn;
 mod unwinding;
+mod unwinding_laws;
 
 pub use conditions::{can_descend, can_unwind};
 pub use descent::descend;
 pub use ending::{Ending, Sent};
-pub use laws::{descent_is_settled, unwinding_is_settled};
 pub use unwinding::unwind;
+pub use unwinding_laws::{descent_is_settled, unwinding_is_settled};

@@ -1,5 +1,0 @@
-use Rattle.irp_remove.proofs.Lawful.{drained_law}
-use Rattle.irp_remove.proofs.laws.drained_for_good.Goals as goal
-
-pub returns : goal.returns
-returns c = drained_law

@@ -1,5 +1,0 @@
-use Rattle.irp_slots.proofs.Lawful.{order_law}
-use Rattle.irp_slots.proofs.laws.parties_keep_order.Goals as goal
-
-pub returns : goal.returns
-returns c = order_law

@@ -1,5 +1,0 @@
-use Rattle.irp_types.proofs.HeldPackets.{held_is_finished_taken}
-use Rattle.irp_types.proofs.laws.held_packet_is_finished_taken.Goals as goal
-
-pub returns : goal.returns
-returns c = held_is_finished_taken

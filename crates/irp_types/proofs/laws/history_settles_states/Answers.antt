@@ -1,5 +1,0 @@
-use Rattle.irp_types.proofs.SettledStates.{history_settles_states}
-use Rattle.irp_types.proofs.laws.history_settles_states.Goals as goal
-
-pub returns : goal.returns
-returns c = history_settles_states
