@@ -1,5 +1,8 @@
 //! Why a text is no condition.
 
+ghost use Rattle.std.specs.Prelude.{◌≡◌};
+ghost use Rattle.irp_condition.specs.declared.fault.Unread.TheVariants.{NoMemory};
+
 use std::alloc::{AllocError, AllocFailed};
 use std::fmt;
 
@@ -74,12 +77,16 @@ pub enum Unread {
 }
 
 impl From<AllocError> for Unread {
+    ghost from_gives = { λ _ unread. unread ≡ NoMemory };
+
     fn from(_error: AllocError) -> Unread {
         Unread::NoMemory
     }
 }
 
 impl<T: Drop> From<AllocFailed<T>> for Unread {
+    ghost from_gives = { λ _ unread. unread ≡ NoMemory };
+
     fn from(_error: AllocFailed<T>) -> Unread {
         Unread::NoMemory
     }

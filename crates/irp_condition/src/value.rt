@@ -38,3 +38,10 @@ pub enum Value {
     /// A reply in one word.
     Answer(Answer),
 }
+
+/// A word, and the value that it writes.
+#[derive(Clone, Copy)]
+pub struct Named {
+    pub name: &'static str,
+    pub value: Value,
+}

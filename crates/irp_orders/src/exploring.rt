@@ -6,6 +6,7 @@ use crate::found::{Found, found_of};
 use crate::groups::groups_of;
 use crate::input::read_up_to;
 use crate::labels::labels_of;
+use crate::names::value_names;
 use crate::never::{broken_by, told};
 use crate::table::{Columns, table};
 use irp_condition::{Scope, read_condition};
@@ -85,11 +86,14 @@ fn judge(
     text: &str,
 ) -> Result<(Vec<u8>, Ending), Ending> {
     let parts = explored.script.parts();
+    let names = value_names(alloc)?;
     let scope = Scope {
         labels: explored.labels.as_slice(),
         steps: u32::try_from(parts.steps.as_slice().len()).unwrap_or(u32::MAX),
         locks: parts.locks,
         knows_replies: !by_ends,
+        statuses: names.statuses.as_slice(),
+        refusals: names.refusals.as_slice(),
     };
     let condition = read_condition(alloc, text, scope)?;
     let deleted = deleted_by_setup(alloc, &explored.script)?;

@@ -10,6 +10,7 @@ mod groups;
 mod help;
 mod input;
 mod labels;
+mod names;
 mod never;
 mod steps;
 mod table;

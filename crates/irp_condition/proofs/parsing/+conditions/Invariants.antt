@@ -1,18 +1,27 @@
-use Rattle.std.proofs.Common.{◌+◌, ◌*◌, length}
-use Rattle.irp_condition.specs.Naming.{IsConditionOf}
+use Rattle.std.proofs.Common.{◌+◌, ◌*◌, ◌<◌, length, List}
+use Rattle.irp_condition.specs.declared.tokens.Token.{Token}
+use Rattle.irp_condition.specs.Formulas.{Formula, formula_of}
+use Rattle.irp_condition.specs.Grammar.{Says, joined}
+use Rattle.irp_condition.specs.Parsing.{Stops}
+use Rattle.irp_condition.proofs.Chains.{Chain, rank_of}
 use Rattle.irp_condition.proofs.parsing.+conditions.Given as goal
 
-abbrev pub decreases-take_single : goal.decreases-take_single
-decreases-take_single l = 3 * l.depth
+abbrev pub decreases-single_at : goal.decreases-single_at
+decreases-single_at l = 5 * l.depth
 
-abbrev pub decreases-take_all : goal.decreases-take_all
-decreases-take_all l = 3 * l.depth + 1
+abbrev pub decreases-inside_at : goal.decreases-inside_at
+decreases-inside_at l = 5 * l.depth + rank_of l.joint
 
-abbrev pub decreases-take_any : goal.decreases-take_any
-decreases-take_any l = 3 * l.depth + 2
+abbrev pub decreases-joined_at : goal.decreases-joined_at
+decreases-joined_at l = 5 * l.depth + rank_of l.joint + 1
 
-abbrev pub invariant-take_all-loop : goal.invariant-take_all-loop
-invariant-take_all-loop l = IsConditionOf (length l.scope.labels.now) l.scope.steps l.scope.locks l.all
+abbrev pub invariant-joined_at-loop-next : goal.invariant-joined_at-loop-next
+invariant-joined_at-loop-next l = record {
+  said : Says l.reader.scope (joined l.joint) l.depth l.tokens (formula_of l.so_far) l.rest;
+  whole : (formula : Formula) (end : List Token) → Says l.reader.scope (joined l.joint) l.depth l.tokens formula end
+      → Stops (joined l.joint) end → Chain l.reader.scope l.joint l.depth (formula_of l.so_far) l.rest formula end;
+  shorter : length l.rest < length l.tokens;
+}
 
-abbrev pub invariant-take_any-loop : goal.invariant-take_any-loop
-invariant-take_any-loop l = IsConditionOf (length l.scope.labels.now) l.scope.steps l.scope.locks l.any
+abbrev pub decreases-joined_at-loop-next : goal.decreases-joined_at-loop-next
+decreases-joined_at-loop-next l = length l.rest

@@ -1,0 +1,115 @@
+//! The names of statuses and refusals, for conditions that are read.
+
+use irp_condition::{Named, Value};
+use irp_names::{refusal_name, status_name};
+use irp_types::{Refusal, Status};
+use std::alloc::{AllocError, Global};
+
+/// The statuses that have names.
+const STATUSES: [Status; 35] = [
+    Status(0x0000_0000),
+    Status(0x0000_0102),
+    Status(0x0000_0103),
+    Status(0x0000_0104),
+    Status(0x8000_0005),
+    Status(0x8000_0006),
+    Status(0x8000_0011),
+    Status(0x8000_001A),
+    Status(0xC000_0001),
+    Status(0xC000_0002),
+    Status(0xC000_0004),
+    Status(0xC000_0005),
+    Status(0xC000_0008),
+    Status(0xC000_000D),
+    Status(0xC000_000E),
+    Status(0xC000_000F),
+    Status(0xC000_0010),
+    Status(0xC000_0011),
+    Status(0xC000_0016),
+    Status(0xC000_0017),
+    Status(0xC000_0022),
+    Status(0xC000_0023),
+    Status(0xC000_0034),
+    Status(0xC000_0035),
+    Status(0xC000_0043),
+    Status(0xC000_0056),
+    Status(0xC000_007F),
+    Status(0xC000_009A),
+    Status(0xC000_009D),
+    Status(0xC000_00A3),
+    Status(0xC000_00B5),
+    Status(0xC000_00BB),
+    Status(0xC000_0120),
+    Status(0xC000_0184),
+    Status(0xC000_0185),
+];
+
+/// All refusals.
+const REFUSALS: [Refusal; 29] = [
+    Refusal::NoIrp,
+    Refusal::Stale,
+    Refusal::NoDevice,
+    Refusal::DeviceGone,
+    Refusal::NotOwner,
+    Refusal::NoLocation,
+    Refusal::NotPrepared,
+    Refusal::AfterSkip,
+    Refusal::TooShort,
+    Refusal::WrongTarget,
+    Refusal::NoRoutine,
+    Refusal::BadStatus,
+    Refusal::CancelRoutineSet,
+    Refusal::AlreadyCancelled,
+    Refusal::InFlight,
+    Refusal::StillAttached,
+    Refusal::SameStack,
+    Refusal::TooDeep,
+    Refusal::Full,
+    Refusal::NothingAttached,
+    Refusal::NotDrained,
+    Refusal::BadSize,
+    Refusal::BadMajor,
+    Refusal::NoDriver,
+    Refusal::Ended,
+    Refusal::HistoryFull,
+    Refusal::NoLock,
+    Refusal::SlotHeld,
+    Refusal::NotSlotHeld,
+];
+
+/// The names that values have in conditions.
+#[derive(Drop)]
+pub struct Names {
+    pub statuses: Vec<Named>,
+    pub refusals: Vec<Named>,
+}
+
+/// The names of the statuses, each with its number.
+fn status_names(alloc: Global) -> Result<Vec<Named>, AllocError> {
+    let mut names = Vec::new(alloc);
+    for status in STATUSES {
+        if let Some(name) = status_name(status) {
+            let value = Value::Number(status.0 as u64);
+            names.push(Named { name, value })?;
+        }
+    }
+    Ok(names)
+}
+
+/// The names of the refusals.
+fn refusal_names(alloc: Global) -> Result<Vec<Named>, AllocError> {
+    let mut names = Vec::new(alloc);
+    for refusal in REFUSALS {
+        let (name, value) = (refusal_name(refusal), Value::Refused(refusal));
+        names.push(Named { name, value })?;
+    }
+    Ok(names)
+}
+
+/// The names of all statuses and refusals that have one. The one error is want of memory.
+pub fn value_names(alloc: Global) -> Result<Names, AllocError> {
+    Ok(Names {
+        statuses: status_names(alloc)?,
+        refusals: refusal_names(alloc)?,
+    })
+}
