@@ -5,9 +5,8 @@ ghost use Rattle.irp_types.specs.Rules.{is_plan_allowed, is_cancel_allowed};
 ghost use Rattle.irp_types.specs.State.{no_routines};
 ghost use Rattle.irp_types.specs.declared.routine.CancelRule.TheVariants.{MustFinish};
 
-use super::stores::{
-    READ, Step, adds, adds_cancel, adds_dispatch, adds_driver, last_receipt, look_on,
-};
+use super::outcome::{NO_MEMORY, Outcome, number};
+use super::stores::{READ, Step, adds, adds_cancel, adds_dispatch, adds_driver, answered, look_on};
 use irp_routines::{CancelRoutine, Dispatch, Routine, Store};
 use irp_types::{
     Call, CancelAnswer, CancelId, CancelRule, DeviceId, DriverId, IrpRef, Known, LockNo, Party,
@@ -16,7 +15,6 @@ use irp_types::{
 use std::alloc::{AllocError, Global};
 use std::sync::Arc;
 use std::sync::atomic::{AtomicU32, Ordering};
-use std::test::Fail;
 
 const FIRST: IrpRef = IrpRef { slot: 0, use_no: 1 };
 
@@ -210,8 +208,8 @@ fn shares_of(counts: &Arc<Counts>) -> Result<Shares, AllocError> {
     })
 }
 
-/// Makes the steps with closures that count in these counts. Whether each is answered as it has to be.
-fn makes_steps(alloc: Global, counts: &Arc<Counts>) -> Result<bool, AllocError> {
+/// Makes the steps with closures that count in these counts. Right where each is answered as it has to be.
+fn makes_steps(alloc: Global, counts: &Arc<Counts>) -> Result<Outcome, AllocError> {
     let Shares {
         watch: of_watch,
         cancel: of_cancel,
@@ -232,18 +230,27 @@ fn makes_steps(alloc: Global, counts: &Arc<Counts>) -> Result<bool, AllocError> 
     let watch = Routine::new(Rule::Watch, Box::new(alloc, watch)?);
     let cancel = CancelRoutine::new(CancelRule::MustFinish, Box::new(alloc, cancel)?);
     let dispatch = Dispatch::new(ONE_CANCEL, Box::new(alloc, dispatch)?);
-    let made = match store_of(alloc, watch, cancel, dispatch) {
-        Some(store) => last_receipt(alloc, store, &STEPS),
-        None => None,
-    };
-    Ok(made.is_some())
+    match store_of(alloc, watch, cancel, dispatch) {
+        Some(store) => Ok(answered(alloc, store, &STEPS)),
+        None => Ok(NO_MEMORY),
+    }
 }
 
-#[test]
-fn each_closure_is_asked_once_for_each_question(rt: HostRuntime) -> Result<(), Fail> {
-    let alloc = rt.alloc();
-    let counts = Arc::new(alloc, Counts::new())?;
-    assert!(rt; makes_steps(alloc, &counts)?);
-    assert!(rt; counts.counted() == (1, 2, 2));
-    Ok(())
+/// Makes the steps, and compares how often the closures were asked with how often they have to be.
+fn is_counted(alloc: Global, counts: &Arc<Counts>) -> Outcome {
+    let Ok(made) = makes_steps(alloc, counts) else {
+        return NO_MEMORY;
+    };
+    let (watch, cancel, dispatch) = counts.counted();
+    made.and(number("questions to the Watch", u64::from(watch), 1))
+        .and(number("questions to the cancel routine", u64::from(cancel), 2))
+        .and(number("questions to the dispatch", u64::from(dispatch), 2))
+}
+
+/// Closures that count are asked once for each question of a session's book.
+pub fn each_closure_is_asked_once_for_each_question(alloc: Global) -> Outcome {
+    match Arc::new(alloc, Counts::new()) {
+        Ok(counts) => is_counted(alloc, &counts),
+        Err(_) => NO_MEMORY,
+    }
 }

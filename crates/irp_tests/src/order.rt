@@ -4,7 +4,8 @@ ghost use Rattle.std.specs.Prelude.{◌≡◌, true};
 ghost use Rattle.irp_types.specs.Rules.{is_plan_allowed};
 ghost use Rattle.irp_types.specs.State.{no_routines};
 
-use super::stores::{READ, Step, adds, adds_dispatch, adds_driver, last_receipt, look_on};
+use super::outcome::{NO_MEMORY, Outcome, number};
+use super::stores::{READ, Step, adds, adds_dispatch, adds_driver, answered, look_on};
 use irp_routines::{Dispatch, Routine, Store};
 use irp_types::{
     Call, DeviceId, DriverId, IrpRef, Known, LockNo, Party, Plan, Reply, RoutineId, Rule, Setting,
@@ -13,7 +14,6 @@ use irp_types::{
 use std::alloc::{AllocError, Global};
 use std::sync::Arc;
 use std::sync::atomic::{AtomicU32, Ordering};
-use std::test::Fail;
 
 const IRP: IrpRef = IrpRef { slot: 0, use_no: 1 };
 
@@ -120,9 +120,9 @@ fn store_of(alloc: Global, watch: Routine, dispatch: Dispatch) -> Option<Store> 
     }
 }
 
-/// Makes the steps with closures that note when they are called: a dispatch 1 or 2, the Watch its context. Whether each
-/// is answered as it has to be.
-fn makes_steps(alloc: Global, notes: &Arc<AtomicU32>) -> Result<bool, AllocError> {
+/// Makes the steps with closures that note when they are called: a dispatch 1 or 2, the Watch its context. Right where
+/// each is answered as it has to be.
+fn makes_steps(alloc: Global, notes: &Arc<AtomicU32>) -> Result<Outcome, AllocError> {
     let of_watch = notes.clone()?;
     let of_dispatch = notes.clone()?;
     let watch = move |shown: Shown| {
@@ -135,18 +135,25 @@ fn makes_steps(alloc: Global, notes: &Arc<AtomicU32>) -> Result<bool, AllocError
     };
     let watch = Routine::new(Rule::Watch, Box::new(alloc, watch)?);
     let dispatch = Dispatch::new(ONE_WATCH, Box::new(alloc, dispatch)?);
-    let made = match store_of(alloc, watch, dispatch) {
-        Some(store) => last_receipt(alloc, store, &STEPS),
-        None => None,
-    };
-    Ok(made.is_some())
+    match store_of(alloc, watch, dispatch) {
+        Some(store) => Ok(answered(alloc, store, &STEPS)),
+        None => Ok(NO_MEMORY),
+    }
 }
 
-#[test]
-fn closures_are_called_in_the_order_of_the_list(rt: HostRuntime) -> Result<(), Fail> {
-    let alloc = rt.alloc();
-    let notes = Arc::new(alloc, AtomicU32::new(0))?;
-    assert!(rt; makes_steps(alloc, &notes)?);
-    assert!(rt; notes.load(Ordering::SeqCst) == 1234);
-    Ok(())
+/// Makes the steps, and compares what was noted with the order of the list.
+fn is_in_order(alloc: Global, notes: &Arc<AtomicU32>) -> Outcome {
+    let Ok(made) = makes_steps(alloc, notes) else {
+        return NO_MEMORY;
+    };
+    let noted = notes.load(Ordering::SeqCst);
+    made.and(number("the order of the calls", u64::from(noted), 1234))
+}
+
+/// The upper dispatch is called, the lower one, the lower Watch, and the upper one.
+pub fn closures_are_called_in_the_order_of_the_list(alloc: Global) -> Outcome {
+    match Arc::new(alloc, AtomicU32::new(0)) {
+        Ok(notes) => is_in_order(alloc, &notes),
+        Err(_) => NO_MEMORY,
+    }
 }

@@ -1,13 +1,15 @@
-//! Seats of one remove lock: one that is dropped, and nine in threads of their own. Each test ends by itself, and
-//! answers the same whatever the schedule.
+//! Seats of one remove lock: one that is dropped, and nine in threads of their own.
 
 ghost use Rattle.irp_remove.specs.Pairing.{IsSeatOf};
 
+use super::outcome::{NO_MEMORY, Outcome, holds, number};
 use irp_manager::DrainNote;
 use irp_remove::{AcquireRefusal, DrainRefusal, Locks, RemoveSeat, open};
 use irp_types::LockNo;
-use std::test::Fail;
+use std::alloc::Global;
+use std::sync::Wait;
 use std::thread;
+use std::thread::Threads;
 
 /// The one lock.
 pub const LOCK: LockNo = LockNo(0);
@@ -44,9 +46,12 @@ impl Holder<'_> {
         self.locks.drained(&mut self.seat, LOCK)
     }
 
-    /// Whether the lock answers that it is busy: its removal has begun, and one reference is held.
-    fn is_busy(&mut self) -> bool {
-        self.drained() == Err(DrainRefusal::Busy(3))
+    /// Right where the lock answers that it is busy: its removal has begun, and one reference is held.
+    fn is_busy(&mut self) -> Outcome {
+        match self.drained() {
+            Err(DrainRefusal::Busy(word)) => number("the word of the lock", word, 3),
+            _ => Outcome::Wrong("the lock isn't busy"),
+        }
     }
 
     /// Takes a reference and gives it back, until it is refused one since the removal of the lock has begun. Whether it
@@ -92,19 +97,27 @@ impl Holder<'_> {
     }
 }
 
-/// Whether the first seat finds the lock busy, again and again, when it has begun the removal and the second is gone,
-/// which holds a reference.
-fn stays_busy(mut first: Holder<'_>, mut second: Holder<'_>) -> bool {
+/// Right where the first seat finds the lock busy, again and again, when it has begun the removal and the second is
+/// gone, which holds a reference.
+fn stays_busy(mut first: Holder<'_>, mut second: Holder<'_>) -> Outcome {
     let is_held = first.acquires(1).is_ok() && second.acquires(2).is_ok();
     drop(second);
-    is_held && first.begins(1) && first.is_busy() && first.is_busy() && !first.seat.knows(LOCK)
+    holds(is_held, "a seat was refused a reference")
+        .and(holds(first.begins(1), "the removal didn't begin"))
+        .and(first.is_busy())
+        .and(first.is_busy())
+        .and(holds(!first.seat.knows(LOCK), "the seat knows the lock drained"))
 }
 
-#[test]
-fn a_seat_dropped_while_it_holds_keeps_the_lock_busy(rt: HostRuntime) -> Result<(), Fail> {
-    let (locks, mut seats) = open(rt.alloc(), 1, 2)?;
-    let (Some(second), Some(first)) = (seats.pop(), seats.pop()) else {
-        return Err(Fail::from("two seats were asked for"));
+/// Where a seat is dropped that holds a reference, the lock is busy: 3, the removed bit and one reference.
+pub fn a_seat_dropped_while_it_holds_keeps_the_lock_busy(alloc: Global) -> Outcome {
+    let Ok((locks, mut seats)) = open(alloc, 1, 2) else {
+        return NO_MEMORY;
+    };
+    let second = seats.pop();
+    let first = seats.pop();
+    let (Some(first), Some(second)) = (first, second) else {
+        return Outcome::Wrong("two seats were asked for");
     };
     let locks = &locks;
     let first = Holder { locks, seat: first };
@@ -112,21 +125,37 @@ fn a_seat_dropped_while_it_holds_keeps_the_lock_busy(rt: HostRuntime) -> Result<
         locks,
         seat: second,
     };
-    assert!(rt; stays_busy(first, second));
-    Ok(())
+    stays_busy(first, second)
 }
 
-#[test]
-fn remove_under_load(rt: HostRuntime) -> Result<(), Fail> {
-    let (locks, seats) = open(rt.alloc(), 1, 9)?;
+/// How many of these seats did all that they have to.
+fn count_right(played: &[bool]) -> u64 {
+    let mut count: u64 = 0;
+    for is_right in played {
+        count = count.wrapping_add(u64::from(*is_right));
+    }
+    count
+}
+
+/// Eight seats acquire and release in threads of their own, until a ninth removes the lock.
+pub fn remove_under_load<R: Threads + Wait + Sync>(rt: &R, alloc: Global) -> Outcome {
+    let Ok((locks, seats)) = open(alloc, 1, 9) else {
+        return NO_MEMORY;
+    };
     let locks = &locks;
     let played = thread::map_vec(
-        &rt,
+        rt,
         seats,
         &|seat: RemoveSeat| -> bool
             requires { IsSeatOf locks.now seat }
         { Holder { locks, seat }.plays() },
-    )?;
-    assert!(rt; played.len() == 9 && played.iter().all(|&played| played));
-    Ok(())
+    );
+    let Ok(played) = played else {
+        return NO_MEMORY;
+    };
+    number("seats", played.len() as u64, 9).and(number(
+        "seats that did all",
+        count_right(played.as_slice()),
+        9,
+    ))
 }

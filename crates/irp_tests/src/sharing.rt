@@ -1,5 +1,5 @@
-//! A dispatch runs in a call, under the session's lock, while another thread acquires the remove lock. The test ends by
-//! itself: who waits for the other thread does so for a number of turns.
+//! A dispatch runs in a call, under the session's lock, while another thread acquires the remove lock. Who waits for the
+//! other thread does so for a number of turns.
 
 ghost use Rattle.std.specs.Prelude.{◌≡◌, true};
 ghost use Rattle.irp_types.specs.declared.limit.Limit.TheVariants.{ThirtyTwo};
@@ -8,6 +8,7 @@ ghost use Rattle.irp_types.specs.Rules.{is_plan_allowed};
 ghost use Rattle.irp_types.specs.State.{no_routines};
 ghost use Rattle.irp_remove.specs.Pairing.{IsSeatOf};
 
+use super::outcome::{NO_MEMORY, Outcome, holds, number};
 use super::remove::LOCK;
 use super::stores::{READ, adds_dispatch, adds_driver};
 use irp_manager::KnowsNothing;
@@ -22,7 +23,6 @@ use std::marker::Brand;
 use std::sync::atomic::{AtomicBool, Ordering};
 use std::sync::ledger::Blank;
 use std::sync::{Arc, Wait};
-use std::test::Fail;
 use std::thread;
 use std::thread::Threads;
 
@@ -91,18 +91,21 @@ struct Takers {
     ghost taker_fits: { IsSeatOf locks taker },
 }
 
-fn takers_of(alloc: Global) -> Result<Takers, Fail> {
-    let (locks, mut seats) = irp_remove::open(alloc, 1, 2)?;
+/// One new lock and its two seats. None where memory is missing.
+fn takers_of(alloc: Global) -> Option<Takers> {
+    let Ok((locks, mut seats)) = irp_remove::open(alloc, 1, 2) else {
+        return None;
+    };
     let taker = seats.pop();
     let giver = seats.pop();
-    let (Some(giver), Some(taker)) = (giver, taker) else {
-        return Err(Fail::from("two seats were asked for"));
-    };
-    Ok(Takers {
-        locks,
-        giver,
-        taker,
-    })
+    match (giver, taker) {
+        (Some(giver), Some(taker)) => Some(Takers {
+            locks,
+            giver,
+            taker,
+        }),
+        _ => None,
+    }
 }
 
 impl Takers {
@@ -130,53 +133,58 @@ impl Takers {
 }
 
 /// Has the taker take over the giver's reference once the dispatch runs, acquire the lock itself, and release both, and
-/// tells that it did. Whether the dispatch ran, and all were answered Ok.
-fn takes(takers: &mut Takers, meeting: &Meeting) -> bool {
+/// tells that it did. Right where the dispatch ran, and all were answered Ok.
+fn takes(takers: &mut Takers, meeting: &Meeting) -> Outcome {
     let is_asked = waits(&meeting.asked);
     let is_handed = takers.hands();
     let is_taken = takers.acquires(2) && takers.releases(2) && takers.releases(1);
     meeting.answered.store(true, Ordering::SeqCst);
-    is_asked && is_handed && is_taken
+    holds(is_asked, "the dispatch didn't run")
+        .and(holds(is_handed, "the reference wasn't handed over"))
+        .and(holds(is_taken, "the other thread's calls were refused"))
 }
 
-/// The seat makes the calls. Whether the last of them sees the packet ended with information 1: the other thread was
-/// answered while the dispatch ran.
-fn sends<A: Ask, L: Session>(rt: &impl Wait, shared: &Shared<A, L>, mut seat: Seat<L>) -> bool {
-    let mut is_met = false;
+/// The seat makes the calls. Right where the last of them sees the packet ended with information 1: the other thread
+/// was answered while the dispatch ran.
+fn sends<A: Ask, L: Session>(rt: &impl Wait, shared: &Shared<A, L>, mut seat: Seat<L>) -> Outcome {
+    let mut last = Reply::Done;
     for call in CALLS.iter() {
         if needs_token(*call) {
-            return false;
+            return Outcome::Wrong("a call needs a token");
         }
-        is_met = match shared.call(rt, &mut seat, *call, &KnowsNothing) {
-            Ok(receipt) => is_ended(receipt.reply()),
-            Err(_) => false,
-        };
+        match shared.call(rt, &mut seat, *call, &KnowsNothing) {
+            Ok(receipt) => last = receipt.reply(),
+            Err(_) => return Outcome::Wrong("a call wasn't recorded"),
+        }
     }
-    is_met
+    is_ended(last)
 }
 
-/// Whether a look sees a packet that has ended with information 1.
-fn is_ended(reply: Reply) -> bool {
+/// Right where a look sees a packet that has ended with information 1.
+fn is_ended(reply: Reply) -> Outcome {
     match reply {
-        Reply::Seen(seen) => seen.owner == Owner::Ended && seen.information == 1,
-        _ => false,
+        Reply::Seen(seen) => holds(seen.owner == Owner::Ended, "the packet hasn't ended").and(
+            number("the packet's information", seen.information, 1),
+        ),
+        _ => Outcome::Wrong("the look was refused"),
     }
 }
 
-/// The seat sends a packet in one thread, and the lock is taken in another.
+/// The seat sends a packet in one thread, and the lock is taken in another. The first of both that isn't right.
 fn meets<A: Ask + Send, L: Session + Send + Sync, R: Threads + Wait + Sync>(
     rt: &R,
     shared: &Shared<A, L>,
     seat: Seat<L>,
     takers: &mut Takers,
     meeting: &Meeting,
-) -> (bool, bool) {
+) -> Outcome {
     let sending = move || sends(rt, shared, seat);
     let taking = move || takes(takers, meeting);
-    thread::join(rt, sending, taking)
+    let (sent, taken) = thread::join(rt, sending, taking);
+    taken.and(sent)
 }
 
-/// The same, in a session of one seat. None where memory was missing.
+/// The same, in a session of one seat.
 fn session<A: Ask + Send + Drop, L: Session + Send + Sync, R: Threads + Wait + Sync>(
     rt: &R,
     alloc: Global,
@@ -184,16 +192,18 @@ fn session<A: Ask + Send + Drop, L: Session + Send + Sync, R: Threads + Wait + S
     ask: A,
     takers: &mut Takers,
     meeting: &Meeting,
-) -> Option<(bool, bool)>
+) -> Outcome
     requires blank { (blank.name ≡ L.name) × (blank.parts ≡ L.parts) }
     requires seats { (L.parts ≡ 1) × (L.seats ≡ 1) }
     requires fixed { L.fixed ≡ record { locks = 1; tables = A.tables ask; limit = ThirtyTwo } }
     requires may { AnswersSo (A.may_plan ask) (A.may_answer ask) (A.may_cancel ask) L.may }
 {
-    let (shared, mut seats) = open::<A, L>(alloc, blank, ask, 1, 1).ok()?;
+    let Ok((shared, mut seats)) = open::<A, L>(alloc, blank, ask, 1, 1) else {
+        return NO_MEMORY;
+    };
     match seats.pop() {
-        Some(seat) => Some(meets(rt, &shared, seat, takers, meeting)),
-        None => None,
+        Some(seat) => meets(rt, &shared, seat, takers, meeting),
+        None => Outcome::Wrong("one seat was asked for"),
     }
 }
 
@@ -206,30 +216,30 @@ fn store_of(alloc: Global, dispatch: Dispatch) -> Option<Store> {
     None
 }
 
-/// Sends the packet while the lock is taken. Whether both went well.
+/// Sends the packet while the lock is taken.
 fn met<R: Threads + Wait + Sync>(
     rt: &R,
     alloc: Global,
     store: Store,
     takers: &mut Takers,
     meeting: &Meeting,
-) -> bool {
-    let has_begun = takers.begins();
+) -> Outcome {
+    let has_begun = holds(takers.begins(), "the giver was refused a reference");
     let met = session::<Store, Brand, R>(rt, alloc, Blank::new(1), store, takers, meeting);
-    has_begun && met == Some((true, true))
+    has_begun.and(met)
 }
 
-/// The same, with a dispatch that tells of itself in the meeting. Whether both went well.
+/// The same, with a dispatch that tells of itself in the meeting. None where memory is missing for the store.
 fn is_met<R: Threads + Wait + Sync>(
     rt: &R,
     alloc: Global,
     takers: &mut Takers,
     meeting: &Arc<Meeting>,
-) -> Result<bool, Fail> {
-    let own = meeting.clone()?;
-    let run = Box::new(alloc, move |shown: Shown| plan_after(&own, shown))?;
-    let store = store_of(alloc, Dispatch::new(Known::NONE, run)).ok_or("a store")?;
-    Ok(met(rt, alloc, store, takers, meeting))
+) -> Option<Outcome> {
+    let own = meeting.clone().ok()?;
+    let run = Box::new(alloc, move |shown: Shown| plan_after(&own, shown)).ok()?;
+    let store = store_of(alloc, Dispatch::new(Known::NONE, run))?;
+    Some(met(rt, alloc, store, takers, meeting))
 }
 
 /// The same with one new lock and two seats of it.
@@ -237,21 +247,21 @@ fn is_met_with_takers<R: Threads + Wait + Sync>(
     rt: &R,
     alloc: Global,
     meeting: &Arc<Meeting>,
-) -> Result<bool, Fail> {
-    let mut takers = takers_of(alloc)?;
-    is_met(rt, alloc, &mut takers, meeting)
+) -> Outcome {
+    let Some(mut takers) = takers_of(alloc) else {
+        return NO_MEMORY;
+    };
+    is_met(rt, alloc, &mut takers, meeting).unwrap_or(NO_MEMORY)
 }
 
-#[test]
-fn acquire_during_call(rt: HostRuntime) -> Result<(), Fail> {
-    let alloc = rt.alloc();
-    let meeting = Arc::new(
-        alloc,
-        Meeting {
-            asked: AtomicBool::new(false),
-            answered: AtomicBool::new(false),
-        },
-    )?;
-    assert!(rt; is_met_with_takers(&rt, alloc, &meeting)?);
-    Ok(())
+/// A thread acquires the lock, takes a reference over and releases both while a dispatch runs in another's call.
+pub fn acquire_during_call<R: Threads + Wait + Sync>(rt: &R, alloc: Global) -> Outcome {
+    let meeting = Meeting {
+        asked: AtomicBool::new(false),
+        answered: AtomicBool::new(false),
+    };
+    match Arc::new(alloc, meeting) {
+        Ok(meeting) => is_met_with_takers(rt, alloc, &meeting),
+        Err(_) => NO_MEMORY,
+    }
 }

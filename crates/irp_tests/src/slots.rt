@@ -1,11 +1,11 @@
-//! An owner and a canceller in threads of their own. The test ends by itself, and answers the same whatever the
-//! schedule.
+//! An owner and a canceller in threads of their own.
 
 ghost use Rattle.irp_slots.specs.Pairing.{IsOwnerOf, IsCancellerOf};
 
+use super::outcome::{NO_MEMORY, Outcome, number};
 use irp_slots::{Canceller, Publication, Request, SlotOwner, Slots, Withdrawal, open};
 use irp_types::IrpRef;
-use std::test::Fail;
+use std::alloc::Global;
 use std::thread;
 use std::thread::Threads;
 
@@ -60,20 +60,30 @@ fn takers<R: Threads + Sync>(rt: &R, publisher: Publisher<'_>, requester: Reques
     u32::from(published) + u32::from(requested) + u32::from(publisher.withdraws())
 }
 
-#[test]
-fn slot_race(rt: HostRuntime) -> Result<(), Fail> {
+/// One race for one slot: exactly one takes the use.
+fn race<R: Threads + Sync>(rt: &R, alloc: Global) -> Outcome {
+    let Ok((slots, mut owners, mut cancellers)) = open(alloc, 1, 1) else {
+        return NO_MEMORY;
+    };
+    let (Some(owner), Some(canceller)) = (owners.pop(), cancellers.pop()) else {
+        return Outcome::Wrong("one of each was asked for");
+    };
+    let slots = &slots;
+    let taken = takers(
+        rt,
+        Publisher { slots, owner },
+        Requester { slots, canceller },
+    );
+    number("how many took the use", u64::from(taken), 1)
+}
+
+/// Races for a use, again and again: exactly one takes it.
+pub fn slot_race<R: Threads + Sync>(rt: &R, alloc: Global) -> Outcome {
     for _ in 0..1000u32 {
-        let (slots, mut owners, mut cancellers) = open(rt.alloc(), 1, 1)?;
-        let (Some(owner), Some(canceller)) = (owners.pop(), cancellers.pop()) else {
-            return Err(Fail::from("one of each was asked for"));
-        };
-        let slots = &slots;
-        let taken = takers(
-            &rt,
-            Publisher { slots, owner },
-            Requester { slots, canceller },
-        );
-        assert!(rt; taken == 1);
+        let outcome = race(rt, alloc);
+        if !outcome.is_right() {
+            return outcome;
+        }
     }
-    Ok(())
+    Outcome::Right
 }

@@ -1,9 +1,10 @@
-//! Stores, filled item by item, and the calls of a manager that asks one. Each says whether it went well.
+//! Stores, filled item by item, and the calls of a manager that asks one.
 
 ghost use Rattle.std.specs.Prelude.{◌≡◌, true};
 ghost use Rattle.irp_types.specs.Rules.{is_allowed};
 ghost use Rattle.irp_types.specs.declared.routine.Rule.TheVariants.{Watch};
 
+use super::outcome::{NO_MEMORY, Outcome, number};
 use irp_manager::{Book, KnowsNothing, Manager, Receipt, Seat};
 use irp_routines::{CancelRoutine, Dispatch, Routine, Store};
 use irp_types::{Answer, Call, DispatchId, Reply, Rule, Shown};
@@ -50,17 +51,40 @@ pub fn adds_driver(alloc: Global, store: &mut Store) -> bool {
     }
 }
 
-/// Makes the steps. The receipt of the last; none where one is answered otherwise.
-fn makes<L: Ledger>(book: &mut Book<Store>, seat: &Seat<L>, steps: &[Step]) -> Option<Receipt> {
-    let mut last = None;
-    for (call, reply) in steps {
-        let receipt = book.record(seat, *call, &KnowsNothing).ok()?;
-        if receipt.reply() != *reply {
-            return None;
-        }
-        last = Some(receipt);
+/// What came of steps.
+#[derive(Drop)]
+pub struct Made {
+    /// How many were answered as they have to be, up to the first that wasn't.
+    right: usize,
+    /// The receipt of the last of these.
+    pub last: Option<Receipt>,
+}
+
+impl Made {
+    /// Right where so many steps were answered as they have to be.
+    pub fn are_right(&self, wanted: usize) -> Outcome {
+        number(
+            "steps answered as they have to be",
+            self.right as u64,
+            wanted as u64,
+        )
     }
-    last
+}
+
+/// Makes the steps, up to one that is answered otherwise than it has to be.
+fn makes<L: Ledger>(book: &mut Book<Store>, seat: &Seat<L>, steps: &[Step]) -> Made {
+    let mut made = Made {
+        right: 0,
+        last: None,
+    };
+    for (call, reply) in steps {
+        match book.record(seat, *call, &KnowsNothing) {
+            Ok(receipt) if receipt.reply() == *reply => made.last = Some(receipt),
+            _ => return made,
+        }
+        made.right = made.right.wrapping_add(1);
+    }
+    made
 }
 
 /// The same in a new book of this store, by a seat that is the only one of its ledger.
@@ -69,16 +93,26 @@ fn makes_in_book<L: Ledger>(
     blank: Blank,
     store: Store,
     steps: &[Step],
-) -> Option<Receipt>
+) -> Option<Made>
     requires { (blank.name ≡ L.name) × (blank.parts ≡ L.parts) × (blank.parts ≡ 1) }
 {
     let (_total, share) = blank.open::<L>();
     let seat = Seat::new(alloc, 0, share);
-    let mut book = Book::new(Manager::new(alloc, store, 1)).ok()?;
-    makes(&mut book, &seat, steps)
+    match Book::new(Manager::new(alloc, store, 1)) {
+        Ok(mut book) => Some(makes(&mut book, &seat, steps)),
+        Err(_) => None,
+    }
 }
 
-/// Makes the steps in a new book of this store. The receipt of the last; none where one is answered otherwise.
-pub fn last_receipt(alloc: Global, store: Store, steps: &[Step]) -> Option<Receipt> {
+/// Makes the steps in a new book of this store. None where memory is missing for the book.
+pub fn made_of(alloc: Global, store: Store, steps: &[Step]) -> Option<Made> {
     makes_in_book::<Brand>(alloc, Blank::new(1), store, steps)
+}
+
+/// Makes the steps in a new book of this store. Right where each is answered as it has to be.
+pub fn answered(alloc: Global, store: Store, steps: &[Step]) -> Outcome {
+    match made_of(alloc, store, steps) {
+        Some(made) => made.are_right(steps.len()),
+        None => NO_MEMORY,
+    }
 }

@@ -1,10 +1,13 @@
 //! Two calls at once: a gate that holds each seat's step until the other seat's step of the same place among its own
-//! has entered. It ends by itself: who waits does so for a number of turns.
+//! has entered. Who waits does so for a number of turns.
 
 use super::{ALLOCATE, CREATE, by, worked};
+use crate::outcome::{NO_MEMORY, Outcome, holds};
 use irp_script::Gate;
+use std::alloc::Global;
+use std::sync::Wait;
 use std::sync::atomic::{AtomicBool, AtomicU64, Ordering};
-use std::test::Fail;
+use std::thread::Threads;
 
 /// How many turns of a loop one seat waits for the other.
 const TURNS: u32 = 100_000_000;
@@ -46,8 +49,8 @@ impl Gate for Meeting {
     }
 }
 
-#[test]
-fn two_calls_at_once(rt: HostRuntime) -> Result<(), Fail> {
+/// Two workers make ten calls each, of which two and two are under way at one time.
+pub fn two_calls_at_once<R: Threads + Wait + Sync>(rt: &R, alloc: Global) -> Outcome {
     let mut steps = [by(0, ALLOCATE); 20];
     for place in 10..20 {
         steps[place] = by(1, ALLOCATE);
@@ -57,11 +60,13 @@ fn two_calls_at_once(rt: HostRuntime) -> Result<(), Fail> {
         second: AtomicU64::new(0),
         late: AtomicBool::new(false),
     };
-    let made = worked(&rt, rt.alloc(), 2, &[by(0, CREATE)], &steps, &gate, 2)?;
-    assert!(rt;
+    let made = worked(rt, alloc, 2, &[by(0, CREATE)], &steps, &gate, 2);
+    let in_time = holds(
         !gate.late.load(Ordering::SeqCst),
-        "each waited for the other in time"
+        "one waited for the other in vain",
     );
-    assert!(rt; made.entries == 21 && made.stop.is_none());
-    Ok(())
+    match made {
+        Some(made) => in_time.and(made.is_right(21, None)),
+        None => NO_MEMORY,
+    }
 }

@@ -1,35 +1,41 @@
 //! Which steps workers run, when one stops, and which calls the gate gets.
 
 use super::{ALLOCATE, CREATE, LOCK, LOOK, by, worked};
+use crate::outcome::{NO_MEMORY, Outcome, holds, number};
 use irp_script::{AlwaysOpen, Gate, Stop, StopReason};
 use irp_script_reader::StepAct;
 use irp_shared::{WordLine, WordReply};
 use irp_types::LockAct;
+use std::alloc::Global;
+use std::sync::Wait;
 use std::sync::atomic::{AtomicBool, AtomicU64, Ordering};
-use std::test::Fail;
+use std::thread::Threads;
 
 /// An acquisition of the lock with this tag.
 const fn acquire(tag: u32) -> StepAct {
     StepAct::OnLock(LockAct::Acquire { lock: LOCK, tag })
 }
 
-#[test]
-fn a_seat_that_is_not_there_stops_its_worker_alone(rt: HostRuntime) -> Result<(), Fail> {
+/// Where a step's seat isn't there, its worker stops, and the other worker runs all steps of its own.
+pub fn a_seat_that_is_not_there_stops_its_worker_alone<R: Threads + Wait + Sync>(
+    rt: &R,
+    alloc: Global,
+) -> Outcome {
     let steps = [
         by(0, acquire(1)),
         by(2, LOOK),
         by(0, acquire(2)),
         by(1, acquire(3)),
     ];
-    let made = worked(&rt, rt.alloc(), 2, &[], &steps, &AlwaysOpen, 2)?;
-    assert!(rt; are_lines(made.words.as_slice(), &[(0, 0), (1, 3)]));
-    assert!(rt; made.entries == 0);
     let stop = Stop {
         seat: 2,
         reason: StopReason::NoSeat,
     };
-    assert!(rt; made.stop == Some(stop));
-    Ok(())
+    let Some(made) = worked(rt, alloc, 2, &[], &steps, &AlwaysOpen, 2) else {
+        return NO_MEMORY;
+    };
+    let are_lines = are_lines(made.words.as_slice(), &[(0, 0), (1, 3)]);
+    holds(are_lines, "the word lines are others").and(made.is_right(0, Some(stop)))
 }
 
 /// The lines are of these seats and steps, each an acquisition that was granted.
@@ -42,17 +48,17 @@ fn are_lines(words: &[WordLine], expected: &[(u32, u32)]) -> bool {
     words.len() == expected.len()
 }
 
-#[test]
-fn a_stop_in_the_setup_stops_all(rt: HostRuntime) -> Result<(), Fail> {
+/// Where a step of the setup stops, neither the rest of the setup nor any other step is run.
+pub fn a_stop_in_the_setup_stops_all<R: Threads + Wait + Sync>(rt: &R, alloc: Global) -> Outcome {
     let setup = [by(0, CREATE), by(1, LOOK), by(0, CREATE)];
-    let made = worked(&rt, rt.alloc(), 1, &setup, &[by(0, CREATE)], &AlwaysOpen, 1)?;
-    assert!(rt; made.entries == 1 && made.words.is_empty());
     let stop = Stop {
         seat: 1,
         reason: StopReason::NoSeat,
     };
-    assert!(rt; made.stop == Some(stop));
-    Ok(())
+    let Some(made) = worked(rt, alloc, 1, &setup, &[by(0, CREATE)], &AlwaysOpen, 1) else {
+        return NO_MEMORY;
+    };
+    number("word lines", made.words.len() as u64, 0).and(made.is_right(1, Some(stop)))
 }
 
 /// How many steps began and were answered, and whether one came at another time than in its turn.
@@ -94,16 +100,24 @@ impl Gate for Turns {
     }
 }
 
-#[test]
-fn the_gate_is_called_before_and_after_each_step(rt: HostRuntime) -> Result<(), Fail> {
+/// The gate is called before and after each step, with its seat and its place.
+pub fn the_gate_is_called_before_and_after_each_step<R: Threads + Wait + Sync>(
+    rt: &R,
+    alloc: Global,
+) -> Outcome {
     let steps = [by(2, ALLOCATE), by(0, acquire(1)), by(1, LOOK)];
     let gate = Turns {
         begun: AtomicU64::new(0),
         answered: AtomicU64::new(0),
         astray: AtomicBool::new(false),
     };
-    let made = worked(&rt, rt.alloc(), 3, &[by(0, CREATE)], &steps, &gate, 1)?;
-    let answered = gate.answered.load(Ordering::SeqCst);
-    assert!(rt; answered == 3 && !gate.astray.load(Ordering::SeqCst) && made.stop.is_none());
-    Ok(())
+    let made = worked(rt, alloc, 3, &[by(0, CREATE)], &steps, &gate, 1);
+    let called = number("steps answered", gate.answered.load(Ordering::SeqCst), 3).and(holds(
+        !gate.astray.load(Ordering::SeqCst),
+        "a call of the gate came out of turn",
+    ));
+    match made {
+        Some(made) => called.and(made.is_right(3, None)),
+        None => NO_MEMORY,
+    }
 }
