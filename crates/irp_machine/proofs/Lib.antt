@@ -1,5 +1,8 @@
+pub mod Histories
 pub mod Later
 pub mod Lowest
+pub mod OneHeader
 pub mod Outcomes
+pub mod Quiet
 pub mod Repeats
 pub mod Sorting

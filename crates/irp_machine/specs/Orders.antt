@@ -1,5 +1,6 @@
 -- What is found of the orders of a script's atomic steps.
 use Rattle.std.specs.Prelude.{ℕ, ◌≡◌, ◌≢◌, ◌+◌, ◌*◌, Bool, List, ◌∷◌, [], ◌++◌, length, map, sum_by, All, AllPairs, Contains, Some}
+use Rattle.irp_transcript.specs.Headers.{IsHeader}
 use Rattle.irp_transcript.specs.declared.header.Header.{Header}
 use Rattle.irp_explore.specs.Orders.{Moves, Leads, HasEnded, IsSharedOut}
 use Rattle.irp_explore.specs.Nodes.{IsFound, AreApart, states_of, weigh}
@@ -51,6 +52,7 @@ pub record AreOutcomes (rules : RulesValue) (start : StandingValue) (outcomes : 
 pub record AreOutcomesOf (script : ScriptParts) (tells : Bool) (outcomes : List Outcome) : Type 0 where
   pub header : Header
   pub headed : IsHeaderOf script header
+  pub accepted : IsHeader header
   pub start : StandingValue
   pub opens : Opens header script start
   pub whole : AreOutcomes (rules_of header script script.steps script.steps tells) start outcomes

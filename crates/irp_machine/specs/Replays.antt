@@ -1,13 +1,183 @@
 -- Orders made again, and recorded.
-use Rattle.irp_types.specs.State.{Fixed}
-use Rattle.irp_types.specs.Histories.{LeadsTo}
+use Rattle.std.specs.Prelude.{ℕ, zero, suc, ◌≡◌, Bool, false, true, List, [], ◌∷◌, ◌++◌, filter_map, Option, Some, None, slice_get, slice_index_or}
+use Rattle.std.specs.List.{list_any}
+use Rattle.std.specs.Option.{option_map, option_and_then}
+use Rattle.irp_types.specs.State.{StateValue, Fixed, opening_state}
+use Rattle.irp_types.specs.Calls.{Call}
+use Rattle.irp_types.specs.declared.call.Call.TheVariants.{FinishTaken}
+use Rattle.irp_types.specs.declared.entry.Entry.{Entry}
+use Rattle.irp_types.specs.declared.names.LockNo.{LockNo}
+use Rattle.irp_types.specs.declared.reply.Reply.{Reply}
+use Rattle.irp_types.specs.declared.seat_act.SlotAct.TheVariants as slots
+use Rattle.irp_types.specs.Histories.{LeadsTo, lock_of}
 use Rattle.irp_types.specs.Standing.{StandingFacts}
+use Rattle.irp_transcript.specs.Headers.{IsHeader, fixed_of}
+use Rattle.irp_transcript.specs.Transcripts.{TranscriptValue}
+use Rattle.irp_transcript.specs.declared.header.Header.{Header}
+use Rattle.irp_transcript.specs.declared.word_line.Act.{Act}
+use Rattle.irp_transcript.specs.declared.word_line.Act.TheVariants as word
+use Rattle.irp_transcript.specs.declared.word_line.WordLine.{WordLine}
 use Rattle.irp_manager.specs.ManagerStates.{state_of, Agrees}
 use Rattle.irp_manager.specs.Slots.{live_of}
+use Rattle.irp_script_reader.specs.declared.act.Step.{Step}
+use Rattle.irp_script_reader.specs.declared.act.StepAct.{StepAct}
+use Rattle.irp_script_reader.specs.declared.act.StepAct.TheVariants as does
+use Rattle.irp_script_reader.specs.declared.script.ScriptParts.{ScriptParts}
+use Rattle.irp_machine.specs.declared.outcome.End.{End}
+use Rattle.irp_machine.specs.declared.outcome.Outcome.{Outcome}
+use Rattle.irp_machine.specs.declared.parts.Calling.{Calling}
+use Rattle.irp_machine.specs.declared.parts.Change.{Change}
+use Rattle.irp_machine.specs.declared.parts.Learned.{Learned}
+use Rattle.irp_machine.specs.declared.parts.Made.{Made}
+use Rattle.irp_machine.specs.declared.parts.Next.{Next}
+use Rattle.irp_machine.specs.declared.parts.Next.TheVariants.{Changes, Calls}
+use Rattle.irp_machine.specs.declared.parts.Planned.{Planned}
 use Rattle.irp_machine.specs.declared.recorded.Recorded.{Recorded}
+use Rattle.irp_machine.specs.declared.told.Answered.{Answered}
+use Rattle.irp_machine.specs.declared.told.Answered.TheVariants.{Reply as Replied, Word}
+use Rattle.irp_machine.specs.declared.told.Told.{Told}
+use Rattle.irp_machine.specs.Calling.{IsCalled, Leads}
+use Rattle.irp_machine.specs.Endings.{end_of}
+use Rattle.irp_machine.specs.Headers.{IsHeaderOf}
+use Rattle.irp_machine.specs.Machine.{RulesValue, IsCallOf, act_of, seat_at}
+use Rattle.irp_machine.specs.Next.{next_of}
+use Rattle.irp_machine.specs.Openings.{Opens, begun, first_standing, rules_of, seats_of}
+use Rattle.irp_machine.specs.Orders.{AreOutcomesOf, IsOrder}
+use Rattle.irp_machine.specs.Seats.{SeatValue, is_drained, new_seat}
+use Rattle.irp_machine.specs.Standings.{StandingValue, after_change}
+
+-- ---- entries
+
+-- an entry tells a call of a seat, which changes this: it was made and answered so
+pub record TellsCall (rules : RulesValue) (standing : StandingValue) (seat : ℕ) (planned : Planned) (calling : Calling) (change : Change) (entry : Entry) : Type 0 where
+  pub made : IsCallOf rules standing seat planned calling change
+  pub caller : entry.seat ≡ seat
+  pub call : entry.call ≡ calling.call
+  pub asked : entry.asked ≡ made.call.asked
+  pub reply : entry.reply ≡ made.reply
+  pub lock : entry.lock ≡ lock_of made.before calling.call
+  pub drained : entry.drained ≡ made.drained
+
+-- what is recorded of a step: of a call its entry, behind the others; of any other step nothing
+abbrev pub Records : RulesValue → StandingValue → ℕ → Planned → Next → Change → List Entry → List Entry → Type 0
+Records rules standing seat planned (Changes one) change old new = (change ≡ one) × (new ≡ old)
+Records rules standing seat planned (Calls calling) change old new =
+    (entry : Entry) × TellsCall rules standing seat planned calling change entry × (new ≡ old ++ entry ∷ [])
+
+-- the next step of a seat was made, in this act, and recorded
+abbrev pub PlaysIn : RulesValue → StandingValue → List Entry → ℕ → Option Planned → StandingValue → List Entry → Type 0
+PlaysIn rules standing old seat None after new = ⊥
+PlaysIn rules standing old seat (Some planned) after new =
+    (change : Change) × Records rules standing seat planned (next_of standing (seat_at standing seat) planned) change old new
+    × (after ≡ after_change seat change planned.step rules.tells standing)
+
+-- the next steps of these seats were made, one after another, and recorded
+abbrev pub Plays : RulesValue → StandingValue → List Entry → List ℕ → StandingValue → List Entry → Type 0
+Plays rules standing old [] last new = (standing ≡ last) × (old ≡ new)
+Plays rules standing old (seat ∷ path) last new =
+    (middle : StandingValue) × (entries : List Entry)
+    × PlaysIn rules standing old seat (act_of rules standing seat) middle entries
+    × Plays rules middle entries path last new
+
+-- the setup of a script was made, then the next steps of these seats. The entries of their calls are a legal history; it
+-- leads to this state, and so do the calls that changed it
+pub record IsPlayed (header : Header) (script : ScriptParts) (tells : Bool) (path : List ℕ) (last : StandingValue) (state : StateValue) (entries : List Entry) : Type 0 where
+  pub ended : StandingValue
+  pub front : List Entry
+  pub setup : Plays (rules_of header script [] script.setup false) (first_standing header script) [] (seats_of script.setup) ended front
+  pub steps :
+      Plays (rules_of header script script.steps script.steps tells) (begun header ended.made ended.labels) front path last entries
+  pub history : LeadsTo (fixed_of header) entries state
+  pub calls : Leads (fixed_of header) script last.made opening_state state
+
+-- ---- word lines
+
+-- the act that a word line tells, of a step
+abbrev pub word_act : StepAct → Option Act
+word_act (does.OnLock act) = Some (word.OnLock act)
+word_act (does.Hand hand) = Some (word.Hand hand)
+word_act (does.Publish slot irp) = Some (word.OnSlot (slots.Publish slot))
+word_act (does.Withdraw slot) = Some (word.OnSlot (slots.Withdraw slot))
+word_act (does.Request slot) = Some (word.OnSlot (slots.Request slot))
+word_act (does.Call (FinishTaken irp slot status information)) = Some (word.FinishTaken slot)
+word_act other = None
+
+-- the word line of what a seat was told, where a lock or a slot told it
+abbrev pub line_by : ℕ → ℕ → Answered → Option Act → Option WordLine
+line_by seat step (Replied reply) act = None
+line_by seat step (Word reply) act =
+    option_map (λ (act : Act). record { seat = seat; step = step; act = act; reply = reply }) act
+
+abbrev pub line_of : List Step → ℕ → Told → Option WordLine
+line_of steps seat told =
+    line_by seat told.step told.answer
+    (option_and_then (λ (step : Step). word_act step.act) (slice_get steps told.step))
+
+-- the word lines of what the seats below this one were told
+abbrev pub words_below : List Step → List SeatValue → ℕ → List WordLine
+words_below steps seats zero = []
+words_below steps seats (suc seat) =
+    words_below steps seats seat
+    ++ filter_map (line_of steps seat) (slice_index_or seats seat new_seat).told
+
+-- ---- replays
+
+-- a transcript tells an order of these seats' steps, made by a header of the script: the entries are those of its setup
+-- and then of the steps, and the word lines are what the seats were told at last
+pub record IsReplay (script : ScriptParts) (path : List ℕ) (transcript : TranscriptValue) : Type 0 where
+  pub header : Header
+  pub headed : IsHeaderOf script header
+  pub accepted : IsHeader header
+  pub told : transcript.header ≡ Some header
+  pub last : StandingValue
+  pub state : StateValue
+  pub played : IsPlayed header script true path last state transcript.entries
+  pub words : transcript.words ≡ words_below script.steps last.seats header.seats
+
+-- ---- laws
+
+-- each order has a legal history, and ends as that history does
+abbrev pub OrdersHaveHistories : Type 0
+OrdersHaveHistories =
+    (header : Header) (script : ScriptParts) (tells : Bool) (start : StandingValue) (path : List ℕ) (end : End)
+    → Opens header script start → IsOrder (rules_of header script script.steps script.steps tells) start path end
+    → (last : StandingValue) × (state : StateValue) × (entries : List Entry)
+    × IsPlayed header script tells path last state entries × (end ≡ end_of state last)
+
+-- however an order is made again, it ends as it was told to end
+abbrev pub ReplaysEndSo : Type 0
+ReplaysEndSo =
+    (script : ScriptParts) (outcomes : List Outcome) (k : ℕ) (outcome : Outcome) (transcript : TranscriptValue)
+    → AreOutcomesOf script true outcomes → slice_get outcomes k ≡ Some outcome
+    → (replay : IsReplay script outcome.path.items transcript) → outcome.end ≡ end_of replay.state replay.last
+
+-- ---- as a replay is made
+
+-- one entry was added, of a call of a seat that knows this of locks
+pub record Adds (fixed : Fixed) (script : ScriptParts) (learned : List Learned) (old : StateValue) (call : Call) (seat : ℕ) (drained : Bool) (reply : Reply) (new : StateValue) (entries longer : List Entry) : Type 0 where
+  pub entry : Entry
+  pub called : IsCalled fixed script (λ (lock : LockNo). list_any (is_drained lock.0) learned) old call drained reply new
+  pub caller : entry.seat ≡ seat
+  pub call_is : entry.call ≡ call
+  pub asked_is : entry.asked ≡ called.asked
+  pub reply_is : entry.reply ≡ reply
+  pub lock : entry.lock ≡ lock_of old call
+  pub drained_is : entry.drained ≡ drained
+  pub grown : longer ≡ entries ++ entry ∷ []
 
 -- the entries are a legal history that leads to the manager's state
 pub record IsRecorded (fixed : Fixed) (kept : Recorded) : Type 0 where
   pub leads : LeadsTo fixed kept.entries.items (state_of live_of kept.manager)
   pub stands : StandingFacts fixed.tables.counts (state_of live_of kept.manager)
   pub agrees : Agrees fixed kept.manager
+
+-- and so are these calls
+pub record IsMade (fixed : Fixed) (script : ScriptParts) (made : List Made) (kept : Recorded) : Type 0 where
+  pub recorded : IsRecorded fixed kept
+  pub calls : Leads fixed script made opening_state (state_of live_of kept.manager)
+
+-- the setup was made and recorded, from before it
+pub record IsSetUp (header : Header) (script : ScriptParts) (old new : List Entry) (start : StandingValue) : Type 0 where
+  pub ended : StandingValue
+  pub setup : Plays (rules_of header script [] script.setup false) (first_standing header script) old (seats_of script.setup) ended new
+  pub begun : start ≡ begun header ended.made ended.labels

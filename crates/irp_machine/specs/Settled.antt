@@ -117,7 +117,7 @@ module _ (rules : RulesValue) (standing : StandingValue) where
   makes_settled seat planned next new another one two =
       one.2 ∙ ap (λ (change : Change). after_change seat change planned.step rules.tells standing) (next_settled seat planned next one.0 two.0 one.1 two.1) ∙ sym two.2
 
-  steps_settled : (seat : ℕ) (act : Option Planned) (after other : Option StandingValue)
+  pub steps_settled : (seat : ℕ) (act : Option Planned) (after other : Option StandingValue)
       → StepsTo rules standing seat act after → StepsTo rules standing seat act other → after ≡ other
   steps_settled seat None after other one two = one ∙ sym two
   steps_settled seat (Some planned) after other one two =

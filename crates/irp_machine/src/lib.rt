@@ -8,6 +8,7 @@ mod ending;
 mod equal;
 mod exploring;
 mod header;
+mod laws;
 mod limits;
 mod lists;
 mod live_end;
@@ -27,6 +28,7 @@ mod standing;
 mod told;
 
 pub use exploring::orders;
+pub use laws::{orders_have_histories, replays_end_so};
 pub use limits::{Compared, Limits, NotFound};
 pub use live_end::LiveEnd;
 pub use outcome::{End, Holder, LockEnd, Outcome, Replies, SlotEnd};

@@ -48,7 +48,8 @@ pub enum NotFound {
     Steps,
     /// 2^128 orders or more end in one way.
     Orders,
-    /// The tables of the script aren't within the limits. None that was read is so.
+    /// The tables of the script aren't within the limits: none that was read is so. Or a seat of a path that is made
+    /// again has no step left.
     Script,
 }
 

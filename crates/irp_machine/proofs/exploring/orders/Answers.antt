@@ -1,4 +1,5 @@
-use Rattle.std.proofs.Common.{◌≡◌, Bool, List, ap, subst, ◌∙◌, arith}
+use Rattle.std.proofs.Common.{◌≡◌, Bool, List, refl, ap, subst, ◌∙◌, arith}
+use Rattle.irp_transcript.specs.Headers.{IsHeader}
 use Rattle.irp_script_reader.specs.declared.act.Step.{Step}
 use Rattle.irp_script_reader.specs.declared.script.ScriptParts.{ScriptParts}
 use Rattle.irp_machine.specs.Limits.{tells_replies}
@@ -10,6 +11,7 @@ use Rattle.irp_machine.proofs.exploring.orders.Goals as goal
 
 pub returns-clause-outcomes : goal.returns-clause-outcomes
 returns-clause-outcomes c =
+    let accepted : IsHeader c.in_ok-header.header = c.if-not-is_accepted.ensures.0 refl in
     let header = c.in_ok-header.header in
     let script = c.parts-script.result.now in
     let start = c.in_ok-standing.standing in
@@ -23,6 +25,7 @@ returns-clause-outcomes c =
     let made : AreOutcomesOf script tells outcomes = record {
       header = header;
       headed = c.in_ok-header.ensures;
+      accepted = accepted;
       start = start;
       opens = c.in_ok-standing.ensures;
       whole = subst (λ (rules : RulesValue). AreOutcomes rules start outcomes) rules whole;

@@ -1,0 +1,27 @@
+use Rattle.std.proofs.Common.{ℕ, List, refl, sym, subst, arith}
+use Rattle.irp_types.specs.declared.entry.Entry.{Entry}
+use Rattle.irp_machine.specs.Replays.{Plays}
+use Rattle.irp_machine.proofs.Later.{drop_here, drop_past}
+use Rattle.irp_machine.proofs.replaying.play_all.Goals as goal
+
+pub loop-seat-init : goal.loop-seat-init
+loop-seat-init c = record { rest = λ last all rest. rest; made = c.requires }
+
+pub loop-seat-preserved : goal.loop-seat-preserved
+loop-seat-preserved c = record {
+  rest = λ last all rest.
+      c.loop-seat.invariant.rest last all
+      (subst (λ (path : List ℕ). Plays c.args.machine.now c.loop-seat.standing c.loop-seat.kept.entries.items path last all)
+      (sym (drop_here c.args.path.now c.loop-seat.seat-index 0 (omega (arith, c.loop-seat-test.true))))
+      (c.play.new.standing, c.play.new.kept.entries.items, c.in_ok-play.ensures.plays, rest));
+  made = c.in_ok-play.ensures.made;
+}
+
+pub returns : goal.returns
+returns c = record {
+  plays =
+      c.loop-seat.invariant.rest c.loop-seat.standing c.loop-seat.kept.entries.items
+      (subst (λ (path : List ℕ). Plays c.args.machine.now c.loop-seat.standing c.loop-seat.kept.entries.items path c.loop-seat.standing c.loop-seat.kept.entries.items)
+      (sym (drop_past c.args.path.now c.loop-seat.seat-index (omega (arith, c.loop-seat-test.false)))) (refl, refl));
+  made = c.loop-seat.invariant.made;
+}
