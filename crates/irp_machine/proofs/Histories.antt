@@ -1,7 +1,6 @@
 -- Steps with their entries.
 use Rattle.std.proofs.Common.{◌≡◌, ℕ, Bool, true, false, List, [], ◌∷◌, ◌++◌, length, Option, Some, None, refl, sym, ap, subst, ◌∙◌}
 use Rattle.std.specs.Bool.{then_some}
-use Rattle.std.specs.List.{list_any}
 use Rattle.std.proofs.lemmas.Option.{same_Some, none-some, slice_get_within, get_or_from_slice_get}
 use Rattle.irp_types.specs.Calls.{Call}
 use Rattle.irp_types.specs.State.{StateValue, Fixed, opening_state}
@@ -10,7 +9,6 @@ use Rattle.irp_types.specs.declared.entry.Entry.{Entry}
 use Rattle.irp_types.specs.declared.names.LockNo.{LockNo}
 use Rattle.irp_types.specs.declared.reply.Reply.{Reply}
 use Rattle.irp_transcript.specs.Headers.{fixed_of}
-use Rattle.irp_transcript.specs.Transcripts.{TranscriptValue}
 use Rattle.irp_transcript.specs.declared.header.Header.{Header}
 use Rattle.irp_manager.specs.Notes.{known_by}
 use Rattle.irp_manager.proofs.Recording.{leads_none, undrained}
@@ -27,12 +25,11 @@ use Rattle.irp_machine.specs.declared.parts.Planned.{Planned}
 use Rattle.irp_machine.specs.Calling.{IsCalled, Leads}
 use Rattle.irp_machine.specs.Endings.{end_of}
 use Rattle.irp_machine.specs.Lists.{with_more}
-use Rattle.irp_machine.specs.Machine.{RulesValue, ClosesIf, IsCallOf, IsNext, StepsTo, act_of, has_ended, knows_of, seat_at}
+use Rattle.irp_machine.specs.Machine.{RulesValue, ClosesIf, IsNext, StepsTo, act_of, has_ended, knows_of, seat_at}
 use Rattle.irp_machine.specs.Next.{called, has_changed, next_of}
 use Rattle.irp_machine.specs.Openings.{MakesAll, Opens, begun, first_standing, rules_of, seats_of}
-use Rattle.irp_machine.specs.Orders.{AreOutcomesOf, IsOrder}
-use Rattle.irp_machine.specs.Replays.{Adds, IsPlayed, IsSetUp, Plays, PlaysIn, Records, TellsCall, IsReplay, OrdersHaveHistories, ReplaysEndSo}
-use Rattle.irp_machine.specs.Seats.{is_drained}
+use Rattle.irp_machine.specs.Orders.{IsOrder}
+use Rattle.irp_machine.specs.Replays.{Adds, IsPlayed, IsSetUp, Plays, PlaysIn, Records, OrdersHaveHistories, ReplaysEndSo}
 use Rattle.irp_machine.specs.Settled.{leads_settled, steps_settled}
 use Rattle.irp_machine.specs.Standings.{StandingValue, after_change}
 use Rattle.irp_machine.proofs.OneHeader.{header_once}

@@ -1,6 +1,6 @@
 -- Steps that change nothing of the manager's state: those that are no calls, and calls that are refused or look.
-use Rattle.std.proofs.Common.{◌≡◌, ℕ, Bool, true, false, not, List, Option, Some, None, refl, sym, ap, subst, ◌∙◌}
-use Rattle.std.specs.Prelude.{if◌then◌else◌, MatchOption, slice_get, position, is_some, length, nat_le, nat_lt, ◌==◌, ◌%◌, ◌^◌}
+use Rattle.std.proofs.Common.{◌≡◌, ℕ, Bool, true, false, not, List, Option, Some, None, refl, sym, ap, ◌∙◌}
+use Rattle.std.specs.Prelude.{if◌then◌else◌, MatchOption, slice_get, position, is_some, length, nat_le, ◌==◌, ◌%◌}
 use Rattle.std.specs.List.{list_any}
 use Rattle.std.specs.Option.{option_map_or}
 use Rattle.irp_types.specs.Calls.{Call}
@@ -14,7 +14,7 @@ use Rattle.irp_types.specs.declared.names.CancelId.{CancelId}
 use Rattle.irp_types.specs.declared.names.IrpRef.{IrpRef}
 use Rattle.irp_types.specs.declared.refusal.Refusal.{Refusal}
 use Rattle.irp_types.specs.declared.reply.Reply.{Reply}
-use Rattle.irp_types.specs.declared.reply.Reply.TheVariants.{Done, Device, Irp, Status, Previous, Cancelled, Seen, Refused}
+use Rattle.irp_types.specs.declared.reply.Reply.TheVariants.{Done, Status, Previous, Cancelled, Refused}
 use Rattle.irp_types.specs.declared.seat_act.Hand.{Hand}
 use Rattle.irp_types.specs.declared.seat_act.LockAct.{LockAct}
 use Rattle.irp_types.specs.declared.seat_act.LockAct.TheVariants.{Acquire, Release, BeginRemove, Drained as AsksDrained}
@@ -30,7 +30,7 @@ use Rattle.irp_machine.specs.declared.parts.Slot.{Slot}
 use Rattle.irp_machine.specs.declared.parts.Stage.{Stage}
 use Rattle.irp_machine.specs.declared.parts.Stage.TheVariants as stages
 use Rattle.irp_machine.specs.Changes as change
-use Rattle.irp_machine.specs.Next.{has_changed, is_refused, is_tokenless, naming, naming_at, next_by, next_of, with_packet, with_token}
+use Rattle.irp_machine.specs.Next.{has_changed, is_refused, is_tokenless, naming_at, next_by, next_of, with_packet, with_token}
 use Rattle.irp_machine.specs.Seats.{SeatValue, is_held, is_removed}
 use Rattle.irp_machine.specs.Standings.{StandingValue}
 

@@ -1,4 +1,4 @@
-use Rattle.std.proofs.Common.{List, sym, ap, subst}
+use Rattle.std.proofs.Common.{List, sym, subst}
 use Rattle.irp_types.specs.State.{StateValue, opening_state}
 use Rattle.irp_types.specs.Standing.{StandingFacts}
 use Rattle.irp_types.specs.Histories.{LeadsTo}

@@ -1,5 +1,4 @@
 use Rattle.std.proofs.Common.{ℕ, List, refl, sym, subst, arith}
-use Rattle.irp_types.specs.declared.entry.Entry.{Entry}
 use Rattle.irp_machine.specs.Replays.{Plays}
 use Rattle.irp_machine.proofs.Later.{drop_here, drop_past}
 use Rattle.irp_machine.proofs.replaying.play_all.Goals as goal

@@ -1,7 +1,6 @@
 use Rattle.std.proofs.Common.{◌≡◌, true, [], List, refl, Some, sym, ap, ◌∙◌, subst}
 use Rattle.irp_types.specs.declared.entry.Entry.{Entry}
 use Rattle.irp_transcript.specs.Transcripts.{TranscriptValue}
-use Rattle.irp_transcript.specs.declared.word_line.WordLine.{WordLine}
 use Rattle.irp_manager.specs.ManagerStates.{state_of}
 use Rattle.irp_manager.specs.Slots.{live_of}
 use Rattle.irp_script_reader.specs.declared.act.Step.{Step}
