@@ -5,8 +5,8 @@ ghost use Rattle.irp_types.specs.Rules.{is_plan_allowed, is_cancel_allowed};
 ghost use Rattle.irp_types.specs.State.{no_routines};
 ghost use Rattle.irp_types.specs.declared.routine.CancelRule.TheVariants.{MustFinish};
 
-use super::outcome::{NO_MEMORY, Outcome, number};
-use super::stores::{READ, Step, adds, adds_cancel, adds_dispatch, adds_driver, answered, look_on};
+use super::outcome::{NO_MEMORY, Outcome, holds, number};
+use super::stores::{READ, READS, Step, answered, look_on};
 use irp_routines::{CancelRoutine, Dispatch, Routine, Store};
 use irp_types::{
     Call, CancelAnswer, CancelId, CancelRule, DeviceId, DriverId, IrpRef, Known, LockNo, Party,
@@ -135,35 +135,6 @@ fn finish(shown: Shown) -> CancelAnswer
     CancelAnswer::Finish { information: 0 }
 }
 
-/// Adds these closures to the store, and one driver. Whether the store took each.
-fn fills(
-    alloc: Global,
-    store: &mut Store,
-    watch: Routine,
-    cancel: CancelRoutine,
-    dispatch: Dispatch,
-) -> bool {
-    let has_watch = adds(store, watch);
-    let has_cancel = adds_cancel(store, cancel);
-    let has_dispatch = adds_dispatch(store, dispatch);
-    has_watch && has_cancel && has_dispatch && adds_driver(alloc, store)
-}
-
-/// A store of these closures, with one driver.
-fn store_of(
-    alloc: Global,
-    watch: Routine,
-    cancel: CancelRoutine,
-    dispatch: Dispatch,
-) -> Option<Store> {
-    let mut store = Store::new(alloc);
-    if fills(alloc, &mut store, watch, cancel, dispatch) {
-        Some(store)
-    } else {
-        None
-    }
-}
-
 /// How often each of the closures was asked.
 #[derive(Drop)]
 struct Counts {
@@ -210,6 +181,7 @@ fn shares_of(counts: &Arc<Counts>) -> Result<Shares, AllocError> {
 
 /// Makes the steps with closures that count in these counts. Right where each is answered as it has to be.
 fn makes_steps(alloc: Global, counts: &Arc<Counts>) -> Result<Outcome, AllocError> {
+    let reads = READS.to_vec(alloc)?;
     let Shares {
         watch: of_watch,
         cancel: of_cancel,
@@ -230,10 +202,13 @@ fn makes_steps(alloc: Global, counts: &Arc<Counts>) -> Result<Outcome, AllocErro
     let watch = Routine::new(Rule::Watch, Box::new(alloc, watch)?);
     let cancel = CancelRoutine::new(CancelRule::MustFinish, Box::new(alloc, cancel)?);
     let dispatch = Dispatch::new(ONE_CANCEL, Box::new(alloc, dispatch)?);
-    match store_of(alloc, watch, cancel, dispatch) {
-        Some(store) => Ok(answered(alloc, store, &STEPS)),
-        None => Ok(NO_MEMORY),
-    }
+    let mut store = Store::new(alloc);
+    let has_watch = store.add(watch).is_ok();
+    let has_cancel = store.add_cancel(cancel).is_ok();
+    let has_dispatch = store.add_dispatch(dispatch).is_ok();
+    let has_driver = store.add_driver(reads).is_ok();
+    let is_filled = has_watch && has_cancel && has_dispatch && has_driver;
+    Ok(holds(is_filled, "the store isn't filled").and(answered(alloc, store, &STEPS)))
 }
 
 /// Makes the steps, and compares how often the closures were asked with how often they have to be.

@@ -4,8 +4,8 @@ ghost use Rattle.std.specs.Prelude.{◌≡◌, true};
 ghost use Rattle.irp_types.specs.Rules.{is_plan_allowed};
 ghost use Rattle.irp_types.specs.State.{no_routines};
 
-use super::outcome::{NO_MEMORY, Outcome, number};
-use super::stores::{READ, Step, adds, adds_dispatch, adds_driver, answered, look_on};
+use super::outcome::{NO_MEMORY, Outcome, holds, number};
+use super::stores::{READ, READS, Step, answered, look_on};
 use irp_routines::{Dispatch, Routine, Store};
 use irp_types::{
     Call, DeviceId, DriverId, IrpRef, Known, LockNo, Party, Plan, Reply, RoutineId, Rule, Setting,
@@ -108,21 +108,10 @@ fn note(notes: &AtomicU32, digit: u32) {
     );
 }
 
-/// A store of these closures, with one driver.
-fn store_of(alloc: Global, watch: Routine, dispatch: Dispatch) -> Option<Store> {
-    let mut store = Store::new(alloc);
-    let has_watch = adds(&mut store, watch);
-    let has_dispatch = adds_dispatch(&mut store, dispatch);
-    if has_watch && has_dispatch && adds_driver(alloc, &mut store) {
-        Some(store)
-    } else {
-        None
-    }
-}
-
 /// Makes the steps with closures that note when they are called: a dispatch 1 or 2, the Watch its context. Right where
 /// each is answered as it has to be.
 fn makes_steps(alloc: Global, notes: &Arc<AtomicU32>) -> Result<Outcome, AllocError> {
+    let reads = READS.to_vec(alloc)?;
     let of_watch = notes.clone()?;
     let of_dispatch = notes.clone()?;
     let watch = move |shown: Shown| {
@@ -135,10 +124,12 @@ fn makes_steps(alloc: Global, notes: &Arc<AtomicU32>) -> Result<Outcome, AllocEr
     };
     let watch = Routine::new(Rule::Watch, Box::new(alloc, watch)?);
     let dispatch = Dispatch::new(ONE_WATCH, Box::new(alloc, dispatch)?);
-    match store_of(alloc, watch, dispatch) {
-        Some(store) => Ok(answered(alloc, store, &STEPS)),
-        None => Ok(NO_MEMORY),
-    }
+    let mut store = Store::new(alloc);
+    let has_watch = store.add(watch).is_ok();
+    let has_dispatch = store.add_dispatch(dispatch).is_ok();
+    let has_driver = store.add_driver(reads).is_ok();
+    let is_filled = has_watch && has_dispatch && has_driver;
+    Ok(holds(is_filled, "the store isn't filled").and(answered(alloc, store, &STEPS)))
 }
 
 /// Makes the steps, and compares what was noted with the order of the list.

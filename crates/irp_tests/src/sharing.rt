@@ -10,7 +10,7 @@ ghost use Rattle.irp_remove.specs.Pairing.{IsSeatOf};
 
 use super::outcome::{NO_MEMORY, Outcome, holds, number};
 use super::remove::LOCK;
-use super::stores::{READ, adds_dispatch, adds_driver};
+use super::stores::{READ, READS};
 use irp_manager::KnowsNothing;
 use irp_remove::{Locks, RemoveSeat};
 use irp_routines::{Ask, Dispatch, Store};
@@ -207,15 +207,6 @@ fn session<A: Ask + Send + Drop, L: Session + Send + Sync, R: Threads + Wait + S
     }
 }
 
-/// A store of one driver, with this dispatch for reads.
-fn store_of(alloc: Global, dispatch: Dispatch) -> Option<Store> {
-    let mut store = Store::new(alloc);
-    if adds_dispatch(&mut store, dispatch) && adds_driver(alloc, &mut store) {
-        return Some(store);
-    }
-    None
-}
-
 /// Sends the packet while the lock is taken.
 fn met<R: Threads + Wait + Sync>(
     rt: &R,
@@ -229,17 +220,21 @@ fn met<R: Threads + Wait + Sync>(
     has_begun.and(met)
 }
 
-/// The same, with a dispatch that tells of itself in the meeting. None where memory is missing for the store.
+/// The same, with a dispatch that tells of itself in the meeting. None where memory is missing for what is stored.
 fn is_met<R: Threads + Wait + Sync>(
     rt: &R,
     alloc: Global,
     takers: &mut Takers,
     meeting: &Arc<Meeting>,
 ) -> Option<Outcome> {
+    let reads = READS.to_vec(alloc).ok()?;
     let own = meeting.clone().ok()?;
     let run = Box::new(alloc, move |shown: Shown| plan_after(&own, shown)).ok()?;
-    let store = store_of(alloc, Dispatch::new(Known::NONE, run))?;
-    Some(met(rt, alloc, store, takers, meeting))
+    let mut store = Store::new(alloc);
+    let has_dispatch = store.add_dispatch(Dispatch::new(Known::NONE, run)).is_ok();
+    let has_driver = store.add_driver(reads).is_ok();
+    let is_filled = holds(has_dispatch && has_driver, "the store isn't filled");
+    Some(is_filled.and(met(rt, alloc, store, takers, meeting)))
 }
 
 /// The same with one new lock and two seats of it.

@@ -1,4 +1,4 @@
-//! Stores, filled item by item, and the calls of a manager that asks one.
+//! The calls of a manager that asks a store.
 
 ghost use Rattle.std.specs.Prelude.{◌≡◌, true};
 ghost use Rattle.irp_types.specs.Rules.{is_allowed};
@@ -6,13 +6,16 @@ ghost use Rattle.irp_types.specs.declared.routine.Rule.TheVariants.{Watch};
 
 use super::outcome::{NO_MEMORY, Outcome, number};
 use irp_manager::{Book, KnowsNothing, Manager, Receipt, Seat};
-use irp_routines::{CancelRoutine, Dispatch, Routine, Store};
+use irp_routines::Store;
 use irp_types::{Answer, Call, DispatchId, Reply, Rule, Shown};
 use std::alloc::Global;
 use std::marker::Brand;
 use std::sync::ledger::{Blank, Ledger};
 
 pub const READ: u8 = 0x03;
+
+/// What a driver has: the first dispatch for reads.
+pub const READS: [(u8, DispatchId); 1] = [(READ, DispatchId(0))];
 
 /// A call, and what it has to be answered.
 pub type Step = (Call, Reply);
@@ -25,29 +28,6 @@ pub fn look_on(shown: Shown) -> Answer
         keep: false,
         mark: Rule::right_mark(shown, false),
         replacement: None,
-    }
-}
-
-/// Adds a completion routine.
-pub fn adds(store: &mut Store, routine: Routine) -> bool {
-    store.add(routine).is_ok()
-}
-
-/// Adds a cancel routine.
-pub fn adds_cancel(store: &mut Store, routine: CancelRoutine) -> bool {
-    store.add_cancel(routine).is_ok()
-}
-
-/// Adds a dispatch.
-pub fn adds_dispatch(store: &mut Store, dispatch: Dispatch) -> bool {
-    store.add_dispatch(dispatch).is_ok()
-}
-
-/// Adds a driver, with the first dispatch for reads.
-pub fn adds_driver(alloc: Global, store: &mut Store) -> bool {
-    match [(READ, DispatchId(0))].to_vec(alloc) {
-        Ok(dispatches) => store.add_driver(dispatches).is_ok(),
-        Err(_) => false,
     }
 }
 
