@@ -1,7 +1,8 @@
 //! The words of a line, taken one after the other, and what is wrong with one.
 
 use crate::wanted::Wanted;
-use std::alloc::{AllocError, AllocFailed};
+use crate::written::Written;
+use std::alloc::{AllocError, Global};
 
 /// A word of a line.
 #[derive(Clone, Copy)]
@@ -38,52 +39,50 @@ impl<'a> WordsFault<'a> {
         }
     }
 
-    /// Puts the fault behind what a text holds, on one line without its newline. The one error is want of memory.
-    pub fn write(&self, text: &mut String) -> Result<(), AllocError> {
+    /// Puts the place of the fault, and what stands there.
+    fn write_place(&self, text: &mut Written) {
+        if self.line == 0 {
+            text.put("the text");
+            return;
+        }
+        text.put("line ");
+        text.number(self.line as u64);
+        text.put(", column ");
+        text.number(self.column as u64);
+        text.put(": ");
         match self.word {
-            _ if self.line == 0 => text.push_str("the text")?,
-            Some(word) => write!(
-                text,
-                "line {}, column {}: \"{}\"",
-                self.line, self.column, word
-            )?,
-            None => write!(
-                text,
-                "line {}, column {}: the line ends",
-                self.line, self.column
-            )?,
-        }
-        text.push_str("; expected ")?;
-        self.wanted.write(text)?;
-        match self.hint {
-            Some(hint) => write!(text, ". Did you mean {}?", hint),
-            None => Ok(()),
+            Some(word) => text.quoted(word),
+            None => text.put("the line ends"),
         }
     }
-}
 
-/// Why a line wasn't taken.
-#[derive(Clone, Copy)]
-pub enum Stop<'a> {
-    /// It has this fault.
-    Fault(WordsFault<'a>),
-    /// Memory ran out.
-    NoMemory,
-}
-
-impl<'a> From<AllocError> for Stop<'a> {
-    fn from(_error: AllocError) -> Stop<'a> {
-        Stop::NoMemory
+    /// Puts the fault, in a line.
+    fn write(&self, text: &mut Written) {
+        self.write_place(text);
+        text.put("; expected ");
+        self.wanted.write(text);
+        if let Some(hint) = self.hint {
+            text.put(". Did you mean ");
+            text.put(hint);
+            text.put("?");
+        }
+        text.put("\n");
     }
 }
 
-impl<'a, T: Drop> From<AllocFailed<T>> for Stop<'a> {
-    fn from(_error: AllocFailed<T>) -> Stop<'a> {
-        Stop::NoMemory
+/// A line for each fault. The one error is want of memory.
+pub fn fault_lines(alloc: Global, faults: &[WordsFault<'_>]) -> Result<String, AllocError> {
+    let mut text = Written::new(alloc);
+    for fault in faults {
+        fault.write(&mut text);
     }
+    text.ended()
 }
 
-/// The words of a line, and how many of them were taken.
+/// The words of a line, how many of them were taken, and what is wrong with the line.
+///
+/// What takes words gives None where the line isn't taken: then the cursor keeps the line's fault, or none where memory
+/// ran out.
 #[derive(Clone, Copy)]
 pub struct Cursor<'a, 'b> {
     words: &'b [Word<'a>],
@@ -91,6 +90,7 @@ pub struct Cursor<'a, 'b> {
     at: usize,
     line: usize,
     end: usize,
+    fault: Option<WordsFault<'a>>,
 }
 
 impl<'a, 'b> Cursor<'a, 'b> {
@@ -101,6 +101,7 @@ impl<'a, 'b> Cursor<'a, 'b> {
             at: 0,
             line,
             end,
+            fault: None,
         }
     }
 
@@ -122,15 +123,21 @@ impl<'a, 'b> Cursor<'a, 'b> {
         }
     }
 
-    /// The fault that the next word, or the line's end, isn't what was wanted.
-    pub fn fault(&self, wanted: Wanted) -> Stop<'a> {
-        Stop::Fault(WordsFault {
+    /// The line's fault.
+    pub fn fault(&self) -> Option<WordsFault<'a>> {
+        self.fault
+    }
+
+    /// None: the next word, or the line's end, isn't what was wanted.
+    pub fn fails<T>(&mut self, wanted: Wanted) -> Option<T> {
+        self.fault = Some(WordsFault {
             line: self.line,
             column: self.column(),
             word: self.peek(),
             wanted,
             hint: None,
-        })
+        });
+        None
     }
 
     /// The next word, which is left there.
@@ -164,22 +171,22 @@ impl<'a, 'b> Cursor<'a, 'b> {
     }
 
     /// What the next word was read as, and passes over it; where it was read as nothing, it isn't what was wanted.
-    pub fn taken<T>(&mut self, read: Option<T>, wanted: Wanted) -> Result<T, Stop<'a>> {
+    pub fn taken<T>(&mut self, read: Option<T>, wanted: Wanted) -> Option<T> {
         match read {
             Some(value) => {
                 self.pass();
-                Ok(value)
+                Some(value)
             }
-            None => Err(self.fault(wanted)),
+            None => self.fails(wanted),
         }
     }
 
     /// Nothing, where no word is left.
-    pub fn ended(&self) -> Result<(), Stop<'a>> {
+    pub fn ended(&mut self) -> Option<()> {
         if self.left() == 0 {
-            Ok(())
+            Some(())
         } else {
-            Err(self.fault(Wanted::Nothing))
+            self.fails(Wanted::Nothing)
         }
     }
 }

@@ -16,8 +16,9 @@ mod steps;
 mod to_json;
 mod to_words;
 mod wanted;
+mod written;
 
-pub use cursor::WordsFault;
+pub use cursor::{WordsFault, fault_lines};
 pub use law::{Told, Untold, json};
 pub use read::read_lines;
 pub use said::Said;

@@ -1,6 +1,6 @@
 //! Completion routines, cancel routines, dispatches and drivers, each by its line.
 
-use crate::cursor::{Cursor, Stop};
+use crate::cursor::Cursor;
 use crate::names::{Kind, number_below};
 use crate::numbers::{begins_with_digit, major_named, number_in, status_named};
 use crate::said::Said;
@@ -14,7 +14,7 @@ use irp_types::{
 use std::alloc::Global;
 
 /// The number below 2^64 that the next word is.
-pub fn take_number<'a>(words: &mut Cursor<'a, '_>) -> Result<u64, Stop<'a>> {
+pub fn take_number(words: &mut Cursor<'_, '_>) -> Option<u64> {
     words.taken(number_in(words.text()), Wanted::Number)
 }
 
@@ -28,7 +28,7 @@ fn status_in(text: &str) -> Option<Status> {
 }
 
 /// The status that the next word is.
-pub fn take_status<'a>(words: &mut Cursor<'a, '_>) -> Result<Status, Stop<'a>> {
+pub fn take_status(words: &mut Cursor<'_, '_>) -> Option<Status> {
     words.taken(status_in(words.text()), Wanted::Status)
 }
 
@@ -50,7 +50,7 @@ fn major_in(text: &str) -> Option<u8> {
 }
 
 /// The major function code that the next word is.
-pub fn take_major<'a>(words: &mut Cursor<'a, '_>) -> Result<u8, Stop<'a>> {
+pub fn take_major(words: &mut Cursor<'_, '_>) -> Option<u8> {
     words.taken(major_in(words.text()), Wanted::Major)
 }
 
@@ -64,22 +64,22 @@ fn flags_in(text: &str) -> Option<Flags> {
 }
 
 /// The completion routine that the next words are.
-fn take_routine<'a>(said: &Said<'a>, words: &mut Cursor<'a, '_>) -> Result<RoutineId, Stop<'a>> {
+fn take_routine(said: &Said<'_>, words: &mut Cursor<'_, '_>) -> Option<RoutineId> {
     if let Some(routine) = said.names.routine(words.text()) {
         words.pass();
-        return Ok(routine);
+        return Some(routine);
     }
     let rule = words.taken(named::<Rule>(words.text()), Wanted::Routine)?;
     let no = words.taken(number_below(words.text()), Wanted::Number32)?;
-    Ok(RoutineId { rule, no })
+    Some(RoutineId { rule, no })
 }
 
 /// The setting that the next words are.
-pub fn take_setting<'a>(said: &Said<'a>, words: &mut Cursor<'a, '_>) -> Result<Setting, Stop<'a>> {
+pub fn take_setting(said: &Said<'_>, words: &mut Cursor<'_, '_>) -> Option<Setting> {
     let routine = take_routine(said, words)?;
     let context = take_number(words)?;
     let flags = words.taken(flags_in(words.text()), Wanted::Flags)?;
-    Ok(Setting {
+    Some(Setting {
         routine,
         context,
         on_success: flags.on_success,
@@ -89,14 +89,11 @@ pub fn take_setting<'a>(said: &Said<'a>, words: &mut Cursor<'a, '_>) -> Result<S
 }
 
 /// The setting that the next words are; none where no word is left.
-fn take_setting_or_none<'a>(
-    said: &Said<'a>,
-    words: &mut Cursor<'a, '_>,
-) -> Result<Option<Setting>, Stop<'a>> {
+fn take_setting_or_none(said: &Said<'_>, words: &mut Cursor<'_, '_>) -> Option<Option<Setting>> {
     if words.left() == 0 {
-        return Ok(None);
+        return Some(None);
     }
-    Ok(Some(take_setting(said, words)?))
+    Some(Some(take_setting(said, words)?))
 }
 
 /// The behaviour that a word is.
@@ -109,16 +106,16 @@ fn behaviour_in(text: &str) -> Option<Behaviour> {
 }
 
 /// The behaviour that the next words are.
-fn take_behaviour<'a>(words: &mut Cursor<'a, '_>) -> Result<Behaviour, Stop<'a>> {
-    if words.takes("replace") {
-        let status = take_status(words)?;
-        let information = take_number(words)?;
-        return Ok(Behaviour::Replace(Replacement {
-            status,
-            information,
-        }));
+fn take_behaviour(words: &mut Cursor<'_, '_>) -> Option<Behaviour> {
+    if !words.takes("replace") {
+        return words.taken(behaviour_in(words.text()), Wanted::Behaviour);
     }
-    words.taken(behaviour_in(words.text()), Wanted::Behaviour)
+    let status = take_status(words)?;
+    let information = take_number(words)?;
+    Some(Behaviour::Replace(Replacement {
+        status,
+        information,
+    }))
 }
 
 /// The behaviours that a rule has where none are written: the only ones that it may have.
@@ -132,79 +129,87 @@ fn only_behaviours(rule: Rule) -> Option<(Behaviour, Behaviour)> {
 }
 
 /// The behaviours that the next words are; where no word is left, the only ones that the rule may have.
-fn take_behaviours<'a>(
-    rule: Rule,
-    words: &mut Cursor<'a, '_>,
-) -> Result<(Behaviour, Behaviour), Stop<'a>> {
+fn take_behaviours(rule: Rule, words: &mut Cursor<'_, '_>) -> Option<(Behaviour, Behaviour)> {
     if words.left() == 0 {
         if let Some(both) = only_behaviours(rule) {
-            return Ok(both);
+            return Some(both);
         }
     }
     let on_ok = take_behaviour(words)?;
     let on_err = take_behaviour(words)?;
-    Ok((on_ok, on_err))
+    Some((on_ok, on_err))
 }
 
 /// The plan that the next words are, behind `finish`.
-fn take_finish<'a>(words: &mut Cursor<'a, '_>) -> Result<Plan, Stop<'a>> {
+fn take_finish(words: &mut Cursor<'_, '_>) -> Option<Plan> {
     let status = take_status(words)?;
     let information = take_number(words)?;
-    Ok(Plan::Finish {
+    Some(Plan::Finish {
         status,
         information,
     })
 }
 
 /// The plan that the next words are, behind `hold`.
-fn take_hold<'a>(said: &Said<'a>, words: &mut Cursor<'a, '_>) -> Result<Plan, Stop<'a>> {
+fn take_hold(said: &Said<'_>, words: &mut Cursor<'_, '_>) -> Option<Plan> {
     if words.left() == 0 {
-        return Ok(Plan::Hold { cancel: None });
+        return Some(Plan::Hold { cancel: None });
     }
     let cancel = Some(CancelId(said.number(Kind::Cancel, words)?));
-    Ok(Plan::Hold { cancel })
+    Some(Plan::Hold { cancel })
+}
+
+/// The plan that the next words are, behind `forward`.
+fn take_forward(said: &Said<'_>, words: &mut Cursor<'_, '_>) -> Option<Plan> {
+    let set = take_setting_or_none(said, words)?;
+    Some(Plan::Forward { set })
+}
+
+/// The plan that the next words are, behind `forward_pend`.
+fn take_forward_pend(said: &Said<'_>, words: &mut Cursor<'_, '_>) -> Option<Plan> {
+    let set = take_setting_or_none(said, words)?;
+    Some(Plan::ForwardPend { set })
 }
 
 /// The plan that the next words are.
-fn take_plan<'a>(said: &Said<'a>, words: &mut Cursor<'a, '_>) -> Result<Plan, Stop<'a>> {
+fn take_plan(said: &Said<'_>, words: &mut Cursor<'_, '_>) -> Option<Plan> {
     let begin = *words;
     words.pass();
     match begin.text() {
         "finish" => take_finish(words),
         "hold" => take_hold(said, words),
-        "forward" => Ok(Plan::Forward {
-            set: take_setting_or_none(said, words)?,
-        }),
-        "forward_pend" => Ok(Plan::ForwardPend {
-            set: take_setting_or_none(said, words)?,
-        }),
-        "hold_slot" => Ok(Plan::HoldSlot),
-        "skip" => Ok(Plan::Skip),
-        _ => Err(begin.fault(Wanted::Plan)),
+        "forward" => take_forward(said, words),
+        "forward_pend" => take_forward_pend(said, words),
+        "hold_slot" => Some(Plan::HoldSlot),
+        "skip" => Some(Plan::Skip),
+        _ => {
+            *words = begin;
+            words.fails(Wanted::Plan)
+        }
     }
 }
 
-/// A driver's table, which the rest of the line is.
-fn take_table<'a>(
-    alloc: Global,
-    said: &Said<'a>,
-    words: &mut Cursor<'a, '_>,
-) -> Result<Row<(u8, DispatchId)>, Stop<'a>> {
-    let mut table = Vec::new(alloc);
-    if words.takes("nothing") {
-        return Ok(Row::from_vec(table));
-    }
+/// The entry of a driver's table that the next words are.
+fn take_entry(said: &Said<'_>, words: &mut Cursor<'_, '_>) -> Option<(u8, DispatchId)> {
+    let major = take_major(words)?;
+    let dispatch = DispatchId(said.number(Kind::Dispatch, words)?);
+    Some((major, dispatch))
+}
+
+/// Puts the entries of a driver's table, which the rest of the line is, behind those that are there.
+fn take_entries(
+    table: &mut Vec<(u8, DispatchId)>,
+    said: &Said<'_>,
+    words: &mut Cursor<'_, '_>,
+) -> Option<()> {
     for _ in 0..words.left() {
-        let major = take_major(words)?;
-        let dispatch = DispatchId(said.number(Kind::Dispatch, words)?);
-        if table.push((major, dispatch)).is_err() {
-            return Err(Stop::NoMemory);
-        }
+        let entry = take_entry(said, words)?;
+        table.push(entry).ok()?;
         if words.left() == 0 {
-            return Ok(Row::from_vec(table));
+            return Some(());
         }
     }
-    Err(words.fault(Wanted::Major))
+    words.fails(Wanted::Major)
 }
 
 /// The name before a colon, with which a line may begin.
@@ -249,23 +254,18 @@ pub fn count_of(length: usize) -> u32 {
 
 impl<'a> Said<'a> {
     /// Gives the name before a colon, if the line begins with one, to this number.
-    fn take_name(
-        &mut self,
-        kind: Kind,
-        number: usize,
-        words: &mut Cursor<'a, '_>,
-    ) -> Result<(), Stop<'a>> {
+    fn take_name(&mut self, kind: Kind, number: usize, words: &mut Cursor<'a, '_>) -> Option<()> {
         if let Some(text) = name_before(words) {
             self.name(kind, text, count_of(number), words)?;
             words.pass();
         }
-        Ok(())
+        Some(())
     }
 
-    /// Takes the line of a completion routine.
-    pub fn take_completion(&mut self, words: &mut Cursor<'a, '_>) -> Result<(), Stop<'a>> {
-        self.place(Section::Completions, words)?;
-        let begin = *words;
+    /// The rule that the next word is; it counts one more completion routine, whose name stands before it where it has
+    /// one.
+    fn take_rule(&mut self, words: &mut Cursor<'a, '_>) -> Option<Rule> {
+        let mut begin = *words;
         let name = name_before(words);
         if name.is_some() {
             words.pass();
@@ -273,58 +273,70 @@ impl<'a> Said<'a> {
         let rule = words.taken(named::<Rule>(words.text()), Wanted::Rule)?;
         if let Some(text) = name {
             let number = self.counts.count_of(rule);
-            self.name_routine(Kind::Routine, text, rule, number, &begin)?;
+            if self
+                .name_routine(Kind::Routine, text, rule, number, &mut begin)
+                .is_none()
+            {
+                *words = begin;
+                return None;
+            }
         }
         self.counts = with_one(self.counts, rule);
+        Some(rule)
+    }
+
+    /// Takes the line of a completion routine.
+    pub fn take_completion(&mut self, words: &mut Cursor<'a, '_>) -> Option<()> {
+        self.place(Section::Completions, words)?;
+        let rule = self.take_rule(words)?;
         let (on_ok, on_err) = take_behaviours(rule, words)?;
-        self.completions.push(CompletionRoutine {
+        let routine = CompletionRoutine {
             rule,
             on_ok,
             on_err,
-        })?;
-        Ok(())
+        };
+        self.completions.push(routine).ok()
     }
 
     /// Takes the line of a cancel routine.
-    pub fn take_cancel(&mut self, words: &mut Cursor<'a, '_>) -> Result<(), Stop<'a>> {
+    pub fn take_cancel(&mut self, words: &mut Cursor<'a, '_>) -> Option<()> {
         self.place(Section::Cancels, words)?;
         let number = self.cancels.len();
         self.take_name(Kind::Cancel, number, words)?;
-        let answer = if words.takes("finish") {
-            let information = take_number(words)?;
-            CancelAnswer::Finish { information }
-        } else if words.takes("leave") {
-            CancelAnswer::Leave
-        } else {
-            return Err(words.fault(Wanted::CancelAnswer));
-        };
-        self.cancels.push(answer)?;
-        Ok(())
+        let answer = take_answer(words)?;
+        self.cancels.push(answer).ok()
     }
 
     /// Takes the line of a dispatch.
-    pub fn take_dispatch(&mut self, words: &mut Cursor<'a, '_>) -> Result<(), Stop<'a>> {
+    pub fn take_dispatch(&mut self, words: &mut Cursor<'a, '_>) -> Option<()> {
         self.place(Section::Dispatches, words)?;
         let number = self.dispatches.len();
         self.take_name(Kind::Dispatch, number, words)?;
         let plan = take_plan(self, words)?;
-        self.dispatches.push(plan)?;
-        Ok(())
+        self.dispatches.push(plan).ok()
     }
 
     /// Takes the line of a driver.
-    pub fn take_driver(
-        &mut self,
-        alloc: Global,
-        words: &mut Cursor<'a, '_>,
-    ) -> Result<(), Stop<'a>> {
+    pub fn take_driver(&mut self, alloc: Global, words: &mut Cursor<'a, '_>) -> Option<()> {
         self.place(Section::Drivers, words)?;
         let number = self.drivers.len();
         self.take_name(Kind::Driver, number, words)?;
-        let table = take_table(alloc, self, words)?;
-        if self.drivers.push(table).is_err() {
-            return Err(Stop::NoMemory);
+        let mut table = Vec::new(alloc);
+        if !words.takes("nothing") {
+            take_entries(&mut table, self, words)?;
         }
-        Ok(())
+        self.drivers.push(Row::from_vec(table)).ok()
     }
+}
+
+/// The answer of a cancel routine that the next words are.
+fn take_answer(words: &mut Cursor<'_, '_>) -> Option<CancelAnswer> {
+    if words.takes("leave") {
+        return Some(CancelAnswer::Leave);
+    }
+    if !words.takes("finish") {
+        return words.fails(Wanted::CancelAnswer);
+    }
+    let information = take_number(words)?;
+    Some(CancelAnswer::Finish { information })
 }

@@ -2,7 +2,7 @@
 
 ghost use Rattle.std.specs.Prelude.{[], ◌<◌, ◌≢◌, IfOk, IsUtf8, length};
 
-use crate::cursor::{Cursor, Stop, Word, WordsFault};
+use crate::cursor::{Cursor, Word, WordsFault};
 use crate::members::count_of;
 use crate::names::{Kind, number_below};
 use crate::numbers::begins_with_digit;
@@ -71,15 +71,19 @@ fn split<'a>(line: &'a str, words: &mut Vec<Word<'a>>) -> Result<usize, AllocErr
     Ok(end)
 }
 
+/// What is counted in a section, where that has a count.
+fn counted(section: Section) -> Option<Kind> {
+    match section {
+        Section::Seats => Some(Kind::Seat),
+        Section::Locks => Some(Kind::Lock),
+        Section::Slots => Some(Kind::Slot),
+        _ => None,
+    }
+}
+
 impl<'a> Said<'a> {
-    /// The count that the rest of a line is: a number, or as many names as there are.
-    fn take_count(&mut self, kind: Kind, words: &mut Cursor<'a, '_>) -> Result<u32, Stop<'a>> {
-        let Some(first) = words.peek() else {
-            return Err(words.fault(Wanted::Count));
-        };
-        if begins_with_digit(first) {
-            return words.taken(number_below(first), Wanted::Number32);
-        }
+    /// Gives as many names as words are left to the numbers from 0 on, and gives their count.
+    fn take_names(&mut self, kind: Kind, words: &mut Cursor<'a, '_>) -> Option<u32> {
         let count = count_of(words.left());
         for number in 0..count {
             if let Some(text) = words.peek() {
@@ -87,24 +91,41 @@ impl<'a> Said<'a> {
                 words.pass();
             }
         }
-        Ok(count)
+        Some(count)
+    }
+
+    /// The count that the rest of a line is: a number, or as many names as there are.
+    fn take_count(&mut self, kind: Kind, words: &mut Cursor<'a, '_>) -> Option<u32> {
+        let Some(first) = words.peek() else {
+            return words.fails(Wanted::Count);
+        };
+        if begins_with_digit(first) {
+            words.taken(number_below(first), Wanted::Number32)
+        } else {
+            self.take_names(kind, words)
+        }
     }
 
     /// Takes a line above the sections.
-    fn take_top(&mut self, words: &mut Cursor<'a, '_>) -> Result<(), Stop<'a>> {
+    fn take_top(&mut self, words: &mut Cursor<'a, '_>) -> Option<()> {
         let begin = *words;
         let section = words.taken(count_named(words.text()), Wanted::Heading)?;
         if self.is_placed(section) {
-            return Err(begin.fault(Wanted::Once));
+            *words = begin;
+            return words.fails(Wanted::Once);
         }
         self.place(section, &begin)?;
+        let number = match counted(section) {
+            Some(kind) => self.take_count(kind, words)?,
+            None => words.taken(form_in(words.text()), Wanted::Form)?,
+        };
         match section {
-            Section::Seats => self.seats = Some(self.take_count(Kind::Seat, words)?),
-            Section::Locks => self.locks = Some(self.take_count(Kind::Lock, words)?),
-            Section::Slots => self.slots = Some(self.take_count(Kind::Slot, words)?),
-            _ => self.form = Some(words.taken(form_in(words.text()), Wanted::Form)?),
+            Section::Seats => self.seats = Some(number),
+            Section::Locks => self.locks = Some(number),
+            Section::Slots => self.slots = Some(number),
+            _ => self.form = Some(number),
         }
-        Ok(())
+        Some(())
     }
 
     /// Takes a line that is no heading, in the section that a heading above began.
@@ -113,16 +134,15 @@ impl<'a> Said<'a> {
         alloc: Global,
         section: Section,
         words: &mut Cursor<'a, '_>,
-    ) -> Result<(), Stop<'a>> {
+    ) -> Option<()> {
         match section {
-            Section::Completions => self.take_completion(words)?,
-            Section::Cancels => self.take_cancel(words)?,
-            Section::Dispatches => self.take_dispatch(words)?,
-            Section::Drivers => self.take_driver(alloc, words)?,
-            Section::Setup | Section::Steps => self.take_step(section, words)?,
-            _ => self.take_top(words)?,
+            Section::Completions => self.take_completion(words),
+            Section::Cancels => self.take_cancel(words),
+            Section::Dispatches => self.take_dispatch(words),
+            Section::Drivers => self.take_driver(alloc, words),
+            Section::Setup | Section::Steps => self.take_step(section, words),
+            _ => self.take_top(words),
         }
-        words.ended()
     }
 
     /// Takes a line, in the section that a heading above began. It gives the section in which the next line is.
@@ -131,17 +151,18 @@ impl<'a> Said<'a> {
         alloc: Global,
         section: Section,
         words: &mut Cursor<'a, '_>,
-    ) -> Result<Section, Stop<'a>> {
+    ) -> Option<Section> {
         let Some(first) = words.peek() else {
-            return Ok(section);
+            return Some(section);
         };
-        if let Some(next) = heading(first) {
+        let next = heading(first);
+        if next.is_some() {
             words.pass();
-            words.ended()?;
-            return Ok(next);
+        } else {
+            self.take_member(alloc, section, words)?;
         }
-        self.take_member(alloc, section, words)?;
-        Ok(section)
+        words.ended()?;
+        Some(next.unwrap_or(section))
     }
 
     /// Takes a line, and notes its fault where it has one.
@@ -151,13 +172,13 @@ impl<'a> Said<'a> {
         section: Section,
         words: &mut Cursor<'a, '_>,
     ) -> Result<Section, AllocError> {
-        match self.take_line(alloc, section, words) {
-            Ok(next) => Ok(next),
-            Err(Stop::Fault(fault)) => {
+        match (self.take_line(alloc, section, words), words.fault()) {
+            (Some(next), _) => Ok(next),
+            (None, Some(fault)) => {
                 self.note(alloc, fault)?;
                 Ok(section)
             }
-            Err(Stop::NoMemory) => Err(AllocError),
+            (None, None) => Err(AllocError),
         }
     }
 

@@ -3,7 +3,7 @@
 ghost use Rattle.std.specs.Prelude.{◌≡◌};
 ghost use Rattle.irp_grammar.specs.Saying.{form_number};
 
-use crate::cursor::{Cursor, Stop, WordsFault};
+use crate::cursor::{Cursor, WordsFault};
 use crate::names::{Kind, Name, Names, is_name};
 use crate::near::hint;
 use crate::step_line::StepLine;
@@ -79,16 +79,15 @@ impl<'a> Said<'a> {
         }
     }
 
-    /// Notes that a member of a section begins here.
-    pub fn place(&mut self, section: Section, words: &Cursor<'a, '_>) -> Result<(), AllocError> {
-        Ok(
-            self.places.push(Place {
-                section,
-                line: words.line(),
-                column: words.column(),
-                word: words.peek(),
-            })?,
-        )
+    /// Notes that a member of a section begins here; none where memory runs out.
+    pub fn place(&mut self, section: Section, words: &Cursor<'a, '_>) -> Option<()> {
+        let place = Place {
+            section,
+            line: words.line(),
+            column: words.column(),
+            word: words.peek(),
+        };
+        self.places.push(place).ok()
     }
 
     /// Whether the section has a line.
@@ -97,7 +96,7 @@ impl<'a> Said<'a> {
     }
 
     /// The number of this kind that the next word is.
-    pub fn number(&self, kind: Kind, words: &mut Cursor<'a, '_>) -> Result<u32, Stop<'a>> {
+    pub fn number(&self, kind: Kind, words: &mut Cursor<'_, '_>) -> Option<u32> {
         let read = self.names.number(kind, words.text());
         words.taken(read, Wanted::Of(kind))
     }
@@ -108,8 +107,8 @@ impl<'a> Said<'a> {
         kind: Kind,
         text: &'a str,
         number: u32,
-        words: &Cursor<'a, '_>,
-    ) -> Result<(), Stop<'a>> {
+        words: &mut Cursor<'a, '_>,
+    ) -> Option<()> {
         self.name_routine(kind, text, Rule::Watch, number, words)
     }
 
@@ -120,21 +119,21 @@ impl<'a> Said<'a> {
         text: &'a str,
         rule: Rule,
         number: u32,
-        words: &Cursor<'a, '_>,
-    ) -> Result<(), Stop<'a>> {
+        words: &mut Cursor<'a, '_>,
+    ) -> Option<()> {
         if !is_name(text) {
-            return Err(words.fault(Wanted::Name));
+            return words.fails(Wanted::Name);
         }
         if self.names.has(kind, text) {
-            return Err(words.fault(Wanted::NewName(kind)));
+            return words.fails(Wanted::NewName(kind));
         }
-        self.names.give(Name {
+        let name = Name {
             kind,
             text,
             number,
             rule,
-        })?;
-        Ok(())
+        };
+        self.names.give(name).ok()
     }
 
     /// Notes a fault, and what may be meant.

@@ -1,7 +1,7 @@
 //! Steps, each by its line, and a stack of devices in one line.
 
 use crate::act::{Act, Key};
-use crate::cursor::{Cursor, Stop};
+use crate::cursor::Cursor;
 use crate::members::{byte_in, take_major, take_number, take_setting, take_status};
 use crate::names::{Kind, is_label, number_below};
 use crate::numbers::{begins_with_digit, minor_named, number_in};
@@ -52,33 +52,45 @@ fn word_in(text: &str) -> Option<u64> {
     }
 }
 
+/// Puts what was read in this place; where nothing was, the place keeps what it has.
+fn put<T: Copy>(place: &mut T, read: Option<T>) -> Option<()> {
+    *place = read?;
+    Some(())
+}
+
 impl<'a> Said<'a> {
     /// The packet that the next word names.
-    fn take_packet(&mut self, words: &mut Cursor<'a, '_>) -> Result<Named, Stop<'a>> {
+    fn take_packet(&mut self, words: &mut Cursor<'a, '_>) -> Option<Named> {
         match words.taken(packet_in(words.text()), Wanted::Packet)? {
-            Packet::Label(label) => Ok(Named::Label(self.names.label(label)?)),
-            Packet::Irp(irp) => Ok(Named::Irp(irp)),
+            Packet::Label(label) => Some(Named::Label(self.names.label(label).ok()?)),
+            Packet::Irp(irp) => Some(Named::Irp(irp)),
         }
+    }
+
+    /// The label that the next word is, by its place.
+    fn take_label(&mut self, words: &mut Cursor<'a, '_>) -> Option<usize> {
+        let label = words.taken(label_in(words.text()), Wanted::Label)?;
+        self.names.label(label).ok()
     }
 
     /// The party that the next word is.
-    fn take_party(&self, words: &mut Cursor<'a, '_>) -> Result<Party, Stop<'a>> {
+    fn take_party(&self, words: &mut Cursor<'_, '_>) -> Option<Party> {
         let text = words.text();
         if text == "o" || text == "originator" {
             words.pass();
-            return Ok(Party::Originator);
+            return Some(Party::Originator);
         }
         let read = self.names.number(Kind::Device, text);
-        Ok(Party::Device(DeviceId(words.taken(read, Wanted::Party)?)))
+        Some(Party::Device(DeviceId(words.taken(read, Wanted::Party)?)))
     }
 
     /// The cancel routine that the next word is, or none.
-    fn take_cancel_id(&self, words: &mut Cursor<'a, '_>) -> Result<Option<CancelId>, Stop<'a>> {
+    fn take_cancel_id(&self, words: &mut Cursor<'_, '_>) -> Option<Option<CancelId>> {
         if words.takes("none") {
-            return Ok(None);
+            return Some(None);
         }
         let read = self.names.number(Kind::Cancel, words.text());
-        Ok(Some(CancelId(words.taken(read, Wanted::Cancel)?)))
+        Some(Some(CancelId(words.taken(read, Wanted::Cancel)?)))
     }
 
     /// Takes the value of a key that has a number below 2^32 or a name.
@@ -86,18 +98,20 @@ impl<'a> Said<'a> {
         &self,
         key: Key,
         values: &mut Values,
-        words: &mut Cursor<'a, '_>,
-    ) -> Result<(), Stop<'a>> {
+        words: &mut Cursor<'_, '_>,
+    ) -> Option<()> {
         match key {
-            Key::Driver => values.driver = DriverId(self.number(Kind::Driver, words)?),
-            Key::Lock => values.lock = LockNo(self.number(Kind::Lock, words)?),
-            Key::To => values.to = DeviceId(self.number(Kind::Device, words)?),
-            Key::Slot => values.slot = self.number(Kind::Slot, words)?,
-            Key::ToSeat => values.seat = self.number(Kind::Seat, words)?,
-            Key::Tag => values.tag = words.taken(number_below(words.text()), Wanted::Number32)?,
-            _ => values.device = DeviceId(self.number(Kind::Device, words)?),
+            Key::Driver => put(&mut values.driver.0, self.number(Kind::Driver, words)),
+            Key::Lock => put(&mut values.lock.0, self.number(Kind::Lock, words)),
+            Key::To => put(&mut values.to.0, self.number(Kind::Device, words)),
+            Key::Slot => put(&mut values.slot, self.number(Kind::Slot, words)),
+            Key::ToSeat => put(&mut values.seat, self.number(Kind::Seat, words)),
+            Key::Tag => put(
+                &mut values.tag,
+                words.taken(number_below(words.text()), Wanted::Number32),
+            ),
+            _ => put(&mut values.device.0, self.number(Kind::Device, words)),
         }
-        Ok(())
     }
 
     /// Takes the value of a key.
@@ -106,28 +120,30 @@ impl<'a> Said<'a> {
         key: Key,
         values: &mut Values,
         words: &mut Cursor<'a, '_>,
-    ) -> Result<(), Stop<'a>> {
+    ) -> Option<()> {
         match key {
-            Key::Size => values.size = words.taken(byte_in(words.text()), Wanted::Number8)?,
-            Key::As => {
-                let label = words.taken(label_in(words.text()), Wanted::Label)?;
-                values.label = self.names.label(label)?;
-            }
-            Key::Irp => values.packet = self.take_packet(words)?,
-            Key::By => values.party = self.take_party(words)?,
-            Key::Major => values.major = take_major(words)?,
-            Key::Word => values.word = words.taken(word_in(words.text()), Wanted::Minor)?,
-            Key::Status => values.status = take_status(words)?,
-            Key::Set => values.setting = take_setting(self, words)?,
-            Key::Information => values.information = take_number(words)?,
-            Key::Cancel => values.cancel = self.take_cancel_id(words)?,
-            other => self.take_numbered(other, values, words)?,
+            Key::Size => put(
+                &mut values.size,
+                words.taken(byte_in(words.text()), Wanted::Number8),
+            ),
+            Key::As => put(&mut values.label, self.take_label(words)),
+            Key::Irp => put(&mut values.packet, self.take_packet(words)),
+            Key::By => put(&mut values.party, self.take_party(words)),
+            Key::Major => put(&mut values.major, take_major(words)),
+            Key::Word => put(
+                &mut values.word,
+                words.taken(word_in(words.text()), Wanted::Minor),
+            ),
+            Key::Status => put(&mut values.status, take_status(words)),
+            Key::Set => put(&mut values.setting, take_setting(self, words)),
+            Key::Information => put(&mut values.information, take_number(words)),
+            Key::Cancel => put(&mut values.cancel, self.take_cancel_id(words)),
+            other => self.take_numbered(other, values, words),
         }
-        Ok(())
     }
 
     /// Takes the keys of a step with their values, in any order.
-    fn take_values(&mut self, act: Act, words: &mut Cursor<'a, '_>) -> Result<Values, Stop<'a>> {
+    fn take_values(&mut self, act: Act, words: &mut Cursor<'a, '_>) -> Option<Values> {
         let mut values = Values::NONE;
         let mut taken = [false; 4];
         for _ in act.keys() {
@@ -135,33 +151,31 @@ impl<'a> Said<'a> {
             let key = words.taken(read, Wanted::Key(act))?;
             self.take_value(key, &mut values, words)?;
         }
-        Ok(values)
+        Some(values)
     }
 
-    /// Takes a step.
-    fn add_step(&mut self, section: Section, step: StepLine) -> Result<(), Stop<'a>> {
+    /// Takes a step; none where memory runs out.
+    fn add_step(&mut self, section: Section, step: StepLine) -> Option<()> {
         if step.act == Act::CreateDevice {
             self.devices = self.devices.saturating_add(1);
         }
         match section {
-            Section::Setup => self.setup.push(step)?,
-            _ => self.steps.push(step)?,
+            Section::Setup => self.setup.push(step).ok(),
+            _ => self.steps.push(step).ok(),
         }
-        Ok(())
     }
 
     /// Gives the device that the next step creates a name, where the next word is `as`.
-    fn take_device_name(&mut self, words: &mut Cursor<'a, '_>) -> Result<(), Stop<'a>> {
+    fn take_device_name(&mut self, words: &mut Cursor<'a, '_>) -> Option<()> {
         if !words.takes("as") {
-            return Ok(());
+            return Some(());
         }
         let Some(text) = words.peek() else {
-            return Err(words.fault(Wanted::Name));
+            return words.fails(Wanted::Name);
         };
-        let number = self.devices;
-        self.name(Kind::Device, text, number, words)?;
+        self.name(Kind::Device, text, self.devices, words)?;
         words.pass();
-        Ok(())
+        Some(())
     }
 
     /// Takes the line of a stack: from the bottom up the drivers of its devices, each perhaps with a name, behind the
@@ -172,7 +186,7 @@ impl<'a> Said<'a> {
         section: Section,
         seat: u32,
         words: &mut Cursor<'a, '_>,
-    ) -> Result<(), Stop<'a>> {
+    ) -> Option<()> {
         let begin = *words;
         let bottom = self.devices;
         self.take_stack_devices(section, seat, words)?;
@@ -190,7 +204,16 @@ impl<'a> Said<'a> {
                 self.add_step(section, step)?;
             }
         }
-        Ok(())
+        Some(())
+    }
+
+    /// Takes the driver of a stack's device, its lock where that is given, and its name.
+    fn take_stack_device(&mut self, values: &mut Values, words: &mut Cursor<'a, '_>) -> Option<()> {
+        if words.takes("lock") {
+            values.lock = LockNo(self.number(Kind::Lock, words)?);
+        }
+        values.driver = DriverId(self.number(Kind::Driver, words)?);
+        self.take_device_name(words)
     }
 
     /// Takes the locks and the drivers of a stack.
@@ -199,19 +222,16 @@ impl<'a> Said<'a> {
         section: Section,
         seat: u32,
         words: &mut Cursor<'a, '_>,
-    ) -> Result<(), Stop<'a>> {
+    ) -> Option<()> {
+        if words.text() != "lock" {
+            return words.fails(Wanted::StackLock);
+        }
         let mut values = Values::NONE;
         for at in 0..words.left() {
             if at > 0 {
                 self.place(section, words)?;
             }
-            if words.takes("lock") {
-                values.lock = LockNo(self.number(Kind::Lock, words)?);
-            } else if at == 0 {
-                return Err(words.fault(Wanted::StackLock));
-            }
-            values.driver = DriverId(self.number(Kind::Driver, words)?);
-            self.take_device_name(words)?;
+            self.take_stack_device(&mut values, words)?;
             let step = StepLine {
                 seat,
                 act: Act::CreateDevice,
@@ -219,32 +239,40 @@ impl<'a> Said<'a> {
             };
             self.add_step(section, step)?;
             if words.left() == 0 {
-                return Ok(());
+                return Some(());
             }
         }
-        Err(words.fault(Wanted::StackLock))
+        Some(())
     }
 
-    /// Takes the line of a step of this section.
-    pub fn take_step(
-        &mut self,
-        section: Section,
-        words: &mut Cursor<'a, '_>,
-    ) -> Result<(), Stop<'a>> {
-        self.place(section, words)?;
-        let mut seat = 0;
+    /// The seat of a step, where the next words give it; else the first.
+    fn take_seat(&self, words: &mut Cursor<'_, '_>) -> Option<u32> {
         if words.takes("seat") {
-            seat = self.number(Kind::Seat, words)?;
+            self.number(Kind::Seat, words)
+        } else {
+            Some(0)
         }
-        if words.takes("stack") {
-            return self.take_stack(section, seat, words);
-        }
+    }
+
+    /// Takes a step of a seat, behind that.
+    fn take_act(&mut self, section: Section, seat: u32, words: &mut Cursor<'a, '_>) -> Option<()> {
         let act = words.taken(Act::named(words.text()), Wanted::Act)?;
         let values = self.take_values(act, words)?;
         if act == Act::CreateDevice {
             self.take_device_name(words)?;
         }
         self.add_step(section, StepLine { seat, act, values })
+    }
+
+    /// Takes the line of a step of this section.
+    pub fn take_step(&mut self, section: Section, words: &mut Cursor<'a, '_>) -> Option<()> {
+        self.place(section, words)?;
+        let seat = self.take_seat(words)?;
+        if words.takes("stack") {
+            self.take_stack(section, seat, words)
+        } else {
+            self.take_act(section, seat, words)
+        }
     }
 }
 

@@ -3,6 +3,7 @@
 use crate::act::Key;
 use crate::said::Said;
 use crate::step_line::{StepLine, Values};
+use crate::written::Written;
 use irp_forms::HasName;
 use irp_script_reader::{Behaviour, CompletionRoutine, Named};
 use irp_types::{CancelAnswer, CancelId, DispatchId, Party, Plan, Row, Setting};
@@ -23,76 +24,87 @@ pub fn letters(setting: Setting) -> &'static str {
 }
 
 /// Writes a setting.
-fn put_setting(text: &mut String, setting: Setting) -> Result<(), AllocError> {
+fn put_setting(text: &mut Written, setting: Setting) {
     let routine = setting.routine;
-    write!(
-        text,
-        "[\"{}\",{},{},\"{}\"]",
-        routine.rule.name(),
-        routine.no,
-        setting.context,
-        letters(setting)
-    )
+    text.put("[");
+    text.quoted(routine.rule.name());
+    text.put(",");
+    text.numbers(&[u64::from(routine.no), setting.context]);
+    text.put(",");
+    text.quoted(letters(setting));
+    text.put("]");
 }
 
-/// Writes a plan that passes the packet down, by its word, with its setting or null.
-fn put_forward(text: &mut String, word: &str, set: Option<Setting>) -> Result<(), AllocError> {
-    write!(text, "[\"{}\",", word)?;
+/// Writes a plan that passes the packet down, whose word is put, with its setting or null.
+fn put_forward(text: &mut Written, set: Option<Setting>) {
     match set {
-        Some(setting) => put_setting(text, setting)?,
-        None => text.push_str("null")?,
+        Some(setting) => put_setting(text, setting),
+        None => text.put("null"),
     }
-    text.push_str("]")
+    text.put("]");
 }
 
 /// Writes the number of a cancel routine, or null.
-fn put_cancel_id(text: &mut String, cancel: Option<CancelId>) -> Result<(), AllocError> {
+fn put_cancel_id(text: &mut Written, cancel: Option<CancelId>) {
     match cancel {
-        Some(id) => write!(text, "{}", id.0),
-        None => text.push_str("null"),
+        Some(id) => text.number(u64::from(id.0)),
+        None => text.put("null"),
     }
 }
 
+/// Writes the words before numbers, these, and the end of their list.
+fn put_numbers(text: &mut Written, words: &str, numbers: &[u64]) {
+    text.put(words);
+    text.numbers(numbers);
+    text.put("]");
+}
+
 /// Writes a behaviour, behind a comma.
-fn put_behaviour(text: &mut String, behaviour: Behaviour) -> Result<(), AllocError> {
+fn put_behaviour(text: &mut Written, behaviour: Behaviour) {
     match behaviour {
-        Behaviour::Continue => text.push_str(",\"continue\""),
-        Behaviour::Keep => text.push_str(",\"keep\""),
-        Behaviour::Replace(put) => write!(
+        Behaviour::Continue => text.put(",\"continue\""),
+        Behaviour::Keep => text.put(",\"keep\""),
+        Behaviour::Replace(put) => put_numbers(
             text,
-            ",[\"replace\",{},{}]",
-            put.status.0, put.information
+            ",[\"replace\",",
+            &[u64::from(put.status.0), put.information],
         ),
     }
 }
 
 /// Writes a plan.
-fn put_plan(text: &mut String, plan: Plan) -> Result<(), AllocError> {
+fn put_plan(text: &mut Written, plan: Plan) {
     match plan {
         Plan::Finish {
             status,
             information,
-        } => write!(text, "[\"finish\",{},{}]", status.0, information),
+        } => put_numbers(text, "[\"finish\",", &[u64::from(status.0), information]),
         Plan::Hold { cancel } => {
-            text.push_str("[\"hold\",")?;
-            put_cancel_id(text, cancel)?;
-            text.push_str("]")
+            text.put("[\"hold\",");
+            put_cancel_id(text, cancel);
+            text.put("]");
         }
-        Plan::HoldSlot => text.push_str("[\"hold_slot\"]"),
-        Plan::Skip => text.push_str("[\"skip\"]"),
-        Plan::Forward { set } => put_forward(text, "forward", set),
-        Plan::ForwardPend { set } => put_forward(text, "forward_pend", set),
+        Plan::HoldSlot => text.put("[\"hold_slot\"]"),
+        Plan::Skip => text.put("[\"skip\"]"),
+        Plan::Forward { set } => {
+            text.put("[\"forward\",");
+            put_forward(text, set);
+        }
+        Plan::ForwardPend { set } => {
+            text.put("[\"forward_pend\",");
+            put_forward(text, set);
+        }
     }
 }
 
 /// Writes a driver's table.
-fn put_table(text: &mut String, table: &[(u8, DispatchId)]) -> Result<(), AllocError> {
-    text.push_str("[")?;
+fn put_table(text: &mut Written, table: &[(u8, DispatchId)]) {
+    text.put("[");
     for (at, entry) in table.iter().enumerate() {
-        let comma = if at == 0 { "" } else { "," };
-        write!(text, "{}[{},{}]", comma, entry.0, entry.1.0)?;
+        let begin = if at == 0 { "[" } else { ",[" };
+        put_numbers(text, begin, &[u64::from(entry.0), u64::from(entry.1.0)]);
     }
-    text.push_str("]")
+    text.put("]");
 }
 
 /// The label at this place.
@@ -121,38 +133,47 @@ fn number_of(key: Key, values: &Values) -> u64 {
     }
 }
 
+/// Writes a packet, by one of these labels or by its reference.
+fn put_packet(text: &mut Written, packet: Named, labels: &[&str]) {
+    match packet {
+        Named::Label(place) => text.quoted(label_at(labels, place)),
+        Named::Irp(irp) => put_numbers(text, "[", &[irp.slot as u64, irp.use_no]),
+    }
+}
+
+/// Writes a party.
+fn put_party(text: &mut Written, party: Party) {
+    match party {
+        Party::Originator => text.put("\"o\""),
+        Party::Device(device) => text.number(u64::from(device.0)),
+    }
+}
+
 /// Writes the value of a key of a step, whose labels these are.
-fn put_value(
-    text: &mut String,
-    key: Key,
-    values: &Values,
-    labels: &[&str],
-) -> Result<(), AllocError> {
-    match (key, values.packet, values.party) {
-        (Key::As, ..) => write!(text, "\"{}\"", label_at(labels, values.label)),
-        (Key::Irp, Named::Label(place), _) => write!(text, "\"{}\"", label_at(labels, place)),
-        (Key::Irp, Named::Irp(irp), _) => write!(text, "[{},{}]", irp.slot, irp.use_no),
-        (Key::By, _, Party::Originator) => text.push_str("\"o\""),
-        (Key::By, _, Party::Device(device)) => write!(text, "{}", device.0),
-        (Key::Set, ..) => put_setting(text, values.setting),
-        (Key::Cancel, ..) => put_cancel_id(text, values.cancel),
-        (key, ..) => write!(text, "{}", number_of(key, values)),
+fn put_value(text: &mut Written, key: Key, values: &Values, labels: &[&str]) {
+    match key {
+        Key::As => text.quoted(label_at(labels, values.label)),
+        Key::Irp => put_packet(text, values.packet, labels),
+        Key::By => put_party(text, values.party),
+        Key::Set => put_setting(text, values.setting),
+        Key::Cancel => put_cancel_id(text, values.cancel),
+        key => text.number(number_of(key, values)),
     }
 }
 
 /// Writes a step, whose labels these are.
-fn put_step(text: &mut String, step: &StepLine, labels: &[&str]) -> Result<(), AllocError> {
-    write!(
-        text,
-        "{{\"seat\":{},\"do\":\"{}\"",
-        step.seat,
-        step.act.word()
-    )?;
+fn put_step(text: &mut Written, step: &StepLine, labels: &[&str]) {
+    text.put("{\"seat\":");
+    text.number(u64::from(step.seat));
+    text.put(",\"do\":");
+    text.quoted(step.act.word());
     for key in step.act.keys() {
-        write!(text, ",\"{}\":", key.word())?;
-        put_value(text, *key, &step.values, labels)?;
+        text.put(",");
+        text.quoted(key.word());
+        text.put(":");
+        put_value(text, *key, &step.values, labels);
     }
-    text.push_str("}")
+    text.put("}");
 }
 
 /// What begins the member of a list at this place, on a line of its own.
@@ -160,93 +181,92 @@ fn before(at: usize) -> &'static str {
     if at == 0 { "\n  " } else { ",\n  " }
 }
 
-/// Writes steps as a list under a key.
-fn put_steps(
-    text: &mut String,
-    key: &str,
-    steps: &[StepLine],
-    labels: &[&str],
-) -> Result<(), AllocError> {
-    write!(text, "],\n \"{}\":[", key)?;
+/// Writes steps as the members of a list.
+fn put_steps(text: &mut Written, steps: &[StepLine], labels: &[&str]) {
     for (at, step) in steps.iter().enumerate() {
-        text.push_str(before(at))?;
-        put_step(text, step, labels)?;
+        text.put(before(at));
+        put_step(text, step, labels);
     }
-    Ok(())
 }
 
 /// Writes the members of a list of completion routines.
-fn put_completions(text: &mut String, routines: &[CompletionRoutine]) -> Result<(), AllocError> {
+fn put_completions(text: &mut Written, routines: &[CompletionRoutine]) {
     for (at, routine) in routines.iter().enumerate() {
-        write!(text, "{}[\"{}\"", before(at), routine.rule.name())?;
-        put_behaviour(text, routine.on_ok)?;
-        put_behaviour(text, routine.on_err)?;
-        text.push_str("]")?;
+        text.put(before(at));
+        text.put("[");
+        text.quoted(routine.rule.name());
+        put_behaviour(text, routine.on_ok);
+        put_behaviour(text, routine.on_err);
+        text.put("]");
     }
-    Ok(())
 }
 
 /// Writes the members of a list of what cancel routines answer.
-fn put_cancels(text: &mut String, answers: &[CancelAnswer]) -> Result<(), AllocError> {
+fn put_cancels(text: &mut Written, answers: &[CancelAnswer]) {
     for (at, answer) in answers.iter().enumerate() {
+        text.put(before(at));
         match *answer {
             CancelAnswer::Finish { information } => {
-                write!(text, "{}[\"finish\",{}]", before(at), information)?
+                put_numbers(text, "[\"finish\",", &[information])
             }
-            CancelAnswer::Leave => write!(text, "{}[\"leave\"]", before(at))?,
+            CancelAnswer::Leave => text.put("[\"leave\"]"),
         }
     }
-    Ok(())
 }
 
 /// Writes the members of a list of plans.
-fn put_plans(text: &mut String, plans: &[Plan]) -> Result<(), AllocError> {
+fn put_plans(text: &mut Written, plans: &[Plan]) {
     for (at, plan) in plans.iter().enumerate() {
-        text.push_str(before(at))?;
-        put_plan(text, *plan)?;
+        text.put(before(at));
+        put_plan(text, *plan);
     }
-    Ok(())
 }
 
 /// Writes the members of a list of drivers.
-fn put_drivers(text: &mut String, drivers: &[Row<(u8, DispatchId)>]) -> Result<(), AllocError> {
+fn put_drivers(text: &mut Written, drivers: &[Row<(u8, DispatchId)>]) {
     for (at, table) in drivers.iter().enumerate() {
-        text.push_str(before(at))?;
-        put_table(text, table.as_slice())?;
+        text.put(before(at));
+        put_table(text, table.as_slice());
     }
-    Ok(())
 }
 
 /// Writes the form and the counts.
-fn put_top(text: &mut String, said: &Said<'_>) -> Result<(), AllocError> {
-    write!(
-        text,
-        "{{\"form\":{},\"seats\":{},\"locks\":{}",
-        said.form_number(),
-        said.seats.unwrap_or(1),
-        said.locks.unwrap_or(1)
-    )?;
+fn put_top(text: &mut Written, said: &Said<'_>) {
+    text.put("{\"form\":");
+    text.number(u64::from(said.form_number()));
+    text.put(",\"seats\":");
+    text.number(u64::from(said.seats.unwrap_or(1)));
+    text.put(",\"locks\":");
+    text.number(u64::from(said.locks.unwrap_or(1)));
     if said.form_number() == 2 {
-        write!(text, ",\"slots\":{}", said.slots.unwrap_or(0))?;
+        text.put(",\"slots\":");
+        text.number(u64::from(said.slots.unwrap_or(0)));
     }
-    Ok(())
 }
 
-/// The JSON of a script that lines say, a member of a list on a line, with a newline at its end.
-pub fn json_text(alloc: Global, said: &Said<'_>) -> Result<String, AllocError> {
-    let mut text = String::new(alloc);
+/// Writes what lines say.
+fn put_script(text: &mut Written, said: &Said<'_>) {
     let labels = said.names.labels();
-    put_top(&mut text, said)?;
-    text.push_str(",\n \"completions\":[")?;
-    put_completions(&mut text, said.completions.as_slice())?;
-    text.push_str("],\n \"cancels\":[")?;
-    put_cancels(&mut text, said.cancels.as_slice())?;
-    text.push_str("],\n \"dispatches\":[")?;
-    put_plans(&mut text, said.dispatches.as_slice())?;
-    text.push_str("],\n \"drivers\":[")?;
-    put_drivers(&mut text, said.drivers.as_slice())?;
-    put_steps(&mut text, "setup", said.setup.as_slice(), labels)?;
-    put_steps(&mut text, "steps", said.steps.as_slice(), labels)?;
-    text.push_str("]}\n")?;
-    Ok(text)
+    put_top(text, said);
+    text.put(",\n \"completions\":[");
+    put_completions(text, said.completions.as_slice());
+    text.put("],\n \"cancels\":[");
+    put_cancels(text, said.cancels.as_slice());
+    text.put("],\n \"dispatches\":[");
+    put_plans(text, said.dispatches.as_slice());
+    text.put("],\n \"drivers\":[");
+    put_drivers(text, said.drivers.as_slice());
+    text.put("],\n \"setup\":[");
+    put_steps(text, said.setup.as_slice(), labels);
+    text.put("],\n \"steps\":[");
+    put_steps(text, said.steps.as_slice(), labels);
+    text.put("]}\n");
+}
+
+/// The JSON of a script that lines say, a member of a list on a line, with a newline at its end. The one error is want
+/// of memory.
+pub fn json_text(alloc: Global, said: &Said<'_>) -> Result<String, AllocError> {
+    let mut text = Written::new(alloc);
+    put_script(&mut text, said);
+    text.ended()
 }

@@ -4,6 +4,7 @@ use crate::act::{Act, Key};
 use crate::members::{count_of, with_one};
 use crate::numbers::minor_name;
 use crate::to_json::letters;
+use crate::written::Written;
 use irp_forms::{HasName, under};
 use irp_names::{major_name, status_name};
 use irp_script_reader::{
@@ -13,7 +14,7 @@ use irp_types::{
     CancelAnswer, CancelId, DispatchId, IrpRef, Known, Party, Plan, Row, Setting, Status,
 };
 use serde_json::Value;
-use std::alloc::{AllocError, Global};
+use std::alloc::Global;
 
 /// How many there are of what a text names.
 #[derive(Clone, Copy)]
@@ -23,58 +24,80 @@ struct Counts {
 }
 
 /// Writes a number: below ten as decimal digits, else hexadecimal.
-fn put_number(text: &mut String, number: u64) -> Result<(), AllocError> {
+fn put_number(text: &mut Written, number: u64) {
+    text.put(" ");
     if number < 10 {
-        write!(text, " {}", number)
+        text.number(number);
     } else {
-        write!(text, " {:#x}", number)
+        text.hexadecimal(number);
     }
 }
 
+/// Writes words, and a number in decimal.
+fn put_numbered(text: &mut Written, words: &str, number: u64) {
+    text.put(words);
+    text.number(number);
+}
+
+/// Writes a word.
+fn put_word(text: &mut Written, word: &str) {
+    text.put(" ");
+    text.put(word);
+}
+
 /// Writes a status by its name, or by its number.
-fn put_status(text: &mut String, status: Status) -> Result<(), AllocError> {
+fn put_status(text: &mut Written, status: Status) {
     match status_name(status) {
-        Some(name) => write!(text, " {}", name),
-        None => write!(text, " {:#x}", status.0),
+        Some(name) => put_word(text, name),
+        None => {
+            text.put(" ");
+            text.hexadecimal(u64::from(status.0));
+        }
     }
 }
 
 /// Writes a major function code by its name, or by its number.
-fn put_major(text: &mut String, major: u8) -> Result<(), AllocError> {
+fn put_major(text: &mut Written, major: u8) {
     match major_name(major) {
-        Some(name) => write!(text, " {}", name),
-        None => write!(text, " {}", major),
+        Some(name) => put_word(text, name),
+        None => put_numbered(text, " ", u64::from(major)),
     }
 }
 
 /// Writes a setting. Its routine is given by a made-up name, such as watch_0, or by rule and number where the script
 /// lacks it.
-fn put_setting(text: &mut String, setting: Setting, known: Known) -> Result<(), AllocError> {
+fn put_setting(text: &mut Written, setting: Setting, known: Known) {
     let (rule, no) = (setting.routine.rule, setting.routine.no);
     let join = if no < known.count_of(rule) { "_" } else { " " };
-    write!(text, " {}{}{}", rule.name(), join, no)?;
-    put_number(text, setting.context)?;
+    put_word(text, rule.name());
+    put_numbered(text, join, u64::from(no));
+    put_number(text, setting.context);
     match letters(setting) {
-        "" => text.push_str(" -"),
-        letters => write!(text, " {}", letters),
+        "" => text.put(" -"),
+        letters => put_word(text, letters),
     }
 }
 
 /// Writes a cancel routine by its made-up name, or by its number where the script lacks it.
-fn put_cancel_id(text: &mut String, id: CancelId, known: Known) -> Result<(), AllocError> {
-    let name = if id.0 < known.cancel { "cancel_" } else { "" };
-    write!(text, " {}{}", name, id.0)
+fn put_cancel_id(text: &mut Written, id: CancelId, known: Known) {
+    let name = if id.0 < known.cancel { " cancel_" } else { " " };
+    put_numbered(text, name, u64::from(id.0));
+}
+
+/// Writes a status and information.
+fn put_result(text: &mut Written, status: Status, information: u64) {
+    put_status(text, status);
+    put_number(text, information);
 }
 
 /// Writes a behaviour.
-fn put_behaviour(text: &mut String, behaviour: Behaviour) -> Result<(), AllocError> {
+fn put_behaviour(text: &mut Written, behaviour: Behaviour) {
     match behaviour {
-        Behaviour::Continue => text.push_str(" continue"),
-        Behaviour::Keep => text.push_str(" keep"),
+        Behaviour::Continue => text.put(" continue"),
+        Behaviour::Keep => text.put(" keep"),
         Behaviour::Replace(put) => {
-            text.push_str(" replace")?;
-            put_status(text, put.status)?;
-            put_number(text, put.information)
+            text.put(" replace");
+            put_result(text, put.status, put.information);
         }
     }
 }
@@ -92,20 +115,17 @@ fn plan_word(plan: Plan) -> &'static str {
 }
 
 /// Writes what follows the word of a plan.
-fn put_plan(text: &mut String, plan: Plan, known: Known) -> Result<(), AllocError> {
+fn put_plan(text: &mut Written, plan: Plan, known: Known) {
     match plan {
         Plan::Finish {
             status,
             information,
-        } => {
-            put_status(text, status)?;
-            put_number(text, information)
-        }
+        } => put_result(text, status, information),
         Plan::Hold { cancel: Some(id) } => put_cancel_id(text, id, known),
         Plan::Forward { set: Some(set) } | Plan::ForwardPend { set: Some(set) } => {
             put_setting(text, set, known)
         }
-        _ => Ok(()),
+        _ => {}
     }
 }
 
@@ -126,18 +146,21 @@ fn number_under(key: &str, step: &Value) -> u64 {
 }
 
 /// Writes the packet of a step by its label, or by its reference.
-fn put_packet(text: &mut String, step: &Value) -> Result<(), AllocError> {
+fn put_packet(text: &mut Written, step: &Value) {
     match under::<IrpRef>("irp", step) {
-        Some(irp) => write!(text, " {}.{}", irp.slot, irp.use_no),
-        None => write!(text, " {}", text_under("irp", step)),
+        Some(irp) => {
+            put_numbered(text, " ", irp.slot as u64);
+            put_numbered(text, ".", irp.use_no);
+        }
+        None => put_word(text, text_under("irp", step)),
     }
 }
 
 /// Writes the party of a step.
-fn put_party(text: &mut String, step: &Value) -> Result<(), AllocError> {
+fn put_party(text: &mut Written, step: &Value) {
     match under::<Party>("by", step) {
-        Some(Party::Device(device)) => write!(text, " D{}", device.0),
-        _ => text.push_str(" o"),
+        Some(Party::Device(device)) => put_numbered(text, " D", u64::from(device.0)),
+        _ => text.put(" o"),
     }
 }
 
@@ -147,197 +170,222 @@ fn minor_of(step: &Value) -> Option<&'static str> {
 }
 
 /// Writes the word that a step sets.
-fn put_minor(text: &mut String, step: &Value) -> Result<(), AllocError> {
+fn put_minor(text: &mut Written, step: &Value) {
     match minor_of(step) {
-        Some(name) => write!(text, " {}", name),
+        Some(name) => put_word(text, name),
         None => put_number(text, number_under("word", step)),
     }
 }
 
-/// Writes the number that a step has under a key.
-fn put_numbered(
-    text: &mut String,
-    key: Key,
-    number: u64,
-    drivers: usize,
-) -> Result<(), AllocError> {
+/// Writes the cancel routine that a step sets.
+fn put_cancel(text: &mut Written, step: &Value, known: Known) {
+    match under::<CancelId>("cancel", step) {
+        Some(id) => put_cancel_id(text, id, known),
+        None => text.put(" none"),
+    }
+}
+
+/// What stands before the number that a step has under a key.
+fn before_number(key: Key, number: u64, drivers: usize) -> &'static str {
     match key {
-        Key::Device | Key::To | Key::Lower | Key::Target => write!(text, " D{}", number),
-        Key::Driver if number < drivers as u64 => write!(text, " driver_{}", number),
-        Key::Information => put_number(text, number),
-        _ => write!(text, " {}", number),
+        Key::Device | Key::To | Key::Lower | Key::Target => " D",
+        Key::Driver if number < drivers as u64 => " driver_",
+        _ => " ",
+    }
+}
+
+/// Writes the number that a step has under a key.
+fn put_number_under(text: &mut Written, key: Key, step: &Value, drivers: usize) {
+    let number = number_under(key.word(), step);
+    if key == Key::Information {
+        put_number(text, number);
+    } else {
+        put_numbered(text, before_number(key, number, drivers), number);
     }
 }
 
 /// Writes the value of a key of a step.
-fn put_value(text: &mut String, key: Key, step: &Value, counts: Counts) -> Result<(), AllocError> {
+fn put_value(text: &mut Written, key: Key, step: &Value, counts: Counts) {
     match key {
-        Key::As => write!(text, " {}", text_under("as", step)),
+        Key::As => put_word(text, text_under("as", step)),
         Key::Irp => put_packet(text, step),
         Key::Word => put_minor(text, step),
         Key::By => put_party(text, step),
-        Key::Major => match under::<u8>("major", step) {
-            Some(major) => put_major(text, major),
-            None => Ok(()),
-        },
-        Key::Status => match under::<Status>("status", step) {
-            Some(status) => put_status(text, status),
-            None => Ok(()),
-        },
-        Key::Set => match under::<Setting>("set", step) {
-            Some(set) => put_setting(text, set, counts.known),
-            None => Ok(()),
-        },
-        Key::Cancel => match under::<CancelId>("cancel", step) {
-            Some(id) => put_cancel_id(text, id, counts.known),
-            None => text.push_str(" none"),
-        },
-        _ => put_numbered(text, key, number_under(key.word(), step), counts.drivers),
+        Key::Cancel => put_cancel(text, step, counts.known),
+        Key::Major => {
+            if let Some(major) = under::<u8>("major", step) {
+                put_major(text, major);
+            }
+        }
+        Key::Status => {
+            if let Some(status) = under::<Status>("status", step) {
+                put_status(text, status);
+            }
+        }
+        Key::Set => {
+            if let Some(set) = under::<Setting>("set", step) {
+                put_setting(text, set, counts.known);
+            }
+        }
+        _ => put_number_under(text, key, step, counts.drivers),
     }
 }
 
 /// Writes a step, on a line.
-fn put_step(text: &mut String, step: &Value, counts: Counts) -> Result<(), AllocError> {
+fn put_step(text: &mut Written, step: &Value, counts: Counts) {
     let Some(act) = Act::named(text_under("do", step)) else {
-        return Ok(());
+        return;
     };
-    write!(text, "  seat {} {}", number_under("seat", step), act.word())?;
+    put_numbered(text, "  seat ", number_under("seat", step));
+    put_word(text, act.word());
     for key in act.keys() {
-        write!(text, " {}", key.word())?;
-        put_value(text, *key, step, counts)?;
+        put_word(text, key.word());
+        put_value(text, *key, step, counts);
     }
-    text.push_str("\n")
+    text.put("\n");
 }
 
-/// Writes the steps under a key, below their heading.
-fn put_steps(
-    text: &mut String,
-    key: &str,
-    whole: &Value,
-    counts: Counts,
-) -> Result<(), AllocError> {
-    let Some(steps) = whole.get(key).and_then(Value::as_array) else {
-        return Ok(());
-    };
+/// The steps under a key; none where none stand there.
+fn steps_under<'b>(key: &str, whole: &'b Value) -> &'b [Value] {
+    match whole.get(key) {
+        Some(Value::Array(steps)) => steps.as_slice(),
+        _ => &[],
+    }
+}
+
+/// Writes steps, below their heading, which is this key.
+fn put_steps(text: &mut Written, key: &str, steps: &[Value], counts: Counts) {
     if steps.is_empty() {
-        return Ok(());
+        return;
     }
-    write!(text, "\n{}\n", key)?;
-    for step in steps.iter() {
-        put_step(text, step, counts)?;
+    text.put("\n");
+    text.put(key);
+    text.put("\n");
+    for step in steps {
+        put_step(text, step, counts);
     }
-    Ok(())
+}
+
+/// Writes a heading before the first member of a list, and a member's made-up name with a colon.
+fn put_name(text: &mut Written, at: usize, heading: &str, word: &str, number: u64) {
+    if at == 0 {
+        text.put(heading);
+    }
+    text.put("  ");
+    text.put(word);
+    put_numbered(text, "_", number);
+    text.put(":");
 }
 
 /// Writes the completion routines, below their heading, and counts them.
-fn put_completions(text: &mut String, routines: &[CompletionRoutine]) -> Result<Known, AllocError> {
+fn put_completions(text: &mut Written, routines: &[CompletionRoutine]) -> Known {
     let mut known = Known::NONE;
     for (at, routine) in routines.iter().enumerate() {
-        let (heading, rule) = (heading(at, "\ncompletions\n"), routine.rule);
-        let (name, no) = (rule.name(), known.count_of(rule));
-        write!(text, "{}  {}_{}: {}", heading, name, no, name)?;
-        put_behaviour(text, routine.on_ok)?;
-        put_behaviour(text, routine.on_err)?;
-        text.push_str("\n")?;
+        let (rule, word) = (routine.rule, routine.rule.name());
+        put_name(
+            text,
+            at,
+            "\ncompletions\n",
+            word,
+            u64::from(known.count_of(rule)),
+        );
+        put_word(text, word);
+        put_behaviour(text, routine.on_ok);
+        put_behaviour(text, routine.on_err);
+        text.put("\n");
         known = with_one(known, rule);
     }
-    Ok(known)
+    known
 }
 
-/// What stands before the member of a list at this place: the heading before the first one.
-fn heading(at: usize, words: &'static str) -> &'static str {
-    if at == 0 { words } else { "" }
+/// Writes what a cancel routine answers.
+fn put_answer(text: &mut Written, answer: CancelAnswer) {
+    match answer {
+        CancelAnswer::Finish { information } => {
+            text.put(" finish");
+            put_number(text, information);
+        }
+        CancelAnswer::Leave => text.put(" leave"),
+    }
 }
 
 /// Writes what the cancel routines answer, below their heading.
-fn put_cancels(text: &mut String, answers: &[CancelAnswer]) -> Result<(), AllocError> {
+fn put_cancels(text: &mut Written, answers: &[CancelAnswer]) {
     for (at, answer) in answers.iter().enumerate() {
-        write!(text, "{}  cancel_{}:", heading(at, "\ncancels\n"), at)?;
-        match *answer {
-            CancelAnswer::Finish { information } => {
-                text.push_str(" finish")?;
-                put_number(text, information)?
-            }
-            CancelAnswer::Leave => text.push_str(" leave")?,
-        }
-        text.push_str("\n")?;
+        put_name(text, at, "\ncancels\n", "cancel", at as u64);
+        put_answer(text, *answer);
+        text.put("\n");
     }
-    Ok(())
 }
 
 /// Writes the plans of the dispatches, below their heading.
-fn put_plans(text: &mut String, plans: &[Plan], known: Known) -> Result<(), AllocError> {
+fn put_plans(text: &mut Written, plans: &[Plan], known: Known) {
     for (at, plan) in plans.iter().enumerate() {
-        let (heading, word) = (heading(at, "\ndispatches\n"), plan_word(*plan));
-        write!(text, "{}  {}_{}: {}", heading, word, at, word)?;
-        put_plan(text, *plan, known)?;
-        text.push_str("\n")?;
+        let word = plan_word(*plan);
+        put_name(text, at, "\ndispatches\n", word, at as u64);
+        put_word(text, word);
+        put_plan(text, *plan, known);
+        text.put("\n");
     }
-    Ok(())
 }
 
 /// Writes a dispatch by its made-up name, such as hold_0, or by its number where the script lacks it.
-fn put_dispatch(text: &mut String, id: DispatchId, plans: &[Plan]) -> Result<(), AllocError> {
-    match plans.get(id.0 as usize) {
-        Some(plan) => write!(text, " {}_{}", plan_word(*plan), id.0),
-        None => write!(text, " {}", id.0),
+fn put_dispatch(text: &mut Written, id: DispatchId, plans: &[Plan]) {
+    text.put(" ");
+    if let Some(plan) = plans.get(id.0 as usize) {
+        text.put(plan_word(*plan));
+        text.put("_");
     }
+    text.number(u64::from(id.0));
 }
 
 /// Writes a driver's table, and ends its line.
-fn put_table(
-    text: &mut String,
-    table: &[(u8, DispatchId)],
-    plans: &[Plan],
-) -> Result<(), AllocError> {
+fn put_table(text: &mut Written, table: &[(u8, DispatchId)], plans: &[Plan]) {
     if table.is_empty() {
-        return text.push_str(" nothing\n");
+        text.put(" nothing");
     }
     for entry in table {
-        put_major(text, entry.0)?;
-        put_dispatch(text, entry.1, plans)?;
+        put_major(text, entry.0);
+        put_dispatch(text, entry.1, plans);
     }
-    text.push_str("\n")
+    text.put("\n");
 }
 
 /// Writes the drivers, below their heading.
-fn put_drivers(
-    text: &mut String,
-    drivers: &[Row<(u8, DispatchId)>],
-    plans: &[Plan],
-) -> Result<(), AllocError> {
+fn put_drivers(text: &mut Written, drivers: &[Row<(u8, DispatchId)>], plans: &[Plan]) {
     for (at, table) in drivers.iter().enumerate() {
-        write!(text, "{}  driver_{}:", heading(at, "\ndrivers\n"), at)?;
-        put_table(text, table.as_slice(), plans)?;
+        put_name(text, at, "\ndrivers\n", "driver", at as u64);
+        put_table(text, table.as_slice(), plans);
     }
-    Ok(())
 }
 
 /// Writes the form and the counts.
-fn put_top(text: &mut String, parts: &ScriptParts) -> Result<(), AllocError> {
+fn put_top(text: &mut Written, parts: &ScriptParts) {
     match parts.form {
-        ScriptForm::One => text.push_str("form 1\n")?,
-        ScriptForm::Two { slots } => write!(text, "form 2\nslots {}\n", slots)?,
+        ScriptForm::One => text.put("form 1"),
+        ScriptForm::Two { slots } => put_numbered(text, "form 2\nslots ", u64::from(slots)),
     }
-    write!(text, "seats {}\nlocks {}\n", parts.seats, parts.locks)
+    put_numbered(text, "\nseats ", u64::from(parts.seats));
+    put_numbered(text, "\nlocks ", u64::from(parts.locks));
+    text.put("\n");
 }
 
 /// Writes a script in words.
-fn put_script(text: &mut String, parts: &ScriptParts, whole: &Value) -> Result<(), AllocError> {
-    put_top(text, parts)?;
-    let known = put_completions(text, parts.completions.as_slice())?;
+fn put_script(text: &mut Written, parts: &ScriptParts, whole: &Value) {
+    put_top(text, parts);
+    let known = put_completions(text, parts.completions.as_slice());
     let plans = parts.dispatches.as_slice();
     let cancel = count_of(parts.cancels.as_slice().len());
     let known = Known { cancel, ..known };
-    put_cancels(text, parts.cancels.as_slice())?;
-    put_plans(text, plans, known)?;
-    put_drivers(text, parts.drivers.as_slice(), plans)?;
+    put_cancels(text, parts.cancels.as_slice());
+    put_plans(text, plans, known);
+    put_drivers(text, parts.drivers.as_slice(), plans);
     let counts = Counts {
         known,
         drivers: parts.drivers.as_slice().len(),
     };
-    put_steps(text, "setup", whole, counts)?;
-    put_steps(text, "steps", whole, counts)
+    put_steps(text, "setup", steps_under("setup", whole), counts);
+    put_steps(text, "steps", steps_under("steps", whole), counts);
 }
 
 /// The script of this JSON in words, with names made up for its routines, dispatches and drivers (docs/WORDS.md).
@@ -350,9 +398,10 @@ pub fn words(alloc: Global, bytes: &[u8]) -> Result<String, ScriptFault> {
     let Ok(whole) = Value::from_slice(alloc, bytes) else {
         return Err(ScriptFault::NoMemory);
     };
-    let mut text = String::new(alloc);
-    match put_script(&mut text, script.parts(), &whole) {
-        Ok(()) => Ok(text),
+    let mut text = Written::new(alloc);
+    put_script(&mut text, script.parts(), &whole);
+    match text.ended() {
+        Ok(text) => Ok(text),
         Err(_) => Err(ScriptFault::NoMemory),
     }
 }

@@ -2,8 +2,8 @@
 
 use crate::act::Act;
 use crate::names::Kind;
+use crate::written::Written;
 use irp_script_reader::{Fault, ScriptRefusal, Section};
-use std::alloc::AllocError;
 
 /// What was expected in the place of a word (this project's own rule).
 #[derive(Clone, Copy)]
@@ -153,35 +153,45 @@ impl Wanted {
         }
     }
 
-    /// Puts what was expected behind what a text holds. The one error is want of memory.
-    pub fn write(self, text: &mut String) -> Result<(), AllocError> {
+    /// Puts what was expected.
+    pub fn write(self, text: &mut Written) {
         match self {
-            Wanted::Of(Kind::Device) => text.push_str(self.words()),
-            Wanted::Of(kind) => write!(
-                text,
-                "a {}: a number, or a name that a line above gives",
-                kind_word(kind)
-            ),
+            Wanted::Of(Kind::Device) => text.put(self.words()),
+            Wanted::Of(kind) => {
+                text.put("a ");
+                text.put(kind_word(kind));
+                text.put(": a number, or a name that a line above gives");
+            }
             Wanted::NewName(kind) => {
-                write!(text, "a {} name that no line above gives", kind_word(kind))
+                text.put("a ");
+                text.put(kind_word(kind));
+                text.put(" name that no line above gives");
             }
-            Wanted::Key(act) => {
-                write!(text, "a key of {}, each once:", act.word())?;
-                put_keys(text, act)
-            }
-            Wanted::Script(refusal) => write!(text, "{} ({})", reason(refusal), refusal),
-            Wanted::Step(refusal, fault) => write!(text, "{} ({})", step_reason(fault), refusal),
-            other => text.push_str(other.words()),
+            Wanted::Key(act) => put_keys(text, act),
+            Wanted::Script(refusal) => put_refusal(text, reason(refusal), refusal),
+            Wanted::Step(refusal, fault) => put_refusal(text, step_reason(fault), refusal),
+            other => text.put(other.words()),
         }
     }
 }
 
+/// Puts what a script has that is taken, and why one is refused.
+fn put_refusal(text: &mut Written, words: &str, refusal: ScriptRefusal) {
+    text.put(words);
+    text.put(" (");
+    text.refusal(refusal);
+    text.put(")");
+}
+
 /// Puts the keys of a step, each behind a blank.
-fn put_keys(text: &mut String, act: Act) -> Result<(), AllocError> {
+fn put_keys(text: &mut Written, act: Act) {
+    text.put("a key of ");
+    text.put(act.word());
+    text.put(", each once:");
     for key in act.keys() {
-        write!(text, " {}", key.word())?;
+        text.put(" ");
+        text.put(key.word());
     }
-    Ok(())
 }
 
 /// What a script that is taken has, where one that is refused so doesn't.

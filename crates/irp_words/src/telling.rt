@@ -6,7 +6,7 @@ ghost use Rattle.irp_words.specs.Telling.{Fails, Prints};
 
 use crate::ending::Ending;
 use irp_advice::{Fault, Warning, faults, warnings};
-use irp_grammar::{Told, Untold, WordsFault, json, read_lines, words};
+use irp_grammar::{Told, Untold, fault_lines, json, read_lines, words};
 use irp_script_reader::{ScriptFault, read_script};
 use irp_transcript_writer::{Out, put_all};
 use std::alloc::{AllocError, Global};
@@ -19,16 +19,6 @@ fn put_faults<E: Out>(errors: &mut E, lines: &str) -> Ending
         Ok(()) => Ending::Faulty,
         Err(_) => Ending::Failed,
     }
-}
-
-/// The lines that tell faults.
-fn lines_of(alloc: Global, faults: &[WordsFault<'_>]) -> Result<String, AllocError> {
-    let mut text = String::new(alloc);
-    for fault in faults {
-        fault.write(&mut text)?;
-        text.push_str("\n")?;
-    }
-    Ok(text)
 }
 
 /// The JSON of a text in words, and the script that `read_script` reads from it.
@@ -44,7 +34,7 @@ fn tell_untold<E: Out>(alloc: Global, errors: &mut E, untold: Untold<'_>) -> End
     ensures { Fails result }
 {
     match untold {
-        Untold::Faults(faults) => match lines_of(alloc, faults.as_slice()) {
+        Untold::Faults(faults) => match fault_lines(alloc, faults.as_slice()) {
             Ok(lines) => put_faults(errors, lines.as_str()),
             Err(_) => Ending::NoMemory,
         },
