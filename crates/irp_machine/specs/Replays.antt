@@ -79,8 +79,8 @@ Plays rules standing old (seat ∷ path) last new =
     × PlaysIn rules standing old seat (act_of rules standing seat) middle entries
     × Plays rules middle entries path last new
 
--- the setup of a script was made, then the next steps of these seats. The entries of their calls are a legal history; it
--- leads to this state, and so do the calls that changed it
+-- the setup of a script was made, then the next steps of these seats, and recorded. The entries are a legal history that
+-- leads to this state, and so do the calls among them that changed it
 pub record IsPlayed (header : Header) (script : ScriptParts) (tells : Bool) (path : List ℕ) (last : StandingValue) (state : StateValue) (entries : List Entry) : Type 0 where
   pub ended : StandingValue
   pub front : List Entry
@@ -144,7 +144,7 @@ OrdersHaveHistories =
     → (last : StandingValue) × (state : StateValue) × (entries : List Entry)
     × IsPlayed header script tells path last state entries × (end ≡ end_of state last)
 
--- however an order is made again, it ends as it was told to end
+-- a replay of an outcome's path ends as the outcome, where replies are compared
 abbrev pub ReplaysEndSo : Type 0
 ReplaysEndSo =
     (script : ScriptParts) (outcomes : List Outcome) (k : ℕ) (outcome : Outcome) (transcript : TranscriptValue)
@@ -171,7 +171,7 @@ pub record IsRecorded (fixed : Fixed) (kept : Recorded) : Type 0 where
   pub stands : StandingFacts fixed.tables.counts (state_of live_of kept.manager)
   pub agrees : Agrees fixed kept.manager
 
--- and so are these calls
+-- these calls lead to that state too
 pub record IsMade (fixed : Fixed) (script : ScriptParts) (made : List Made) (kept : Recorded) : Type 0 where
   pub recorded : IsRecorded fixed kept
   pub calls : Leads fixed script made opening_state (state_of live_of kept.manager)

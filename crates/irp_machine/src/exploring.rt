@@ -67,7 +67,7 @@ fn explored(
 }
 
 /// Each way in which the orders of a script's atomic steps end, behind its setup, with how many orders do and one of
-/// them (this project's own rule).
+/// them (this project's own rule). Each order has a legal history (`orders_have_histories`).
 ///
 /// # Errors
 ///
