@@ -1,6 +1,6 @@
 //! Reading a condition from its text. Source: this project's own rules.
 
-ghost use Rattle.std.specs.Prelude.{◌≡◌, ◌<◌, IfOk, IfErr, MatchResult, Some, length};
+ghost use Rattle.std.specs.Prelude.{◌≡◌, ◌<◌, IfOk, MatchResult, length};
 ghost use Rattle.irp_condition.specs.Formulas.{Formula, formula_of, joins, no};
 ghost use Rattle.irp_condition.specs.Grammar.{TextSays, inside, joined, single};
 ghost use Rattle.irp_condition.specs.Parsing.{Reads};

@@ -1,6 +1,6 @@
 //! The words and numbers that values are written by. Source: this project's own rules.
 
-ghost use Rattle.std.specs.Prelude.{◌≡◌, ◌<◌, IfSome};
+ghost use Rattle.std.specs.Prelude.{◌≡◌, ◌<◌};
 ghost use Rattle.std.proofs.Common.{bytes_eq};
 ghost use Rattle.irp_condition.specs.Words as spec;
 

@@ -9,7 +9,7 @@ use crate::labels::labels_of;
 use crate::names::value_names;
 use crate::never::{broken_by, told};
 use crate::table::{Columns, table};
-use irp_condition::{Scope, read_condition};
+use irp_condition::{Condition, Scope, read_condition};
 use irp_listing::send;
 use irp_machine::{Compared, Limits, NotFound, orders, replay};
 use irp_script_reader::{Script, read_script};
@@ -78,15 +78,15 @@ fn deleted_by_setup(alloc: Global, script: &Script) -> Result<Vec<bool>, Ending>
     Ok(deleted)
 }
 
-/// Whether a condition holds in some order, and the text that tells it.
-fn judge(
+/// Reads a condition on what orders of the script leave.
+fn condition_of(
     alloc: Global,
     explored: &Explored,
     by_ends: bool,
     text: &str,
-) -> Result<(Vec<u8>, Ending), Ending> {
-    let parts = explored.script.parts();
+) -> Result<Condition, Ending> {
     let names = value_names(alloc)?;
+    let parts = explored.script.parts();
     let scope = Scope {
         labels: explored.labels.as_slice(),
         steps: u32::try_from(parts.steps.as_slice().len()).unwrap_or(u32::MAX),
@@ -95,7 +95,17 @@ fn judge(
         statuses: names.statuses.as_slice(),
         refusals: names.refusals.as_slice(),
     };
-    let condition = read_condition(alloc, text, scope)?;
+    Ok(read_condition(alloc, text, scope)?)
+}
+
+/// Whether a condition holds in some order, and the text that tells it.
+fn judge(
+    alloc: Global,
+    explored: &Explored,
+    by_ends: bool,
+    text: &str,
+) -> Result<(Vec<u8>, Ending), Ending> {
+    let condition = condition_of(alloc, explored, by_ends, text)?;
     let deleted = deleted_by_setup(alloc, &explored.script)?;
     let founds = explored.founds.as_slice();
     let broken = broken_by(
@@ -105,7 +115,8 @@ fn judge(
         founds,
         &condition,
     )?;
-    let columns = Columns::of(alloc, &explored.script, scope.labels, founds)?;
+    let labels = explored.labels.as_slice();
+    let columns = Columns::of(alloc, &explored.script, labels, founds)?;
     Ok(told(alloc, &columns, founds, &broken)?)
 }
 
