@@ -6,7 +6,7 @@ use crate::growing::grow_table;
 use crate::rows::{ExampleName, example_of};
 use crate::seating::seat_pairs;
 use crate::session::session;
-use crate::stores::{add_cancels, add_dispatches, add_drivers, add_routines};
+use crate::stores::{Kind, grow_store};
 use crate::tables::add_all;
 use crate::texts::{put_transcript, read_the_script, read_the_transcript, write_the_transcript};
 use crate::tried::{Halt, Tried};
@@ -21,10 +21,8 @@ use std::sync::{Arc, Wait};
 #[derive(Clone, Copy)]
 pub enum Growth {
     AnswerTable,
-    Routines,
-    Cancels,
-    Dispatches,
-    Drivers,
+    /// A store, by what is added to it.
+    Store(Kind),
     Pairs,
 }
 
@@ -53,10 +51,22 @@ pub static SCENARIOS: [(&str, Work); 14] = [
     ("taken_in_a_session", Work::Play(ExampleName::Taken)),
     ("drained_in_a_session", Work::Play(ExampleName::Drained)),
     ("a_table_of_answers", Work::Grow(Growth::AnswerTable)),
-    ("a_store_of_routines", Work::Grow(Growth::Routines)),
-    ("a_store_of_cancel_routines", Work::Grow(Growth::Cancels)),
-    ("a_store_of_dispatches", Work::Grow(Growth::Dispatches)),
-    ("a_store_of_drivers", Work::Grow(Growth::Drivers)),
+    (
+        "a_store_of_routines",
+        Work::Grow(Growth::Store(Kind::Routine)),
+    ),
+    (
+        "a_store_of_cancel_routines",
+        Work::Grow(Growth::Store(Kind::Cancel)),
+    ),
+    (
+        "a_store_of_dispatches",
+        Work::Grow(Growth::Store(Kind::Dispatch)),
+    ),
+    (
+        "a_store_of_drivers",
+        Work::Grow(Growth::Store(Kind::Driver)),
+    ),
     ("pairs_of_seats", Work::Grow(Growth::Pairs)),
     ("a_script_is_read", Work::Text(Text::Script)),
     ("a_transcript_is_read", Work::Text(Text::Read)),
@@ -110,10 +120,7 @@ fn play_example<R: Wait>(
 fn grow(alloc: Global, growth: Growth, tried: &mut Tried) -> Result<(), Halt> {
     match growth {
         Growth::AnswerTable => grow_table(alloc, tried),
-        Growth::Routines => add_routines(alloc, tried),
-        Growth::Cancels => add_cancels(alloc, tried),
-        Growth::Dispatches => add_dispatches(alloc, tried),
-        Growth::Drivers => add_drivers(alloc, tried),
+        Growth::Store(kind) => grow_store(alloc, kind, tried),
         Growth::Pairs => {
             let table = AnswerTable::new(alloc);
             seat_pairs::<AnswerTable, Brand>(alloc, Blank::new(9), table, 1, 9, tried)

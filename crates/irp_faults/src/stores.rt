@@ -95,9 +95,9 @@ fn routine_at(place: u32) -> RoutineId {
     }
 }
 
-/// What is looked at in the end.
+/// What is added, and looked at in the end.
 #[derive(Clone, Copy)]
-enum Kind {
+pub enum Kind {
     Routine,
     Cancel,
     Dispatch,
@@ -144,100 +144,121 @@ fn ask_all(store: &Store, kind: Kind, count: &AtomicU32) -> Result<(), Halt> {
     Ok(())
 }
 
+/// What comes of a call that was refused, which this is noted of, and made again.
+fn added_again(noted: Result<(), Halt>, is_there: bool) -> Result<(), Halt> {
+    match noted {
+        Ok(()) => wanted(
+            is_there,
+            "a call was refused twice, or gives another number",
+        ),
+        Err(halt) => Err(halt),
+    }
+}
+
 /// Adds completion routines of each rule. A refused call has to hand the routine back, which is added again.
-pub fn add_routines(alloc: Global, tried: &mut Tried) -> Result<(), Halt> {
-    let count = Arc::new(alloc, AtomicU32::new(0))?;
+fn add_routines(alloc: Global, count: &Arc<AtomicU32>, tried: &mut Tried) -> Result<(), Halt> {
     let mut store = Store::new(alloc);
     for place in 0..MANY {
         tried.step = place as usize;
-        let before = standing_of(&store, &count);
+        let before = standing_of(&store, count);
         let own = count.clone()?;
         let rule = routine_at(place).rule;
         let run = move |shown: Shown| answers(&own, place.wrapping_add(1), rule, shown, CONTINUES);
         let item = Routine::new(rule, Box::new(alloc, run)?);
-        let id = match store.add(item) {
-            Ok(id) => id,
+        let added = match store.add(item) {
+            Ok(id) => wanted(id == routine_at(place), "a routine has another number"),
             Err(back) => {
-                let is_same = standing_of(&store, &count) == before
-                    && back.reason == Reason::Memory;
-                tried.refused("Store::add", is_same)?;
-                store.add(back.item)?
+                let is_same = standing_of(&store, count) == before && back.reason == Reason::Memory;
+                let noted = tried.refused("Store::add", is_same);
+                let is_there = matches!(store.add(back.item), Ok(id) if id == routine_at(place));
+                added_again(noted, is_there)
             }
         };
-        wanted(id == routine_at(place), "a routine has another number")?;
+        added?;
     }
-    ask_all(&store, Kind::Routine, &count)
+    ask_all(&store, Kind::Routine, count)
 }
 
 /// Adds cancel routines. A refused call has to hand the routine back, which is added again.
-pub fn add_cancels(alloc: Global, tried: &mut Tried) -> Result<(), Halt> {
-    let count = Arc::new(alloc, AtomicU32::new(0))?;
+fn add_cancels(alloc: Global, count: &Arc<AtomicU32>, tried: &mut Tried) -> Result<(), Halt> {
     let mut store = Store::new(alloc);
     for place in 0..MANY {
         tried.step = place as usize;
-        let before = standing_of(&store, &count);
+        let before = standing_of(&store, count);
         let own = count.clone()?;
         let run = move |_shown: Shown| leaves(&own, place.wrapping_add(1));
         let item = CancelRoutine::new(CancelRule::MustLeave, Box::new(alloc, run)?);
-        let id = match store.add_cancel(item) {
-            Ok(id) => id,
+        let added = match store.add_cancel(item) {
+            Ok(id) => wanted(id == CancelId(place), "a cancel routine has another number"),
             Err(back) => {
-                let is_same = standing_of(&store, &count) == before
-                    && back.reason == Reason::Memory;
-                tried.refused("Store::add_cancel", is_same)?;
-                store.add_cancel(back.item)?
+                let is_same = standing_of(&store, count) == before && back.reason == Reason::Memory;
+                let noted = tried.refused("Store::add_cancel", is_same);
+                let is_there =
+                    matches!(store.add_cancel(back.item), Ok(id) if id == CancelId(place));
+                added_again(noted, is_there)
             }
         };
-        wanted(id == CancelId(place), "a cancel routine has another number")?;
+        added?;
     }
-    ask_all(&store, Kind::Cancel, &count)
+    ask_all(&store, Kind::Cancel, count)
 }
 
 /// Adds dispatches. A refused call has to hand the dispatch back, which is added again.
-pub fn add_dispatches(alloc: Global, tried: &mut Tried) -> Result<(), Halt> {
-    let count = Arc::new(alloc, AtomicU32::new(0))?;
+fn add_dispatches(alloc: Global, count: &Arc<AtomicU32>, tried: &mut Tried) -> Result<(), Halt> {
     let mut store = Store::new(alloc);
     for place in 0..MANY {
         tried.step = place as usize;
-        let before = standing_of(&store, &count);
+        let before = standing_of(&store, count);
         let own = count.clone()?;
         let run = move |shown: Shown| plans(&own, place.wrapping_add(1), shown);
         let item = Dispatch::new(Known::NONE, Box::new(alloc, run)?);
-        let id = match store.add_dispatch(item) {
-            Ok(id) => id,
+        let added = match store.add_dispatch(item) {
+            Ok(id) => wanted(id == DispatchId(place), "a dispatch has another number"),
             Err(back) => {
-                let is_same = standing_of(&store, &count) == before
-                    && back.reason == Reason::Memory;
-                tried.refused("Store::add_dispatch", is_same)?;
-                store.add_dispatch(back.item)?
+                let is_same = standing_of(&store, count) == before && back.reason == Reason::Memory;
+                let noted = tried.refused("Store::add_dispatch", is_same);
+                let is_there =
+                    matches!(store.add_dispatch(back.item), Ok(id) if id == DispatchId(place));
+                added_again(noted, is_there)
             }
         };
-        wanted(id == DispatchId(place), "a dispatch has another number")?;
+        added?;
     }
-    ask_all(&store, Kind::Dispatch, &count)
+    ask_all(&store, Kind::Dispatch, count)
 }
 
 /// Adds drivers of one dispatch. A refused call has to hand the pairs back, which are added again.
-pub fn add_drivers(alloc: Global, tried: &mut Tried) -> Result<(), Halt> {
-    let count = Arc::new(alloc, AtomicU32::new(0))?;
+fn add_drivers(alloc: Global, count: &Arc<AtomicU32>, tried: &mut Tried) -> Result<(), Halt> {
     let own = count.clone()?;
     let run = move |shown: Shown| plans(&own, 1, shown);
     let mut store = Store::new(alloc);
     store.add_dispatch(Dispatch::new(Known::NONE, Box::new(alloc, run)?))?;
     for place in 0..MANY {
         tried.step = place as usize;
-        let before = standing_of(&store, &count);
+        let before = standing_of(&store, count);
         let item = [(3, DispatchId(0))].to_vec(alloc)?;
-        let id = match store.add_driver(item) {
-            Ok(id) => id,
+        let added = match store.add_driver(item) {
+            Ok(id) => wanted(id == DriverId(place), "a driver has another number"),
             Err(back) => {
-                let is_same = standing_of(&store, &count) == before
-                    && back.reason == Reason::Memory;
-                tried.refused("Store::add_driver", is_same)?;
-                store.add_driver(back.item)?
+                let is_same = standing_of(&store, count) == before && back.reason == Reason::Memory;
+                let noted = tried.refused("Store::add_driver", is_same);
+                let is_there =
+                    matches!(store.add_driver(back.item), Ok(id) if id == DriverId(place));
+                added_again(noted, is_there)
             }
         };
-        wanted(id == DriverId(place), "a driver has another number")?;
+        added?;
     }
-    ask_all(&store, Kind::Driver, &count)
+    ask_all(&store, Kind::Driver, count)
+}
+
+/// Adds items of a kind to a store, and asks them.
+pub fn grow_store(alloc: Global, kind: Kind, tried: &mut Tried) -> Result<(), Halt> {
+    let count = Arc::new(alloc, AtomicU32::new(0))?;
+    match kind {
+        Kind::Routine => add_routines(alloc, &count, tried),
+        Kind::Cancel => add_cancels(alloc, &count, tried),
+        Kind::Dispatch => add_dispatches(alloc, &count, tried),
+        Kind::Driver => add_drivers(alloc, &count, tried),
+    }
 }
