@@ -5,12 +5,12 @@ ghost use Rattle.irp_advice.specs.Advice.{BeginsWith, IsAdviceOn};
 
 use crate::lists::{Around, check_cancel, check_completion, check_driver, check_plan};
 use crate::nodes::Node;
-use crate::not_json::not_json;
-use crate::places::{Place, place_of};
+use crate::not_json::tell_no_json;
+use crate::places::Place;
 use crate::steps::check_step;
-use crate::tokens::{Kind, tokens_of};
-use crate::top::{check_top, count_detail, form_detail, key_of, no_list, too_long};
-use crate::words::{Detail, END, Piece, put, put_detail, wrong};
+use crate::tokens::{Token, tokens_of};
+use crate::top::{check_top, key_of, no_list, tell_count, tell_form, too_long};
+use crate::words::{Finding, Piece, put};
 use Piece::{Number, Say};
 use irp_script_reader::Fault::{BadField, RuleBroken};
 use irp_script_reader::{ScriptFault, ScriptRefusal, Section, read_script};
@@ -93,89 +93,122 @@ fn number_under(whole: Node, key: &str) -> u64 {
     }
 }
 
-/// What is wrong with a member of a section, if anything is.
-fn check_member(around: Around, section: Section, node: Node) -> Result<(), Detail> {
+/// Whether a member of a section is right.
+fn check_member(found: &mut Finding, around: Around, section: Section, node: Node) -> bool {
     match section {
-        Section::Completions => check_completion(node),
-        Section::Cancels => check_cancel(node),
-        Section::Dispatches => check_plan(around, node),
-        Section::Drivers => check_driver(around, node),
-        Section::Setup => check_step(around, true, node),
-        Section::Steps => check_step(around, false, node),
-        _ => Ok(()),
+        Section::Completions => check_completion(found, node),
+        Section::Cancels => check_cancel(found, node),
+        Section::Dispatches => check_plan(found, around, node),
+        Section::Drivers => check_driver(found, around, node),
+        Section::Setup => check_step(found, around, true, node),
+        Section::Steps => check_step(found, around, false, node),
+        _ => true,
     }
 }
 
 /// What is said of a member that has nothing else wrong: there are too many.
-fn too_many(section: Section, node: Node) -> Detail {
-    let words = match section {
+fn too_many(section: Section) -> &'static str {
+    match section {
         Section::Completions =>
             "there are at most 256 completion routines of a rule; this is one more",
         Section::Cancels => "there are at most 256 cancel routines; this is one more",
         Section::Dispatches => "there are at most 256 dispatches; this is one more",
         Section::Drivers => "there are at most 64 drivers; this is one more",
         _ => "there are at most 4096 labels; this step names one more",
-    };
-    wrong(node, [Say(words), END, END, END, END, END, END])
-}
-
-/// What is wrong with the member at a place of a section.
-fn member_detail(around: Around, section: Section, index: usize) -> Detail {
-    let list = match around.whole.get(key_of(section)) {
-        Some(list) if list.kind() == Kind::List => list,
-        _ => return no_list(around, section),
-    };
-    let Some(node) = list.nth(index) else {
-        return no_list(around, section);
-    };
-    match check_member(around, section, node) {
-        Err(detail) => detail,
-        Ok(()) => too_many(section, node),
     }
 }
 
-/// What is wrong with a text that is refused so.
-fn detail_of(whole: Node, refusal: ScriptRefusal) -> Detail {
+/// The member at a place of a section. None where there is none, or the section is no list.
+fn member_of<'t>(whole: Node<'t>, section: Section, index: usize) -> Option<Node<'t>> {
+    whole.get(key_of(section))?.nth(index)
+}
+
+/// Says what is wrong with the member at a place of a section.
+fn tell_member(found: &mut Finding, around: Around, section: Section, index: usize) {
+    let Some(node) = member_of(around.whole, section, index) else {
+        no_list(found, around, section);
+        return;
+    };
+    if check_member(found, around, section, node) {
+        found.wrong(node, &[Say(too_many(section))]);
+    }
+}
+
+/// Says what is wrong with a section.
+fn tell_section(found: &mut Finding, whole: Node, section: Section, index: usize) {
     let around = around_of(whole);
+    match section {
+        Section::Top => {
+            if check_top(found, around) {
+                tell_form(found, whole);
+            }
+        }
+        Section::Seats | Section::Locks | Section::Slots => {
+            tell_count(found, around, section);
+        }
+        _ => tell_member(found, around, section, index),
+    }
+}
+
+/// Says what is wrong with a text that is refused so.
+fn tell(alloc: Global, found: &mut Finding, whole: Node, refusal: ScriptRefusal) {
     match refusal {
-        ScriptRefusal::TooLong | ScriptRefusal::NotJson => too_long(whole.text),
-        ScriptRefusal::BadForm => form_detail(whole),
-        ScriptRefusal::At { section, index, .. } => match section {
-            Section::Top => match check_top(around) {
-                Err(detail) => detail,
-                Ok(()) => form_detail(whole),
-            },
-            Section::Seats | Section::Locks | Section::Slots => count_detail(around, section),
-            _ => member_detail(around, section, index),
-        },
+        ScriptRefusal::TooLong => {
+            too_long(found, whole.text);
+        }
+        ScriptRefusal::NotJson => tell_no_json(alloc, found, whole),
+        ScriptRefusal::BadForm => {
+            tell_form(found, whole);
+        }
+        ScriptRefusal::At { section, index, .. } => tell_section(found, whole, section, index),
     }
 }
 
 /// The fault with its words and its place. The one error is want of memory.
-fn fault_of(
-    alloc: Global,
-    text: &[u8],
-    refusal: ScriptRefusal,
-    detail: Detail,
-) -> Result<Fault, AllocError>
+fn fault_of(found: Finding<'_>, refusal: ScriptRefusal) -> Result<Fault, AllocError>
     ensures { IfOk result (λ fault. fault.refusal ≡ refusal) }
 {
-    let mut words = Vec::new(alloc);
-    put_detail(&mut words, text, detail)?;
+    let place = found.place();
+    let words = found.ended()?;
     Ok(Fault {
         refusal,
-        place: place_of(text, detail.at),
+        place,
         words,
     })
 }
 
-/// What is wrong with a member by itself, whatever the other lists have: an earlier fault in these may be the cause of
-/// the rest.
-fn seen_by_itself(around: Around, section: Section, node: Node) -> Option<Detail> {
-    match check_member(around, section, node) {
-        Err(detail) if matches!(detail.fault, BadField | RuleBroken) => Some(detail),
-        _ => None,
+/// The fault for which a text is refused so. The one error is want of memory.
+fn first_fault(alloc: Global, whole: Node, refusal: ScriptRefusal) -> Result<Fault, AllocError>
+    ensures { IfOk result (λ fault. fault.refusal ≡ refusal) }
+{
+    let mut found = Finding::new(alloc, whole.text);
+    tell(alloc, &mut found, whole, refusal);
+    fault_of(found, refusal)
+}
+
+/// Puts the fault of a section's member, where it has one by itself, whatever the other lists have: an earlier fault in
+/// these may be the cause of the rest. The one error is want of memory.
+fn add_fault(
+    alloc: Global,
+    more: &mut Vec<Fault>,
+    around: Around,
+    section: Section,
+    index: usize,
+    node: Node,
+) -> Result<(), AllocError> {
+    let mut found = Finding::new(alloc, around.whole.text);
+    let is_right = check_member(&mut found, around, section, node);
+    let fault = found.fault();
+    if is_right || !matches!(fault, BadField | RuleBroken) {
+        return Ok(());
     }
+    let refusal = ScriptRefusal::At {
+        fault,
+        section,
+        index,
+    };
+    more.push(fault_of(found, refusal)?)?;
+    Ok(())
 }
 
 /// Puts the faults of a section's members from this place on, up to so many in all. The one error is want of memory.
@@ -186,26 +219,15 @@ fn add_faults(
     section: Section,
     from: usize,
 ) -> Result<(), AllocError> {
-    let Some(list) = around.whole.get(key_of(section)) else {
-        return Ok(());
-    };
-    let mut next = list.nth(from);
+    let mut next = member_of(around.whole, section, from);
     for index in from..around.whole.tokens.len() {
-        let Some(node) = next else {
-            return Ok(());
-        };
-        if more.len() >= MOST_FAULTS {
-            return Ok(());
+        match next {
+            Some(node) if more.len() < MOST_FAULTS => {
+                add_fault(alloc, more, around, section, index, node)?;
+                next = node.next();
+            }
+            _ => return Ok(()),
         }
-        if let Some(detail) = seen_by_itself(around, section, node) {
-            let refusal = ScriptRefusal::At {
-                fault: detail.fault,
-                section,
-                index,
-            };
-            more.push(fault_of(alloc, around.whole.text, refusal, detail)?)?;
-        }
-        next = node.next();
     }
     Ok(())
 }
@@ -260,6 +282,26 @@ fn in_front(alloc: Global, first: Fault, more: Vec<Fault>) -> Result<Vec<Fault>,
     Ok(all)
 }
 
+/// The faults of a text with these tokens that is refused so: first that of this refusal. The one error is want of
+/// memory.
+fn faults_of(
+    alloc: Global,
+    text: &[u8],
+    tokens: &[Token],
+    refusal: ScriptRefusal,
+) -> Result<Vec<Fault>, AllocError>
+    ensures { IfOk result (λ found. BeginsWith refusal found.items) }
+{
+    let whole = Node {
+        text,
+        tokens,
+        at: 0,
+    };
+    let first = first_fault(alloc, whole, refusal)?;
+    let more = more_faults(alloc, whole, refusal)?;
+    in_front(alloc, first, more)
+}
+
 /// The faults of a text that is refused so: first that of this refusal. The one error is want of memory.
 fn all_faults(alloc: Global, text: &[u8], refusal: ScriptRefusal) -> Result<Vec<Fault>, AllocError>
     ensures { IfOk result (λ found. BeginsWith refusal found.items) }
@@ -268,18 +310,7 @@ fn all_faults(alloc: Global, text: &[u8], refusal: ScriptRefusal) -> Result<Vec<
         ScriptRefusal::TooLong => Vec::new(alloc),
         _ => tokens_of(alloc, text)?,
     };
-    let whole = Node {
-        text,
-        tokens: tokens.as_slice(),
-        at: 0,
-    };
-    let detail = match refusal {
-        ScriptRefusal::NotJson => not_json(alloc, whole)?,
-        _ => detail_of(whole, refusal),
-    };
-    let first = fault_of(alloc, text, refusal, detail)?;
-    let more = more_faults(alloc, whole, refusal)?;
-    in_front(alloc, first, more)
+    faults_of(alloc, text, tokens.as_slice(), refusal)
 }
 
 /// What is wrong with a script, in order: nothing exactly where `read_script` reads it; else first the fault for which

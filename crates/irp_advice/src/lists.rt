@@ -4,9 +4,9 @@
 use crate::keys::{Field, Takes};
 use crate::near::nearest;
 use crate::nodes::Node;
-use crate::small::{check_nth, not_taken, number_at, there_are};
+use crate::small::{check_nth, number_at, there_are};
 use crate::tokens::Kind;
-use crate::words::{Detail, END, Piece, Remedy, wrong};
+use crate::words::{Finding, Piece, Remedy};
 use Piece::{Number, Say, Show};
 use irp_names::{major_name, status_name};
 use irp_script_reader::Fault;
@@ -116,83 +116,86 @@ fn is_one_of(word: &[u8], names: &[&'static str]) -> bool {
     false
 }
 
-/// What is wrong with a name, if anything is.
-fn check_name(node: Node, choice: Choice) -> Result<(), Detail> {
+/// Whether a name is one of these.
+fn check_name(found: &mut Finding, node: Node, choice: Choice) -> bool {
     let word = match node.word() {
-        Some(word) if is_one_of(word, choice.names) => return Ok(()),
+        Some(word) if is_one_of(word, choice.names) => return true,
         Some(word) => word,
         None => &[],
     };
-    let detail = not_taken(choice.shown, node, choice.words);
-    Err(match nearest(word, choice.names) {
-        Some(name) => detail.with(Remedy::Word(name)),
-        None => detail,
-    })
+    found.not_taken(choice.shown, node, choice.words);
+    match nearest(word, choice.names) {
+        Some(name) => found.remedy(Remedy::Word(name)),
+        None => false,
+    }
 }
 
-/// What is wrong with a list's length, if anything is.
-fn check_count(node: Node, count: usize, words: &'static str) -> Result<(), Detail> {
+/// Whether a list has this length.
+fn check_count(found: &mut Finding, node: Node, count: usize, words: &'static str) -> bool {
     match node.count() {
-        Some(there) if there == count => Ok(()),
-        Some(there) => Err(wrong(
-            node,
-            [
-                Say("this has "),
-                Number(there as u64),
-                Say(if there == 1 { " item; " } else { " items; " }),
-                Say(words),
-                END,
-                END,
-                END,
-            ],
-        )),
-        None => Err(not_taken("this", node, words)),
+        Some(there) if there == count => true,
+        Some(there) => {
+            let items = if there == 1 { " item; " } else { " items; " };
+            let length = Number(there as u64);
+            found.wrong(node, &[Say("this has "), length, Say(items), Say(words)])
+        }
+        None => found.not_taken("this", node, words),
     }
 }
 
-/// What is wrong with the first word of a list, if anything is.
-fn check_first(node: Node, choice: Choice) -> Result<(), Detail> {
+/// Whether the first word of a list is one of these.
+fn check_first(found: &mut Finding, node: Node, choice: Choice) -> bool {
     match node.nth(0) {
-        Some(first) => check_name(first, choice),
-        None => Err(not_taken("this", node, choice.words)),
+        Some(first) => check_name(found, first, choice),
+        None => found.not_taken("this", node, choice.words),
     }
 }
 
-/// A status that completes no packet.
-fn check_completable(node: Node, index: usize) -> Result<(), Detail> {
-    let (Some(item), Some(number)) = (node.nth(index), number_at(node, index)) else {
-        return Ok(());
-    };
-    let Ok(status) = u32::try_from(number) else {
-        return Ok(());
-    };
-    if Status(status).is_completable() {
-        return Ok(());
+/// The status at a place of a list, where there is one.
+fn status_at(node: Node, index: usize) -> Option<Status> {
+    match u32::try_from(number_at(node, index)?) {
+        Ok(status) => Some(Status(status)),
+        Err(_) => None,
     }
-    let name = status_name(Status(status)).unwrap_or("this status");
-    let pieces = [
-        Say("the status is "),
-        Number(number),
-        Say(" ("),
-        Say(name),
-        Say("); no packet is completed with this status"),
-        END,
-        END,
-    ];
-    Err(wrong(item, pieces).of(Fault::RuleBroken))
 }
 
-/// What is wrong with a behaviour, if anything is.
-fn check_behaviour(node: Node) -> Result<(), Detail> {
+/// Whether a packet may be completed with the status at a place of a list.
+fn check_completable(found: &mut Finding, node: Node, index: usize) -> bool {
+    let (Some(item), Some(status)) = (node.nth(index), status_at(node, index)) else {
+        return true;
+    };
+    if status.is_completable() {
+        return true;
+    }
+    let name = status_name(status).unwrap_or("this status");
+    found.wrong(
+        item,
+        &[
+            Say("the status is "),
+            Number(u64::from(status.0)),
+            Say(" ("),
+            Say(name),
+            Say("); no packet is completed with this status"),
+        ],
+    );
+    found.of(Fault::RuleBroken)
+}
+
+/// Whether a behaviour is one.
+fn check_behaviour(found: &mut Finding, node: Node) -> bool {
     if node.kind() != Kind::List {
-        return check_name(node, BEHAVIOUR);
+        return check_name(found, node, BEHAVIOUR);
     }
     if node.first_word() != Some(b"replace".as_slice()) {
-        return Err(not_taken("the behaviour", node, BEHAVIOUR.words));
+        return found.not_taken("the behaviour", node, BEHAVIOUR.words);
     }
-    check_count(node, 3, "a replacement is [\"replace\",status,information]")?;
-    check_nth(node, 1, STATUS)?;
-    check_nth(node, 2, INFORMATION)
+    check_count(
+        found,
+        node,
+        3,
+        "a replacement is [\"replace\",status,information]",
+    ) && check_nth(found, node, 1, STATUS)
+        && check_nth(found, node, 2, INFORMATION)
 }
 
 /// How a behaviour is named in the rules.
@@ -223,48 +226,62 @@ fn rule_against(rule: &[u8], on_ok: &[u8], on_err: &[u8]) -> Option<&'static str
     }
 }
 
-/// What is wrong with behaviours that don't keep their rule, if anything is.
-fn check_rule(node: Node, on_ok: Node, on_err: Node) -> Result<(), Detail> {
+/// Whether behaviours keep their rule.
+fn check_rule(found: &mut Finding, node: Node, on_ok: Node, on_err: Node) -> bool {
     let rule = node.first_word().unwrap_or(&[]);
-    match rule_against(rule, behaviour_of(on_ok), behaviour_of(on_err)) {
-        None => Ok(()),
-        Some(words) => {
-            let pieces = [
-                Say("the behaviours are "),
-                Show(on_ok.span()),
-                Say(" and "),
-                Show(on_err.span()),
-                Say("; "),
-                Say(words),
-                END,
-            ];
-            Err(wrong(node, pieces).of(Fault::RuleBroken))
-        }
-    }
-}
-
-/// What is wrong with a completion routine, if anything is.
-pub fn check_completion(node: Node) -> Result<(), Detail> {
-    check_count(node, 3, "a completion routine is [rule,on_ok,on_err]")?;
-    check_first(node, RULE)?;
-    let (Some(on_ok), Some(on_err)) = (node.nth(1), node.nth(2)) else {
-        return Ok(());
+    let Some(words) = rule_against(rule, behaviour_of(on_ok), behaviour_of(on_err)) else {
+        return true;
     };
-    check_behaviour(on_ok)?;
-    check_behaviour(on_err)?;
-    check_completable(on_ok, 1)?;
-    check_completable(on_err, 1)?;
-    check_rule(node, on_ok, on_err)
+    found.wrong(
+        node,
+        &[
+            Say("the behaviours are "),
+            Show(on_ok.span()),
+            Say(" and "),
+            Show(on_err.span()),
+            Say("; "),
+            Say(words),
+        ],
+    );
+    found.of(Fault::RuleBroken)
 }
 
-/// What is wrong with a cancel routine's answer, if anything is.
-pub fn check_cancel(node: Node) -> Result<(), Detail> {
-    check_first(node, ANSWER)?;
-    if node.first_word() == Some(b"leave".as_slice()) {
-        return check_count(node, 1, "it is [\"leave\"]");
+/// Whether the behaviours of a completion routine are right.
+fn check_behaviours(found: &mut Finding, node: Node, on_ok: Node, on_err: Node) -> bool {
+    check_behaviour(found, on_ok)
+        && check_behaviour(found, on_err)
+        && check_completable(found, on_ok, 1)
+        && check_completable(found, on_err, 1)
+        && check_rule(found, node, on_ok, on_err)
+}
+
+/// Whether a completion routine is right.
+pub fn check_completion(found: &mut Finding, node: Node) -> bool {
+    if !check_count(
+        found,
+        node,
+        3,
+        "a completion routine is [rule,on_ok,on_err]",
+    ) || !check_first(found, node, RULE)
+    {
+        return false;
     }
-    check_count(node, 2, "it is [\"finish\",information]")?;
-    check_nth(node, 1, INFORMATION)
+    match (node.nth(1), node.nth(2)) {
+        (Some(on_ok), Some(on_err)) => check_behaviours(found, node, on_ok, on_err),
+        _ => true,
+    }
+}
+
+/// Whether a cancel routine's answer is one.
+pub fn check_cancel(found: &mut Finding, node: Node) -> bool {
+    if !check_first(found, node, ANSWER) {
+        return false;
+    }
+    if node.first_word() == Some(b"leave".as_slice()) {
+        return check_count(found, node, 1, "it is [\"leave\"]");
+    }
+    check_count(found, node, 2, "it is [\"finish\",information]")
+        && check_nth(found, node, 1, INFORMATION)
 }
 
 /// What a script has, as far as its members name that.
@@ -306,27 +323,27 @@ impl<'t> Around<'t> {
     }
 }
 
-/// What is wrong with flags, if anything is.
-fn check_flags(node: Node) -> Result<(), Detail> {
+/// Whether flags are a text of those that there are.
+fn check_flags(found: &mut Finding, node: Node) -> bool {
     match node.word() {
-        Some(b"" | b"s" | b"e" | b"c" | b"se" | b"sc" | b"ec" | b"sec") => Ok(()),
-        _ => Err(not_taken(
+        Some(b"" | b"s" | b"e" | b"c" | b"se" | b"sc" | b"ec" | b"sec") => true,
+        _ => found.not_taken(
             "the text of the flags",
             node,
             "it has letters of \"sec\" in this order: on success, on error, on cancel",
-        )),
+        ),
     }
 }
 
-/// What is wrong with the form of a setting, if anything is.
-pub fn check_setting(node: Node) -> Result<(), Detail> {
-    check_count(node, 4, "a setting is [rule,number,context,flags]")?;
-    check_first(node, RULE)?;
-    check_nth(node, 1, ROUTINE)?;
-    check_nth(node, 2, CONTEXT)?;
+/// Whether the form of a setting is right.
+pub fn check_setting(found: &mut Finding, node: Node) -> bool {
+    let is_right = check_count(found, node, 4, "a setting is [rule,number,context,flags]")
+        && check_first(found, node, RULE)
+        && check_nth(found, node, 1, ROUTINE)
+        && check_nth(found, node, 2, CONTEXT);
     match node.nth(3) {
-        Some(flags) => check_flags(flags),
-        None => Ok(()),
+        Some(flags) if is_right => check_flags(found, flags),
+        _ => is_right,
     }
 }
 
@@ -341,161 +358,178 @@ fn routine_words(rule: &[u8]) -> &'static str {
     }
 }
 
-/// What is wrong with a plan that passes the packet down, if anything is.
-fn check_forward(around: Around, node: Node, pends: bool) -> Result<(), Detail> {
-    check_count(node, 2, "it is followed by a setting or null")?;
-    let Some(setting) = node.nth(1) else {
-        return Ok(());
-    };
-    if setting.is_null() {
-        return Ok(());
-    }
-    check_setting(setting)?;
+/// Whether a setting may be made by a plan that passes the packet down, and its routine is there.
+fn check_set(found: &mut Finding, around: Around, setting: Node, pends: bool) -> bool {
     let rule = setting.first_word().unwrap_or(&[]);
     if !pends && rule != b"watch".as_slice() {
-        let detail = not_taken(
+        found.not_taken(
             "the setting",
             setting,
             "a \"forward\" sets a \"watch\" alone",
         );
-        return Err(
-            detail
-                .of(Fault::RuleBroken)
-                .with(Remedy::Word("forward_pend")),
-        );
+        found.remedy(Remedy::Word("forward_pend"));
+        return found.of(Fault::RuleBroken);
     }
     let (number, count) = (number_at(setting, 1).unwrap_or(0), around.routines(rule));
     if number < count {
-        return Ok(());
+        return true;
     }
-    Err(there_are(setting, routine_words(rule), number, count).of(Fault::NoRoutine))
+    there_are(found, setting, routine_words(rule), number, count);
+    found.of(Fault::NoRoutine)
 }
 
-/// What is wrong with a plan that holds the packet, if anything is.
-fn check_hold(around: Around, node: Node) -> Result<(), Detail> {
-    check_count(
-        node,
-        2,
-        "it is [\"hold\",cancel]; a cancel routine is a number or null",
-    )?;
-    check_nth(node, 1, CANCEL)?;
+/// Whether a plan that passes the packet down is right.
+fn check_forward(found: &mut Finding, around: Around, node: Node, pends: bool) -> bool {
+    if !check_count(found, node, 2, "it is followed by a setting or null") {
+        return false;
+    }
+    match node.nth(1) {
+        Some(setting) if !setting.is_null() => {
+            check_setting(found, setting) && check_set(found, around, setting, pends)
+        }
+        _ => true,
+    }
+}
+
+/// Whether a plan that holds the packet is right.
+fn check_hold(found: &mut Finding, around: Around, node: Node) -> bool {
+    let words = "it is [\"hold\",cancel]; a cancel routine is a number or null";
+    if !check_count(found, node, 2, words) || !check_nth(found, node, 1, CANCEL) {
+        return false;
+    }
     let count = around.count("cancels");
     match number_at(node, 1) {
         Some(number) if number >= count => {
-            Err(there_are(node, "cancel routine", number, count).of(Fault::NoRoutine))
+            there_are(found, node, "cancel routine", number, count);
+            found.of(Fault::NoRoutine)
         }
-        _ => Ok(()),
+        _ => true,
     }
 }
 
-/// What is wrong with a plan, if anything is.
-pub fn check_plan(around: Around, node: Node) -> Result<(), Detail> {
-    check_first(node, PLAN)?;
+/// Whether a plan that finishes the packet is right.
+fn check_finish(found: &mut Finding, node: Node) -> bool {
+    check_count(found, node, 3, "it is [\"finish\",status,information]")
+        && check_nth(found, node, 1, STATUS)
+        && check_nth(found, node, 2, INFORMATION)
+        && check_completable(found, node, 1)
+}
+
+/// Whether a plan is right.
+pub fn check_plan(found: &mut Finding, around: Around, node: Node) -> bool {
+    if !check_first(found, node, PLAN) {
+        return false;
+    }
     match node.first_word().unwrap_or(&[]) {
-        b"finish" => {
-            check_count(node, 3, "it is [\"finish\",status,information]")?;
-            check_nth(node, 1, STATUS)?;
-            check_nth(node, 2, INFORMATION)?;
-            check_completable(node, 1)
+        b"finish" => check_finish(found, node),
+        b"hold" => check_hold(found, around, node),
+        b"forward" => check_forward(found, around, node, false),
+        b"forward_pend" => check_forward(found, around, node, true),
+        b"hold_slot" if around.form == 1 => {
+            let words = "only a script of form 2 has it; here \"form\" is 1";
+            found.not_taken("the plan", node, words)
         }
-        b"hold" => check_hold(around, node),
-        b"forward" => check_forward(around, node, false),
-        b"forward_pend" => check_forward(around, node, true),
-        b"hold_slot" if around.form == 1 => Err(not_taken(
-            "the plan",
-            node,
-            "only a script of form 2 has it; here \"form\" is 1",
-        )),
-        _ => check_count(node, 1, "nothing follows it"),
+        _ => check_count(found, node, 1, "nothing follows it"),
     }
 }
 
-/// What is wrong with the major function code of a pair, if anything is: it is too great, or stands in a pair before.
-fn check_major(table: Node, pair: Node, major: u64) -> Result<(), Detail> {
-    if major > 27 {
-        let detail = not_taken(
-            "the pair",
-            pair,
-            "the last major function code is 27 (IRP_MJ_PNP)",
-        );
-        return Err(detail.of(Fault::BadDispatch));
-    }
+/// Whether a pair of a driver's table that stands before another has this major function code.
+fn is_before(table: Node, pair: Node, major: u64) -> bool {
     let mut next = table.first();
     for _ in 0..table.tokens.len() {
-        let Some(other) = next else {
-            return Ok(());
-        };
-        if other.at >= pair.at {
-            return Ok(());
+        match next {
+            Some(other) if other.at < pair.at => {
+                if number_at(other, 0) == Some(major) {
+                    return true;
+                }
+                next = other.next();
+            }
+            _ => return false,
         }
-        if number_at(other, 0) == Some(major) {
-            return Err(twice(pair, major));
-        }
-        next = other.next();
     }
-    Ok(())
+    false
 }
 
-/// A major function code that stands twice.
-fn twice(pair: Node, major: u64) -> Detail {
+/// Whether the major function code of a pair is right: not too great, and in no pair before.
+fn check_major(found: &mut Finding, table: Node, pair: Node, major: u64) -> bool {
+    if major > 27 {
+        let words = "the last major function code is 27 (IRP_MJ_PNP)";
+        found.not_taken("the pair", pair, words);
+        return found.of(Fault::BadDispatch);
+    }
+    !is_before(table, pair, major) || twice(found, pair, major)
+}
+
+/// A major function code stands twice. It is false.
+fn twice(found: &mut Finding, pair: Node, major: u64) -> bool {
     let code = u8::try_from(major).unwrap_or(0);
-    let pieces = [
-        Say("major "),
-        Number(major),
-        Say(" ("),
-        Say(major_name(code).unwrap_or("")),
-        Say(") stands twice in this driver's table"),
-        END,
-        END,
-    ];
-    wrong(pair, pieces).of(Fault::BadDispatch)
+    found.wrong(
+        pair,
+        &[
+            Say("major "),
+            Number(major),
+            Say(" ("),
+            Say(major_name(code).unwrap_or("")),
+            Say(") stands twice in this driver's table"),
+        ],
+    );
+    found.of(Fault::BadDispatch)
 }
 
-/// What is wrong with a pair of a driver's table, if anything is but its major function code.
-fn check_pair(around: Around, table: Node, pair: Node) -> Result<(), Detail> {
-    let major = number_at(pair, 0).unwrap_or(0);
+/// Whether the dispatch of a pair is there.
+fn check_dispatch(found: &mut Finding, around: Around, pair: Node) -> bool {
     let dispatch = number_at(pair, 1).unwrap_or(0);
-    check_major(table, pair, major)?;
     let count = around.count("dispatches");
     if dispatch < count {
-        return Ok(());
+        return true;
     }
-    Err(there_are(pair, "dispatch", dispatch, count).of(Fault::BadDispatch))
+    there_are(found, pair, "dispatch", dispatch, count);
+    found.of(Fault::BadDispatch)
 }
 
-/// What is wrong with the form of a pair, if anything is.
-fn check_handler(pair: Node) -> Result<(), Detail> {
-    check_count(pair, 2, "a driver is a list of [major,dispatch]")?;
-    check_nth(pair, 0, MAJOR)?;
-    check_nth(pair, 1, DISPATCH)
+/// Whether a pair of a driver's table, which has the form of one, is right.
+fn check_pair(found: &mut Finding, around: Around, table: Node, pair: Node) -> bool {
+    let major = number_at(pair, 0).unwrap_or(0);
+    check_major(found, table, pair, major) && check_dispatch(found, around, pair)
 }
 
-/// What is wrong with the form of a driver's pairs, if anything is.
-fn check_handlers(table: Node) -> Result<(), Detail> {
+/// Whether the form of a pair is right.
+fn check_handler(found: &mut Finding, pair: Node) -> bool {
+    check_count(found, pair, 2, "a driver is a list of [major,dispatch]")
+        && check_nth(found, pair, 0, MAJOR)
+        && check_nth(found, pair, 1, DISPATCH)
+}
+
+/// Whether the form of a driver's pairs is right.
+fn check_handlers(found: &mut Finding, table: Node) -> bool {
     let mut next = table.first();
     for _ in 0..table.tokens.len() {
-        let Some(pair) = next else {
-            return Ok(());
-        };
-        check_handler(pair)?;
-        next = pair.next();
+        match next {
+            Some(pair) if check_handler(found, pair) => next = pair.next(),
+            Some(_) => return false,
+            None => return true,
+        }
     }
-    Ok(())
+    true
 }
 
-/// What is wrong with a driver, if anything is.
-pub fn check_driver(around: Around, table: Node) -> Result<(), Detail> {
+/// Whether a driver's pairs, which have the form of such, are right.
+fn check_pairs(found: &mut Finding, around: Around, table: Node) -> bool {
+    let mut next = table.first();
+    for _ in 0..table.tokens.len() {
+        match next {
+            Some(pair) if check_pair(found, around, table, pair) => next = pair.next(),
+            Some(_) => return false,
+            None => return true,
+        }
+    }
+    true
+}
+
+/// Whether a driver is right.
+pub fn check_driver(found: &mut Finding, around: Around, table: Node) -> bool {
     if table.kind() != Kind::List {
-        return Err(not_taken("this", table, "a driver is a list of [major,dispatch]"));
+        return found.not_taken("this", table, "a driver is a list of [major,dispatch]");
     }
-    check_handlers(table)?;
-    let mut next = table.first();
-    for _ in 0..table.tokens.len() {
-        let Some(pair) = next else {
-            return Ok(());
-        };
-        check_pair(around, table, pair)?;
-        next = pair.next();
-    }
-    Ok(())
+    check_handlers(found, table) && check_pairs(found, around, table)
 }

@@ -3,10 +3,10 @@
 use crate::nodes::Node;
 use crate::small::{hexadecimal, major_meant, status_meant};
 use crate::tokens::{Kind, Token, cut};
-use crate::words::{Detail, END, Piece, Remedy, Span, wrong_at};
+use crate::words::{Finding, Piece, Remedy, Span};
 use Piece::{Say, Show};
 use serde_json::Value;
-use std::alloc::{AllocError, Global};
+use std::alloc::Global;
 
 /// What may come next.
 #[derive(Clone, Copy, PartialEq, Eq)]
@@ -83,33 +83,38 @@ fn may_end(wants: Wants, kind: Kind) -> bool {
     }
 }
 
-/// What may come behind this token. None where it may not stand there. The one error is want of memory.
-fn behind(wants: Wants, opened: &mut Vec<Kind>, kind: Kind) -> Result<Option<Wants>, AllocError> {
+/// What may come behind this token. None where it may not stand there.
+fn behind(found: &mut Finding, wants: Wants, opened: &mut Vec<Kind>, kind: Kind) -> Option<Wants> {
     match kind {
         Kind::List | Kind::Object if wants.takes_value() => {
-            opened.push(kind)?;
-            Ok(Some(if kind == Kind::List {
+            if opened.push(kind).is_err() {
+                found.run_out();
+            }
+            Some(if kind == Kind::List {
                 Wants::Item
             } else {
                 Wants::Member
-            }))
+            })
         }
         Kind::ListEnd | Kind::ObjectEnd if may_end(wants, kind) => {
             let _ = opened.pop();
-            Ok(Some(behind_value(opened.as_slice())))
+            Some(behind_value(opened.as_slice()))
         }
-        Kind::Text if wants.takes_key() => Ok(Some(Wants::Colon)),
-        Kind::Text | Kind::Word if wants.takes_value() => Ok(Some(behind_value(opened.as_slice()))),
-        _ => Ok(behind_mark(wants, kind)),
+        Kind::Text if wants.takes_key() => Some(Wants::Colon),
+        Kind::Text | Kind::Word if wants.takes_value() => Some(behind_value(opened.as_slice())),
+        _ => behind_mark(wants, kind),
     }
 }
 
-/// Whether a text or a word by itself is JSON. The one error is want of memory.
-fn is_json(alloc: Global, token: &[u8]) -> Result<bool, AllocError> {
+/// Whether a text or a word by itself is JSON; it is, where memory runs out.
+fn is_json(alloc: Global, found: &mut Finding, token: &[u8]) -> bool {
     match Value::from_slice(alloc, token) {
-        Ok(_value) => Ok(true),
-        Err(error) if error.is_memory() => Err(AllocError),
-        Err(_) => Ok(false),
+        Ok(_value) => true,
+        Err(error) if error.is_memory() => {
+            found.run_out();
+            true
+        }
+        Err(_) => false,
     }
 }
 
@@ -186,73 +191,51 @@ fn span_of(token: Token) -> Span {
     }
 }
 
-/// A token may not stand here.
-fn misplaced(text: &[u8], token: Token, wants: Wants) -> Detail {
+/// A token may not stand here. It is false.
+fn misplaced(found: &mut Finding, text: &[u8], token: Token, wants: Wants) -> bool {
     let bytes = cut(text, token.start, token.end);
-    let pieces = [
-        Say("here is "),
-        Show(span_of(token)),
-        Say("; "),
-        Say(wants.words()),
-        END,
-        END,
-        END,
-    ];
-    wrong_at(token.start, pieces).with(mark_remedy(wants, token.kind, bytes))
+    let shown = Show(span_of(token));
+    found.wrong_at(
+        token.start,
+        &[Say("here is "), shown, Say("; "), Say(wants.words())],
+    );
+    found.remedy(mark_remedy(wants, token.kind, bytes))
 }
 
-/// A word or a text is no JSON.
-fn misspelt(text: &[u8], token: Token) -> Detail {
+/// A word or a text is no JSON. It is false.
+fn misspelt(found: &mut Finding, text: &[u8], token: Token) -> bool {
     let bytes = cut(text, token.start, token.end);
-    let pieces = [
-        Say("here is "),
-        Show(span_of(token)),
-        Say(", "),
-        Say(of_token(bytes, token.kind)),
-        END,
-        END,
-        END,
-    ];
-    wrong_at(token.start, pieces).with(word_remedy(bytes))
+    let (shown, why) = (Show(span_of(token)), of_token(bytes, token.kind));
+    found.wrong_at(token.start, &[Say("here is "), shown, Say(", "), Say(why)]);
+    found.remedy(word_remedy(bytes))
 }
 
-/// The text ends too early.
-fn ends(text: &[u8], wants: Wants) -> Detail {
-    let pieces = [
-        Say("the text ends here; "),
-        Say(wants.words()),
-        END,
-        END,
-        END,
-        END,
-        END,
-    ];
-    wrong_at(text.len(), pieces)
-}
-
-/// Each token is right: what is left is that they nest too deep.
-fn too_deep() -> Detail {
-    let words = "this isn't JSON: lists and objects nest at most 127 deep";
-    wrong_at(0, [Say(words), END, END, END, END, END, END])
-}
-
-/// What is wrong with a text that is no JSON. The one error is want of memory.
-pub fn not_json(alloc: Global, whole: Node) -> Result<Detail, AllocError> {
+/// Whether each token of a text is JSON and may stand where it stands. These are open: none, at the beginning.
+fn check_tokens(alloc: Global, found: &mut Finding, whole: Node, opened: &mut Vec<Kind>) -> bool {
     let text = whole.text;
-    let mut opened = Vec::new(alloc);
     let mut wants = Wants::Value;
     for token in whole.tokens {
-        let Some(next) = behind(wants, &mut opened, token.kind)? else {
-            return Ok(misplaced(text, *token, wants));
+        let Some(next) = behind(found, wants, opened, token.kind) else {
+            return misplaced(found, text, *token, wants);
         };
         let plain = matches!(token.kind, Kind::Text | Kind::Word);
-        if plain && !is_json(alloc, cut(text, token.start, token.end))? {
-            return Ok(misspelt(text, *token));
+        if plain && !is_json(alloc, found, cut(text, token.start, token.end)) {
+            return misspelt(found, text, *token);
         }
         wants = next;
     }
-    if wants != Wants::Nothing {
-        return Ok(ends(text, wants));
+    if wants == Wants::Nothing {
+        return true;
     }
-    Ok(too_deep())
+    let pieces = [Say("the text ends here; "), Say(wants.words())];
+    found.wrong_at(text.len(), &pieces)
+}
+
+/// Says what is wrong with a text that is no JSON. Where each token is right, they nest too deep.
+pub fn tell_no_json(alloc: Global, found: &mut Finding, whole: Node) {
+    let mut opened = Vec::new(alloc);
+    if check_tokens(alloc, found, whole, &mut opened) {
+        let words = "this isn't JSON: lists and objects nest at most 127 deep";
+        found.wrong_at(0, &[Say(words)]);
+    }
 }

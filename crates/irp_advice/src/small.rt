@@ -4,7 +4,7 @@ use crate::keys::{Field, Takes};
 use crate::near::edits;
 use crate::nodes::{Node, number_of};
 use crate::tokens::{Kind, cut};
-use crate::words::{Detail, END, Piece, Remedy, wrong};
+use crate::words::{Finding, Piece, Remedy};
 use Piece::{Number, Say, Show};
 use irp_names::{major_name, status_name};
 use irp_types::Status;
@@ -48,22 +48,6 @@ static STATUSES: &[u32] = &[
     0xC000_0184,
     0xC000_0185,
 ];
-
-/// A value is told to be another thing than these words say.
-pub fn not_taken(shown: &'static str, node: Node, words: &'static str) -> Detail {
-    wrong(
-        node,
-        [
-            Say(shown),
-            Say(" is "),
-            Show(node.span()),
-            Say("; "),
-            Say(words),
-            END,
-            END,
-        ],
-    )
-}
 
 /// A number, its name, and how many edits lead to the name.
 type Meant = (u64, &'static str, u32);
@@ -267,30 +251,28 @@ fn meant(takes: Takes, node: Node) -> Remedy {
     }
 }
 
-/// What is wrong with the value of a field, if anything is.
-pub fn check_field(field: Field, node: Node) -> Result<(), Detail> {
+/// Whether the value of a field is one that it takes.
+pub fn check_field(found: &mut Finding, field: Field, node: Node) -> bool {
     if is_taken(field.takes, node) {
-        return Ok(());
+        return true;
     }
-    Err(not_taken(field.shown, node, field.words).with(meant(field.takes, node)))
+    found.not_taken(field.shown, node, field.words);
+    found.remedy(meant(field.takes, node))
 }
 
-/// What is wrong with the item of a list that has this place, if anything is. It is the list's fault where it has none.
-pub fn check_nth(list: Node, index: usize, field: Field) -> Result<(), Detail> {
+/// Whether the item of a list that has this place is right. It is the list's fault where it has none.
+pub fn check_nth(found: &mut Finding, list: Node, index: usize, field: Field) -> bool {
     match list.nth(index) {
-        Some(item) => check_field(field, item),
-        None => Err(wrong(
+        Some(item) => check_field(found, field, item),
+        None => found.wrong(
             list,
-            [
+            &[
                 Show(list.span()),
                 Say(" has "),
                 Say(field.shown),
                 Say(" missing"),
-                END,
-                END,
-                END,
             ],
-        )),
+        ),
     }
 }
 
@@ -299,25 +281,23 @@ pub fn number_at(list: Node, index: usize) -> Option<u64> {
     list.nth(index)?.number()
 }
 
-/// What is numbered isn't there under this number: how many there are, and the last number.
-pub fn there_are(node: Node, what: &'static str, number: u64, count: u64) -> Detail {
-    let before = [Say(what), Say(" "), Number(number)];
-    let (there, many, last) = match count {
-        0 => (Say(" isn't there; there is none"), END, END),
-        1 => (Say(" isn't there; there is one, numbered 0"), END, END),
-        _ => (
-            Say(" isn't there; there are "),
-            Number(count),
-            Number(count.saturating_sub(1)),
-        ),
+/// What is numbered isn't there under this number: how many there are, and the last number. It is false.
+pub fn there_are(
+    found: &mut Finding,
+    node: Node,
+    what: &'static str,
+    number: u64,
+    count: u64,
+) -> bool {
+    let words = match count {
+        0 => " isn't there; there is none",
+        1 => " isn't there; there is one, numbered 0",
+        _ => " isn't there; there are ",
     };
-    let numbered = Say(if count > 1 {
-        ", numbered from 0 to "
-    } else {
-        ""
-    });
-    wrong(
-        node,
-        [before[0], before[1], before[2], there, many, numbered, last],
-    )
+    found.wrong(node, &[Say(what), Say(" "), Number(number), Say(words)]);
+    if count > 1 {
+        let last = count.saturating_sub(1);
+        found.say(&[Number(count), Say(", numbered from 0 to "), Number(last)]);
+    }
+    false
 }

@@ -4,9 +4,9 @@ use crate::keys::{ACTS, Act, Place, act_of, field_of};
 use crate::lists::{Around, check_setting};
 use crate::near::edits;
 use crate::nodes::Node;
-use crate::small::{check_field, not_taken, there_are};
+use crate::small::{check_field, there_are};
 use crate::tokens::Kind;
-use crate::words::{Detail, END, Piece, Remedy, wrong};
+use crate::words::{Finding, Piece, Remedy};
 use Piece::{Keys, Number, Say, Show};
 
 /// The call that is meant by a name, by its own or by that of Windows.
@@ -28,71 +28,75 @@ fn meant_act(word: &[u8]) -> Remedy {
     meant
 }
 
-/// What a step does, or what is wrong with its name.
-fn check_do(node: Node) -> Result<Act, Detail> {
+/// What a step does; none where its name is wrong.
+fn act_in(found: &mut Finding, node: Node) -> Option<Act> {
     let Some(name) = node.get("do") else {
-        return Err(missing(
+        missing(
+            found,
             node,
             "do",
             "a step",
             &["seat", "do and those of what it does"],
-        ));
+        );
+        return None;
     };
     let Some(word) = name.word() else {
-        return Err(not_taken(
-            "\"do\"",
-            name,
-            "it names what the step does, in quotation marks",
-        ));
+        let words = "it names what the step does, in quotation marks";
+        found.not_taken("\"do\"", name, words);
+        return None;
     };
-    match act_of(word) {
-        Some(act) => Ok(act),
-        None => {
-            let detail = not_taken("\"do\"", name, "there is no such step");
-            Err(detail.with(meant_act(word)))
-        }
+    let act = act_of(word);
+    if act.is_none() {
+        found.not_taken("\"do\"", name, "there is no such step");
+        found.remedy(meant_act(word));
     }
+    act
 }
 
-/// A key is missing in an object, which is this and has these keys.
-pub fn missing(
+/// A key is missing in an object, which is this and has these keys. It is false.
+fn missing(
+    found: &mut Finding,
     node: Node,
     key: &'static str,
     what: &'static str,
     keys: &'static [&'static str],
-) -> Detail {
-    wrong(
+) -> bool {
+    let (key, what) = (Say(key), Say(what));
+    found.wrong(
         node,
-        [
+        &[
             Say("the key \""),
-            Say(key),
+            key,
             Say("\" is missing; "),
-            Say(what),
+            what,
             Say(" has the keys "),
             Keys(keys),
-            END,
         ],
     )
 }
 
-/// A key isn't known in an object, which is this and has these keys.
-pub fn unknown(node: Node, key: Node, what: &'static str, keys: &'static [&'static str]) -> Detail {
-    let detail = wrong(
+/// A key isn't known in an object, which is this and has these keys. It is false.
+fn unknown(
+    found: &mut Finding,
+    node: Node,
+    key: Node,
+    what: &'static str,
+    keys: &'static [&'static str],
+) -> bool {
+    found.wrong(
         key,
-        [
+        &[
             Show(key.span()),
             Say(" is no key of "),
             Say(what),
             Say(", which has the keys "),
             Keys(keys),
-            END,
-            END,
         ],
     );
     let word = key.word().unwrap_or(&[]);
     match nearest_missing(node, word, keys) {
-        Some(name) => detail.with(Remedy::Word(name)),
-        None => detail,
+        Some(name) => found.remedy(Remedy::Word(name)),
+        None => false,
     }
 }
 
@@ -135,117 +139,130 @@ fn other_key<'t>(node: Node<'t>, keys: &[&'static str]) -> Option<Node<'t>> {
     None
 }
 
-/// What is wrong with the keys of an object, which is this and has these keys, if anything is.
+/// Whether the keys of an object, which is this and has these keys, are right.
 pub fn check_keys(
+    found: &mut Finding,
     node: Node,
     what: &'static str,
     keys: &'static [&'static str],
-) -> Result<(), Detail> {
+) -> bool {
     if let Some(key) = other_key(node, keys) {
-        return Err(unknown(node, key, what, keys));
+        return unknown(found, node, key, what, keys);
     }
     for key in keys {
         if node.get(*key).is_none() {
-            return Err(missing(node, *key, what, keys));
+            return missing(found, node, *key, what, keys);
         }
     }
-    Ok(())
+    true
 }
 
-/// What is wrong with the values of a step's keys, if anything is.
-fn check_values(node: Node, keys: &[&'static str]) -> Result<(), Detail> {
+/// Whether the values of a step's keys are right.
+fn check_values(found: &mut Finding, node: Node, keys: &[&'static str]) -> bool {
     for key in keys {
         if let (Some(field), Some(value)) = (field_of(*key), node.get(*key)) {
-            check_field(field, value)?;
+            if !check_field(found, field, value) {
+                return false;
+            }
         }
     }
     match node.get("set") {
-        Some(setting) => check_setting(setting),
-        None => Ok(()),
+        Some(setting) => check_setting(found, setting),
+        None => true,
     }
 }
 
-/// What is wrong with where a step stands, if anything is.
-fn check_place(around: Around, in_setup: bool, node: Node, act: Act) -> Result<(), Detail> {
+/// Whether a step may stand where it stands.
+fn check_place(found: &mut Finding, around: Around, in_setup: bool, node: Node, act: Act) -> bool {
     let name = node.get("do").unwrap_or(node);
     if act.place == Place::FormTwo && around.form == 1 {
-        let detail = not_taken("\"do\"", name, "only form 2 has this step");
-        return Err(detail.with(Remedy::Do("Write \"form\":2 and the number of \"slots\"")));
+        found.not_taken("\"do\"", name, "only form 2 has this step");
+        return found.remedy(Remedy::Do("Write \"form\":2 and the number of \"slots\""));
     }
     if act.place != Place::Anywhere && in_setup {
         let words = "it is on a remove lock or a cancel slot, which \"setup\" hasn't";
-        let detail = not_taken("\"do\"", name, words);
-        return Err(detail.with(Remedy::Do("Put it into \"steps\"")));
+        found.not_taken("\"do\"", name, words);
+        return found.remedy(Remedy::Do("Put it into \"steps\""));
     }
-    Ok(())
+    true
 }
 
-/// What is wrong with the number of a seat, if anything is.
-fn check_seat(around: Around, seat: Node) -> Result<(), Detail> {
+/// Whether the seat of this number is there, where there is a number.
+fn check_seat(found: &mut Finding, around: Around, seat: Option<Node>) -> bool {
+    let Some(seat) = seat else {
+        return true;
+    };
     match seat.number() {
         Some(number) if number >= around.seats => {
-            Err(there_are(seat, "seat", number, around.seats))
+            there_are(found, seat, "seat", number, around.seats)
         }
-        _ => Ok(()),
+        _ => true,
     }
 }
 
-/// What is wrong with whom a reference is handed to, if anything is.
-fn check_hand(around: Around, node: Node) -> Result<(), Detail> {
+/// Whether a reference may be handed to whom it is.
+fn check_hand(found: &mut Finding, around: Around, node: Node) -> bool {
     let Some(to) = node.get("to") else {
-        return Ok(());
+        return true;
     };
-    check_seat(around, to)?;
-    let seat = node.get("seat").unwrap_or(node);
-    if seat.number() == to.number() {
-        return Err(not_taken("\"to\"", to, "that is the step's own seat"));
+    if !check_seat(found, around, Some(to)) {
+        return false;
     }
-    Ok(())
+    let seat = node.get("seat").unwrap_or(node);
+    seat.number() != to.number() || found.not_taken("\"to\"", to, "that is the step's own seat")
 }
 
-/// What is wrong with the slot of a publish or a withdraw, if anything is.
-fn check_slot(around: Around, node: Node) -> Result<(), Detail> {
-    let (Some(slot), Some(seat)) = (node.get("slot"), node.get("seat")) else {
-        return Ok(());
-    };
-    let number = slot.number().unwrap_or(0);
-    if number >= around.slots {
-        return Err(there_are(slot, "cancel slot", number, around.slots));
-    }
-    let owner = number.checked_rem(around.seats).unwrap_or(0);
-    if seat.number() == Some(owner) {
-        return Ok(());
-    }
-    Err(wrong(
+/// A slot belongs to another seat than this one, the step's. It is false.
+fn of_another(found: &mut Finding, slot: Node, number: u64, owner: u64, seat: Node) -> bool {
+    found.wrong(
         slot,
-        [
+        &[
             Say("cancel slot "),
             Number(number),
             Say(" belongs to seat "),
             Number(owner),
             Say(" (the slot modulo \"seats\"); this step is of seat "),
             Show(seat.span()),
-            END,
         ],
-    ))
+    )
 }
 
-/// What is wrong with a step, if anything is.
-pub fn check_step(around: Around, in_setup: bool, node: Node) -> Result<(), Detail> {
+/// Whether the slot of a publish or a withdraw is there, and its seat's own.
+fn check_slot(found: &mut Finding, around: Around, node: Node) -> bool {
+    let (Some(slot), Some(seat)) = (node.get("slot"), node.get("seat")) else {
+        return true;
+    };
+    let number = slot.number().unwrap_or(0);
+    if number >= around.slots {
+        return there_are(found, slot, "cancel slot", number, around.slots);
+    }
+    let owner = number.checked_rem(around.seats).unwrap_or(0);
+    seat.number() == Some(owner) || of_another(found, slot, number, owner, seat)
+}
+
+/// Whether whom or what a step names besides its packet is there.
+fn check_named(found: &mut Finding, around: Around, node: Node, act: Act) -> bool {
+    match act.name {
+        "hand" => check_hand(found, around, node),
+        "publish" | "withdraw" => check_slot(found, around, node),
+        _ => true,
+    }
+}
+
+/// Whether a step is right.
+pub fn check_step(found: &mut Finding, around: Around, in_setup: bool, node: Node) -> bool {
     if node.kind() != Kind::Object {
         let words = "a step is an object with \"seat\", \"do\" and the keys of what it does";
-        return Err(not_taken("this", node, words));
+        return found.not_taken("this", node, words);
     }
-    let act = check_do(node)?;
-    check_place(around, in_setup, node, act)?;
-    check_keys(node, act.shown, act.keys)?;
-    check_values(node, act.keys)?;
-    if let Some(seat) = node.get("seat") {
-        check_seat(around, seat)?;
-    }
-    match act.name {
-        "hand" => check_hand(around, node),
-        "publish" | "withdraw" => check_slot(around, node),
-        _ => Ok(()),
+    match act_in(found, node) {
+        Some(act) => {
+            check_place(found, around, in_setup, node, act)
+                && check_keys(found, node, act.shown, act.keys)
+                && check_values(found, node, act.keys)
+                && check_seat(found, around, node.get("seat"))
+                && check_named(found, around, node, act)
+        }
+        None => false,
     }
 }

@@ -4,11 +4,11 @@
 use crate::fault::{put_place, put_section};
 use crate::made::{Concern, Made};
 use crate::nodes::Node;
-use crate::places::{Place, place_of};
+use crate::places::Place;
 use crate::small::there_are;
 use crate::tokens::tokens_of;
 use crate::top::key_of;
-use crate::words::{Detail, END, Piece, put, put_detail, wrong};
+use crate::words::{Finding, Piece, put};
 use Piece::{Number, Say, Show};
 use irp_names::major_name;
 use irp_script_reader::{Script, ScriptParts, Section};
@@ -65,35 +65,36 @@ fn rule_word(rule: Rule) -> &'static str {
     }
 }
 
-/// A packet is too short, in words.
-fn too_short(node: Node, size: u8, devices: u64) -> Detail {
-    wrong(
+/// Says that a packet is too short.
+fn tell_too_short(found: &mut Finding, node: Node, size: u8, devices: u64) -> bool {
+    let locations = if size == 1 {
+        " location, "
+    } else {
+        " locations, "
+    };
+    found.wrong(
         node,
-        [
+        &[
             Say("the packet has "),
             Number(u64::from(size)),
-            Say(if size == 1 {
-                " location, "
-            } else {
-                " locations, "
-            }),
+            Say(locations),
             Say("the stack of the target "),
             Number(devices),
             Say(" devices; allocate one for each"),
-            END,
         ],
     )
 }
 
-/// No device is below, in words.
-fn no_lower(node: Node, device: u64, dispatch: u64, major: u8) -> Detail {
-    wrong(
+/// Says that no device is below.
+fn tell_no_lower(found: &mut Finding, node: Node, device: u64, dispatch: u64, major: u8) -> bool {
+    let name = major_name(major).unwrap_or("the packet");
+    found.wrong(
         node,
-        [
+        &[
             Say("dispatch "),
             Number(dispatch),
             Say(" passes "),
-            Say(major_name(major).unwrap_or("the packet")),
+            Say(name),
             Say(" down, and no device is below device "),
             Number(device),
             Say(": it finishes with 3221225488 (STATUS_INVALID_DEVICE_REQUEST)"),
@@ -101,11 +102,11 @@ fn no_lower(node: Node, device: u64, dispatch: u64, major: u8) -> Detail {
     )
 }
 
-/// A seat doesn't hold what it gives back, in words.
-fn not_held(node: Node, seat: u32, lock: LockNo) -> Detail {
-    wrong(
+/// Says that a seat doesn't hold what it gives back.
+fn tell_not_held(found: &mut Finding, node: Node, seat: u32, lock: LockNo) -> bool {
+    found.wrong(
         node,
-        [
+        &[
             Say("seat "),
             Number(u64::from(seat)),
             Say(" holds no reference to lock "),
@@ -117,49 +118,52 @@ fn not_held(node: Node, seat: u32, lock: LockNo) -> Detail {
     )
 }
 
-/// What isn't meant, in words, at this place.
-fn detail_of(node: Node, concern: Concern) -> Detail {
+/// Says what isn't meant at this place. It is false.
+fn tell(found: &mut Finding, node: Node, concern: Concern) -> bool {
     match concern {
-        Concern::Unbound => wrong(
-            node,
-            [
-                Say("no allocate before this step binds the label "),
-                Show(node.span()),
-                END,
-                END,
-                END,
-                END,
-                END,
-            ],
-        ),
+        Concern::Unbound => {
+            let words = "no allocate before this step binds the label ";
+            found.wrong(node, &[Say(words), Show(node.span())])
+        }
         Concern::NoRoutine {
             rule,
             number,
             count,
-        } => { there_are(node, rule_word(rule), u64::from(number), u64::from(count)) }
+        } => there_are(
+            found,
+            node,
+            rule_word(rule),
+            u64::from(number),
+            u64::from(count),
+        ),
         Concern::NoCancel { number, count } => {
-            there_are(node, "cancel routine", u64::from(number), count as u64)
+            there_are(
+                found,
+                node,
+                "cancel routine",
+                u64::from(number),
+                count as u64,
+            )
         }
-        Concern::TooShort { size, devices } => too_short(node, size, devices),
+        Concern::TooShort { size, devices } => tell_too_short(found, node, size, devices),
         Concern::NoLower {
             device,
             dispatch,
             major,
-        } => no_lower(node, device, dispatch, major),
-        Concern::Attached => wrong(
-            node,
-            [
-                Say("device "),
-                Show(node.span()),
-                Say(" has a neighbour in its stack here; detach first"),
-                END,
-                END,
-                END,
-                END,
-            ],
-        ),
-        Concern::NotHeld { seat, lock } => not_held(node, seat, lock),
+        } => tell_no_lower(found, node, device, dispatch, major),
+        Concern::Attached => {
+            let words = Say(" has a neighbour in its stack here; detach first");
+            found.wrong(node, &[Say("device "), Show(node.span()), words])
+        }
+        Concern::NotHeld { seat, lock } => tell_not_held(found, node, seat, lock),
     }
+}
+
+/// The value in a step that a concern is of.
+fn node_of<'t>(whole: Node<'t>, section: Section, index: usize, concern: Concern) -> Node<'t> {
+    let list = whole.get(key_of(section)).unwrap_or(whole);
+    let step = list.nth(index).unwrap_or(list);
+    step.get(key_of_concern(concern)).unwrap_or(step)
 }
 
 /// The warning of a step. The one error is want of memory.
@@ -170,16 +174,14 @@ fn warning_of(
     index: usize,
     concern: Concern,
 ) -> Result<Warning, AllocError> {
-    let list = whole.get(key_of(section)).unwrap_or(whole);
-    let step = list.nth(index).unwrap_or(list);
-    let node = step.get(key_of_concern(concern)).unwrap_or(step);
-    let detail = detail_of(node, concern);
-    let mut words = Vec::new(alloc);
-    put_detail(&mut words, whole.text, detail)?;
+    let mut found = Finding::new(alloc, whole.text);
+    tell(&mut found, node_of(whole, section, index, concern), concern);
+    let place = found.place();
+    let words = found.ended()?;
     Ok(Warning {
         section,
         index,
-        place: place_of(whole.text, detail.at),
+        place,
         words,
     })
 }

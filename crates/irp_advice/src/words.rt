@@ -1,9 +1,10 @@
 //! What is said of a fault: words, numbers and pieces of the text.
 
 use crate::nodes::Node;
+use crate::places::{Place, place_of};
 use crate::tokens::cut;
 use irp_script_reader::Fault;
-use std::alloc::AllocError;
+use std::alloc::{AllocError, Global};
 
 /// A part of a text, from this byte up to that one, which isn't its own.
 #[derive(Clone, Copy)]
@@ -25,9 +26,6 @@ pub enum Piece {
     Keys(&'static [&'static str]),
 }
 
-/// Nothing more.
-pub const END: Piece = Piece::Say("");
-
 /// What was meant, or what helps.
 #[derive(Clone, Copy)]
 pub enum Remedy {
@@ -43,39 +41,101 @@ pub enum Remedy {
     Do(&'static str),
 }
 
-/// What is wrong at a place of the text, counted in bytes.
-#[derive(Clone, Copy)]
-pub struct Detail {
-    pub at: usize,
-    pub pieces: [Piece; 7],
-    pub remedy: Remedy,
-    pub fault: Fault,
+/// What is wrong with a text: where, and what is said of it. What looks for faults gives whether there is none, and says
+/// here what it finds. Where memory runs out it remembers that: then nothing is said, whatever else is put.
+#[derive(Drop)]
+pub struct Finding<'t> {
+    text: &'t [u8],
+    /// Where it stands in the text, counted in bytes.
+    at: usize,
+    fault: Fault,
+    words: Vec<u8>,
+    /// Whether memory ran out.
+    ran_out: bool,
 }
 
-impl Detail {
-    /// The same with a remedy.
-    pub fn with(self, remedy: Remedy) -> Detail {
-        Detail { remedy, ..self }
+impl<'t> Finding<'t> {
+    /// Nothing was found in this text yet. It takes no memory.
+    pub fn new(alloc: Global, text: &'t [u8]) -> Finding<'t> {
+        Finding {
+            text,
+            at: 0,
+            fault: Fault::BadField,
+            words: Vec::new(alloc),
+            ran_out: false,
+        }
     }
 
-    /// The same as a fault of another kind.
-    pub fn of(self, fault: Fault) -> Detail {
-        Detail { fault, ..self }
+    /// Where it stands.
+    pub fn place(&self) -> Place {
+        place_of(self.text, self.at)
     }
-}
 
-/// What is wrong with a value, in up to seven pieces: its form, where nothing else is said.
-pub fn wrong(node: Node, pieces: [Piece; 7]) -> Detail {
-    wrong_at(node.start(), pieces)
-}
+    /// What kind of fault it is.
+    pub fn fault(&self) -> Fault {
+        self.fault
+    }
 
-/// What is wrong at a place of the text, in up to seven pieces.
-pub fn wrong_at(at: usize, pieces: [Piece; 7]) -> Detail {
-    Detail {
-        at,
-        pieces,
-        remedy: Remedy::Unknown,
-        fault: Fault::BadField,
+    /// Remembers that memory ran out.
+    pub fn run_out(&mut self) {
+        self.ran_out = true;
+    }
+
+    /// Says more.
+    pub fn say(&mut self, pieces: &[Piece]) {
+        if put_of(&mut self.words, self.text, pieces).is_err() {
+            self.ran_out = true;
+        }
+    }
+
+    /// This is wrong at a place of the text: its form, where nothing else is said. It is false.
+    pub fn wrong_at(&mut self, at: usize, pieces: &[Piece]) -> bool {
+        self.at = at;
+        self.say(pieces);
+        false
+    }
+
+    /// This is wrong with a value. It is false.
+    pub fn wrong(&mut self, node: Node, pieces: &[Piece]) -> bool {
+        self.wrong_at(node.start(), pieces)
+    }
+
+    /// A value is told to be another thing than these words say. It is false.
+    pub fn not_taken(&mut self, shown: &'static str, node: Node, words: &'static str) -> bool {
+        let show = Piece::Show(node.span());
+        self.wrong(
+            node,
+            &[
+                Piece::Say(shown),
+                Piece::Say(" is "),
+                show,
+                Piece::Say("; "),
+                Piece::Say(words),
+            ],
+        )
+    }
+
+    /// It is a fault of another kind. It is false.
+    pub fn of(&mut self, fault: Fault) -> bool {
+        self.fault = fault;
+        false
+    }
+
+    /// This helps, or was meant. It is false.
+    pub fn remedy(&mut self, remedy: Remedy) -> bool {
+        if put_remedy(&mut self.words, remedy).is_err() {
+            self.ran_out = true;
+        }
+        false
+    }
+
+    /// What is said. The one error is that memory ran out.
+    pub fn ended(self) -> Result<Vec<u8>, AllocError> {
+        if self.ran_out {
+            Err(AllocError)
+        } else {
+            Ok(self.words)
+        }
     }
 }
 
@@ -135,12 +195,6 @@ fn put_of(out: &mut Vec<u8>, text: &[u8], pieces: &[Piece]) -> Result<(), AllocE
 /// Puts pieces that show nothing of a text, in order. The one error is want of memory.
 pub fn put(out: &mut Vec<u8>, pieces: &[Piece]) -> Result<(), AllocError> {
     put_of(out, &[], pieces)
-}
-
-/// Puts what is wrong with a text, and a remedy. The one error is want of memory.
-pub fn put_detail(out: &mut Vec<u8>, text: &[u8], detail: Detail) -> Result<(), AllocError> {
-    put_of(out, text, &detail.pieces)?;
-    put_remedy(out, detail.remedy)
 }
 
 /// Puts a remedy behind what is wrong. The one error is want of memory.
