@@ -1,7 +1,7 @@
 //! Parts of which there are several kinds: which one it is, and whether it is as that kind should be.
 
-use crate::fault::{Fault, Step, What};
-use crate::search::{Found, Task, look_at_keys, look_into};
+use crate::fault::{Path, Step, What};
+use crate::search::{Search, Task};
 use crate::shape::{Kind, Name, Sort};
 use crate::told::told_of;
 use serde_json::Value;
@@ -46,108 +46,107 @@ fn sort_named(sorts: &'static [Sort], name: &str) -> Option<Sort> {
     None
 }
 
-/// Looks at an object of the kind whose name it has under `do`.
-pub fn look_by_do<'a>(
-    tasks: &mut Vec<Task<'a>>,
-    task: Task<'a>,
-    kinds: &'static [Kind],
-    two: bool,
-) -> Found<'a> {
-    let noun = told_of(task.part);
-    if !task.value.is_object() {
-        return Ok(Some(Fault::at(task.path, What::NoName { noun })));
-    }
-    let Some(name) = task.value.get("do") else {
-        let what = What::MissingName { noun };
-        return Ok(Some(Fault::missing(task.path, "do", what)));
-    };
-    let name = name.as_str().unwrap_or("");
-    let path = task.path.then(Step::Under("do"));
-    match kind_named(kinds, name) {
-        Some(kind) if kind.two && !two => {
-            Ok(Some(Fault::at(path, What::FormOneHasNo(kind.name))))
-        }
-        Some(kind) => look_at_keys(tasks, task.value, task.path, kind.name, kind.keys),
-        None => Ok(Some(Fault::at(path, What::OtherName { noun, kinds, two }))),
+/// The text at a place of a list; an empty one where none stands there.
+fn text_at<'a>(value: &'a Value, place: usize) -> &'a str {
+    match value.get(place) {
+        Some(item) => item.as_str().unwrap_or(""),
+        None => "",
     }
 }
 
-/// Looks at a text in place of an object.
-fn look_at_text<'a>(
-    task: Task<'a>,
-    text: &str,
-    names: &'static [Name],
-    kinds: &'static [Kind],
-    two: bool,
-) -> Option<Fault<'a>> {
-    let noun = told_of(task.part);
-    let what = match text_named(names, text) {
-        Some(name) if name.two && !two => What::FormOneHasNo(name.name),
-        Some(_) => return None,
-        None => What::OtherKey {
-            noun,
+impl<'a> Search<'a> {
+    /// Looks at an object of the kind with this name.
+    fn look_by_name(&mut self, task: Task<'a>, kinds: &'static [Kind], name: &str) {
+        let two = self.is_two();
+        let path = task.path.then(Step::Under("do"));
+        match kind_named(kinds, name) {
+            Some(kind) if kind.two && !two => self.fails(path, What::FormOneHasNo(kind.name)),
+            Some(kind) => self.look_at_keys(task.value, task.path, kind.name, kind.keys),
+            None => {
+                let noun = told_of(task.part);
+                self.fails(path, What::OtherName { noun, kinds, two })
+            }
+        }
+    }
+
+    /// Looks at an object of the kind whose name it has under `do`.
+    pub fn look_by_do(&mut self, task: Task<'a>, kinds: &'static [Kind]) {
+        let noun = told_of(task.part);
+        if !task.value.is_object() {
+            self.fails(task.path, What::NoName { noun });
+            return;
+        }
+        match task.value.get("do") {
+            Some(name) => self.look_by_name(task, kinds, name.as_str().unwrap_or("")),
+            None => self.misses(task.path, "do", What::MissingName { noun }),
+        }
+    }
+
+    /// Looks at a text in place of an object, which is told so where it is none of these.
+    fn look_at_text(&mut self, path: Path<'a>, text: &str, names: &'static [Name], other: What) {
+        match text_named(names, text) {
+            Some(name) if name.two && !self.is_two() => {
+                self.fails(path, What::FormOneHasNo(name.name))
+            }
+            Some(_) => {}
+            None => self.fails(path, other),
+        }
+    }
+
+    /// Looks at one of these texts, or at an object of the kind of which it has the key that gives the kind its name.
+    pub fn look_by_key(
+        &mut self,
+        task: Task<'a>,
+        names: &'static [Name],
+        kinds: &'static [Kind],
+        object: &'static str,
+    ) {
+        let two = self.is_two();
+        let other = What::OtherKey {
+            noun: told_of(task.part),
             names,
             kinds,
             two,
-        },
-    };
-    Some(Fault::at(task.path, what))
-}
-
-/// Looks at one of these texts, or at an object of the kind of which it has the key that gives the kind its name.
-pub fn look_by_key<'a>(
-    tasks: &mut Vec<Task<'a>>,
-    task: Task<'a>,
-    names: &'static [Name],
-    kinds: &'static [Kind],
-    object: &'static str,
-    two: bool,
-) -> Found<'a> {
-    let noun = told_of(task.part);
-    if let Value::String(text) = task.value {
-        return Ok(look_at_text(task, text.as_str(), names, kinds, two));
-    }
-    match kind_of(kinds, task.value) {
-        Some(kind) if kind.two && !two => {
-            let path = task.path.then(Step::Under(kind.name));
-            Ok(Some(Fault::at(path, What::FormOneHasNo(kind.name))))
+        };
+        if let Value::String(text) = task.value {
+            self.look_at_text(task.path, text.as_str(), names, other);
+            return;
         }
-        Some(kind) => look_at_keys(tasks, task.value, task.path, object, kind.keys),
-        None => {
-            let what = What::OtherKey {
-                noun,
-                names,
-                kinds,
-                two,
-            };
-            Ok(Some(Fault::at(task.path, what)))
-        }
-    }
-}
-
-/// Looks at a list of the sort whose name stands first in it.
-pub fn look_by_first<'a>(
-    tasks: &mut Vec<Task<'a>>,
-    task: Task<'a>,
-    sorts: &'static [Sort],
-    two: bool,
-) -> Found<'a> {
-    let noun = told_of(task.part);
-    let first = task.value.get(0usize).and_then(Value::as_str);
-    let name = first.unwrap_or("");
-    let what = match sort_named(sorts, name) {
-        Some(sort) if sort.two && !two => What::FormOneHasNo(sort.name),
-        Some(sort) => match task.value {
-            Value::Array(items) if items.len() == sort.parts.len().saturating_add(1) => {
-                look_into(tasks, task.path, items.as_slice(), 1, sort.parts)?;
-                return Ok(None);
+        match kind_of(kinds, task.value) {
+            Some(kind) if kind.two && !two => {
+                let path = task.path.then(Step::Under(kind.name));
+                self.fails(path, What::FormOneHasNo(kind.name))
             }
-            _ => What::NotAs {
-                noun,
-                sort: sort.told,
-            },
-        },
-        None => What::OtherSort { noun, sorts, two },
-    };
-    Ok(Some(Fault::at(task.path, what)))
+            Some(kind) => self.look_at_keys(task.value, task.path, object, kind.keys),
+            None => self.fails(task.path, other),
+        }
+    }
+
+    /// Looks at a list of this sort.
+    fn look_at_sort(&mut self, task: Task<'a>, sort: Sort) {
+        match task.value {
+            Value::Array(items) if items.len() == sort.parts.len().saturating_add(1) => {
+                self.look_into(task.path, items.as_slice(), 1, sort.parts)
+            }
+            _ => {
+                let (noun, sort) = (told_of(task.part), sort.told);
+                self.fails(task.path, What::NotAs { noun, sort })
+            }
+        }
+    }
+
+    /// Looks at a list of the sort whose name stands first in it.
+    pub fn look_by_first(&mut self, task: Task<'a>, sorts: &'static [Sort]) {
+        let two = self.is_two();
+        match sort_named(sorts, text_at(task.value, 0)) {
+            Some(sort) if sort.two && !two => {
+                self.fails(task.path, What::FormOneHasNo(sort.name))
+            }
+            Some(sort) => self.look_at_sort(task, sort),
+            None => {
+                let noun = told_of(task.part);
+                self.fails(task.path, What::OtherSort { noun, sorts, two })
+            }
+        }
+    }
 }

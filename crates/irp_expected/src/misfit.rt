@@ -2,10 +2,10 @@
 
 use crate::fault::{Fault, Path, What};
 use crate::place::column_of;
-use crate::search::{Bounds, Found, first_fault};
+use crate::search::{Bounds, Search};
 use crate::shape::Part;
-use crate::tables::fault_of_tables;
-use crate::telling::{PathWords, WhatWords};
+use crate::tables::look_at_tables;
+use crate::telling::{Words, put_path, put_what};
 use serde_json::Value;
 use std::alloc::{AllocError, Global};
 
@@ -32,13 +32,16 @@ fn is_of_form_two(value: &Value) -> bool {
     value.get("form").and_then(Value::as_u64) == Some(2)
 }
 
-/// The first fault of a first line.
-fn fault_of_header<'a>(alloc: Global, value: &'a Value) -> Found<'a> {
-    let two = is_of_form_two(value);
-    let part = if two { Part::HeaderTwo } else { Part::Header };
-    match first_fault(alloc, value, part, Bounds { two, seats: 0 })? {
-        Some(fault) => Ok(Some(fault)),
-        None => Ok(fault_of_tables(value)),
+/// Looks at a first line.
+fn look_at_header<'a>(search: &mut Search<'a>, value: &'a Value) {
+    let part = if search.is_two() {
+        Part::HeaderTwo
+    } else {
+        Part::Header
+    };
+    search.look_through(value, part);
+    if !search.is_over() {
+        look_at_tables(search, value);
     }
 }
 
@@ -52,41 +55,50 @@ fn has_one_of(value: &Value, keys: &[&str]) -> bool {
     false
 }
 
-/// The first fault of an entry.
-fn fault_of_entry<'a>(alloc: Global, value: &'a Value, bounds: Bounds) -> Found<'a> {
-    first_fault(alloc, value, Part::Entry, bounds)
-}
-
-/// The first fault of a word line.
-fn fault_of_word<'a>(alloc: Global, value: &'a Value, bounds: Bounds) -> Found<'a> {
-    first_fault(alloc, value, Part::WordLine, bounds)
-}
-
-/// The first fault of a line behind the header: of an entry where it has a key that only an entry has, and of a word
-/// line where it has one that only a word line has.
-fn fault_of_line<'a>(alloc: Global, value: &'a Value, bounds: Bounds) -> Found<'a> {
+/// Looks at a line behind the header: at an entry where it has a key that only an entry has, and at a word line where
+/// it has one that only a word line has.
+fn look_at_line<'a>(search: &mut Search<'a>, value: &'a Value) {
     if has_one_of(value, &["call", "asked", "n"]) {
-        return fault_of_entry(alloc, value, bounds);
+        search.look_through(value, Part::Entry);
+    } else if has_one_of(value, &["do", "step"]) {
+        search.look_through(value, Part::WordLine);
+    } else {
+        search.fails(Path::whole(), What::NoLine);
     }
-    if has_one_of(value, &["do", "step"]) {
-        return fault_of_word(alloc, value, bounds);
-    }
-    Ok(Some(Fault::at(Path::whole(), What::NoLine)))
 }
 
 /// The fault in words.
 fn misfit_for(alloc: Global, line: &[u8], fault: Fault<'_>) -> Result<Misfit, AllocError> {
-    let mut words = String::new(alloc);
-    write!(
-        words,
-        "{}: {}",
-        PathWords(fault.path),
-        WhatWords(fault.what)
-    )?;
+    let mut words = Words::new(alloc);
+    put_path(&mut words, fault.path);
+    words.put(": ");
+    put_what(&mut words, fault.what);
+    let words = words.ended()?;
     Ok(Misfit {
         column: column_of(alloc, line, fault.at),
         words,
     })
+}
+
+/// The first fault of a line behind what stands before it. The error is want of memory.
+fn fault_of<'a>(
+    alloc: Global,
+    before: Before,
+    value: &'a Value,
+) -> Result<Option<Fault<'a>>, AllocError> {
+    let bounds = match before {
+        Before::Nothing => Bounds {
+            two: is_of_form_two(value),
+            seats: 0,
+        },
+        Before::Header { two, seats } => Bounds { two, seats },
+    };
+    let mut search = Search::new(alloc, bounds);
+    match before {
+        Before::Nothing => look_at_header(&mut search, value),
+        Before::Header { .. } => look_at_line(&mut search, value),
+    }
+    search.ended()
 }
 
 /// What of a line, whose JSON value this is, isn't as docs/FORMATS.md has it behind what stands before it: the first
@@ -102,11 +114,7 @@ pub fn misfit_of(
     line: &[u8],
     value: &Value,
 ) -> Result<Option<Misfit>, AllocError> {
-    let fault = match before {
-        Before::Nothing => fault_of_header(alloc, value)?,
-        Before::Header { two, seats } => fault_of_line(alloc, value, Bounds { two, seats })?,
-    };
-    match fault {
+    match fault_of(alloc, before, value)? {
         Some(fault) => Ok(Some(misfit_for(alloc, line, fault)?)),
         None => Ok(None),
     }

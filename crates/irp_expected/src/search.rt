@@ -1,6 +1,5 @@
 //! The first part of a value that isn't as it should be.
 
-use crate::choosing::{look_by_do, look_by_first, look_by_key};
 use crate::fault::{Fault, Path, Step, What};
 use crate::shape::{Key, Part, Shape};
 use crate::shapes::shape_of;
@@ -30,8 +29,16 @@ pub struct Task<'a> {
     pub path: Path<'a>,
 }
 
-/// What is found in a part: a fault, or parts to be looked at in turn. An error is want of memory.
-pub type Found<'a> = Result<Option<Fault<'a>>, AllocError>;
+/// The parts that are still to be looked at, the next one last, and the first fault that was found. Where memory runs out
+/// it remembers that.
+#[derive(Drop)]
+pub struct Search<'a> {
+    bounds: Bounds,
+    tasks: Vec<Task<'a>>,
+    fault: Option<Fault<'a>>,
+    /// Whether memory ran out.
+    ran_out: bool,
+}
 
 /// Whether it is a number within these bounds.
 fn is_within(value: &Value, least: u64, most: u64) -> bool {
@@ -96,68 +103,6 @@ fn fits(value: &Value, shape: Shape, bounds: Bounds) -> bool {
     }
 }
 
-/// Looks at a value without parts.
-fn look_at_alone<'a>(task: Task<'a>, shape: Shape, bounds: Bounds) -> Option<Fault<'a>> {
-    if fits(task.value, shape, bounds) {
-        return None;
-    }
-    let what = match shape {
-        Shape::Seat => What::NoSeat {
-            seats: bounds.seats,
-        },
-        _ => What::Told(task.part),
-    };
-    Some(Fault::at(task.path, what))
-}
-
-/// Has each of these parts looked at, which stand in a list from this place on.
-pub fn look_into<'a>(
-    tasks: &mut Vec<Task<'a>>,
-    path: Path<'a>,
-    items: &'a [Value],
-    from: usize,
-    parts: &[Part],
-) -> Result<(), AllocError> {
-    for (at, part) in parts.iter().enumerate().rev() {
-        let place = at.saturating_add(from);
-        if let Some(value) = items.get(place) {
-            tasks.push(Task {
-                value,
-                part: *part,
-                path: path.then(Step::At(place)),
-            })?;
-        }
-    }
-    Ok(())
-}
-
-/// Looks at a list of exactly these parts.
-fn look_at_items<'a>(tasks: &mut Vec<Task<'a>>, task: Task<'a>, parts: &[Part]) -> Found<'a> {
-    match task.value {
-        Value::Array(items) if items.len() == parts.len() => {
-            look_into(tasks, task.path, items.as_slice(), 0, parts)?;
-            Ok(None)
-        }
-        _ => Ok(Some(Fault::at(task.path, What::Told(task.part)))),
-    }
-}
-
-/// Looks at a list of such parts, at most so many.
-fn look_at_list<'a>(tasks: &mut Vec<Task<'a>>, task: Task<'a>, of: Part, most: usize) -> Found<'a> {
-    let items = match task.value {
-        Value::Array(items) if items.len() <= most => items,
-        _ => return Ok(Some(Fault::at(task.path, What::Told(task.part)))),
-    };
-    for (at, value) in items.iter().enumerate().rev() {
-        tasks.push(Task {
-            value,
-            part: of,
-            path: task.path.then(Step::At(at)),
-        })?;
-    }
-    Ok(None)
-}
-
 /// Whether one of these keys has this name.
 fn has_key(keys: &[Key], name: &str) -> bool {
     for key in keys {
@@ -188,80 +133,176 @@ fn missing_key(value: &Value, keys: &'static [Key]) -> Option<&'static str> {
     None
 }
 
-/// Looks at an object with exactly these keys.
-pub fn look_at_keys<'a>(
-    tasks: &mut Vec<Task<'a>>,
-    value: &'a Value,
-    path: Path<'a>,
-    noun: &'static str,
-    keys: &'static [Key],
-) -> Found<'a> {
-    if !value.is_object() {
-        return Ok(Some(Fault::at(path, What::NoObject { noun, keys })));
-    }
-    if let Some(key) = missing_key(value, keys) {
-        return Ok(Some(Fault::missing(path, key, What::Missing { noun, keys })));
-    }
-    if let Some(name) = unknown_key(value, keys) {
-        let at = path.then(Step::Under(name));
-        return Ok(Some(Fault::at(at, What::Unknown { noun, keys })));
-    }
-    for key in keys.iter().rev() {
-        if let Some(inner) = value.get(key.0) {
-            tasks.push(Task {
-                value: inner,
-                part: key.1,
-                path: path.then(Step::Under(key.0)),
-            })?;
-        }
-    }
-    Ok(None)
-}
-
-/// Looks at a part, and has its parts looked at in turn.
-fn look<'a>(tasks: &mut Vec<Task<'a>>, task: Task<'a>, bounds: Bounds) -> Found<'a> {
-    let shape = match shape_of(task.part) {
-        Shape::OrNull(_) if task.value.is_null() => return Ok(None),
+/// The shape that a value of a part has to have: of one that may be null that of null, where it is.
+fn shape_for(part: Part, value: &Value) -> Shape {
+    match shape_of(part) {
+        Shape::OrNull(_) if value.is_null() => Shape::Any,
         Shape::OrNull(inner) => shape_of(inner),
         other => other,
-    };
-    match shape {
-        Shape::Items(parts) => look_at_items(tasks, task, parts),
-        Shape::List { of, most } => look_at_list(tasks, task, of, most),
-        Shape::Keys(keys) => {
-            look_at_keys(tasks, task.value, task.path, told_of(task.part), keys)
-        }
-        Shape::ByDo(kinds) => look_by_do(tasks, task, kinds, bounds.two),
-        Shape::ByKey {
-            names,
-            kinds,
-            object,
-        } => look_by_key(tasks, task, names, kinds, object, bounds.two),
-        Shape::ByFirst(sorts) => look_by_first(tasks, task, sorts, bounds.two),
-        alone => Ok(look_at_alone(task, alone, bounds)),
     }
 }
 
-/// The first part of a value that isn't as it should be, in the order of the tables. The error is want of memory.
-pub fn first_fault<'a>(
-    alloc: Global,
-    value: &'a Value,
-    part: Part,
-    bounds: Bounds,
-) -> Result<Option<Fault<'a>>, AllocError> {
-    let mut tasks = Vec::new(alloc);
-    tasks.push(Task {
-        value,
-        part,
-        path: Path::whole(),
-    })?;
-    for _ in 0..MOST_PARTS {
-        let Some(task) = tasks.pop() else {
-            return Ok(None);
-        };
-        if let Some(fault) = look(&mut tasks, task, bounds)? {
-            return Ok(Some(fault));
+impl<'a> Search<'a> {
+    /// Nothing is to be looked at. It takes no memory.
+    pub fn new(alloc: Global, bounds: Bounds) -> Search<'a> {
+        Search {
+            bounds,
+            tasks: Vec::new(alloc),
+            fault: None,
+            ran_out: false,
         }
     }
-    Ok(None)
+
+    /// Whether it is of form 2.
+    pub fn is_two(&self) -> bool {
+        self.bounds.two
+    }
+
+    /// Whether a fault was found, or memory ran out.
+    pub fn is_over(&self) -> bool {
+        self.ran_out || self.fault.is_some()
+    }
+
+    /// Notes a fault, unless one was found before.
+    fn note(&mut self, fault: Fault<'a>) {
+        if self.fault.is_none() {
+            self.fault = Some(fault);
+        }
+    }
+
+    /// The part at this path isn't as it should be.
+    pub fn fails(&mut self, path: Path<'a>, what: What) {
+        self.note(Fault::at(path, what));
+    }
+
+    /// The object at this path lacks a key.
+    pub fn misses(&mut self, path: Path<'a>, key: &'static str, what: What) {
+        self.note(Fault::missing(path, key, what));
+    }
+
+    /// Has a part looked at next.
+    fn ask(&mut self, value: &'a Value, part: Part, path: Path<'a>) {
+        let task = Task { value, part, path };
+        if self.tasks.push(task).is_err() {
+            self.ran_out = true;
+        }
+    }
+
+    /// Looks at a value without parts.
+    fn look_at_alone(&mut self, task: Task<'a>, shape: Shape) {
+        if fits(task.value, shape, self.bounds) {
+            return;
+        }
+        let what = match shape {
+            Shape::Seat => What::NoSeat {
+                seats: self.bounds.seats,
+            },
+            _ => What::Told(task.part),
+        };
+        self.fails(task.path, what);
+    }
+
+    /// Has each of these parts looked at, which stand in a list from this place on.
+    pub fn look_into(&mut self, path: Path<'a>, items: &'a [Value], from: usize, parts: &[Part]) {
+        for (at, part) in parts.iter().enumerate().rev() {
+            let place = at.saturating_add(from);
+            if let Some(value) = items.get(place) {
+                self.ask(value, *part, path.then(Step::At(place)));
+            }
+        }
+    }
+
+    /// Looks at a list of exactly these parts.
+    fn look_at_items(&mut self, task: Task<'a>, parts: &[Part]) {
+        match task.value {
+            Value::Array(items) if items.len() == parts.len() => {
+                self.look_into(task.path, items.as_slice(), 0, parts)
+            }
+            _ => self.fails(task.path, What::Told(task.part)),
+        }
+    }
+
+    /// Has each item of a list looked at.
+    fn look_at_each(&mut self, path: Path<'a>, items: &'a [Value], of: Part) {
+        for (at, value) in items.iter().enumerate().rev() {
+            self.ask(value, of, path.then(Step::At(at)));
+        }
+    }
+
+    /// Looks at a list of such parts, at most so many.
+    fn look_at_list(&mut self, task: Task<'a>, of: Part, most: usize) {
+        match task.value {
+            Value::Array(items) if items.len() <= most => {
+                self.look_at_each(task.path, items.as_slice(), of)
+            }
+            _ => self.fails(task.path, What::Told(task.part)),
+        }
+    }
+
+    /// Has what stands under each of these keys looked at.
+    fn look_under(&mut self, value: &'a Value, path: Path<'a>, keys: &'static [Key]) {
+        for key in keys.iter().rev() {
+            if let Some(inner) = value.get(key.0) {
+                self.ask(inner, key.1, path.then(Step::Under(key.0)));
+            }
+        }
+    }
+
+    /// Looks at an object with exactly these keys.
+    pub fn look_at_keys(
+        &mut self,
+        value: &'a Value,
+        path: Path<'a>,
+        noun: &'static str,
+        keys: &'static [Key],
+    ) {
+        if !value.is_object() {
+            self.fails(path, What::NoObject { noun, keys });
+        } else if let Some(key) = missing_key(value, keys) {
+            self.misses(path, key, What::Missing { noun, keys });
+        } else if let Some(name) = unknown_key(value, keys) {
+            self.fails(path.then(Step::Under(name)), What::Unknown { noun, keys });
+        } else {
+            self.look_under(value, path, keys);
+        }
+    }
+
+    /// Looks at a part, and has its parts looked at in turn.
+    fn look(&mut self, task: Task<'a>) {
+        match shape_for(task.part, task.value) {
+            Shape::Items(parts) => self.look_at_items(task, parts),
+            Shape::List { of, most } => self.look_at_list(task, of, most),
+            Shape::Keys(keys) => {
+                self.look_at_keys(task.value, task.path, told_of(task.part), keys)
+            }
+            Shape::ByDo(kinds) => self.look_by_do(task, kinds),
+            Shape::ByKey {
+                names,
+                kinds,
+                object,
+            } => self.look_by_key(task, names, kinds, object),
+            Shape::ByFirst(sorts) => self.look_by_first(task, sorts),
+            alone => self.look_at_alone(task, alone),
+        }
+    }
+
+    /// Looks at a part and all its parts, in the order of the tables, up to the first fault.
+    pub fn look_through(&mut self, value: &'a Value, part: Part) {
+        self.ask(value, part, Path::whole());
+        for _ in 0..MOST_PARTS {
+            match self.tasks.pop() {
+                Some(task) if !self.is_over() => self.look(task),
+                _ => return,
+            }
+        }
+    }
+
+    /// The first fault, where one was found. The error is that memory ran out.
+    pub fn ended(self) -> Result<Option<Fault<'a>>, AllocError> {
+        if self.ran_out {
+            Err(AllocError)
+        } else {
+            Ok(self.fault)
+        }
+    }
 }

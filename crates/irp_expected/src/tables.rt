@@ -1,88 +1,90 @@
 //! Whether a header's tables agree, where each of its parts is as it should be.
 
-use crate::fault::{Fault, Path, Step, What};
+use crate::fault::{Path, Step, What};
+use crate::search::Search;
 use serde_json::Value;
 
-/// How many items the list under a key has.
-fn count_under(value: &Value, key: &str) -> usize {
-    match value.get(key) {
-        Some(Value::Array(items)) => items.len(),
-        _ => 0,
+/// The items of a list; none of anything else.
+fn items_of<'a>(value: Option<&'a Value>) -> &'a [Value] {
+    match value {
+        Some(Value::Array(items)) => items.as_slice(),
+        _ => &[],
+    }
+}
+
+/// The number at a place of a list; 0 where none stands there.
+fn number_at(list: &[Value], place: usize) -> u64 {
+    match list.get(place) {
+        Some(number) => number.as_u64().unwrap_or(0),
+        None => 0,
     }
 }
 
 /// As many routines of a dispatch's count as the header has: first those of each rule, then the cancel routines.
 fn routines(header: &Value, place: usize) -> u64 {
-    let count = header.get("completions").and_then(|it| it.get(place));
-    match count.and_then(Value::as_u64) {
-        Some(count) => count,
-        None => count_under(header, "cancels") as u64,
+    let completions = items_of(header.get("completions"));
+    if place < completions.len() {
+        number_at(completions, place)
+    } else {
+        items_of(header.get("cancels")).len() as u64
     }
 }
 
-/// The first count of a dispatch that is above that of the header's routines.
-fn fault_of_counts<'a>(header: &Value, path: Path<'a>, counts: &[Value]) -> Option<Fault<'a>> {
+/// Looks for a count of a dispatch that is above that of the header's routines.
+fn look_at_counts<'a>(search: &mut Search<'a>, header: &Value, path: Path<'a>, counts: &[Value]) {
     for (at, count) in counts.iter().enumerate() {
         let most = routines(header, at);
         if count.as_u64().unwrap_or(0) > most {
-            let what = What::TooManyNamed { most };
-            return Some(Fault::at(path.then(Step::At(at)), what));
+            search.fails(path.then(Step::At(at)), What::TooManyNamed { most });
         }
     }
-    None
 }
 
-/// The first dispatch that may name more routines than there are.
-fn fault_of_dispatches<'a>(header: &'a Value) -> Option<Fault<'a>> {
+/// Looks for a dispatch that may name more routines than there are.
+fn look_at_dispatches(search: &mut Search<'_>, header: &Value) {
     let path = Path::whole().then(Step::Under("dispatches"));
-    for (at, counts) in header.get("dispatches")?.as_array()?.iter().enumerate() {
-        let counts = counts.as_array()?;
-        let fault = fault_of_counts(header, path.then(Step::At(at)), counts.as_slice());
-        if fault.is_some() {
-            return fault;
-        }
+    for (at, counts) in items_of(header.get("dispatches")).iter().enumerate() {
+        look_at_counts(
+            search,
+            header,
+            path.then(Step::At(at)),
+            items_of(Some(counts)),
+        );
     }
-    None
 }
 
-/// The first member of a driver's table whose major doesn't rise, or whose dispatch isn't one of so many.
-fn fault_of_table<'a>(path: Path<'a>, table: &[Value], dispatches: usize) -> Option<Fault<'a>> {
-    let mut before = None;
+/// Looks for a member of a driver's table whose major doesn't rise, or whose dispatch isn't one of so many.
+fn look_at_table<'a>(search: &mut Search<'a>, path: Path<'a>, table: &[Value], dispatches: usize) {
+    let mut least = 0;
     for (at, member) in table.iter().enumerate() {
-        let path = path.then(Step::At(at));
-        let major = member.get(0usize)?.as_u64()?;
-        if let Some(last) = before {
-            if major <= last {
-                return Some(Fault::at(path.then(Step::At(0)), What::NotRising));
-            }
+        let (path, member) = (path.then(Step::At(at)), items_of(Some(member)));
+        let major = number_at(member, 0);
+        if major < least {
+            search.fails(path.then(Step::At(0)), What::NotRising);
         }
-        if member.get(1usize)?.as_u64()? >= dispatches as u64 {
-            let what = What::NoDispatch { dispatches };
-            return Some(Fault::at(path.then(Step::At(1)), what));
+        if number_at(member, 1) >= dispatches as u64 {
+            search.fails(path.then(Step::At(1)), What::NoDispatch { dispatches });
         }
-        before = Some(major);
+        least = major.saturating_add(1);
     }
-    None
 }
 
-/// The first driver whose table isn't one.
-fn fault_of_drivers<'a>(header: &'a Value) -> Option<Fault<'a>> {
+/// Looks for a driver whose table isn't one.
+fn look_at_drivers(search: &mut Search<'_>, header: &Value) {
     let path = Path::whole().then(Step::Under("drivers"));
-    let dispatches = count_under(header, "dispatches");
-    for (at, table) in header.get("drivers")?.as_array()?.iter().enumerate() {
-        let table = table.as_array()?;
-        let fault = fault_of_table(path.then(Step::At(at)), table.as_slice(), dispatches);
-        if fault.is_some() {
-            return fault;
-        }
+    let dispatches = items_of(header.get("dispatches")).len();
+    for (at, table) in items_of(header.get("drivers")).iter().enumerate() {
+        look_at_table(
+            search,
+            path.then(Step::At(at)),
+            items_of(Some(table)),
+            dispatches,
+        );
     }
-    None
 }
 
-/// The first place of a header at which its tables don't agree.
-pub fn fault_of_tables<'a>(header: &'a Value) -> Option<Fault<'a>> {
-    match fault_of_dispatches(header) {
-        Some(fault) => Some(fault),
-        None => fault_of_drivers(header),
-    }
+/// Looks for the first place of a header at which its tables don't agree.
+pub fn look_at_tables(search: &mut Search<'_>, header: &Value) {
+    look_at_dispatches(search, header);
+    look_at_drivers(search, header);
 }

@@ -3,212 +3,243 @@
 use crate::fault::{Path, Step, What};
 use crate::shape::{Key, Kind, Name, Sort};
 use crate::told::told_of;
-use std::fmt;
+use std::alloc::{AllocError, Global};
 
 /// As many characters of a key as are told.
 const MOST_TOLD: usize = 60;
 
-/// A key of a line, with no character that a terminal might obey.
-#[derive(Clone, Copy)]
-struct KeyWords<'a>(&'a str);
+/// Words that are put together. Where memory runs out it remembers that: then there are none, whatever else is put.
+#[derive(Drop)]
+pub struct Words {
+    text: String,
+    /// Whether memory ran out.
+    ran_out: bool,
+}
 
-impl fmt::Display for KeyWords<'_> {
-    fn fmt<W: fmt::Write>(&self, f: &mut fmt::Formatter<W>) -> fmt::Result {
-        f.write_str("\"")?;
-        for letter in self.0.chars().take(MOST_TOLD) {
-            match letter {
-                '"' => f.write_str("\\\"")?,
-                '\\' => f.write_str("\\\\")?,
-                letter if letter < ' ' || ('\u{7f}' <= letter && letter < '\u{a0}') => {
-                    f.write_str("?")?
+impl Words {
+    /// No words. It takes no memory.
+    pub fn new(alloc: Global) -> Words {
+        Words {
+            text: String::new(alloc),
+            ran_out: false,
+        }
+    }
+
+    /// Puts words.
+    pub fn put(&mut self, words: &str) {
+        if self.text.push_str(words).is_err() {
+            self.ran_out = true;
+        }
+    }
+
+    /// Puts a character of a key: none that a terminal might obey.
+    fn letter(&mut self, letter: char) {
+        match letter {
+            '"' => self.put("\\\""),
+            '\\' => self.put("\\\\"),
+            letter if letter < ' ' || ('\u{7f}' <= letter && letter < '\u{a0}') => self.put("?"),
+            letter => {
+                if self.text.push(letter).is_err() {
+                    self.ran_out = true;
                 }
-                letter => write!(f, "{letter}")?,
             }
         }
-        f.write_str("\"")
     }
-}
 
-/// Which part of a line it is, behind a comma; nothing for the whole line.
-#[derive(Clone, Copy)]
-pub struct PathWords<'a>(pub Path<'a>);
-
-impl fmt::Display for PathWords<'_> {
-    fn fmt<W: fmt::Write>(&self, f: &mut fmt::Formatter<W>) -> fmt::Result {
-        for (at, step) in self.0.steps().iter().enumerate() {
-            match *step {
-                Step::Under(key) if at == 0 => write!(f, ", {}", KeyWords(key))?,
-                Step::Under(key) => write!(f, ".{}", KeyWords(key))?,
-                Step::At(item) => write!(f, "[{item}]")?,
-            }
+    /// Puts a number.
+    fn number(&mut self, number: u64) {
+        if write!(&mut self.text, "{number}").is_err() {
+            self.ran_out = true;
         }
-        Ok(())
     }
-}
 
-/// The keys of an object, with commas.
-#[derive(Clone, Copy)]
-struct KeysWords(&'static [Key]);
-
-impl fmt::Display for KeysWords {
-    fn fmt<W: fmt::Write>(&self, f: &mut fmt::Formatter<W>) -> fmt::Result {
-        f.write_str(if self.0.len() == 1 {
-            "the key "
+    /// The words. The one error is that memory ran out.
+    pub fn ended(self) -> Result<String, AllocError> {
+        if self.ran_out {
+            Err(AllocError)
         } else {
-            "the keys "
-        })?;
-        for (at, key) in self.0.iter().enumerate() {
-            f.write_str(if at == 0 { "" } else { ", " })?;
-            f.write_str(key.0)?;
-        }
-        Ok(())
-    }
-}
-
-/// The names of the kinds, of form 1 or of both, with commas.
-#[derive(Clone, Copy)]
-struct KindsWords {
-    kinds: &'static [Kind],
-    two: bool,
-}
-
-impl fmt::Display for KindsWords {
-    fn fmt<W: fmt::Write>(&self, f: &mut fmt::Formatter<W>) -> fmt::Result {
-        let mut between = "";
-        for kind in self.kinds {
-            if self.two || !kind.two {
-                write!(f, "{between}{}", kind.name)?;
-                between = ", ";
-            }
-        }
-        Ok(())
-    }
-}
-
-/// The texts that may stand in place of an object, of form 1 or of both, before that object.
-#[derive(Clone, Copy)]
-struct NamesWords {
-    names: &'static [Name],
-    two: bool,
-}
-
-impl fmt::Display for NamesWords {
-    fn fmt<W: fmt::Write>(&self, f: &mut fmt::Formatter<W>) -> fmt::Result {
-        let mut between = "";
-        for name in self.names {
-            if self.two || !name.two {
-                write!(f, "{between}\"{}\"", name.name)?;
-                between = ", ";
-            }
-        }
-        f.write_str(if self.names.is_empty() { "" } else { " or " })
-    }
-}
-
-/// The sorts of a list, of form 1 or of both, with commas.
-#[derive(Clone, Copy)]
-struct SortsWords {
-    sorts: &'static [Sort],
-    two: bool,
-}
-
-impl fmt::Display for SortsWords {
-    fn fmt<W: fmt::Write>(&self, f: &mut fmt::Formatter<W>) -> fmt::Result {
-        let mut between = "";
-        for sort in self.sorts {
-            if self.two || !sort.two {
-                write!(f, "{between}{}", sort.told)?;
-                between = ", ";
-            }
-        }
-        Ok(())
-    }
-}
-
-/// What isn't as it should be of an object and its keys. Nothing for another fault.
-#[derive(Clone, Copy)]
-struct ObjectWords(What);
-
-impl fmt::Display for ObjectWords {
-    fn fmt<W: fmt::Write>(&self, f: &mut fmt::Formatter<W>) -> fmt::Result {
-        match self.0 {
-            What::NoObject { noun, keys } => {
-                write!(f, "{noun} is an object with {}", KeysWords(keys))
-            }
-            What::Missing { noun, keys } => {
-                write!(f, "this key is missing; {noun} has {}", KeysWords(keys))
-            }
-            What::Unknown { noun, keys } => {
-                write!(f, "there is no such key; {noun} has {}", KeysWords(keys))
-            }
-            What::NoName { noun } => write!(f, "{noun} is an object with the key do"),
-            What::MissingName { noun } => {
-                write!(f, "this key is missing; {noun} has its name there")
-            }
-            _ => Ok(()),
+            Ok(self.text)
         }
     }
 }
 
-/// What isn't as it should be of a part that has several kinds. Nothing for another fault.
-#[derive(Clone, Copy)]
-struct KindWords(What);
+/// Puts a key of a line, with no character that a terminal might obey.
+fn put_key(words: &mut Words, key: &str) {
+    words.put("\"");
+    for letter in key.chars().take(MOST_TOLD) {
+        words.letter(letter);
+    }
+    words.put("\"");
+}
 
-impl fmt::Display for KindWords {
-    fn fmt<W: fmt::Write>(&self, f: &mut fmt::Formatter<W>) -> fmt::Result {
-        match self.0 {
-            What::OtherName { noun, kinds, two } => {
-                write!(f, "{noun} is one of {}", KindsWords { kinds, two })
+/// Puts which part of a line it is, behind a comma; nothing for the whole line.
+pub fn put_path(words: &mut Words, path: Path<'_>) {
+    for (at, step) in path.steps().iter().enumerate() {
+        match *step {
+            Step::Under(key) => {
+                words.put(if at == 0 { ", " } else { "." });
+                put_key(words, key);
             }
-            What::OtherKey {
-                noun,
-                names,
-                kinds,
-                two,
-            } => {
-                write!(f, "{noun} is {}", NamesWords { names, two })?;
-                let kinds = KindsWords { kinds, two };
-                write!(f, "an object with one of the keys {kinds}")
+            Step::At(item) => {
+                words.put("[");
+                words.number(item as u64);
+                words.put("]");
             }
-            What::OtherSort { noun, sorts, two } => {
-                write!(f, "{noun} is one of {}", SortsWords { sorts, two })
-            }
-            What::NotAs { noun, sort } => write!(f, "with this name {noun} is {sort}"),
-            What::FormOneHasNo(name) => write!(f, "form 1 has no {name}"),
-            _ => Ok(()),
         }
     }
 }
 
-/// What a part may be.
-#[derive(Clone, Copy)]
-pub struct WhatWords(pub What);
+/// Puts what is said of an object, and its keys, with commas.
+fn put_keys(words: &mut Words, said: &str, keys: &[Key]) {
+    words.put(said);
+    words.put(if keys.len() == 1 {
+        " the key "
+    } else {
+        " the keys "
+    });
+    for (at, key) in keys.iter().enumerate() {
+        words.put(if at == 0 { "" } else { ", " });
+        words.put(key.0);
+    }
+}
 
-impl fmt::Display for WhatWords {
-    fn fmt<W: fmt::Write>(&self, f: &mut fmt::Formatter<W>) -> fmt::Result {
-        match self.0 {
-            What::Told(part) => f.write_str(told_of(part)),
-            What::NoSeat { seats } => {
-                write!(f, "a seat is a number below {seats}, the header's seats")
-            }
-            What::TooManyNamed { most } => {
-                write!(
-                    f,
-                    "a dispatch may name no more routines than there are: {most}"
-                )
-            }
-            What::NotRising => f.write_str("a driver's majors rise"),
-            What::NoDispatch { dispatches } => {
-                f.write_str("a driver names a dispatch that the header has: ")?;
-                write!(f, "a number below {dispatches}")
-            }
-            What::NoLine => {
-                f.write_str("a line is an entry, with the keys asked, call, n, reply, seat, or ")?;
-                f.write_str(
-                    "a word line, with the keys do, reply, seat, step and those of its step",
-                )
-            }
-            other => write!(f, "{}{}", ObjectWords(other), KindWords(other)),
+/// Puts the names of the kinds, of form 1 or of both, with commas.
+fn put_kinds(words: &mut Words, kinds: &[Kind], two: bool) {
+    let mut between = "";
+    for kind in kinds {
+        if two || !kind.two {
+            words.put(between);
+            words.put(kind.name);
+            between = ", ";
         }
+    }
+}
+
+/// Puts the texts that may stand in place of an object, of form 1 or of both, before that object.
+fn put_names(words: &mut Words, names: &[Name], two: bool) {
+    let mut between = "\"";
+    for name in names {
+        if two || !name.two {
+            words.put(between);
+            words.put(name.name);
+            words.put("\"");
+            between = ", \"";
+        }
+    }
+    words.put(if names.is_empty() { "" } else { " or " });
+}
+
+/// Puts the sorts of a list, of form 1 or of both, with commas.
+fn put_sorts(words: &mut Words, sorts: &[Sort], two: bool) {
+    let mut between = "";
+    for sort in sorts {
+        if two || !sort.two {
+            words.put(between);
+            words.put(sort.told);
+            between = ", ";
+        }
+    }
+}
+
+/// Puts words, a number, and words behind it.
+fn put_number(words: &mut Words, before: &str, number: u64, behind: &str) {
+    words.put(before);
+    words.number(number);
+    words.put(behind);
+}
+
+/// Puts the noun that a fault has, with what comes before it; nothing where it has none.
+fn put_noun(words: &mut Words, what: What) {
+    match what {
+        What::Missing { noun, .. } | What::MissingName { noun } => {
+            words.put("this key is missing; ");
+            words.put(noun);
+        }
+        What::Unknown { noun, .. } => {
+            words.put("there is no such key; ");
+            words.put(noun);
+        }
+        What::NotAs { noun, .. } => {
+            words.put("with this name ");
+            words.put(noun);
+        }
+        What::NoObject { noun, .. }
+        | What::NoName { noun }
+        | What::OtherName { noun, .. }
+        | What::OtherKey { noun, .. }
+        | What::OtherSort { noun, .. } => words.put(noun),
+        _ => {}
+    }
+}
+
+/// Puts what a part may be that has no keys, kinds and sorts.
+fn put_plain(words: &mut Words, what: What) {
+    match what {
+        What::Told(part) => words.put(told_of(part)),
+        What::NoSeat { seats } => put_number(
+            words,
+            "a seat is a number below ",
+            u64::from(seats),
+            ", the header's seats",
+        ),
+        What::TooManyNamed { most } => {
+            put_number(
+                words,
+                "a dispatch may name no more routines than there are: ",
+                most,
+                "",
+            )
+        }
+        What::NotRising => words.put("a driver's majors rise"),
+        What::NoDispatch { dispatches } => put_number(
+            words,
+            "a driver names a dispatch that the header has: a number below ",
+            dispatches as u64,
+            "",
+        ),
+        What::NoLine => words.put(
+            "a line is an entry, with the keys asked, call, n, reply, seat, or \
+             a word line, with the keys do, reply, seat, step and those of its step",
+        ),
+        What::FormOneHasNo(name) => {
+            words.put("form 1 has no ");
+            words.put(name);
+        }
+        What::NoName { .. } => words.put(" is an object with the key do"),
+        What::MissingName { .. } => words.put(" has its name there"),
+        _ => {}
+    }
+}
+
+/// Puts what a part may be.
+pub fn put_what(words: &mut Words, what: What) {
+    put_noun(words, what);
+    match what {
+        What::NoObject { keys, .. } => put_keys(words, " is an object with", keys),
+        What::Missing { keys, .. } | What::Unknown { keys, .. } => put_keys(words, " has", keys),
+        What::OtherName { kinds, two, .. } => {
+            words.put(" is one of ");
+            put_kinds(words, kinds, two);
+        }
+        What::OtherKey {
+            names,
+            kinds,
+            two,
+            ..
+        } => {
+            words.put(" is ");
+            put_names(words, names, two);
+            words.put("an object with one of the keys ");
+            put_kinds(words, kinds, two);
+        }
+        What::OtherSort { sorts, two, .. } => {
+            words.put(" is one of ");
+            put_sorts(words, sorts, two);
+        }
+        What::NotAs { sort, .. } => {
+            words.put(" is ");
+            words.put(sort);
+        }
+        other => put_plain(words, other),
     }
 }
