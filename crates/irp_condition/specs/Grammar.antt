@@ -21,8 +21,8 @@ inside Or = joined And
 
 -- The tokens that stand before the rest say this. `compared`: a comparison. `negated`: `not`, and a single condition.
 -- `enclosed`: a condition in parentheses; so many more parentheses and nots may stand within each other. `alone`: one
--- condition, which nothing joins to another. `more`: conditions, the joint's word, and one more, so that they are joined
--- from the left
+-- condition, which nothing joins to another. `more`: conditions, the joint's word, and one more, so that they are
+-- joined from the left
 pub data Says (scope : Scope) : Level → ℕ → List Token → Formula → List Token → Type 0 where
   compared : {depth : ℕ} {tokens rest : List Token} {formula : Formula}
       → compared_at scope tokens ≡ Some (formula, rest) → Says scope single depth tokens formula rest

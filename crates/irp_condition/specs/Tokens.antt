@@ -67,5 +67,6 @@ with_token token tokens = if is_blank_kind token.kind then tokens else tokens ++
 abbrev pub tokens_below : List ℕ → ℕ → List Token
 tokens_below text zero = []
 tokens_below text (suc place) =
-    if ends_behind text place then with_token (token_of text (begin_of text place) (place + 1)) (tokens_below text place)
+    if ends_behind text place
+    then with_token (token_of text (begin_of text place) (place + 1)) (tokens_below text place)
     else tokens_below text place

@@ -2,7 +2,7 @@
 //! contract says what is told: tests/refused_lines has it.
 #![tactic(auto)]
 
-mod calls;
+mod call_shapes;
 mod choosing;
 mod fault;
 mod lines;

@@ -1,6 +1,6 @@
 //! What each part of a line may be (docs/FORMATS.md).
 
-use crate::calls::CALLS;
+use crate::call_shapes::CALLS;
 use crate::lines::{ENTRY, HEADER, HEADER_TWO};
 use crate::questions::{CANCEL_ANSWERS, COMPLETION_ANSWERS, PLANS, QUESTIONS};
 use crate::replies::{DONE, VALUED};

@@ -40,7 +40,8 @@ pub record Lists (only : Option IrpRef) (entries : List Entry) (old new : Bytes)
   pub written : Written text old new before after
 
 -- a beginning of what stands for the first so many of these entries went out, before this fault
-pub record ListsPart (only : Option IrpRef) (entries : List Entry) (old new : Bytes) (before after : ℕ) (fault : Unwritten) : Type 0 where
+pub record ListsPart (only : Option IrpRef) (entries : List Entry) (old new : Bytes) (before after : ℕ)
+    (fault : Unwritten) : Type 0 where
   pub count : ℕ
   pub text : List ℕ
   pub listing : IsListing only (take count entries) text

@@ -21,9 +21,10 @@ abbrev pub IsLowest : StateValue → ℕ → Type 0
 IsLowest state slot =
     (live_at state slot ≡ None) × ((lower : ℕ) → lower < slot → is_some (live_at state lower) ≡ true)
 
--- a call was answered by its step, with what its caller knows of locks; the closures answered as the script tells; and a
--- new packet got the lowest slot that isn't live
-pub record IsCalled (fixed : Fixed) (script : ScriptParts) (knows : LockNo → Bool) (old : StateValue) (call : Call) (drained : Bool) (reply : Reply) (new : StateValue) : Type 0 where
+-- a call was answered by its step, with what its caller knows of locks; the closures answered as the script tells; and
+-- a new packet got the lowest slot that isn't live
+pub record IsCalled (fixed : Fixed) (script : ScriptParts) (knows : LockNo → Bool) (old : StateValue) (call : Call)
+    (drained : Bool) (reply : Reply) (new : StateValue) : Type 0 where
   pub asked : List Asked
   pub stands : StandingFacts fixed.tables.counts old
   pub noted : drained ≡ known_by knows (lock_of old call)

@@ -132,7 +132,8 @@ lock_of (AsksDrained lock) = lock.0
 
 -- what an act on a remove lock changes in its next step
 abbrev pub on_lock : List ℕ → SeatValue → LockAct → Change
-on_lock words seat act = option_map_or (λ word. on_word word seat act) (slice_get words (lock_of act)) (told reply.NoLock)
+on_lock words seat act =
+    option_map_or (λ word. on_word word seat act) (slice_get words (lock_of act)) (told reply.NoLock)
 
 -- the reference at a place is handed over, where the other seat holds fewer than it may
 abbrev pub handing : Hand → ℕ → ℕ → Change
@@ -196,7 +197,9 @@ publish slots number stage use_no =
 -- a withdrawal swaps 0 in where the owner's use stands
 abbrev pub withdraw : List Slot → ℕ → Change
 withdraw slots number =
-    option_map_or (λ (slot : Slot). if slot.stands then take_out number (record slot { stands = false }) reply.Lost else told reply.NotStanding)
+    option_map_or
+    (λ (slot : Slot).
+    if slot.stands then take_out number (record slot { stands = false }) reply.Lost else told reply.NotStanding)
     (slice_get slots number) (told reply.NotStanding)
 
 -- a request sets the flag, and then swaps 0 in

@@ -36,22 +36,25 @@ seat_at standing seat = slice_index_or standing.seats seat new_seat
 abbrev pub act_of : RulesValue → StandingValue → ℕ → Option Planned
 act_of rules standing seat =
     option_and_then
-    (λ (own : SeatValue). option_and_then (λ (acts : List Planned). slice_get acts own.made) (slice_get rules.acts seat))
+    (λ (own : SeatValue).
+    option_and_then (λ (acts : List Planned). slice_get acts own.made) (slice_get rules.acts seat))
     (slice_get standing.seats seat)
 
 -- which locks a seat knows to be drained
 abbrev pub knows_of : SeatValue → LockNo → Bool
 knows_of seat lock = list_any (is_drained lock.0) seat.learned
 
--- a change is that of a call of a seat: the manager's state is the one that the calls so far lead to, and the reply is the
--- one that it gives
-pub record IsCallOf (rules : RulesValue) (standing : StandingValue) (seat : ℕ) (planned : Planned) (calling : Calling) (change : Change) : Type 0 where
+-- a change is that of a call of a seat: the manager's state is the one that the calls so far lead to, and the reply is
+-- the one that it gives
+pub record IsCallOf (rules : RulesValue) (standing : StandingValue) (seat : ℕ) (planned : Planned) (calling : Calling)
+    (change : Change) : Type 0 where
   pub before : StateValue
   pub after : StateValue
   pub drained : Bool
   pub reply : Reply
   pub leads : Leads rules.fixed rules.script standing.made opening_state before
-  pub call : IsCalled rules.fixed rules.script (knows_of (seat_at standing seat)) before calling.call drained reply after
+  pub call :
+      IsCalled rules.fixed rules.script (knows_of (seat_at standing seat)) before calling.call drained reply after
   pub changes : change ≡ called planned calling drained reply
 
 -- a change is the one that comes next

@@ -97,11 +97,12 @@ calling taken act irp =
 
 -- what an act does next that names this packet
 abbrev pub with_packet : StandingValue → SeatValue → StepAct → IrpRef → Next
-with_packet standing seat (does.Publish slot named) irp = Changes (change.publish standing.slots slot seat.stage irp.use_no)
+with_packet standing seat (does.Publish slot named) irp =
+    Changes (change.publish standing.slots slot seat.stage irp.use_no)
 with_packet standing seat act irp = calling seat.taken act irp
 
--- what an act does next that may name a packet by a label: it reads the label, where that is a step of its own; it binds
--- the label, where that is; and else it goes on with the packet
+-- what an act does next that may name a packet by a label: it reads the label, where that is a step of its own; it
+-- binds the label, where that is; and else it goes on with the packet
 abbrev pub naming_at : Stage → StandingValue → SeatValue → Planned → Next
 naming_at (stages.Answered irp) standing seat planned = Changes (change.bound (unwrap_or (label_of planned.act) 0) irp)
 naming_at (stages.Read irp) standing seat planned = with_packet standing seat planned.act irp
@@ -160,8 +161,9 @@ spent spends other = None
 
 -- what a call changes that was answered so
 abbrev pub called : Planned → Calling → Bool → Reply → Change
-called planned calling knows reply = record (change.only (after_call planned.binds_alone (binding planned.act reply) reply)) {
-  label = if planned.binds_alone then None else binding planned.act reply;
-  spends = spent calling.spends reply;
-  made = then_some (has_changed calling.call reply) (record { call = calling.call; knows = knows });
-}
+called planned calling knows reply =
+    record (change.only (after_call planned.binds_alone (binding planned.act reply) reply)) {
+      label = if planned.binds_alone then None else binding planned.act reply;
+      spends = spent calling.spends reply;
+      made = then_some (has_changed calling.call reply) (record { call = calling.call; knows = knows });
+    }

@@ -56,5 +56,6 @@ seats_of steps = map (λ (step : Step). step.seat) steps
 abbrev pub Opens : Header → ScriptParts → StandingValue → Type 0
 Opens header script start =
     (ended : StandingValue)
-    × MakesAll (rules_of header script [] script.setup false) (first_standing header script) (seats_of script.setup) ended
+    × MakesAll (rules_of header script [] script.setup false)
+    (first_standing header script) (seats_of script.setup) ended
     × (start ≡ begun header ended.made ended.labels)

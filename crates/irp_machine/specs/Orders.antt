@@ -15,8 +15,8 @@ use Rattle.irp_machine.specs.Machine.{RulesValue, PlaceSteps, ClosesTo}
 use Rattle.irp_machine.specs.Openings.{MakesAll, Opens, rules_of}
 use Rattle.irp_machine.specs.Standings.{StandingValue}
 
--- each that is found is the end of an order; each order that ends, ends in one that is found; none is found twice; and a
--- number that each state shares out among those that follow, such as how many orders end somewhere, adds up
+-- each that is found is the end of an order; each order that ends, ends in one that is found; none is found twice; and
+-- a number that each state shares out among those that follow, such as how many orders end somewhere, adds up
 pub record AreOrders {S : Type 0} (moves : Moves S) (seats : ℕ) (start : S) (found : List (Node S)) : Type 0 where
   pub sound : All (IsFound moves seats start) found
   pub once : AreApart found

@@ -49,7 +49,8 @@ use Rattle.irp_machine.specs.Standings.{StandingValue, after_change}
 -- ---- entries
 
 -- an entry tells a call of a seat, which changes this: it was made and answered so
-pub record TellsCall (rules : RulesValue) (standing : StandingValue) (seat : ℕ) (planned : Planned) (calling : Calling) (change : Change) (entry : Entry) : Type 0 where
+pub record TellsCall (rules : RulesValue) (standing : StandingValue) (seat : ℕ) (planned : Planned) (calling : Calling)
+    (change : Change) (entry : Entry) : Type 0 where
   pub made : IsCallOf rules standing seat planned calling change
   pub caller : entry.seat ≡ seat
   pub call : entry.call ≡ calling.call
@@ -68,7 +69,8 @@ Records rules standing seat planned (Calls calling) change old new =
 abbrev pub PlaysIn : RulesValue → StandingValue → List Entry → ℕ → Option Planned → StandingValue → List Entry → Type 0
 PlaysIn rules standing old seat None after new = ⊥
 PlaysIn rules standing old seat (Some planned) after new =
-    (change : Change) × Records rules standing seat planned (next_of standing (seat_at standing seat) planned) change old new
+    (change : Change)
+    × Records rules standing seat planned (next_of standing (seat_at standing seat) planned) change old new
     × (after ≡ after_change seat change planned.step rules.tells standing)
 
 -- the next steps of these seats were made, one after another, and recorded
@@ -79,14 +81,18 @@ Plays rules standing old (seat ∷ path) last new =
     × PlaysIn rules standing old seat (act_of rules standing seat) middle entries
     × Plays rules middle entries path last new
 
--- the setup of a script was made, then the next steps of these seats, and recorded. The entries are a legal history that
--- leads to this state, and so do the calls among them that changed it
-pub record IsPlayed (header : Header) (script : ScriptParts) (tells : Bool) (path : List ℕ) (last : StandingValue) (state : StateValue) (entries : List Entry) : Type 0 where
+-- the setup of a script was made, then the next steps of these seats, and recorded. The entries are a legal history
+-- that leads to this state, and so do the calls among them that changed it
+pub record IsPlayed (header : Header) (script : ScriptParts) (tells : Bool) (path : List ℕ) (last : StandingValue)
+    (state : StateValue) (entries : List Entry) : Type 0 where
   pub ended : StandingValue
   pub front : List Entry
-  pub setup : Plays (rules_of header script [] script.setup false) (first_standing header script) [] (seats_of script.setup) ended front
+  pub setup :
+      Plays (rules_of header script [] script.setup false)
+      (first_standing header script) [] (seats_of script.setup) ended front
   pub steps :
-      Plays (rules_of header script script.steps script.steps tells) (begun header ended.made ended.labels) front path last entries
+      Plays (rules_of header script script.steps script.steps tells)
+      (begun header ended.made ended.labels) front path last entries
   pub history : LeadsTo (fixed_of header) entries state
   pub calls : Leads (fixed_of header) script last.made opening_state state
 
@@ -154,9 +160,11 @@ ReplaysEndSo =
 -- ---- as a replay is made
 
 -- one entry was added, of a call of a seat that knows this of locks
-pub record Adds (fixed : Fixed) (script : ScriptParts) (learned : List Learned) (old : StateValue) (call : Call) (seat : ℕ) (drained : Bool) (reply : Reply) (new : StateValue) (entries longer : List Entry) : Type 0 where
+pub record Adds (fixed : Fixed) (script : ScriptParts) (learned : List Learned) (old : StateValue) (call : Call)
+    (seat : ℕ) (drained : Bool) (reply : Reply) (new : StateValue) (entries longer : List Entry) : Type 0 where
   pub entry : Entry
-  pub called : IsCalled fixed script (λ (lock : LockNo). list_any (is_drained lock.0) learned) old call drained reply new
+  pub called :
+      IsCalled fixed script (λ (lock : LockNo). list_any (is_drained lock.0) learned) old call drained reply new
   pub caller : entry.seat ≡ seat
   pub call_is : entry.call ≡ call
   pub asked_is : entry.asked ≡ called.asked
@@ -177,7 +185,10 @@ pub record IsMade (fixed : Fixed) (script : ScriptParts) (made : List Made) (kep
   pub calls : Leads fixed script made opening_state (state_of live_of kept.manager)
 
 -- the setup was made and recorded, from before it
-pub record IsSetUp (header : Header) (script : ScriptParts) (old new : List Entry) (start : StandingValue) : Type 0 where
+pub record IsSetUp (header : Header) (script : ScriptParts) (old new : List Entry)
+    (start : StandingValue) : Type 0 where
   pub ended : StandingValue
-  pub setup : Plays (rules_of header script [] script.setup false) (first_standing header script) old (seats_of script.setup) ended new
+  pub setup :
+      Plays (rules_of header script [] script.setup false)
+      (first_standing header script) old (seats_of script.setup) ended new
   pub begun : start ≡ begun header ended.made ended.labels

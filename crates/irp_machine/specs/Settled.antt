@@ -43,7 +43,10 @@ use Rattle.irp_machine.specs.Machine.{RulesValue, IsCallOf, IsNext, Makes, Steps
 unwinding : UnwindingIsSettled
 unwinding reply irp packet first second asked others some within one two answered answers =
     let enough : size_of packet ≤ packet.current + size_of packet = omega arith in
-    let same : asked ≡ others = same_asking (λ id shown answer. answer ≡ reply id shown) (λ id shown answer other first_is other_is. first_is ∙ sym other_is) irp (size_of packet) packet first second asked others some within enough one two answered answers in
+    let same : asked ≡ others =
+    same_asking (λ id shown answer. answer ≡ reply id shown)
+    (λ id shown answer other first_is other_is. first_is ∙ sym other_is) irp
+    (size_of packet) packet first second asked others some within enough one two answered answers in
     (same, one.left ∙ ap (unwound_packet packet) same ∙ sym two.left)
 
 step_settled : StepIsSettled
@@ -52,7 +55,8 @@ step_settled plan_of reply_of cancel_reply_of fixed old drained call asked other
     stands refl first second slots given answers
 
 -- two slots that are the lowest ones are one
-lowest_below : (state : StateValue) (one other : ℕ) → IsLowest state one → IsLowest state other → one < other → one ≡ other
+lowest_below : (state : StateValue) (one other : ℕ) → IsLowest state one → IsLowest state other → one < other
+    → one ≡ other
 lowest_below state one other first second below =
     let never : true ≡ false = sym (second.1 one below) ∙ ap is_some first.0 in
     absurd (let no : ⊥ = cc in no)
@@ -69,72 +73,102 @@ lowest_settled state one other first second =
 
 -- what the script tells is one answer
 told_replies : (fixed : Fixed) (script : ScriptParts) (asked : List Asked) → AreTold fixed.tables script asked
-    → AllByRecursion (IsReplyOf (plan_told fixed.tables script) (answer_told script) (cancel_told fixed.tables script)) asked
+    → AllByRecursion
+    (IsReplyOf (plan_told fixed.tables script) (answer_told script) (cancel_told fixed.tables script)) asked
 told_replies fixed script [] told = told
-told_replies fixed script (Dispatch id shown plan ∷ others) told = (told.0.told, told_replies fixed script others told.1)
-told_replies fixed script (Completion id shown answer ∷ others) told = (told.0.told, told_replies fixed script others told.1)
-told_replies fixed script (Cancel id shown answer ∷ others) told = (told.0.told, told_replies fixed script others told.1)
+told_replies fixed script (Dispatch id shown plan ∷ others) told =
+    (told.0.told, told_replies fixed script others told.1)
+told_replies fixed script (Completion id shown answer ∷ others) told =
+    (told.0.told, told_replies fixed script others told.1)
+told_replies fixed script (Cancel id shown answer ∷ others) told =
+    (told.0.told, told_replies fixed script others told.1)
 
 module _ (fixed : Fixed) (script : ScriptParts) where
   -- a call has one answer
-  pub called_settled : (knows : LockNo → Bool) (old : StateValue) (call : Call) (drained known : Bool) (reply other : Reply) (new another : StateValue)
-      → IsCalled fixed script knows old call drained reply new → IsCalled fixed script knows old call known other another
+  pub called_settled : (knows : LockNo → Bool) (old : StateValue) (call : Call) (drained known : Bool)
+      (reply other : Reply) (new another : StateValue)
+      → IsCalled fixed script knows old call drained reply new
+      → IsCalled fixed script knows old call known other another
       → (drained ≡ known) × (reply ≡ other) × (new ≡ another)
   called_settled knows old call drained known reply other new another one two =
       let same : drained ≡ known = one.noted ∙ sym two.noted in
-      let step : Step fixed old known call one.asked reply new = subst (λ (drained : Bool). Step fixed old drained call one.asked reply new) same one.step in
-      let slots : IsSameSlot call reply other = λ size irp next is first second. lowest_settled old irp.slot next.slot (one.lowest size irp is first) (two.lowest size next is second) in
-      let all = step_settled (plan_told fixed.tables script) (answer_told script) (cancel_told fixed.tables script) fixed old known call one.asked two.asked reply other new another
-      one.stands step two.step slots (told_replies fixed script one.asked one.told) (told_replies fixed script two.asked two.told) in
+      let step : Step fixed old known call one.asked reply new =
+      subst (λ (drained : Bool). Step fixed old drained call one.asked reply new) same one.step in
+      let slots : IsSameSlot call reply other =
+      λ size irp next is first second. lowest_settled old irp.slot next.slot (one.lowest size irp is first)
+      (two.lowest size next is second) in
+      let all =
+      step_settled (plan_told fixed.tables script) (answer_told script)
+      (cancel_told fixed.tables script) fixed old known call one.asked two.asked reply other new another
+      one.stands step two.step slots (told_replies fixed script one.asked one.told)
+      (told_replies fixed script two.asked two.told) in
       (same, all.1, all.2)
 
   -- calls lead to one state
-  pub leads_settled : (calls : List Made) (old new another : StateValue) → Leads fixed script calls old new → Leads fixed script calls old another → new ≡ another
+  pub leads_settled : (calls : List Made) (old new another : StateValue) → Leads fixed script calls old new
+      → Leads fixed script calls old another → new ≡ another
   leads_settled [] old new another one two = sym one ∙ two
   leads_settled (made ∷ calls) old new another one two =
       let same = called_settled (λ _. made.knows) old made.call one.1 two.1 one.2 two.2 one.0 two.0 one.3 two.3 in
-      leads_settled calls one.0 new another one.4 (subst (λ (middle : StateValue). Leads fixed script calls middle another) (sym same.2) two.4)
+      leads_settled calls one.0 new another one.4
+      (subst (λ (middle : StateValue). Leads fixed script calls middle another) (sym same.2) two.4)
 
 -- ---- steps
 
 module _ (rules : RulesValue) (standing : StandingValue) where
   call_settled : (seat : ℕ) (planned : Planned) (calling : Calling) (change other : Change)
-      → IsCallOf rules standing seat planned calling change → IsCallOf rules standing seat planned calling other → change ≡ other
+      → IsCallOf rules standing seat planned calling change → IsCallOf rules standing seat planned calling other
+      → change ≡ other
   call_settled seat planned calling change other one two =
-      let before = leads_settled rules.fixed rules.script standing.made opening_state one.before two.before one.leads two.leads in
-      let moved = subst (λ (state : StateValue). IsCalled rules.fixed rules.script (knows_of (seat_at standing seat)) state calling.call two.drained two.reply two.after) (sym before) two.call in
-      let same = called_settled rules.fixed rules.script (knows_of (seat_at standing seat)) one.before calling.call one.drained two.drained one.reply two.reply one.after two.after one.call moved in
+      let before =
+      leads_settled rules.fixed rules.script standing.made opening_state one.before two.before one.leads two.leads in
+      let moved =
+      subst
+      (λ (state : StateValue).
+      IsCalled rules.fixed rules.script (knows_of (seat_at standing seat)) state calling.call two.drained two.reply
+      two.after)
+      (sym before) two.call in
+      let same =
+      called_settled rules.fixed rules.script (knows_of (seat_at standing seat)) one.before calling.call
+      one.drained two.drained one.reply two.reply one.after two.after one.call moved in
       one.changes ∙ ap (λ (drained : Bool). called planned calling drained one.reply) same.0
       ∙ ap (λ (reply : Reply). called planned calling two.drained reply) same.1 ∙ sym two.changes
 
   next_settled : (seat : ℕ) (planned : Planned) (next : Next) (change other : Change)
       → IsNext rules standing seat planned next change → IsNext rules standing seat planned next other → change ≡ other
   next_settled seat planned (Changes given) change other one two = one ∙ sym two
-  next_settled seat planned (Calls calling) change other one two = call_settled seat planned calling change other one two
+  next_settled seat planned (Calls calling) change other one two =
+      call_settled seat planned calling change other one two
 
   makes_settled : (seat : ℕ) (planned : Planned) (next : Next) (new another : StandingValue)
       → Makes rules standing seat planned next new → Makes rules standing seat planned next another → new ≡ another
   makes_settled seat planned next new another one two =
-      one.2 ∙ ap (λ (change : Change). after_change seat change planned.step rules.tells standing) (next_settled seat planned next one.0 two.0 one.1 two.1) ∙ sym two.2
+      one.2 ∙ ap (λ (change : Change). after_change seat change planned.step rules.tells standing)
+      (next_settled seat planned next one.0 two.0 one.1 two.1) ∙ sym two.2
 
   pub steps_settled : (seat : ℕ) (act : Option Planned) (after other : Option StandingValue)
       → StepsTo rules standing seat act after → StepsTo rules standing seat act other → after ≡ other
   steps_settled seat None after other one two = one ∙ sym two
   steps_settled seat (Some planned) after other one two =
-      one.1 ∙ ap (λ (new : StandingValue). Some new) (makes_settled seat planned (next_of standing (seat_at standing seat) planned) one.0 two.0 one.2 two.2) ∙ sym two.1
+      one.1 ∙ ap (λ (new : StandingValue). Some new)
+      (makes_settled seat planned (next_of standing (seat_at standing seat) planned) one.0 two.0 one.2 two.2)
+      ∙ sym two.1
 
   closes_settled : (ended : Bool) (after other : Option End)
       → ClosesIf rules standing ended after → ClosesIf rules standing ended other → after ≡ other
   closes_settled true after other one two =
-      one.2 ∙ ap (λ (state : StateValue). Some (end_of state standing)) (leads_settled rules.fixed rules.script standing.made opening_state one.0 two.0 one.1 two.1) ∙ sym two.2
+      one.2 ∙ ap (λ (state : StateValue). Some (end_of state standing))
+      (leads_settled rules.fixed rules.script standing.made opening_state one.0 two.0 one.1 two.1) ∙ sym two.2
   closes_settled false after other one two = one ∙ sym two
 
   running_settled : (seat : ℕ) (below : Bool) (after other : Option Place)
       → RunningSteps rules standing seat below after → RunningSteps rules standing seat below other → after ≡ other
   running_settled seat true after other one two =
-      one.2 ∙ ap (λ (next : Option StandingValue). option_map (λ (each : StandingValue). Running each) next) (steps_settled seat (act_of rules standing seat) one.0 two.0 one.1 two.1) ∙ sym two.2
+      one.2 ∙ ap (λ (next : Option StandingValue). option_map (λ (each : StandingValue). Running each) next)
+      (steps_settled seat (act_of rules standing seat) one.0 two.0 one.1 two.1) ∙ sym two.2
   running_settled seat false after other one two =
-      one.2 ∙ ap (λ (end : Option End). option_map (λ (each : End). Over each) end) (closes_settled (has_ended rules standing) one.0 two.0 one.1 two.1) ∙ sym two.2
+      one.2 ∙ ap (λ (end : Option End). option_map (λ (each : End). Over each) end)
+      (closes_settled (has_ended rules standing) one.0 two.0 one.1 two.1) ∙ sym two.2
 
 pub moves_settled : (rules : RulesValue) → IsSettled (PlaceSteps rules)
 moves_settled rules (Running standing) seat one other first second =

@@ -12,8 +12,8 @@ use Rattle.irp_machine.specs.Lists.{with_more, with_item}
 use Rattle.irp_machine.specs.Marks.{mark_after}
 use Rattle.irp_machine.specs.Seats.{SeatValue, new_seat, after_step, with_held}
 
--- the mark, the calls that changed the manager's state, what each label stands for, the words of the remove locks, the cancel
--- slots, and the seats
+-- the mark, the calls that changed the manager's state, what each label stands for, the words of the remove locks, the
+-- cancel slots, and the seats
 pub record StandingValue : Type 0 where
   pub mark : ℕ
   pub made : List Made

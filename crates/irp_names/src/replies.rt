@@ -1,6 +1,6 @@
 //! What calls are answered.
 
-use crate::calls::CancelWords;
+use crate::call_names::CancelWords;
 use crate::refusals::refusal_name;
 use crate::small::{OwnerWords, PacketWords};
 use crate::statuses::{ResultWords, StatusWords};

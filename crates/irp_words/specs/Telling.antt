@@ -10,7 +10,8 @@ use Rattle.irp_words.specs.declared.orders.Task.TheVariants.{Json}
 
 -- where all was done, a text went out that is read as a script
 abbrev pub Prints : Ending → Option (List ℕ) → Option (List ℕ) → Type 0
-Prints Done before after = (script : Script) × (text : List ℕ) × ReadsScript (Ok script) text × Appends before after text
+Prints Done before after =
+    (script : Script) × (text : List ℕ) × ReadsScript (Ok script) text × Appends before after text
 Prints ending before after = Unit {0}
 
 -- not all was done
