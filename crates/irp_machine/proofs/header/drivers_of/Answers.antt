@@ -10,6 +10,6 @@ loop-driver-preserved c =
     let drivers = c.args.drivers.now in
     let place = c.loop-driver.driver-index in
     let one = c.in_ok-driver_of.field-0 in
-    subst (λ (sorted : List (List Entrance)). AreSorted (take (place + 1) drivers) sorted) (sym c.in_ok-push.ensures.items)
+    subst (λ (sorted : List (List Entrance)). AreSorted (take (place + 1) drivers) sorted) (sym {A = List (List Entrance)} c.in_ok-push.ensures.items)
     (sorted_next drivers c.loop-driver.sorted.items place c.driver-item.result one (omega (arith, c.loop-driver-test.true)) c.driver-item.is c.loop-driver.invariant
     (subst (λ (driver : List Entrance). IsPermutation driver one) c.as_slice.ensures c.in_ok-driver_of.ensures))
