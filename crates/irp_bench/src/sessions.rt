@@ -12,7 +12,7 @@ use crate::fault::Fault;
 use crate::packets::{Batch, READ, Scene, WATCH, make_batch, make_ready, set_up};
 use irp_routines::{Ask, Dispatch, Routine, Store};
 use irp_shared::{Seat, Session, Shared, Transcript, open};
-use irp_types::{Answer, IrpRef, Known, Plan, Rule, Shown, Status};
+use irp_types::{Answer, DispatchId, IrpRef, Known, Plan, Rule, Shown, Status};
 use std::alloc::Global;
 use std::marker::Brand;
 use std::rt::Clock;
@@ -148,7 +148,23 @@ fn gathered<L: Session>(
     Ok((seats, taken))
 }
 
-/// Does the work in a session of so many seats, each in a thread of its own.
+/// Does the work in each of these seats of a session, in a thread of its own. All seats, and how long it took.
+fn in_seats<A: Ask + Send, L: Session + Send + Sync, R: Threads + Wait + Sync + Clock>(
+    rt: &R,
+    alloc: Global,
+    shared: &Shared<A, L>,
+    seats: Vec<Seat<L>>,
+    work: Work,
+) -> Result<(Vec<Seat<L>>, Duration), Fault> {
+    let start = Instant::now(rt)?;
+    let made = thread::map_vec(rt, seats, &|seat| in_seat(rt, alloc, shared, seat, work))?;
+    let all = start.elapsed(rt);
+    let (seats, own) = gathered(alloc, made)?;
+    let taken = if seats.len() == 1 { own } else { all? };
+    Ok((seats, taken))
+}
+
+/// Does the work in a session of so many seats.
 fn recorded<A: Ask + Send + Drop, L: Session + Send + Sync, R: Threads + Wait + Sync + Clock>(
     rt: &R,
     alloc: Global,
@@ -163,18 +179,14 @@ fn recorded<A: Ask + Send + Drop, L: Session + Send + Sync, R: Threads + Wait + 
     requires may { AnswersSo (A.may_plan ask) (A.may_answer ask) (A.may_cancel ask) L.may }
 {
     let (shared, places) = open::<A, L>(alloc, blank, ask, 1, seats)?;
-    let lent = &shared;
-    let start = Instant::now(rt)?;
-    let made = thread::map_vec(rt, places, &|seat| in_seat(rt, alloc, lent, seat, work))?;
-    let all = start.elapsed(rt)?;
-    let (places, own) = gathered(alloc, made)?;
-    let Ok(transcript) = shared.close(places) else {
-        return Err(Fault::Failed);
-    };
-    Ok(Outcome {
-        taken: if seats == 1 { own } else { all },
-        transcript: Some(transcript),
-    })
+    let (places, taken) = in_seats(rt, alloc, &shared, places, work)?;
+    match shared.close(places) {
+        Ok(transcript) => Ok(Outcome {
+            taken,
+            transcript: Some(transcript),
+        }),
+        Err(_) => Err(Fault::Failed),
+    }
 }
 
 /// Does the work by the manager alone.
@@ -209,17 +221,15 @@ pub fn do_work<R: Threads + Wait + Sync + Clock + AllocGlobal>(
     work: Work,
 ) -> Result<Outcome, Fault> {
     let alloc = rt.alloc();
+    let reads = [(READ, DispatchId(0))].to_vec(alloc)?;
     let watch = Routine::new(Rule::Watch, Box::new(alloc, watches)?);
     let forward = Dispatch::new(KNOWN, Box::new(alloc, forwards)?);
     let mut store = Store::new(alloc);
-    if store.add(watch).is_err() {
-        return Err(Fault::Memory);
+    let has_watch = store.add(watch).is_ok();
+    let has_forward = store.add_dispatch(forward).is_ok();
+    let has_driver = store.add_driver(reads).is_ok();
+    if has_watch && has_forward && has_driver {
+        return with_store(rt, alloc, store, work);
     }
-    let Ok(reads) = store.add_dispatch(forward) else {
-        return Err(Fault::Memory);
-    };
-    if store.add_driver([(READ, reads)].to_vec(alloc)?).is_err() {
-        return Err(Fault::Memory);
-    }
-    with_store(rt, alloc, store, work)
+    Err(Fault::Memory)
 }

@@ -38,7 +38,7 @@ struct Row {
 }
 
 /// All that the program times, in this order.
-const TABLE: [Row; 11] = [
+static TABLE: [Row; 11] = [
     Row {
         word: "locks",
         name: "acquire and release, threads",
