@@ -38,6 +38,22 @@ fn judge_block(
     Ok(())
 }
 
+/// Reads a text block after block, whose lines so many threads read ahead, and has the judge judge its entries.
+fn judge_blocks<R: Threads + Sync>(
+    rt: &R,
+    alloc: Global,
+    reader: &mut Reader,
+    judge: &mut Judge,
+    text: &[u8],
+    threads: u32,
+) -> Result<(), Fault> {
+    for block in text.chunks(BLOCK) {
+        let mut ahead = Ahead::of(rt, alloc, block, threads as usize);
+        judge_block(alloc, reader, judge, block, &mut ahead)?;
+    }
+    Ok(())
+}
+
 /// The verdict on a text with this header, whose lines so many threads read ahead.
 fn verdict_on<R: Threads + Sync>(
     rt: &R,
@@ -50,10 +66,7 @@ fn verdict_on<R: Threads + Sync>(
 {
     let mut reader = Reader::new(alloc);
     let mut judge = Judge::new(alloc, header);
-    for block in text.chunks(BLOCK) {
-        let mut ahead = Ahead::of(rt, alloc, block, threads as usize);
-        judge_block(alloc, &mut reader, &mut judge, block, &mut ahead)?;
-    }
+    judge_blocks(rt, alloc, &mut reader, &mut judge, text, threads)?;
     reader.finish()?;
     Ok(judge.verdict())
 }
