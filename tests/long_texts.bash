@@ -1,5 +1,5 @@
 #!/bin/bash
-# Gives `irpx check` and `irp_view why` texts of up to a million lines (long_texts.py). IRPX and IRP_VIEW name the
+# Gives `irpx check` and `irp_view why`, `text` and `packet` texts of up to a million lines (long_texts.py). IRPX and IRP_VIEW name the
 # programs; without them, they are those that bin/irpx and bin/irp_view run. Ends with status 0 where all was as
 # expected, else with 1. It passes over all for a program that was built without proofs, which takes too long.
 set -u

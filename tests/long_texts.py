@@ -1,10 +1,12 @@
 """Gives `irpx check` and `irp_view why` texts, of up to a million lines, that a program would get wrong which reads lines
 before their turn: refused lines in each block and at a block's edge, cut lines, entries that aren't legal before a line
-that is refused, no newline at all. What is told is worked out from the text.
+that is refused, no newline at all. What is told is worked out from the text. `irp_view text` and `packet` show such texts
+block after block: the same is looked for, and that they take no more memory for a long text.
 
 Usage: long_texts.py IRPX IRP_VIEW. It prints a line for each answer that was wrong, and one that counts them all.
 """
 
+import os
 import re
 import subprocess
 import sys
@@ -23,6 +25,10 @@ ROUND = (
     '{"asked":[],"call":{"do":"allocate","size":1},"n":%d,"reply":{"irp":[0,%d]},"seat":0}\n'
     '{"asked":[],"call":{"do":"free","irp":[0,%d]},"n":%d,"reply":"done","seat":0}\n'
 )
+# What `irp_view text` prints of a round.
+SHOWN = "%4d  IoAllocateIrp(1 location) -> IRP 0.%d\n%4d  IoFreeIrp(IRP 0.%d)\n"
+# As much memory as it may take, in KiB.
+MOST_MEMORY = 65_536
 WORD = b'{"do":"acquire","lock":0,"reply":{"status":0},"seat":0,"step":4,"tag":1}\n'
 
 
@@ -133,9 +139,58 @@ def why(irp_view, file):
     return ran.stdout + ran.stderr
 
 
+def shown(first, last):
+    """Returns what is printed of the entries of such rounds from one number up to, and without, another."""
+    lines = "".join(SHOWN % (2 * n, n + 1, 2 * n + 1, n + 1) for n in range(first // 2, (last + 1) // 2)).splitlines(True)
+    skipped = first % 2
+    return "".join(lines[skipped : skipped + last - first])
+
+
+def listings():
+    """Yields what is asked of which text, what has to be printed, and the line that is refused, if one is."""
+    text = legal_text(MANY_ROUNDS)
+    entries = 2 * MANY_ROUNDS
+    late, _ = line_at(text, len(text) - 1000)
+    refused = spoiled(text, [len(text) - 1000])
+    yield "a million entries", ["text"], text, shown(0, entries), None
+    yield "a million, some chosen", ["text", "--entries", "999..500001"], text, shown(999, 500_001), None
+    yield "a million, a packet", ["packet", "0", "250000"], text, shown(499_998, 500_000), None
+    yield "a line refused late", ["text"], refused, shown(0, late - 2), late
+    yield "the same behind those chosen", ["text", "--entries", "5..9"], refused, shown(5, 9), late
+    yield "the same, a packet", ["packet", "0", "7"], refused, shown(12, 14), late
+    yield "no last newline", ["text"], text[:-1], shown(0, entries - 1), entries + 1
+
+
+def fault_of_listing(irp_view, words, text, wanted, line):
+    """Returns what is wrong with what `irp_view` prints and how it ends, or None."""
+    with tempfile.TemporaryFile() as file, tempfile.TemporaryFile() as output, tempfile.TemporaryFile() as errors:
+        file.write(text)
+        file.seek(0)
+        process = subprocess.Popen([irp_view, *words], stdin=file, stdout=output, stderr=errors)
+        _, status, usage = os.wait4(process.pid, 0)
+        output.seek(0)
+        errors.seek(0)
+        told = errors.read().decode()
+        if output.read().decode() != wanted:
+            return "other entries are shown"
+    if os.waitstatus_to_exitcode(status) != (1 if line else 0):
+        return f"status {status}"
+    if not told.startswith(f"irp_view: transcript refused: line {line}" if line else "") or bool(told) != bool(line):
+        return f"tells {told!r}"
+    if usage.ru_maxrss > MOST_MEMORY:
+        return f"took {usage.ru_maxrss} KiB"
+    return None
+
+
 def main():
     irpx, irp_view = sys.argv[1:3]
     tried = wrong = 0
+    for name, words, text, wanted, line in listings():
+        fault = fault_of_listing(irp_view, words, text, wanted, line)
+        tried += 1
+        if fault:
+            wrong += 1
+            print(f"failed: long texts: {name}, {' '.join(words)}: {fault}")
     for name, whole, told in texts():
         with tempfile.TemporaryFile() as file:
             file.write(whole)

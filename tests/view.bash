@@ -1,7 +1,8 @@
 #!/bin/bash
 # Shows that `irp_view text` and `irp_view packet` show the entries that their words ask for: a use of a packet, a span,
-# or all, with word lines only behind all; and what they say of a completion that a right driver leaves out, and of one
-# that is a mistake. IRP_VIEW names the program; without it, it is the one that bin/irp_view runs.
+# or all, with word lines only behind all; that entries are shown as they are read, also before a line that is refused;
+# and what they say of a completion that a right driver leaves out, and of one that is a mistake. IRP_VIEW names the
+# program; without it, it is the one that bin/irp_view runs.
 # Each failure has a line of its own. Ends with status 0 where all was as expected, else with 1.
 set -u
 cd "$(dirname "$(readlink -f "$0")")" || exit 1
@@ -46,6 +47,51 @@ locks=$(grep -l '"tag"' ../examples/removal/*.transcript | head -n 1)
 shows_steps "$(grep -c '"step"' "$locks")" text "$locks"
 shows_steps 0 text --entries 0.. "$locks"
 shows_steps 0 packet 0 1 "$locks"
+
+# Checks that of the transcript in $room/refused, whose line $1 is refused with the words $2, the words from $4 on show
+# what they show, with --entries ..$3, of the transcript that isn't.
+stands_before() {
+    local wanted got status
+    tried=$((tried + 1))
+    wanted=$("$irp_view" "${@:4}" --entries "..$3" "$cancels")
+    got=$("$irp_view" "${@:4}" "$room/refused" 2>"$room/told")
+    status=$?
+    [ "$status" = 1 ] && [ "$got" = "$wanted" ] &&
+        [ "$(cat "$room/told")" = "irp_view: transcript refused: line $1$2" ] && return
+    wrong=$((wrong + 1))
+    echo "failed: view: ${*:4} before line $1, which is refused: status $status, $(cat "$room/told"), $got"
+}
+
+room=$(mktemp -d) || exit 1
+trap 'rm -rf "$room"' EXIT
+# Line 1 is the header, so line 12 would be entry 10.
+sed '12s/^/!/' "$cancels" >"$room/refused"
+stands_before 12 ', column 1: this isn'"'"'t JSON' 10 text
+stands_before 12 ', column 1: this isn'"'"'t JSON' 10 packet 0 1
+shows '3 4' text --entries 3..5 "$room/refused"
+shows '8 9' text --entries 8.. "$room/refused"
+shows '' text --entries 10.. "$room/refused"
+shows '4 5' packet 0 1 --entries 4..6 "$room/refused"
+sed 's/^/!/' "$cancels" >"$room/refused"
+stands_before 1 ', column 1: this isn'"'"'t JSON' 0 text
+head -c -1 "$cancels" >"$room/refused"
+stands_before "$(wc -l <"$cancels")" ': the last line has no newline' $(($(wc -l <"$cancels") - 2)) text
+
+# What stands for an entry is shown before the next line comes.
+tried=$((tried + 1))
+coproc view { "$irp_view" text; }
+pid=$view_PID
+head -n 2 "$cancels" >&"${view[1]}"
+read -r -t 60 line <&"${view[0]}"
+case $line in
+'0  '*) ;;
+*)
+    wrong=$((wrong + 1))
+    echo "failed: view: text shows '$line' of a first entry before a second comes"
+    ;;
+esac
+eval "exec ${view[1]}>&-"
+wait "$pid" 2>/dev/null
 
 # Checks that the line of entry $1 of the transcript $3 ends with $2.
 ends() {

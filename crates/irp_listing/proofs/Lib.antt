@@ -1,3 +1,3 @@
 pub mod Adding
-pub mod Sending
+pub mod Chosen
 pub mod Telling

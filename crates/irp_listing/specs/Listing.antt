@@ -1,13 +1,11 @@
 -- The blocks of the entries that are chosen, and what of them went out.
-use Rattle.std.specs.Prelude.{ℕ, ◌≡◌, ◌⊎◌, List, [], ◌∷◌, ◌++◌, codes, take, Option}
-use Rattle.std.specs.Io.KnownBytes.{Appends}
+use Rattle.std.specs.Prelude.{ℕ, ◌≡◌, ◌⊎◌, List, [], ◌∷◌, ◌++◌, codes, Option}
 use Rattle.irp_types.specs.declared.entry.Entry.{Entry}
 use Rattle.irp_listing.specs.Blocks.{AddsLines, IsBlock}
 use Rattle.irp_listing.specs.Bytes.{Bytes}
 use Rattle.irp_listing.specs.Choosing.{IsChosen}
-use Rattle.irp_listing.specs.Writing.{Written, count_after}
+use Rattle.irp_listing.specs.Writing.{Written}
 use Rattle.irp_types.specs.declared.names.IrpRef.{IrpRef}
-use Rattle.irp_listing.specs.declared.writing.Unwritten.{Unwritten}
 
 -- this text stands for an entry: its block where it is chosen, and else nothing
 abbrev pub StandsFor : Option IrpRef → Entry → List ℕ → Type 0
@@ -26,30 +24,11 @@ pub record AddsChosen (only : Option IrpRef) (entry : Entry) (before after : Lis
   pub stands : StandsFor only entry text
   pub put : after ≡ before ++ text
 
--- of what was gathered this was sent, and this is still to be sent
-pub record SendsPiece (gathered left : List ℕ) (old new : Bytes) (before after : ℕ) : Type 0 where
-  pub sent : List ℕ
-  pub whole : gathered ≡ sent ++ left
-  pub gone : Appends old new sent
-  pub calm : after ≡ before
-
 -- what stands for these entries went out, and nothing failed
 pub record Lists (only : Option IrpRef) (entries : List Entry) (old new : Bytes) (before after : ℕ) : Type 0 where
   pub text : List ℕ
   pub listing : IsListing only entries text
   pub written : Written text old new before after
-
--- a beginning of what stands for the first so many of these entries went out, before this fault
-pub record ListsPart (only : Option IrpRef) (entries : List Entry) (old new : Bytes) (before after : ℕ)
-    (fault : Unwritten) : Type 0 where
-  pub count : ℕ
-  pub text : List ℕ
-  pub listing : IsListing only (take count entries) text
-  pub front : List ℕ
-  pub rest : List ℕ
-  pub whole : text ≡ front ++ rest
-  pub gone : Appends old new front
-  pub count_is : after ≡ count_after fault before
 
 -- the heading above word lines
 abbrev pub words_heading : List ℕ

@@ -16,7 +16,7 @@ pub use blocks::{CallerWords, put_block};
 pub use choosing::{Choice, is_chosen};
 pub use leaving::{late_completion, taken_out};
 pub use lines::{put_line, put_row};
-pub use listing::{list, stacks_after, words_text};
+pub use listing::{put_chosen, words_text};
 pub use outcome::{Outcome, moves, outcome_of};
 pub use questions::AskedWords;
 pub use stacks::Stacks;

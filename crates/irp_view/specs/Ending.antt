@@ -18,8 +18,8 @@ use Rattle.irp_view.specs.declared.ending.Ending.TheVariants.{
 }
 use Rattle.irp_view.specs.declared.ending.NoOpen.{NoOpen}
 use Rattle.irp_view.specs.declared.ending.NoOpen.TheVariants.{Missing, Denied, Other}
-use Rattle.irp_view.specs.declared.input.StreamFault.{StreamFault}
-use Rattle.irp_view.specs.declared.input.StreamFault.TheVariants as stream
+use Rattle.irp_view.specs.declared.listing.Unshown.{Unshown}
+use Rattle.irp_view.specs.declared.listing.Unshown.TheVariants as unshown
 use Rattle.irp_view.specs.declared.orders.Unasked.{Unasked}
 use Rattle.irp_view.specs.declared.orders.Unasked.TheVariants as unasked
 use Rattle.irp_view.specs.declared.reading.Unread.{Unread}
@@ -32,14 +32,9 @@ abbrev pub of_words : Unasked → Ending
 of_words unasked.Usage = OtherWords
 of_words unasked.NoMemory = NoMemory
 
--- an input that wasn't read
-abbrev pub of_stream : StreamFault → Ending
-of_stream stream.Failed = Failed
-of_stream stream.NoMemory = NoMemory
-
 -- no transcript
 abbrev pub of_unread : Unread → Ending
-of_unread (unread.Input fault) = of_stream fault
+of_unread unread.Input = Failed
 of_unread (unread.Refused line expected) = Refused line expected
 of_unread unread.NoMemory = NoMemory
 
@@ -47,6 +42,11 @@ of_unread unread.NoMemory = NoMemory
 abbrev pub of_unwritten : Unwritten → Ending
 of_unwritten unwritten.Failed = Failed
 of_unwritten unwritten.NoMemory = NoMemory
+
+-- entries that weren't all shown
+abbrev pub of_unshown : Unshown → Ending
+of_unshown (unshown.Unread fault) = of_unread fault
+of_unshown (unshown.Unwritten fault) = of_unwritten fault
 
 -- a verdict that was told
 abbrev pub of_verdict : Verdict → Ending

@@ -1,12 +1,14 @@
 -- What the program does for its words.
-use Rattle.std.specs.Prelude.{ℕ, ◌≡◌, ◌⊎◌, List, MatchResult, Result}
+use Rattle.std.specs.Prelude.{ℕ, ◌≡◌, ◌⊎◌, List, MatchResult, Option, Result}
+use Rattle.irp_types.specs.declared.names.IrpRef.{IrpRef}
 use Rattle.irp_transcript.specs.Transcripts.{TranscriptValue}
 use Rattle.irp_judge.specs.declared.verdict.Verdict.{Verdict}
 use Rattle.irp_listing.specs.Bytes.{Bytes}
 use Rattle.irp_listing.specs.Writing.{BreaksOff, IsQuiet, Written}
 use Rattle.irp_listing.specs.declared.writing.Unwritten.{Unwritten}
 use Rattle.irp_page.specs.Drawing.{Draws, DrawsPart}
-use Rattle.irp_view.specs.Ending.{ending_of, of_unread, of_verdict}
+use Rattle.irp_view.specs.Ending.{ending_of, of_unread, of_unwritten, of_verdict}
+use Rattle.irp_view.specs.Listed.{BreaksAt, StopsAt}
 use Rattle.irp_view.specs.Reading.{Holds, HoldsNone}
 use Rattle.irp_view.specs.Showing.{Shows, ShowsPart}
 use Rattle.irp_view.specs.Telling.{Says, SaysNothing}
@@ -14,6 +16,7 @@ use Rattle.irp_view.specs.declared.ending.Ending.{Ending}
 use Rattle.irp_view.specs.declared.ending.Ending.TheVariants.{Done}
 use Rattle.irp_view.specs.declared.orders.Order.{Order}
 use Rattle.irp_view.specs.declared.orders.Order.TheVariants.{Help, Read}
+use Rattle.irp_view.specs.declared.orders.Span.{Span}
 use Rattle.irp_view.specs.declared.orders.Task.{Task}
 use Rattle.irp_view.specs.declared.orders.Task.TheVariants.{Why, List as Listing, Draw}
 use Rattle.irp_view.specs.declared.reading.Unread.{Unread}
@@ -68,7 +71,28 @@ ReadsNone before after ending =
     (unread : Unread) × HoldsNone before.left after.left unread × (ending ≡ of_unread unread)
     × IsQuiet before.output.gone after.output.gone before.output.failures after.output.failures
 
--- what was done: the help; or what is asked of the transcript in the input, if there is one
+-- it holds none, which was found behind the first lines of its text: what stands for their entries went out
+pub record ShowsBefore (only : Option IrpRef) (span : Option Span) (before after : Streams) (ending : Ending) : Type 0 where
+  pub unread : Unread
+  pub stops :
+      StopsAt only span before.left after.left unread
+      before.output.gone after.output.gone before.output.failures after.output.failures
+  pub ending_is : ending ≡ of_unread unread
+
+-- the output failed, or memory ran out for it, behind the first lines of the input's text: a beginning of what stands
+-- for their entries went out
+pub record BreaksBefore (only : Option IrpRef) (span : Option Span) (before after : Streams) (ending : Ending) : Type 0 where
+  pub fault : Unwritten
+  pub breaks :
+      BreaksAt only span before.left after.left fault
+      before.output.gone after.output.gone before.output.failures after.output.failures
+  pub ending_is : ending ≡ of_unwritten fault
+
+-- what was done: the help; or what is asked of the transcript in the input, if there is one. Entries are shown as they
+-- are read
 abbrev pub Obeys : Order → Streams → Streams → Ending → Type 0
 Obeys Help before after ending = (after.left ≡ before.left) × Helped before.output after.output ending
+Obeys (Read (Listing only span)) before after ending =
+    AnswersRead (Listing only span) before after ending
+    ⊎ (ShowsBefore only span before after ending ⊎ BreaksBefore only span before after ending)
 Obeys (Read task) before after ending = AnswersRead task before after ending ⊎ ReadsNone before after ending

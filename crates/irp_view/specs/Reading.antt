@@ -37,8 +37,14 @@ IsRefused text line = ReadsFrom no_lines 0 (Err (fault.Line line)) (cut text)
 -- why a text is no transcript's: its first line that is refused, or want of memory
 abbrev pub IsTextOfNone : List ℕ → Unread → Type 0
 IsTextOfNone text (Refused line expected) = IsRefused text line
-IsTextOfNone text (Input fault) = ⊥
+IsTextOfNone text Input = ⊥
 IsTextOfNone text NoMemory = Unit {0}
+
+-- why this text in the input is no transcript's; where it is refused it is the whole text
+abbrev pub IsNoneOf : Bytes → Bytes → List ℕ → Unread → Type 0
+IsNoneOf old new text (Refused line expected) = IsInput old new text × IsRefused text line
+IsNoneOf old new text Input = Unit {0}
+IsNoneOf old new text NoMemory = Unit {0}
 
 -- the input holds the text of this transcript
 abbrev pub Holds : Bytes → Bytes → TranscriptValue → Type 0
@@ -48,5 +54,5 @@ Holds old new transcript = (text : List ℕ) × IsInput old new text × IsTextOf
 -- memory
 abbrev pub HoldsNone : Bytes → Bytes → Unread → Type 0
 HoldsNone old new (Refused line expected) = (text : List ℕ) × IsInput old new text × IsRefused text line
-HoldsNone old new (Input fault) = Unit {0}
+HoldsNone old new Input = Unit {0}
 HoldsNone old new NoMemory = Unit {0}

@@ -1,5 +1,5 @@
 -- The entries of a transcript as text, and what of it went out.
-use Rattle.std.specs.Prelude.{ℕ, ◌≡◌, ◌≤◌, ◌⊎◌, List, [], ◌++◌, take, drop, length, Option, None, Some}
+use Rattle.std.specs.Prelude.{ℕ, ◌≡◌, ◌≤◌, ◌⊎◌, List, [], ◌∷◌, ◌++◌, take, drop, length, Bool, true, false, Option, None, Some}
 use Rattle.std.specs.Io.KnownBytes.{Appends}
 use Rattle.irp_types.specs.declared.entry.Entry.{Entry}
 use Rattle.irp_types.specs.declared.names.IrpRef.{IrpRef}
@@ -15,6 +15,11 @@ use Rattle.irp_view.specs.declared.orders.Span.{Span}
 abbrev pub part_of : Option Span → List Entry → List Entry
 part_of None entries = entries
 part_of (Some span) entries = drop span.from (take span.to entries)
+
+-- the entries that are wanted, and one more if that is
+abbrev pub with_wanted : Bool → List Entry → Entry → List Entry
+with_wanted true entries entry = entries ++ entry ∷ []
+with_wanted false entries entry = entries
 
 -- the text for word lines, where all entries are shown; nothing where some are chosen
 abbrev pub AreWordsFor : Option IrpRef → Option Span → List WordLine → List ℕ → Type 0

@@ -2,9 +2,9 @@
 
 ghost use Rattle.std.specs.Prelude.{◌≡◌};
 ghost use Rattle.std.specs.Process.{exit_status};
-ghost use Rattle.irp_view.specs.Ending.{has_line, of_stream, of_unread, of_unwritten, of_verdict, of_words, status_of};
+ghost use Rattle.irp_view.specs.Ending.{has_line, of_unread, of_unshown, of_unwritten, of_verdict, of_words, status_of};
 
-use crate::input::StreamFault;
+use crate::listing::Unshown;
 use crate::orders::Unasked;
 use crate::reading::Unread;
 use crate::refusal::Expected;
@@ -124,25 +124,25 @@ impl From<Unasked> for Ending {
     }
 }
 
-impl From<StreamFault> for Ending {
-    ghost from_gives = { λ given ending. ending ≡ of_stream given };
-
-    fn from(given: StreamFault) -> Ending {
-        match given {
-            StreamFault::Failed => Ending::Failed,
-            StreamFault::NoMemory => Ending::NoMemory,
-        }
-    }
-}
-
 impl From<Unread> for Ending {
     ghost from_gives = { λ given ending. ending ≡ of_unread given };
 
     fn from(given: Unread) -> Ending {
         match given {
-            Unread::Input(fault) => Ending::from(fault),
+            Unread::Input => Ending::Failed,
             Unread::Refused { line, expected } => Ending::Refused { line, expected },
             Unread::NoMemory => Ending::NoMemory,
+        }
+    }
+}
+
+impl From<Unshown> for Ending {
+    ghost from_gives = { λ given ending. ending ≡ of_unshown given };
+
+    fn from(given: Unshown) -> Ending {
+        match given {
+            Unshown::Unread(unread) => Ending::from(unread),
+            Unshown::Unwritten(fault) => Ending::from(fault),
         }
     }
 }

@@ -5,30 +5,19 @@ ghost use Rattle.std.specs.Prelude.{ℕ, ◌≡◌, ◌+◌, ◌<◌, ◌≤◌,
 ghost use Rattle.irp_types.specs.declared.entry.Entry.{Entry};
 ghost use Rattle.irp_judge.specs.Judges.{seen};
 ghost use Rattle.irp_judge.specs.Judging.{HasJudged};
-ghost use Rattle.irp_text.specs.Fed.{HasRead, IsInPlace, with_line};
+ghost use Rattle.irp_text.specs.Fed.{IsInPlace, with_line};
 ghost use Rattle.irp_transcript.specs.Headers.{IsHeader};
-ghost use Rattle.irp_transcript.specs.Transcripts.{TranscriptValue, no_lines};
+ghost use Rattle.irp_transcript.specs.Transcripts.{TranscriptValue};
 ghost use Rattle.irp_listing.specs.Bytes.{Bytes};
 ghost use Rattle.irp_view.specs.Reading.{most_bytes};
 ghost use Rattle.irp_view.specs.Drafts.{AreDrafted, choice_of};
-ghost use Rattle.irp_view.specs.Judging.{
-  AreJudged,
-  Concludes,
-  Ends,
-  EndsWith,
-  Fails,
-  IsHopeless,
-  IsKept,
-  IsSoFar,
-  IsStart,
-  JudgesBlock,
-  Starts,
-};
+ghost use Rattle.irp_view.specs.Feeding.{Starts};
+ghost use Rattle.irp_view.specs.Judging.{AreJudged, Concludes, Ends, EndsWith, IsKept, JudgesBlock};
 
 use crate::drawing::draft_line;
 use crate::input::{BLOCK, take_block};
-use crate::lines::{Lines, before_more};
-use crate::reading::{MOST_BYTES, Unread};
+use crate::lines::Lines;
+use crate::reading::{Start, Unread, read_header, refuse};
 use irp_judge::{Judge, Wrong};
 use irp_page::Draft;
 use irp_text::{Ahead, Line, count_threads};
@@ -164,87 +153,6 @@ fn judge_block(
     Ok(())
 }
 
-/// Takes the rest of an input whose text isn't read to its end, and tells why it holds no transcript: where the rest
-/// can't be taken, or is too long, since the input failed.
-fn refuse<R: Read>(input: &mut R, buffer: &mut [u8], left: usize, unread: Unread) -> Unread
-    requires few { left ≤ most_bytes }
-    requires room { 0 < length buffer.old }
-    ensures { (old : Bytes) (text : List ℕ) → IsSoFar old (R.remaining input.old) left text
-        → IsHopeless unread text → Fails old (R.remaining input.new) result }
-{
-    let (mut left, mut unread) = (left, unread);
-    loop {
-        let count = match take_block(input, buffer, left) {
-            Ok(count) => count,
-            Err(failed) => return Unread::Input(failed),
-        };
-        if count == 0 {
-            return unread;
-        }
-        unread = before_more(unread, &buffer[..count]);
-        left -= count;
-    }
-}
-
-/// A text whose header was read.
-#[derive(Drop)]
-pub struct Start {
-    /// The header.
-    pub header: Header,
-    /// Where in the buffer what follows it begins.
-    pub from: usize,
-    /// Where in the buffer that ends.
-    pub to: usize,
-    /// How many bytes may follow in the input.
-    pub left: usize,
-}
-
-/// Reads the header of an input's text, of which nothing was read yet. None where the text has no lines.
-fn read_header<R: Read>(
-    alloc: Global,
-    input: &mut R,
-    buffer: &mut [u8],
-    lines: &mut Lines,
-) -> Result<Option<Start>, Unread>
-    requires room { 0 < length buffer.old }
-    requires fresh { HasRead lines.old.reader [] no_lines }
-    ensures start { IsStart (R.remaining input.old) (R.remaining input.new) result lines.new.reader
-        buffer.new }
-    ensures room { length buffer.new ≡ length buffer.old }
-{
-    let mut left = MOST_BYTES;
-    loop {
-        let to = match take_block(input, buffer, left) {
-            Ok(to) => to,
-            Err(failed) => return Err(Unread::Input(failed)),
-        };
-        if to == 0 {
-            return match lines.finish() {
-                Ok(()) => Ok(None),
-                Err(unread) => Err(unread),
-            };
-        }
-        left -= to;
-        let read = match lines.next(alloc, &buffer[..to], &mut Ahead::none(alloc)) {
-            Ok(read) => read,
-            Err(unread) => return Err(refuse(input, buffer, left, unread)),
-        };
-        let Some(taken) = read else {
-            continue;
-        };
-        let (line, from) = taken;
-        let Line::Header(header) = line else {
-            unreachable!();
-        };
-        return Ok(Some(Start {
-            header,
-            from,
-            to,
-            left,
-        }));
-    }
-}
-
 /// What was found in a text that was read to its end.
 fn found_in(lines: &Lines, judge: Judge, kept: Kept) -> Result<Found, Unread>
     ensures choice { IfOk result (λ found. choice_of found.draft ≡ choice_of kept.draft) }
@@ -300,7 +208,7 @@ fn judge_rest<R: Read, T: Threads + Sync>(
         from = 0;
         to = match take_block(input, buffer, left) {
             Ok(count) => count,
-            Err(failed) => return Err(Unread::Input(failed)),
+            Err(_) => return Err(Unread::Input),
         };
         if to == 0 {
             return found_in(lines, judge, kept);
@@ -315,8 +223,9 @@ fn judge_rest<R: Read, T: Threads + Sync>(
 ///
 /// # Errors
 ///
-/// Those of `reading::transcript_of`.
-#[tactic(auto, using(crate::proofs::Fed::finds_nothing))]
+/// `Refused` with the number of the first line that is refused, where the input isn't the text of a transcript; `Input`
+/// where the input failed, or has more than 1,073,741,824 bytes; `NoMemory` where memory ran out.
+#[tactic(auto, using(crate::proofs::Judged::finds_nothing))]
 pub fn judge_input<R: Read, T: Threads + Sync>(
     rt: &T,
     alloc: Global,

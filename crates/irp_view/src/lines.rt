@@ -3,7 +3,7 @@
 ghost use Rattle.std.specs.Prelude.{ℕ, ◌≡◌, ◌+◌, ◌<◌, ◌≤◌, ◌^◌, List, [], length, IfOk, IfSome};
 ghost use Rattle.irp_text.specs.Fed.{HasRead};
 ghost use Rattle.irp_transcript.specs.Transcripts.{TranscriptValue, no_lines};
-ghost use Rattle.irp_view.specs.Judging.{IsEnd, IsHopeless, Reads, unread_of};
+ghost use Rattle.irp_view.specs.Feeding.{IsEnd, IsHopeless, Reads, unread_of};
 
 use crate::reading::Unread;
 use crate::refusal::{Before, Expected, bounds_of, expected_in};

@@ -1,80 +1,111 @@
-//! The transcript that the input holds.
+//! The text of an input, up to its header, and behind a line that is refused.
 
-ghost use Rattle.std.specs.Prelude.{IfErr, IfOk, ◌≡◌};
-ghost use Rattle.irp_view.specs.Reading.{Holds, HoldsNone, IsInput, IsTextOf, IsTextOfNone, TakesAtMost, most_taken};
+ghost use Rattle.std.specs.Prelude.{ℕ, ◌≡◌, ◌<◌, ◌≤◌, List, [], length};
+ghost use Rattle.irp_listing.specs.Bytes.{Bytes};
+ghost use Rattle.irp_text.specs.Fed.{HasRead};
+ghost use Rattle.irp_transcript.specs.Transcripts.{no_lines};
+ghost use Rattle.irp_view.specs.Feeding.{FailsBehind, IsHopeless, IsSoFar, IsStart};
+ghost use Rattle.irp_view.specs.Reading.{most_bytes};
 
-use crate::input::{StreamFault, read_up_to};
-use crate::refusal::{Expected, expected_at};
-use irp_text::{ReadFault, read_transcript};
-use irp_transcript::Transcript;
+use crate::input::take_block;
+use crate::lines::{Lines, before_more};
+use crate::refusal::Expected;
+use irp_text::{Ahead, Line};
+use irp_transcript::Header;
 use std::alloc::Global;
 use std::io::Read;
 
 /// As many bytes as the text of a transcript may have.
-pub const MOST_BYTES: usize = 1_073_741_824;
+const MOST_BYTES: usize = 1_073_741_824;
 
 /// Why the input holds no transcript.
 #[derive(Drop)]
 pub enum Unread {
-    /// The input wasn't read. One that is too long counts as failed.
-    Input(StreamFault),
+    /// The input failed. One that is too long counts as failed.
+    Input,
     /// The text isn't a transcript's: this line, from 1, is the first that is refused, and what was expected there.
     Refused { line: u64, expected: Expected },
     /// Memory ran out for the transcript.
     NoMemory,
 }
 
-impl From<StreamFault> for Unread {
-    ghost use Rattle.irp_view.specs.declared.reading.Unread.TheVariants.{Input};
-
-    ghost from_gives = { λ fault unread. unread ≡ Input fault };
-
-    fn from(fault: StreamFault) -> Unread {
-        Unread::Input(fault)
+/// Takes the rest of an input whose text isn't read to its end, and tells why it holds no transcript: where the rest
+/// can't be taken, or is too long, since the input failed.
+pub fn refuse<R: Read>(input: &mut R, buffer: &mut [u8], left: usize, unread: Unread) -> Unread
+    requires few { left ≤ most_bytes }
+    requires room { 0 < length buffer.old }
+    ensures { (old : Bytes) (text : List ℕ) → IsSoFar old (R.remaining input.old) left text
+        → IsHopeless unread text → FailsBehind text old (R.remaining input.new) result }
+{
+    let (mut left, mut unread) = (left, unread);
+    loop {
+        let count = match take_block(input, buffer, left) {
+            Ok(count) => count,
+            Err(_) => return Unread::Input,
+        };
+        if count == 0 {
+            return unread;
+        }
+        unread = before_more(unread, &buffer[..count]);
+        left -= count;
     }
 }
 
-/// What is left of the input. It fails where it can't be read, or is too long.
-fn text_of<R: Read>(alloc: Global, input: &mut R) -> Result<Vec<u8>, StreamFault>
-    ensures ok { IfOk result (λ text.
-        IsInput (R.remaining input.old) (R.remaining input.new) text.items) }
-    ensures took { TakesAtMost most_taken (R.remaining input.old) (R.remaining input.new) }
-{
-    let text = read_up_to(alloc, input, MOST_BYTES + 1)?;
-    if text.len() > MOST_BYTES {
-        return Err(StreamFault::Failed);
-    }
-    Ok(text)
+/// A text whose header was read.
+#[derive(Drop)]
+pub struct Start {
+    /// The header.
+    pub header: Header,
+    /// Where in the buffer what follows it begins.
+    pub from: usize,
+    /// Where in the buffer that ends.
+    pub to: usize,
+    /// How many bytes may follow in the input.
+    pub left: usize,
 }
 
-/// The transcript of this text. The fault where the text is refused, or memory ran out.
-fn read(alloc: Global, text: &[u8]) -> Result<Transcript, Unread>
-    ensures ok { IfOk result (IsTextOf text.now) }
-    ensures err { IfErr result (IsTextOfNone text.now) }
+/// Reads the header of an input's text, of which nothing was read yet. None where the text has no lines.
+pub fn read_header<R: Read>(
+    alloc: Global,
+    input: &mut R,
+    buffer: &mut [u8],
+    lines: &mut Lines,
+) -> Result<Option<Start>, Unread>
+    requires room { 0 < length buffer.old }
+    requires fresh { HasRead lines.old.reader [] no_lines }
+    ensures start { IsStart (R.remaining input.old) (R.remaining input.new) result lines.new.reader
+        buffer.new }
+    ensures room { length buffer.new ≡ length buffer.old }
 {
-    match read_transcript(alloc, text) {
-        Ok(transcript) => Ok(transcript),
-        Err(ReadFault::Line(line)) => Err(Unread::Refused {
-            line,
-            expected: expected_at(alloc, text, line),
-        }),
-        Err(ReadFault::NoMemory) => Err(Unread::NoMemory),
+    let mut left = MOST_BYTES;
+    loop {
+        let to = match take_block(input, buffer, left) {
+            Ok(to) => to,
+            Err(_) => return Err(Unread::Input),
+        };
+        if to == 0 {
+            return match lines.finish() {
+                Ok(()) => Ok(None),
+                Err(unread) => Err(unread),
+            };
+        }
+        left -= to;
+        let read = match lines.next(alloc, &buffer[..to], &mut Ahead::none(alloc)) {
+            Ok(read) => read,
+            Err(unread) => return Err(refuse(input, buffer, left, unread)),
+        };
+        let Some(taken) = read else {
+            continue;
+        };
+        let (line, from) = taken;
+        let Line::Header(header) = line else {
+            unreachable!();
+        };
+        return Ok(Some(Start {
+            header,
+            from,
+            to,
+            left,
+        }));
     }
-}
-
-/// The transcript that the input holds, which is read up to its end: at most 1,073,741,825 bytes are taken, one more
-/// than the text may have.
-///
-/// # Errors
-///
-/// `Refused` with the number of the first line that is refused, where the input isn't the text of a transcript; `Input`
-/// where the input failed, has more than 1,073,741,824 bytes, or memory ran out for it; `NoMemory` where memory ran out
-/// later.
-pub fn transcript_of<R: Read>(alloc: Global, input: &mut R) -> Result<Transcript, Unread>
-    ensures ok { IfOk result (Holds (R.remaining input.old) (R.remaining input.new)) }
-    ensures err { IfErr result (HoldsNone (R.remaining input.old) (R.remaining input.new)) }
-    ensures took { TakesAtMost most_taken (R.remaining input.old) (R.remaining input.new) }
-{
-    let text = text_of(alloc, input)?;
-    read(alloc, text.as_slice())
 }

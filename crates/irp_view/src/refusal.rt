@@ -4,8 +4,7 @@ ghost use Rattle.std.specs.Prelude.{◌≡◌};
 ghost use Rattle.irp_view.specs.Refusals.{plain_text};
 
 use irp_expected::{Before as Bounds, misfit_of};
-use irp_text::read_transcript;
-use irp_transcript::{Form, Header, Transcript};
+use irp_transcript::{Form, Header};
 use irp_transcript_reader::MOST_BYTES;
 use irp_types::limits::MOST_ENTRIES;
 use memchr::memchr;
@@ -63,26 +62,6 @@ fn plain_text(expected: &Expected) -> &'static str
     }
 }
 
-/// What follows the first newline, if there is one.
-fn behind_newline(text: &[u8]) -> Option<&[u8]> {
-    match memchr(b'\n', text) {
-        Some(place) => Some(&text[place + 1..]),
-        None => None,
-    }
-}
-
-/// What is left of a text from this line on, which is counted from 1.
-fn rest_from(text: &[u8], line: u64) -> &[u8] {
-    let mut rest = text;
-    for _ in 1..line {
-        match behind_newline(rest) {
-            Some(more) => rest = more,
-            None => return rest,
-        }
-    }
-    rest
-}
-
 /// What stands before a line, as far as it tells what is expected of the line.
 #[derive(Clone, Copy)]
 pub struct Before {
@@ -99,19 +78,6 @@ pub fn bounds_of(header: &Header) -> Bounds {
     Bounds::Header {
         two: matches!(header.form, Form::Two { .. }),
         seats: header.seats,
-    }
-}
-
-/// What stands in a transcript's lines.
-fn before_of(transcript: &Transcript) -> Before {
-    let bounds = match transcript.header() {
-        Some(header) => bounds_of(header),
-        None => Bounds::Nothing,
-    };
-    Before {
-        bounds,
-        entries: transcript.entries().len(),
-        words: !transcript.words().is_empty(),
     }
 }
 
@@ -143,18 +109,6 @@ fn value_of(alloc: Global, line: &[u8]) -> Result<Value, Expected> {
     }
 }
 
-/// What was expected of this line behind the text of those before it.
-fn expected_of_line(alloc: Global, before: &[u8], line: &[u8]) -> Expected {
-    let value = match value_of(alloc, line) {
-        Ok(value) => value,
-        Err(expected) => return expected,
-    };
-    match read_transcript(alloc, before) {
-        Ok(transcript) => expected_behind(alloc, before_of(&transcript), line, &value),
-        Err(_) => Expected::Fitting,
-    }
-}
-
 /// What was expected of a line that begins like this and ends in this block, on condition that it is the first that is
 /// refused. `Newline` where it doesn't end in the block.
 pub fn expected_in(alloc: Global, before: Before, beginning: &[u8], block: &[u8]) -> Expected {
@@ -174,18 +128,4 @@ pub fn expected_in(alloc: Global, before: Before, beginning: &[u8], block: &[u8]
         Ok(value) => expected_behind(alloc, before, line.as_slice(), &value),
         Err(expected) => expected,
     }
-}
-
-/// What was expected of a text's line, counted from 1, on condition that it is the first that is refused. It says no
-/// more than can be told of the line without its reader.
-pub fn expected_at(alloc: Global, text: &[u8], line: u64) -> Expected {
-    let rest = rest_from(text, line);
-    let Some(place) = memchr(b'\n', rest) else {
-        return Expected::Newline;
-    };
-    if place > MOST_BYTES {
-        return Expected::Shorter;
-    }
-    let before = &text[..text.len().saturating_sub(rest.len())];
-    expected_of_line(alloc, before, &rest[..place])
 }

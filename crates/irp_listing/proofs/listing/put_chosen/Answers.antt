@@ -1,6 +1,6 @@
 -- An entry that isn't chosen is passed over; of another the block is put.
 use Rattle.std.proofs.lemmas.Result.{on_ok_weaker}
-use Rattle.irp_listing.proofs.Sending.{passes_over, puts_chosen}
+use Rattle.irp_listing.proofs.Chosen.{passes_over, puts_chosen}
 use Rattle.irp_listing.proofs.listing.put_chosen.Goals as goal
 
 pub returns-then-not-is_chosen : goal.returns-then-not-is_chosen

@@ -1,7 +1,7 @@
 -- What was found.
 use Rattle.std.proofs.Common.{refl, arith}
 use Rattle.irp_judge.specs.Judges.{seen}
-use Rattle.irp_view.proofs.Fed.{finds}
+use Rattle.irp_view.proofs.Judged.{finds}
 use Rattle.irp_view.proofs.judging.found_in.Goals as goal
 
 pub returns-clause-found : goal.returns-clause-found

@@ -5,9 +5,10 @@ use Rattle.std.proofs.lemmas.Result.{err_from_is_err_and}
 use Rattle.irp_judge.specs.Judges.{seen}
 use Rattle.irp_text.specs.Fed.{Gives}
 use Rattle.irp_text.specs.declared.line.Line.{Line}
-use Rattle.irp_view.specs.Judging.{IsHopeless}
+use Rattle.irp_view.specs.Feeding.{IsHopeless}
 use Rattle.irp_view.specs.declared.reading.Unread.{Unread}
-use Rattle.irp_view.proofs.Fed.{IsWithin, fits_within, hopeless_within, kept_within, on_within}
+use Rattle.irp_view.proofs.Fed.{fits_within}
+use Rattle.irp_view.proofs.Judged.{IsWithin, hopeless_within, kept_within, on_within}
 use Rattle.irp_view.proofs.judging.judge_block.Goals as goal
 
 pub returns-in_err-taken-clause-judged : goal.returns-in_err-taken-clause-judged

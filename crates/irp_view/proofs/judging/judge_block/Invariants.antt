@@ -4,7 +4,7 @@ use Rattle.irp_judge.specs.Judges.{seen}
 use Rattle.irp_view.specs.Reading.{most_bytes}
 use Rattle.irp_view.specs.Drafts.{choice_of}
 use Rattle.irp_view.specs.Judging.{AreJudged}
-use Rattle.irp_view.proofs.Fed.{IsWithin}
+use Rattle.irp_view.proofs.Judged.{IsWithin}
 use Rattle.irp_view.proofs.judging.judge_block.Given as goal
 
 abbrev pub invariant-loop-rest : goal.invariant-loop-rest

@@ -1,7 +1,7 @@
 -- The entry is kept unless one before it is wrong.
 use Rattle.std.proofs.Common.{ap, sym, ◌∙◌, is_some}
 use Rattle.irp_judge.specs.Judges.{seen}
-use Rattle.irp_view.proofs.Fed.{copied_some, keeps_first, keeps_still}
+use Rattle.irp_view.proofs.Judged.{copied_some, keeps_first, keeps_still}
 use Rattle.irp_view.proofs.judging.judge_entry.Goals as goal
 
 pub returns-then-not-found-clause-judged : goal.returns-then-not-found-clause-judged

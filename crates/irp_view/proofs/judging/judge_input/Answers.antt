@@ -1,8 +1,8 @@
 -- The header was read, and then the rest; or what stopped it.
 use Rattle.std.proofs.Common.{Option, Ok, subst}
 use Rattle.std.proofs.lemmas.Result.{err_from_is_err_and}
-use Rattle.irp_view.specs.Judging.{IsStart}
-use Rattle.irp_view.specs.declared.judging.Start.{Start}
+use Rattle.irp_view.specs.Feeding.{IsStart}
+use Rattle.irp_view.specs.declared.reading.Start.{Start}
 use Rattle.irp_view.proofs.judging.judge_input.Goals as goal
 
 pub returns-in_err-found-clause-ends : goal.returns-in_err-found-clause-ends

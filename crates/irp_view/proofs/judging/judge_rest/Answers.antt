@@ -1,14 +1,15 @@
 -- Block after block is judged, up to the end of the input.
 use Rattle.std.proofs.Common.{ℕ, ◌≡◌, ◌-◌, List, ◌++◌, take, subst, ◌∙◌, arith, length-take-le}
-use Rattle.irp_view.specs.Judging.{IsSoFar, piece_of}
-use Rattle.irp_view.proofs.Fed.{choice_through, ends, few_so_far, so_far_end, so_far_on, takes_more, whole_piece}
+use Rattle.irp_view.specs.Feeding.{IsSoFar, piece_of}
+use Rattle.irp_view.proofs.Fed.{fails_of, few_so_far, so_far_end, so_far_on, takes_more, whole_piece}
+use Rattle.irp_view.proofs.Judged.{choice_through, ends}
 use Rattle.irp_view.proofs.judging.judge_rest.Goals as goal
 
 pub returns-in-Err-clause-ends : goal.returns-in-Err-clause-ends
 returns-in-Err-clause-ends g c = λ old starts.
     (let inv = c.loop-unread.invariant.so_far old starts in
     let block : List ℕ = piece_of c.loop-unread.buffer c.loop-unread.from c.loop-unread.to in
-    c.refuse.ensures old (inv.0 ++ block) inv.2 (c.in-Err.ensures.judged inv.0 inv.1 (few_so_far old (g.R.Read.remaining c.loop-unread.input) c.loop-unread.left inv.0 block inv.2)))
+    fails_of c.refuse.result (inv.0 ++ block) old (g.R.Read.remaining c.refuse.new.input) (c.refuse.ensures old (inv.0 ++ block) inv.2 (c.in-Err.ensures.judged inv.0 inv.1 (few_so_far old (g.R.Read.remaining c.loop-unread.input) c.loop-unread.left inv.0 block inv.2))))
 
 pub returns-in-Err-take_block-clause-ends : goal.returns-in-Err-take_block-clause-ends
 returns-in-Err-take_block-clause-ends g c = λ old starts.

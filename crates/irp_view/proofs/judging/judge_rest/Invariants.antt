@@ -3,7 +3,8 @@ use Rattle.std.proofs.Common.{◌≡◌, ◌≤◌, ℕ, List, ◌++◌, length}
 use Rattle.irp_judge.specs.Judges.{seen}
 use Rattle.irp_view.specs.Reading.{most_bytes}
 use Rattle.irp_view.specs.Drafts.{choice_of}
-use Rattle.irp_view.specs.Judging.{AreJudged, IsSoFar, Starts, piece_of}
+use Rattle.irp_view.specs.Feeding.{IsSoFar, Starts, piece_of}
+use Rattle.irp_view.specs.Judging.{AreJudged}
 use Rattle.irp_listing.specs.Bytes.{Bytes}
 use Rattle.irp_view.proofs.judging.judge_rest.Given as goal
 

@@ -1,6 +1,6 @@
 -- The line stays the one that is refused.
 use Rattle.std.proofs.Common.{subst}
-use Rattle.irp_view.specs.Judging.{IsHopeless}
+use Rattle.irp_view.specs.Feeding.{IsHopeless}
 use Rattle.irp_view.specs.declared.reading.Unread.{Unread}
 use Rattle.irp_view.proofs.lines.before_more.Goals as goal
 

@@ -1,6 +1,6 @@
 -- A line that is refused.
 use Rattle.std.proofs.Common.{◌++◌, subst, sym}
-use Rattle.irp_view.specs.Judging.{IsHopeless}
+use Rattle.irp_view.specs.Feeding.{IsHopeless}
 use Rattle.irp_view.specs.declared.reading.Unread.{Unread}
 use Rattle.irp_view.proofs.Fed.{hopeless_of}
 use Rattle.irp_view.proofs.lines.Lines.next.Goals as goal

@@ -1,9 +1,9 @@
 -- What was taken so far.
 use Rattle.std.proofs.Common.{◌<◌, ◌≤◌, ℕ, List, ◌++◌, length}
 use Rattle.irp_view.specs.Reading.{most_bytes}
-use Rattle.irp_view.specs.Judging.{IsHopeless, IsSoFar}
+use Rattle.irp_view.specs.Feeding.{IsHopeless, IsSoFar}
 use Rattle.irp_listing.specs.Bytes.{Bytes}
-use Rattle.irp_view.proofs.judging.refuse.Given as goal
+use Rattle.irp_view.proofs.reading.refuse.Given as goal
 
 abbrev pub invariant-loop-count : goal.invariant-loop-count
 invariant-loop-count g l = record {

@@ -8,30 +8,16 @@ use Rattle.irp_transcript.specs.Transcripts.{TranscriptValue}
 use Rattle.irp_transcript_writer.proofs.Puts.{appends_then}
 use Rattle.irp_transcript.specs.declared.word_line.WordLine.{WordLine}
 use Rattle.irp_listing.specs.Bytes.{Bytes}
-use Rattle.irp_listing.specs.Listing.{IsListing, Lists, ListsPart, AreWordLines}
+use Rattle.irp_listing.specs.Listing.{IsListing, Lists, AreWordLines}
 use Rattle.irp_listing.specs.Writing.{Written, count_after}
 use Rattle.irp_listing.specs.declared.writing.Unwritten.{Unwritten}
+use Rattle.irp_view.specs.Listed.{KeepsWords}
 use Rattle.irp_view.specs.Showing.{AreWordsFor, Shows, ShowsPart, WordsOff, WordsOut, part_of}
 use Rattle.irp_view.specs.declared.orders.Span.{Span}
 
 -- all entries are taken where there are as many as all
 all_taken : (entries : List Entry) → take (length entries) entries ≡ entries
 all_taken entries = grind (arith, common_steps)
-
--- a beginning of the listing went out
-pub broke_off : (only : Option IrpRef) (span : Option Span) (transcript : TranscriptValue) (entries : List Entry) (old new : Bytes) (before after : ℕ) (fault : Unwritten) → entries ≡ part_of span transcript.entries → ListsPart only entries old new before after fault → ShowsPart only span transcript old new before after fault
-broke_off only span transcript entries old new before after fault these part = record {
-  count = part.count;
-  listing = part.text;
-  is_listing = subst (λ (given : List Entry). IsListing only (take part.count given) part.text) these part.listing;
-  words = [];
-  are_words = inl refl;
-  front = part.front;
-  rest = part.rest;
-  whole = append-nil part.text ∙ part.whole;
-  gone = part.gone;
-  count_is = part.count_is;
-}
 
 -- the listing went out, and then the word lines
 all_out : (transcript : TranscriptValue) (old mid new : Bytes) (before between after : ℕ) → Lists None transcript.entries old mid before between → WordsOut transcript.words mid new between after → Shows None None transcript old new before after
@@ -43,13 +29,12 @@ all_out transcript old mid new before between after lists words = record {
   written = (appends_then lists.text words.0 old mid new lists.written.0 words.2.0, words.2.1 ∙ lists.written.1);
 }
 
-pub all_shown : (only : Option IrpRef) (span : Option Span) (transcript : TranscriptValue) (entries : List Entry) (words : List WordLine) (old mid new : Bytes) (before between after : ℕ) → is_some only ≡ false → is_some span ≡ false → entries ≡ part_of span transcript.entries → words ≡ transcript.words → Lists only entries old mid before between → WordsOut words mid new between after → Shows only span transcript old new before after
-all_shown (Some irp) span transcript entries words old mid new before between after one two these those lists out = absurd (true≢false one)
-all_shown None (Some some) transcript entries words old mid new before between after one two these those lists out = absurd (true≢false two)
-all_shown None None transcript entries words old mid new before between after one two these those lists out =
-    all_out transcript old mid new before between after
-    (subst (λ (given : List Entry). Lists None given old mid before between) these lists)
-    (subst (λ (given : List WordLine). WordsOut given mid new between after) those out)
+pub all_shown : (only : Option IrpRef) (span : Option Span) (transcript : TranscriptValue) (kept : List WordLine) (old mid new : Bytes) (before between after : ℕ) → is_some only ≡ false → is_some span ≡ false
+    → KeepsWords only span kept transcript.words → Lists only (part_of span transcript.entries) old mid before between → WordsOut kept mid new between after → Shows only span transcript old new before after
+all_shown (Some irp) span transcript kept old mid new before between after one two those lists out = absurd (true≢false one)
+all_shown None (Some some) transcript kept old mid new before between after one two those lists out = absurd (true≢false two)
+all_shown None None transcript kept old mid new before between after one two those lists out =
+    all_out transcript old mid new before between after lists (subst (λ (given : List WordLine). WordsOut given mid new between after) those out)
 
 -- no word lines go out where some entries are chosen
 no_words : (only : Option IrpRef) (span : Option Span) (words : List WordLine) → (is_some only ≡ true) ⊎ (is_some span ≡ true) → AreWordsFor only span words []
@@ -59,11 +44,11 @@ no_words None None words (inl one) = absurd (true≢false (sym one))
 no_words None None words (inr two) = absurd (true≢false (sym two))
 
 -- the listing of the chosen entries went out
-pub chosen_shown : (only : Option IrpRef) (span : Option Span) (transcript : TranscriptValue) (entries : List Entry) (old new : Bytes) (before after : ℕ)
-    → (is_some only ≡ true) ⊎ (is_some span ≡ true) → entries ≡ part_of span transcript.entries → Lists only entries old new before after → Shows only span transcript old new before after
-chosen_shown only span transcript entries old new before after chosen these lists = record {
+pub chosen_shown : (only : Option IrpRef) (span : Option Span) (transcript : TranscriptValue) (old new : Bytes) (before after : ℕ)
+    → (is_some only ≡ true) ⊎ (is_some span ≡ true) → Lists only (part_of span transcript.entries) old new before after → Shows only span transcript old new before after
+chosen_shown only span transcript old new before after chosen lists = record {
   listing = lists.text;
-  is_listing = subst (λ (given : List Entry). IsListing only given lists.text) these lists.listing;
+  is_listing = lists.listing;
   words = [];
   are_words = no_words only span transcript.words chosen;
   written = subst (λ (text : List ℕ). Written text old new before after) (sym (append-nil lists.text)) lists.written;
@@ -88,10 +73,9 @@ words_out transcript old mid new before between after fault lists words = record
   count_is = words.count_is ∙ ap (count_after fault) lists.written.1;
 }
 
-pub words_broke_off : (only : Option IrpRef) (span : Option Span) (transcript : TranscriptValue) (entries : List Entry) (words : List WordLine) (old mid new : Bytes) (before between after : ℕ) (fault : Unwritten) → is_some only ≡ false → is_some span ≡ false → entries ≡ part_of span transcript.entries → words ≡ transcript.words → Lists only entries old mid before between → WordsOff words mid new between after fault → ShowsPart only span transcript old new before after fault
-words_broke_off (Some irp) span transcript entries words old mid new before between after fault one two these those lists off = absurd (true≢false one)
-words_broke_off None (Some some) transcript entries words old mid new before between after fault one two these those lists off = absurd (true≢false two)
-words_broke_off None None transcript entries words old mid new before between after fault one two these those lists off =
-    words_out transcript old mid new before between after fault
-    (subst (λ (given : List Entry). Lists None given old mid before between) these lists)
-    (subst (λ (given : List WordLine). WordsOff given mid new between after fault) those off)
+pub words_broke_off : (only : Option IrpRef) (span : Option Span) (transcript : TranscriptValue) (kept : List WordLine) (old mid new : Bytes) (before between after : ℕ) (fault : Unwritten) → is_some only ≡ false → is_some span ≡ false
+    → KeepsWords only span kept transcript.words → Lists only (part_of span transcript.entries) old mid before between → WordsOff kept mid new between after fault → ShowsPart only span transcript old new before after fault
+words_broke_off (Some irp) span transcript kept old mid new before between after fault one two those lists off = absurd (true≢false one)
+words_broke_off None (Some some) transcript kept old mid new before between after fault one two those lists off = absurd (true≢false two)
+words_broke_off None None transcript kept old mid new before between after fault one two those lists off =
+    words_out transcript old mid new before between after fault lists (subst (λ (given : List WordLine). WordsOff given mid new between after fault) those off)

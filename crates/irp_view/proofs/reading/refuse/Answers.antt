@@ -1,13 +1,13 @@
 -- The rest of the input was taken, or couldn't be.
 use Rattle.std.proofs.Common.{ℕ, ◌≡◌, ◌<◌, List, ◌++◌, take, sym, subst, arith, length-take-le}
-use Rattle.irp_view.specs.Judging.{IsSoFar}
-use Rattle.irp_view.proofs.Fed.{refused_fails, so_far_end, so_far_more, takes_more}
-use Rattle.irp_view.proofs.judging.refuse.Goals as goal
+use Rattle.irp_view.specs.Feeding.{IsSoFar}
+use Rattle.irp_view.proofs.Fed.{input_fails, refused_fails, so_far_end, so_far_more}
+use Rattle.irp_view.proofs.reading.refuse.Goals as goal
 
 pub returns-in-Err : goal.returns-in-Err
 returns-in-Err g c = λ old text so_far hopeless.
     (let inv = c.loop-count.invariant.so_far old text so_far in
-    (tt, takes_more old (g.R.Read.remaining c.loop-count.input) (g.R.Read.remaining c.take_block.new.reader) c.loop-count.left (text ++ inv.0) inv.1 c.in-Err.ensures.within))
+    input_fails old (g.R.Read.remaining c.loop-count.input) (g.R.Read.remaining c.take_block.new.reader) c.loop-count.left text inv.0 inv.1 c.in-Err.ensures.within)
 
 pub returns-then-count-eq0 : goal.returns-then-count-eq0
 returns-then-count-eq0 g c = λ old text so_far hopeless.

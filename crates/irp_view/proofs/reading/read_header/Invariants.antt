@@ -3,8 +3,8 @@ use Rattle.std.proofs.Common.{◌≡◌, ◌≤◌, ℕ, List, length}
 use Rattle.irp_transcript.specs.Transcripts.{no_lines}
 use Rattle.irp_text.specs.Fed.{HasRead}
 use Rattle.irp_view.specs.Reading.{most_bytes}
-use Rattle.irp_view.specs.Judging.{IsSoFar}
-use Rattle.irp_view.proofs.judging.read_header.Given as goal
+use Rattle.irp_view.specs.Feeding.{IsSoFar}
+use Rattle.irp_view.proofs.reading.read_header.Given as goal
 
 abbrev pub invariant-loop-to : goal.invariant-loop-to
 invariant-loop-to g l = record {

@@ -3,9 +3,9 @@ use Rattle.std.proofs.Common.{ℕ, ◌≡◌, ◌≤◌, ◌-◌, List, ◌++◌
 use Rattle.irp_text.specs.Fed.{Gives, HasRead, with_line}
 use Rattle.irp_text.specs.declared.line.Line.{Line}
 use Rattle.irp_transcript.specs.Transcripts.{no_lines}
-use Rattle.irp_view.specs.Judging.{IsSoFar, piece_of}
-use Rattle.irp_view.proofs.Fed.{both_pieces, few_so_far, so_far_on, takes_more}
-use Rattle.irp_view.proofs.judging.read_header.Goals as goal
+use Rattle.irp_view.specs.Feeding.{IsSoFar, piece_of}
+use Rattle.irp_view.proofs.Fed.{both_pieces, fails_of, few_so_far, so_far_on, takes_more}
+use Rattle.irp_view.proofs.reading.read_header.Goals as goal
 
 pub returns-in-Err-clause-start : goal.returns-in-Err-clause-start
 returns-in-Err-clause-start g c =
@@ -18,8 +18,9 @@ returns-in-Err-next-clause-start g c =
     let on = so_far_on (g.R.Read.remaining c.args.input.now) (g.R.Read.remaining c.loop-to.input) (g.R.Read.remaining c.take_block.new.reader) c.loop-to.left c.in-Ok.to text block c.loop-to.invariant.so_far c.in-Ok.ensures.bytes
     (length-take-le c.in-Ok.to c.take_block.new.buffer c.in-Ok.ensures.bound.1) c.in-Ok.ensures.bound.0 in
     let few = few_so_far (g.R.Read.remaining c.args.input.now) (g.R.Read.remaining c.take_block.new.reader) (c.loop-to.left - c.in-Ok.to) text block on in
-    c.refuse.ensures (g.R.Read.remaining c.args.input.now) (text ++ block) on
-    (c.in-Err-next.ensures.reads text no_lines c.loop-to.invariant.read (omega (arith, few)))
+    fails_of c.refuse.result (text ++ block) (g.R.Read.remaining c.args.input.now) (g.R.Read.remaining c.refuse.new.input)
+    (c.refuse.ensures (g.R.Read.remaining c.args.input.now) (text ++ block) on
+    (c.in-Err-next.ensures.reads text no_lines c.loop-to.invariant.read (omega (arith, few))))
 
 pub returns-in-loop-to-clause-start : goal.returns-in-loop-to-clause-start
 returns-in-loop-to-clause-start g c =
