@@ -4,7 +4,7 @@
 use crate::keys::{Field, Takes};
 use crate::near::nearest;
 use crate::nodes::Node;
-use crate::small::{check_nth, number_at, there_are};
+use crate::small::{check_nth, is_one_of, number_at, there_are};
 use crate::tokens::Kind;
 use crate::words::{Finding, Piece, Remedy};
 use Piece::{Number, Say, Show};
@@ -106,16 +106,6 @@ const BEHAVIOUR: Choice = Choice {
     words: "it is \"continue\", \"keep\" or [\"replace\",status,information]",
 };
 
-/// Whether a word is one of these.
-fn is_one_of(word: &[u8], names: &[&'static str]) -> bool {
-    for name in names {
-        if name.as_bytes() == word {
-            return true;
-        }
-    }
-    false
-}
-
 /// Whether a name is one of these.
 fn check_name(found: &mut Finding, node: Node, choice: Choice) -> bool {
     let word = match node.word() {
@@ -209,21 +199,28 @@ fn behaviour_of<'t>(node: Node<'t>) -> &'t [u8] {
 /// What the behaviours of a rule are, where it doesn't take these.
 fn rule_against(rule: &[u8], on_ok: &[u8], on_err: &[u8]) -> Option<&'static str> {
     let (continues, keeps) = (b"continue".as_slice(), b"keep".as_slice());
-    match rule {
-        b"watch" if on_ok != continues || on_err != continues => {
-            Some("a \"watch\" takes \"continue\" twice")
-        }
-        b"change" if on_ok == keeps || on_err == keeps => {
-            Some("a \"change\" takes \"continue\" or a replacement")
-        }
-        b"keeper" if on_ok != keeps || on_err != keeps => {
-            Some("a \"keeper\" takes \"keep\" twice")
-        }
-        b"keep_on_error" if on_ok != continues || on_err != keeps => {
-            Some("a \"keep_on_error\" takes \"continue\", and then \"keep\"")
-        }
-        _ => None,
-    }
+    let (is_broken, words) = if rule == b"watch".as_slice() {
+        (
+            on_ok != continues || on_err != continues,
+            "a \"watch\" takes \"continue\" twice",
+        )
+    } else if rule == b"change".as_slice() {
+        (
+            on_ok == keeps || on_err == keeps,
+            "a \"change\" takes \"continue\" or a replacement",
+        )
+    } else if rule == b"keeper".as_slice() {
+        (
+            on_ok != keeps || on_err != keeps,
+            "a \"keeper\" takes \"keep\" twice",
+        )
+    } else {
+        (
+            rule == b"keep_on_error".as_slice() && (on_ok != continues || on_err != keeps),
+            "a \"keep_on_error\" takes \"continue\", and then \"keep\"",
+        )
+    };
+    is_broken.then_some(words)
 }
 
 /// Whether behaviours keep their rule.
@@ -323,10 +320,13 @@ impl<'t> Around<'t> {
     }
 }
 
+/// The flags of a setting.
+static FLAGS: &[&str] = &["", "s", "e", "c", "se", "sc", "ec", "sec"];
+
 /// Whether flags are a text of those that there are.
 fn check_flags(found: &mut Finding, node: Node) -> bool {
     match node.word() {
-        Some(b"" | b"s" | b"e" | b"c" | b"se" | b"sc" | b"ec" | b"sec") => true,
+        Some(word) if is_one_of(word, FLAGS) => true,
         _ => found.not_taken(
             "the text of the flags",
             node,
@@ -349,13 +349,12 @@ pub fn check_setting(found: &mut Finding, node: Node) -> bool {
 
 /// How a completion routine is told of, by its rule.
 fn routine_words(rule: &[u8]) -> &'static str {
-    match rule {
-        b"watch" => "watch",
-        b"change" => "change",
-        b"keeper" => "keeper",
-        b"keep_on_error" => "keep_on_error",
-        _ => "free",
+    for name in RULES {
+        if name.as_bytes() == rule {
+            return *name;
+        }
     }
+    "free"
 }
 
 /// Whether a setting may be made by a plan that passes the packet down, and its routine is there.
@@ -420,16 +419,20 @@ pub fn check_plan(found: &mut Finding, around: Around, node: Node) -> bool {
     if !check_first(found, node, PLAN) {
         return false;
     }
-    match node.first_word().unwrap_or(&[]) {
-        b"finish" => check_finish(found, node),
-        b"hold" => check_hold(found, around, node),
-        b"forward" => check_forward(found, around, node, false),
-        b"forward_pend" => check_forward(found, around, node, true),
-        b"hold_slot" if around.form == 1 => {
-            let words = "only a script of form 2 has it; here \"form\" is 1";
-            found.not_taken("the plan", node, words)
-        }
-        _ => check_count(found, node, 1, "nothing follows it"),
+    let word = node.first_word().unwrap_or(&[]);
+    if word == b"finish".as_slice() {
+        check_finish(found, node)
+    } else if word == b"hold".as_slice() {
+        check_hold(found, around, node)
+    } else if word == b"forward".as_slice() {
+        check_forward(found, around, node, false)
+    } else if word == b"forward_pend".as_slice() {
+        check_forward(found, around, node, true)
+    } else if word == b"hold_slot".as_slice() && around.form == 1 {
+        let words = "only a script of form 2 has it; here \"form\" is 1";
+        found.not_taken("the plan", node, words)
+    } else {
+        check_count(found, node, 1, "nothing follows it")
     }
 }
 

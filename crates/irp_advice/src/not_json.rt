@@ -135,6 +135,29 @@ fn of_token(bytes: &[u8], kind: Kind) -> &'static str {
     }
 }
 
+/// Words of other languages, each with what helps.
+static OTHER_WORDS: &[(&str, &str)] = &[
+    ("True", "Write true"),
+    ("TRUE", "Write true"),
+    ("False", "Write false"),
+    ("FALSE", "Write false"),
+    ("None", "Write null"),
+    ("Null", "Write null"),
+    ("NULL", "Write null"),
+    ("nil", "Write null"),
+    ("nullptr", "Write null"),
+];
+
+/// What helps against a word of another language. None for another word.
+fn remedy_named(word: &[u8]) -> Option<&'static str> {
+    for (name, remedy) in OTHER_WORDS {
+        if name.as_bytes() == word {
+            return Some(*remedy);
+        }
+    }
+    None
+}
+
 /// What helps against a word that is no JSON.
 fn word_remedy(word: &[u8]) -> Remedy {
     if let Some(number) = hexadecimal(word) {
@@ -146,11 +169,8 @@ fn word_remedy(word: &[u8]) -> Remedy {
         }
         (None, None) => {}
     }
-    match word {
-        b"True" | b"TRUE" => return Remedy::Do("Write true"),
-        b"False" | b"FALSE" => return Remedy::Do("Write false"),
-        b"None" | b"Null" | b"NULL" | b"nil" | b"nullptr" => return Remedy::Do("Write null"),
-        _ => {}
+    if let Some(remedy) = remedy_named(word) {
+        return Remedy::Do(remedy);
     }
     match word.first() {
         Some(b'\'') => Remedy::Do("JSON has double quotation marks"),

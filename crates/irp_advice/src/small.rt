@@ -181,10 +181,23 @@ fn meant_number(node: Node, most: u64) -> Remedy {
     }
 }
 
+/// Whether a word is one of these.
+pub fn is_one_of(word: &[u8], names: &[&'static str]) -> bool {
+    for name in names {
+        if name.as_bytes() == word {
+            return true;
+        }
+    }
+    false
+}
+
+/// What is written where the originator is meant.
+static ORIGINATORS: &[&str] = &["O", "0o", "originator", "Originator"];
+
 /// What was meant by a value that is no party.
 fn meant_party(node: Node) -> Remedy {
     match node.word() {
-        Some(b"O" | b"0o" | b"originator" | b"Originator") => Remedy::Word("o"),
+        Some(word) if is_one_of(word, ORIGINATORS) => Remedy::Word("o"),
         _ => meant_number(node, MOST),
     }
 }
