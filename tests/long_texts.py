@@ -6,7 +6,6 @@ block after block: the same is looked for, and that they take no more memory for
 Usage: long_texts.py IRPX IRP_VIEW. It prints a line for each answer that was wrong, and one that counts them all.
 """
 
-import os
 import re
 import subprocess
 import sys
@@ -29,6 +28,11 @@ ROUND = (
 SHOWN = "%4d  IoAllocateIrp(1 location) -> IRP 0.%d\n%4d  IoFreeIrp(IRP 0.%d)\n"
 # As much memory as it may take, in KiB.
 MOST_MEMORY = 65_536
+# Runs a program, and tells on standard error how much it took. A child of a small process: what its parent has counts.
+MEASURED = """import resource, subprocess, sys
+status = subprocess.run(sys.argv[1:]).returncode
+print(resource.getrusage(resource.RUSAGE_CHILDREN).ru_maxrss, file=sys.stderr)
+sys.exit(status)"""
 WORD = b'{"do":"acquire","lock":0,"reply":{"status":0},"seat":0,"step":4,"tag":1}\n'
 
 
@@ -166,19 +170,19 @@ def fault_of_listing(irp_view, words, text, wanted, line):
     with tempfile.TemporaryFile() as file, tempfile.TemporaryFile() as output, tempfile.TemporaryFile() as errors:
         file.write(text)
         file.seek(0)
-        process = subprocess.Popen([irp_view, *words], stdin=file, stdout=output, stderr=errors)
-        _, status, usage = os.wait4(process.pid, 0)
+        ran = subprocess.run([sys.executable, "-c", MEASURED, irp_view, *words], stdin=file, stdout=output, stderr=errors)
         output.seek(0)
         errors.seek(0)
-        told = errors.read().decode()
+        *lines, memory = errors.read().decode().splitlines()
+        told = "".join(lines)
         if output.read().decode() != wanted:
             return "other entries are shown"
-    if os.waitstatus_to_exitcode(status) != (1 if line else 0):
-        return f"status {status}"
+    if ran.returncode != (1 if line else 0):
+        return f"status {ran.returncode}"
     if not told.startswith(f"irp_view: transcript refused: line {line}" if line else "") or bool(told) != bool(line):
         return f"tells {told!r}"
-    if usage.ru_maxrss > MOST_MEMORY:
-        return f"took {usage.ru_maxrss} KiB"
+    if int(memory) > MOST_MEMORY:
+        return f"took {memory} KiB"
     return None
 
 

@@ -14,7 +14,7 @@ wrong=0
 # The transcript is the last word.
 shows() {
     local numbers=$1 words=("${@:2:$#-2}") text=${*: -1} got
-    for got in "$("$irp_view" "${words[@]}" "$text")" "$("$irp_view" "${words[@]}" <"$text")"; do
+    for got in "$("$irp_view" "${words[@]}" "$text" 2>/dev/null)" "$("$irp_view" "${words[@]}" <"$text" 2>/dev/null)"; do
         tried=$((tried + 1))
         got=$(grep -oE '^ {0,3}[0-9]+  ' <<<"$got" | xargs)
         [ "$got" = "$numbers" ] && continue
