@@ -177,6 +177,26 @@ fn send_text<O: Out>(output: &mut O, text: &[u8], ending: Ending) -> Ending {
     }
 }
 
+/// Tells what is asked of what was explored.
+fn answer<O: Out>(
+    alloc: Global,
+    output: &mut O,
+    explored: &Explored,
+    order: &Order<'_>,
+) -> Result<Ending, Ending> {
+    match order.task {
+        Task::Show(number) => show(alloc, output, explored, number),
+        Task::Table => {
+            let text = table_of(alloc, explored)?;
+            Ok(send_text(output, text.as_slice(), Ending::Done))
+        }
+        Task::Never(condition) => {
+            let (text, ending) = judge(alloc, explored, order.by_ends, condition)?;
+            Ok(send_text(output, text.as_slice(), ending))
+        }
+    }
+}
+
 /// Tells what is asked of the orders of the script in the input.
 fn tell<R: Read, O: Out>(
     alloc: Global,
@@ -186,17 +206,7 @@ fn tell<R: Read, O: Out>(
 ) -> Result<Ending, Ending> {
     let text = read_up_to(alloc, input, TOO_MANY_BYTES)?;
     let explored = explored_of(alloc, text.as_slice(), order)?;
-    match order.task {
-        Task::Show(number) => show(alloc, output, &explored, number),
-        Task::Table => {
-            let text = table_of(alloc, &explored)?;
-            Ok(send_text(output, text.as_slice(), Ending::Done))
-        }
-        Task::Never(condition) => {
-            let (text, ending) = judge(alloc, &explored, order.by_ends, condition)?;
-            Ok(send_text(output, text.as_slice(), ending))
-        }
-    }
+    answer(alloc, output, &explored, order)
 }
 
 /// Reads a script from the input, up to its end or to one byte more than a script may have, explores the orders of its

@@ -5,7 +5,8 @@ use Rattle.irp_listing.specs.Choosing.{IsChosen}
 use Rattle.irp_page.specs.Pages.{IsPage}
 use Rattle.irp_page.specs.declared.choosing.Choice.{Choice}
 
--- the entry at this place is chosen: the place is in the range, and the entry names the packet's use, where one is given
+-- the entry at this place is chosen: the place is in the range, and the entry names the packet's use, where one is
+-- given
 abbrev pub IsDrawn : Choice → ℕ → Entry → Type 0
 IsDrawn choice place entry = (choice.from ≤ place) × (place < choice.to) × IsChosen choice.only entry
 
@@ -13,15 +14,16 @@ IsDrawn choice place entry = (choice.from ≤ place) × (place < choice.to) × I
 abbrev pub ArePlaces : Choice → ℕ → List Entry → List ℕ → Type 0
 ArePlaces choice place [] places = places ≡ []
 ArePlaces choice place (entry ∷ entries) places =
-    (IsDrawn choice place entry × ((rest : List ℕ) × ArePlaces choice (place + 1) entries rest × (places ≡ place ∷ rest)))
+    (IsDrawn choice place entry
+    × ((rest : List ℕ) × ArePlaces choice (place + 1) entries rest × (places ≡ place ∷ rest)))
     ⊎ ((IsDrawn choice place entry → ⊥) × ArePlaces choice (place + 1) entries places)
 
 -- as many entries as a page shows at most
 unfoldable pub most_entries : ℕ
 most_entries = 2000
 
--- a page of these entries: the chosen ones begin in it, each once and in order, at most 2,000 of them, and no other; each
--- element is closed as it was opened, and words stand escaped
+-- a page of these entries: the chosen ones begin in it, each once and in order, at most 2,000 of them, and no other;
+-- each element is closed as it was opened, and words stand escaped
 pub record IsPageOf (choice : Choice) (entries : List Entry) (text : List ℕ) : Type 0 where
   pub chosen : List ℕ
   pub are_chosen : ArePlaces choice 0 entries chosen

@@ -29,7 +29,8 @@ KeepsWords (Some irp) span kept words = Unit {0}
 KeepsWords None (Some span) kept words = Unit {0}
 
 -- the lines of this transcript were gone through: what was sent, and then what is gathered, stands for its entries
-pub record IsGathered (only : Option IrpRef) (span : Option Span) (shown : Shown) (sent : List ℕ) (transcript : TranscriptValue) : Type 0 where
+pub record IsGathered (only : Option IrpRef) (span : Option Span) (shown : Shown) (sent : List ℕ)
+    (transcript : TranscriptValue) : Type 0 where
   pub counted : shown.entries ≡ length transcript.entries
   pub listing : IsListing only (part_of span transcript.entries) (sent ++ shown.text.items)
   pub words : KeepsWords only span shown.words.items transcript.words
@@ -39,7 +40,8 @@ abbrev pub IsFresh : Shown → Type 0
 IsFresh shown = (shown.entries ≡ 0) × (shown.text.items ≡ []) × (shown.words.items ≡ [])
 
 -- the lines of this text were
-pub record AreGathered (reader : Reader) (only : Option IrpRef) (span : Option Span) (shown : Shown) (sent text : List ℕ) : Type 0 where
+pub record AreGathered (reader : Reader) (only : Option IrpRef) (span : Option Span) (shown : Shown)
+    (sent text : List ℕ) : Type 0 where
   pub transcript : TranscriptValue
   pub read : HasRead reader text transcript
   pub gathered : IsGathered only span shown sent transcript
@@ -54,7 +56,8 @@ pub record IsListingIn (only : Option IrpRef) (span : Option Span) (text listing
   pub is : IsListing only (part_of span transcript.entries) listing
 
 -- what becomes of one more block
-abbrev pub GathersBlock : Result (Unit {0}) Unread → Reader → Option IrpRef → Option Span → Shown → List ℕ → List ℕ → Type 0
+abbrev pub GathersBlock : Result (Unit {0}) Unread → Reader → Option IrpRef → Option Span → Shown → List ℕ → List ℕ
+    → Type 0
 GathersBlock (Ok done) reader only span shown sent text = AreGathered reader only span shown sent text
 GathersBlock (Err unread) reader only span shown sent text =
     IsHopeless unread text × IsListingIn only span text (sent ++ shown.text.items)
@@ -70,19 +73,23 @@ pub record AreShown (reader : Reader) (only : Option IrpRef) (span : Option Span
   pub gathered : AreGathered reader only span shown sent text
 
 -- of its first lines it did; or a beginning of that, before this fault
-pub record AreShownIn (only : Option IrpRef) (span : Option Span) (old new : Bytes) (before after : ℕ) (text : List ℕ) : Type 0 where
+pub record AreShownIn (only : Option IrpRef) (span : Option Span) (old new : Bytes) (before after : ℕ)
+    (text : List ℕ) : Type 0 where
   pub listing : List ℕ
   pub is : IsListingIn only span text listing
   pub written : Written listing old new before after
 
-pub record AreShownUpTo (only : Option IrpRef) (span : Option Span) (old new : Bytes) (before after : ℕ) (fault : Unwritten) (text : List ℕ) : Type 0 where
+pub record AreShownUpTo (only : Option IrpRef) (span : Option Span) (old new : Bytes) (before after : ℕ)
+    (fault : Unwritten) (text : List ℕ) : Type 0 where
   pub listing : List ℕ
   pub is : IsListingIn only span text listing
   pub broken : BreaksOff listing old new before after fault
 
 -- what becomes of one more block
-abbrev pub ShowsBlock : Result (Unit {0}) Unshown → Reader → Option IrpRef → Option Span → Shown → Bytes → Bytes → ℕ → ℕ → List ℕ → Type 0
-ShowsBlock (Ok done) reader only span shown old new before after text = AreShown reader only span shown old new before after text
+abbrev pub ShowsBlock : Result (Unit {0}) Unshown → Reader → Option IrpRef → Option Span → Shown → Bytes → Bytes → ℕ → ℕ
+    → List ℕ → Type 0
+ShowsBlock (Ok done) reader only span shown old new before after text =
+    AreShown reader only span shown old new before after text
 ShowsBlock (Err (IsUnread unread)) reader only span shown old new before after text =
     IsHopeless unread text × AreShownIn only span old new before after text
 ShowsBlock (Err (IsUnwritten fault)) reader only span shown old new before after text =
@@ -91,7 +98,8 @@ ShowsBlock (Err (IsUnwritten fault)) reader only span shown old new before after
 -- ---- the input
 
 -- the input holds none, which was found behind the first lines of its text: what stands for their entries went out
-pub record StopsAt (only : Option IrpRef) (span : Option Span) (left rest : Bytes) (unread : Unread) (old new : Bytes) (before after : ℕ) : Type 0 where
+pub record StopsAt (only : Option IrpRef) (span : Option Span) (left rest : Bytes) (unread : Unread) (old new : Bytes)
+    (before after : ℕ) : Type 0 where
   pub text : List ℕ
   pub few : length text ≤ most_taken
   pub took : Consumes left rest text
@@ -99,7 +107,8 @@ pub record StopsAt (only : Option IrpRef) (span : Option Span) (left rest : Byte
   pub shown : AreShownIn only span old new before after text
 
 -- the output failed, or memory ran out for it, behind the first lines of the input's text
-pub record BreaksAt (only : Option IrpRef) (span : Option Span) (left rest : Bytes) (fault : Unwritten) (old new : Bytes) (before after : ℕ) : Type 0 where
+pub record BreaksAt (only : Option IrpRef) (span : Option Span) (left rest : Bytes) (fault : Unwritten)
+    (old new : Bytes) (before after : ℕ) : Type 0 where
   pub text : List ℕ
   pub few : length text ≤ most_taken
   pub took : Consumes left rest text
@@ -107,7 +116,8 @@ pub record BreaksAt (only : Option IrpRef) (span : Option Span) (left rest : Byt
 
 -- what went out of the entries of the input's transcript: all, or up to where it was found that there is none, or up to
 -- where the output failed
-abbrev pub ShowsInput : Result (Unit {0}) Unshown → Option IrpRef → Option Span → Shown → Bytes → Bytes → Bytes → Bytes → ℕ → ℕ → Type 0
+abbrev pub ShowsInput : Result (Unit {0}) Unshown → Option IrpRef → Option Span → Shown → Bytes → Bytes → Bytes → Bytes
+    → ℕ → ℕ → Type 0
 ShowsInput (Ok done) only span shown left rest old new before after =
     (transcript : TranscriptValue) × Holds left rest transcript
     × Lists only (part_of span transcript.entries) old new before after

@@ -72,7 +72,8 @@ ReadsNone before after ending =
     × IsQuiet before.output.gone after.output.gone before.output.failures after.output.failures
 
 -- it holds none, which was found behind the first lines of its text: what stands for their entries went out
-pub record ShowsBefore (only : Option IrpRef) (span : Option Span) (before after : Streams) (ending : Ending) : Type 0 where
+pub record ShowsBefore (only : Option IrpRef) (span : Option Span) (before after : Streams)
+    (ending : Ending) : Type 0 where
   pub unread : Unread
   pub stops :
       StopsAt only span before.left after.left unread
@@ -81,7 +82,8 @@ pub record ShowsBefore (only : Option IrpRef) (span : Option Span) (before after
 
 -- the output failed, or memory ran out for it, behind the first lines of the input's text: a beginning of what stands
 -- for their entries went out
-pub record BreaksBefore (only : Option IrpRef) (span : Option Span) (before after : Streams) (ending : Ending) : Type 0 where
+pub record BreaksBefore (only : Option IrpRef) (span : Option Span) (before after : Streams)
+    (ending : Ending) : Type 0 where
   pub fault : Unwritten
   pub breaks :
       BreaksAt only span before.left after.left fault

@@ -25,13 +25,15 @@ legal_line count =
 -- the line for so many word lines, which aren't judged; there is none where there are no word lines
 abbrev pub note_line : ℕ → List ℕ
 note_line count =
-    if count == 0 then [] else line_of (codes "word lines: " ++ (decimal count ++ codes ", read for their form, not judged"))
+    if count == 0 then [] else line_of
+    (codes "word lines: " ++ (decimal count ++ codes ", read for their form, not judged"))
 
 -- what is told of these entries, where this is wrong with them, or nothing: a line, or the block for the entry that is
 -- wrong
 abbrev pub IsAnswer : List Entry → Option Wrong → List ℕ → Type 0
 IsAnswer entries None answer = answer ≡ legal_line (length entries)
-IsAnswer entries (Some wrong) answer = (entry : Entry) → slice_get entries wrong.at ≡ Some entry → IsWhy entry wrong answer
+IsAnswer entries (Some wrong) answer =
+    (entry : Entry) → slice_get entries wrong.at ≡ Some entry → IsWhy entry wrong answer
 
 -- it was put behind what stood there
 pub record AddsText (entries : List Entry) (wrong : Option Wrong) (before after : List ℕ) : Type 0 where
