@@ -1,7 +1,7 @@
 #!/bin/bash
-# Gives `irpx check` and `irp_view why`, `text` and `packet` texts of up to a million lines (long_texts.py). IRPX and IRP_VIEW name the
-# programs; without them, they are those that bin/irpx and bin/irp_view run. Ends with status 0 where all was as
-# expected, else with 1. It passes over all for a program that was built without proofs, which takes too long.
+# Gives `irpx check` and `irp_view why`, `text` and `packet` texts of up to a million lines (long_texts.py). IRPX and
+# IRP_VIEW name the programs; without them, they are those that bin/irpx and bin/irp_view run. Ends with status 0 where
+# all was as expected, else with 1. It passes over all for a program that was built without proofs, which takes too long.
 set -u
 cd "$(dirname "$(readlink -f "$0")")" || exit 1
 irpx=${IRPX:-$(../bin/program irpx quick)} || exit 1

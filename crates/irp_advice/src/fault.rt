@@ -1,4 +1,4 @@
-//! The faults of a script, each with its place.
+//! The faults of a script, each with its place. Source: this project's own rule.
 
 ghost use Rattle.std.specs.Prelude.{◌≡◌, ◌∷◌, IfOk};
 ghost use Rattle.irp_advice.specs.Advice.{BeginsWith, IsAdviceOn};
@@ -19,7 +19,7 @@ use std::alloc::{AllocError, Global};
 /// The most faults that are told.
 const MOST_FAULTS: usize = 10;
 
-/// One thing that is wrong with a script (this project's own rule).
+/// One thing that is wrong with a script.
 #[derive(Drop)]
 pub struct Fault {
     /// What `irpx` names: its display is `S4 steps 37`.
@@ -314,7 +314,7 @@ fn all_faults(alloc: Global, text: &[u8], refusal: ScriptRefusal) -> Result<Vec<
 }
 
 /// What is wrong with a script, in order: nothing exactly where `read_script` reads it; else first the fault for which
-/// it is refused, and behind it what else is seen in its lists, ten faults or so in all (this project's own rule).
+/// it is refused, and behind it what else is seen in its lists, ten faults or so in all.
 ///
 /// # Errors
 ///

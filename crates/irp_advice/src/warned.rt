@@ -1,5 +1,5 @@
 //! What of a script that is taken is hardly meant: calls that the manager will refuse, or that go another way than they
-//! look. Steps are followed in the order of the text.
+//! look. Steps are followed in the order of the text. Source: this project's own rule.
 
 use crate::fault::{put_place, put_section};
 use crate::made::{Concern, Made};
@@ -18,7 +18,7 @@ use std::alloc::{AllocError, Global};
 /// The most warnings that are told.
 const MOST_WARNINGS: usize = 100;
 
-/// One thing in a script that is taken, and is hardly meant (this project's own rule).
+/// One thing in a script that is taken, and is hardly meant.
 #[derive(Drop)]
 pub struct Warning {
     /// The list with the step, `setup` or `steps`.
@@ -213,7 +213,7 @@ fn add_warnings(
 /// packet down at a device that has none below; a label that no allocate binds before; a routine that isn't there; a
 /// reference to a remove lock that is given back more often than its seat acquires it; a packet with fewer locations
 /// than the stack has devices that it is sent to; a device that is deleted before it is detached. The script is the one
-/// that was read from the text. Each is told as far as the text alone shows it (this project's own rule).
+/// that was read from the text. Each is told as far as the text alone shows it.
 ///
 /// # Errors
 ///

@@ -41,8 +41,8 @@ pub enum Remedy {
     Do(&'static str),
 }
 
-/// What is wrong with a text: where, and what is said of it. What looks for faults gives whether there is none, and says
-/// here what it finds. Where memory runs out it remembers that: then nothing is said, whatever else is put.
+/// What is wrong with a text: where, and what is said of it. What looks for faults gives whether there is none, and
+/// says here what it finds. Where memory runs out it remembers that: then nothing is said, whatever else is put.
 #[derive(Drop)]
 pub struct Finding<'t> {
     text: &'t [u8],

@@ -31,6 +31,7 @@ Gives view (Ok answer) read = read ≡ Some (view answer)
 Gives view (Err (Fault fault)) read = read ≡ None
 Gives view (Err NoMemory) read = Unit {0}
 
+-- something else was expected
 abbrev pub IsFault : Unread → Type 0
 IsFault (Fault fault) = Unit {0}
 IsFault NoMemory = ⊥
@@ -155,6 +156,7 @@ behind_noun sort.Owner tokens = behind_word (codes "device") tokens
 behind_noun sort.Number tokens = None
 behind_noun sort.Truth tokens = None
 
+-- a device behind its noun, where the noun stands; else a word
 abbrev pub value_behind : Scope → Sort → List Token → Option (List Token) → Option (Value × List Token)
 value_behind scope sort tokens (Some rest) =
     number_at 64 rest >>= λ found. Some (value.Owner (owner.Device (record { 0 = found.0 })), found.1)

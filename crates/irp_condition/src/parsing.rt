@@ -110,11 +110,11 @@ fn joined_at<'a>(
     Ok((so_far, rest))
 }
 
-/// Reads the condition that a text says, with the labels, steps and locks of a script (this project's own rule).
+/// Reads the condition that a text says, of what is in the scope (this project's own rule).
 ///
 /// # Errors
 ///
-/// `Fault` exactly where it says none, with the column, from 1, of the first token that can't stand there, and what was
+/// `Fault` only where it says none, with the column, from 1, of the first token that can't stand there, and what was
 /// expected; `NoMemory` where memory runs out.
 pub fn read_condition(alloc: Global, text: &str, scope: Scope<'_>) -> Result<Condition, Unread>
     ensures said { IfOk result (λ condition. TextSays scope.entry text.now (formula_of condition)) }

@@ -128,8 +128,8 @@ words_below steps seats (suc seat) =
 
 -- ---- replays
 
--- a transcript tells an order of these seats' steps, made by a header of the script: the entries are those of its setup
--- and then of the steps, and the word lines are what the seats were told at last
+-- a transcript tells these seats' steps, made one after another by a header of the script: the entries are those of its
+-- setup and then of the steps, and the word lines are what the seats were told at last
 pub record IsReplay (script : ScriptParts) (path : List ℕ) (transcript : TranscriptValue) : Type 0 where
   pub header : Header
   pub headed : IsHeaderOf script header
@@ -184,7 +184,7 @@ pub record IsMade (fixed : Fixed) (script : ScriptParts) (made : List Made) (kep
   pub recorded : IsRecorded fixed kept
   pub calls : Leads fixed script made opening_state (state_of live_of kept.manager)
 
--- the setup was made and recorded, from before it
+-- the setup was made and recorded; the script then stands at this start
 pub record IsSetUp (header : Header) (script : ScriptParts) (old new : List Entry)
     (start : StandingValue) : Type 0 where
   pub ended : StandingValue

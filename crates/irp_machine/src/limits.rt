@@ -1,4 +1,4 @@
-//! What an exploration may take, and why it was given up.
+//! What an exploration may take, and why it was given up. Source: this project's own rule.
 
 ghost use Rattle.std.specs.Prelude.{◌≡◌};
 ghost use Rattle.irp_machine.specs.Limits.{tells_replies};
@@ -6,7 +6,7 @@ ghost use Rattle.irp_machine.specs.Limits.{tells_replies};
 use irp_explore::NotExplored;
 use std::alloc::{AllocError, AllocFailed};
 
-/// How much an exploration may take (this project's own rule).
+/// How much an exploration may take.
 #[derive(Clone, Copy, PartialEq, Eq, Debug)]
 pub struct Limits {
     /// How many states orders of equally many steps may lead to, and in how many orders may end.
@@ -17,7 +17,7 @@ pub struct Limits {
     pub steps: u32,
 }
 
-/// What tells two outcomes apart (this project's own rule).
+/// What tells two outcomes apart.
 #[derive(Clone, Copy, PartialEq, Eq, Debug)]
 pub enum Compared {
     /// The replies and the end.
@@ -35,7 +35,7 @@ impl Compared {
     }
 }
 
-/// Why an exploration was given up (this project's own rule).
+/// Why an exploration was given up, or an order isn't made again.
 #[derive(Clone, Copy, PartialEq, Eq, Debug)]
 pub enum NotFound {
     /// Out of memory.

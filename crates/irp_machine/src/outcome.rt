@@ -1,4 +1,5 @@
-//! How orders end, as it is told. A file of its own, since definitions that clauses cite name these.
+//! How orders end, as it is told: this project's own rule. A file of its own, since definitions that clauses cite name
+//! these.
 
 use crate::live_end::LiveEnd;
 use crate::told::Told;
@@ -35,7 +36,7 @@ pub struct SlotEnd {
     pub content: u64,
 }
 
-/// How orders end (this project's own rule).
+/// How orders end.
 #[derive(Drop)]
 pub struct End {
     /// What each seat was told; nothing where replies are left out.
@@ -48,7 +49,7 @@ pub struct End {
     pub slots: Row<SlotEnd>,
 }
 
-/// One way in which orders end, how many do, and one of them (this project's own rule).
+/// One way in which orders end, how many do, and one of them.
 #[derive(Drop)]
 pub struct Outcome {
     pub orders: u128,

@@ -141,7 +141,7 @@ fn step_again(
 ///
 /// # Errors
 ///
-/// `Script` where the seat has no step left; `Memory` where memory runs out.
+/// `Script` where the seat isn't there, or has no step left; `Memory` where memory runs out.
 fn play(
     machine: &ScriptMachine,
     kept: &mut Recorded,
@@ -299,8 +299,8 @@ fn words_of(
 }
 
 /// The transcript of one order of a script's atomic steps, given by their seats, behind its setup: an entry for each
-/// call, which are a legal history, and a word line for each act that a lock or a slot answered. The path of an outcome
-/// ends as `orders` told (`replays_end_so`).
+/// call, together a legal history, and a word line for each act that a lock or a slot answered. The path of an outcome
+/// ends as `orders` told, where replies were compared (`replays_end_so`).
 ///
 /// # Errors
 ///

@@ -39,7 +39,7 @@ pub record IsGathered (only : Option IrpRef) (span : Option Span) (shown : Shown
 abbrev pub IsFresh : Shown → Type 0
 IsFresh shown = (shown.entries ≡ 0) × (shown.text.items ≡ []) × (shown.words.items ≡ [])
 
--- the lines of this text were
+-- the lines of this text were gone through
 pub record AreGathered (reader : Reader) (only : Option IrpRef) (span : Option Span) (shown : Shown)
     (sent text : List ℕ) : Type 0 where
   pub transcript : TranscriptValue
@@ -72,13 +72,14 @@ pub record AreShown (reader : Reader) (only : Option IrpRef) (span : Option Span
   pub none : shown.text.items ≡ []
   pub gathered : AreGathered reader only span shown sent text
 
--- of its first lines it did; or a beginning of that, before this fault
+-- what stands for the entries of its first lines went out
 pub record AreShownIn (only : Option IrpRef) (span : Option Span) (old new : Bytes) (before after : ℕ)
     (text : List ℕ) : Type 0 where
   pub listing : List ℕ
   pub is : IsListingIn only span text listing
   pub written : Written listing old new before after
 
+-- a beginning of that went out, before this fault
 pub record AreShownUpTo (only : Option IrpRef) (span : Option Span) (old new : Bytes) (before after : ℕ)
     (fault : Unwritten) (text : List ℕ) : Type 0 where
   pub listing : List ℕ
@@ -97,7 +98,8 @@ ShowsBlock (Err (IsUnwritten fault)) reader only span shown old new before after
 
 -- ---- the input
 
--- the input holds none, which was found behind the first lines of its text: what stands for their entries went out
+-- the input holds no transcript, which was found behind the first lines of its text: what stands for their entries went
+-- out
 pub record StopsAt (only : Option IrpRef) (span : Option Span) (left rest : Bytes) (unread : Unread) (old new : Bytes)
     (before after : ℕ) : Type 0 where
   pub text : List ℕ

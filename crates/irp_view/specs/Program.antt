@@ -90,8 +90,8 @@ pub record BreaksBefore (only : Option IrpRef) (span : Option Span) (before afte
       before.output.gone after.output.gone before.output.failures after.output.failures
   pub ending_is : ending ≡ of_unwritten fault
 
--- what was done: the help; or what is asked of the transcript in the input, if there is one. Entries are shown as they
--- are read
+-- what was done: the help; or what is asked of the transcript in the input, if there is one. Where entries are listed,
+-- those of its first lines may have gone out though there is none
 abbrev pub Obeys : Order → Streams → Streams → Ending → Type 0
 Obeys Help before after ending = (after.left ≡ before.left) × Helped before.output after.output ending
 Obeys (Read (Listing only span)) before after ending =

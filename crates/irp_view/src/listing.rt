@@ -102,7 +102,8 @@ fn stop<R: Read>(input: &mut R, buffer: &mut [u8], left: usize, unshown: Unshown
         (span : Option Span) (shown : Shown) (old new : Bytes) (before after : ℕ)
         → IsSoFar start (R.remaining input.old) left text
         → ShowsBlock (Err unshown) reader only span shown old new before after text
-        → ShowsInput (Err result) only span shown start (R.remaining input.new) old new before after }
+        → ShowsInput (Err result) only span shown start (R.remaining input.new) old new before
+        after }
 {
     match unshown {
         Unshown::Unread(unread) => Unshown::Unread(refuse(input, buffer, left, unread)),
@@ -128,7 +129,8 @@ fn show_rest<R: Read, O: Out, T: Threads + Sync>(
     requires within { start.now.to ≤ length buffer.old }
     requires few { start.now.left ≤ most_bytes }
     requires fresh { IsFresh shown.old }
-    ensures { (left : Bytes) → Starts left (R.remaining input.old) start.now lines.old.reader buffer.old
+    ensures { (left : Bytes)
+        → Starts left (R.remaining input.old) start.now lines.old.reader buffer.old
         → ShowsInput result wanted.choice.only wanted.span shown.new left (R.remaining input.new)
         (O.gone output.old) (O.gone output.new) (O.failures output.old) (O.failures output.new) }
 {
@@ -164,8 +166,8 @@ fn show_rest<R: Read, O: Out, T: Threads + Sync>(
 ///
 /// # Errors
 ///
-/// `Unread` where the input holds no transcript: what stands for the entries before that was found went out.
-/// `Unwritten` where the output failed, and no more is read: a beginning of it went out.
+/// `Unread` where the input holds no transcript, or memory ran out: what stands for the entries of its first lines went
+/// out. `Unwritten` where the output failed, and no more is read: a beginning of that went out.
 pub fn show_entries<R: Read, O: Out, T: Threads + Sync>(
     rt: &T,
     alloc: Global,

@@ -91,7 +91,8 @@ fn list_words<O: Out>(
     words: &[WordLine],
 ) -> Ending
     ensures { (transcript : TranscriptValue) (old : Bytes) (before : ℕ)
-        → Lists only (part_of span transcript.entries) old (O.gone output.old) before (O.failures output.old)
+        → Lists only (part_of span transcript.entries) old (O.gone output.old) before
+        (O.failures output.old)
         → KeepsWords only span words.now transcript.words
         → Answers (Listing only span) transcript (output_of old before)
         (output_of (O.gone output.new) (O.failures output.new)) result }

@@ -25,12 +25,12 @@ pub enum Unread {
     Input,
     /// The text isn't a transcript's: this line, from 1, is the first that is refused, and what was expected there.
     Refused { line: u64, expected: Expected },
-    /// Memory ran out for the transcript.
+    /// Memory ran out.
     NoMemory,
 }
 
-/// Takes the rest of an input whose text isn't read to its end, and tells why it holds no transcript: where the rest
-/// can't be taken, or is too long, since the input failed.
+/// Takes the rest of an input whose text isn't read to its end, and tells why it holds no transcript: that the input
+/// failed, where the rest can't be taken or is too long.
 pub fn refuse<R: Read>(input: &mut R, buffer: &mut [u8], left: usize, unread: Unread) -> Unread
     requires few { left ≤ most_bytes }
     requires room { 0 < length buffer.old }

@@ -165,13 +165,17 @@ pub fn show_words<O: Out>(
     words: &[WordLine],
 ) -> Result<(), Unwritten>
     ensures ok { (transcript : TranscriptValue) (old : Bytes) (before : ℕ)
-        → Lists only (part_of span transcript.entries) old (O.gone output.old) before (O.failures output.old)
+        → Lists only (part_of span transcript.entries) old (O.gone output.old) before
+        (O.failures output.old)
         → KeepsWords only span words.now transcript.words
-        → OnOk result (Shows only span transcript old (O.gone output.new) before (O.failures output.new)) }
+        → OnOk result (Shows only span transcript old (O.gone output.new) before
+        (O.failures output.new)) }
     ensures err { (transcript : TranscriptValue) (old : Bytes) (before : ℕ)
-        → Lists only (part_of span transcript.entries) old (O.gone output.old) before (O.failures output.old)
+        → Lists only (part_of span transcript.entries) old (O.gone output.old) before
+        (O.failures output.old)
         → KeepsWords only span words.now transcript.words
-        → IfErr result (ShowsPart only span transcript old (O.gone output.new) before (O.failures output.new)) }
+        → IfErr result (ShowsPart only span transcript old (O.gone output.new) before
+        (O.failures output.new)) }
 {
     if only.is_some() || span.is_some() {
         return Ok(());
