@@ -2,7 +2,6 @@
 //! wrong with one that isn't.
 #![tactic(auto)]
 
-mod allowed;
 mod cause;
 mod causes;
 mod checker;
@@ -14,10 +13,8 @@ mod recorded_answers;
 mod replaying;
 mod verdict;
 
-pub use allowed::is_answer_allowed;
 pub use cause::Cause;
 pub use checker::{check, explain};
-pub use comparing::first_difference;
 pub use difference::{Closure, Difference, QuestionPart, ShownField};
 pub use judge::Judge;
 pub use verdict::{Verdict, Wrong};

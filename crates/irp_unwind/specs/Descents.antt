@@ -1,15 +1,13 @@
 -- How a descent ends, and all that it does.
-use Rattle.std.specs.Prelude.{ℕ, ◌≡◌, ◌+◌, ◌-◌, ◌<◌, ◌++◌, List, length}
+use Rattle.std.specs.Prelude.{ℕ, ◌≡◌, ◌+◌, ◌-◌, ◌++◌, List}
 use Rattle.std.specs.List.{AllByRecursion}
 use Rattle.irp_types.specs.Packet.{PacketValue, size_of}
 use Rattle.irp_types.specs.Stacks.{DevicesValue, stack_size_of}
 use Rattle.irp_types.specs.State.{Tables}
 use Rattle.irp_types.specs.Descent.{Descended, last_frame}
 use Rattle.irp_types.specs.declared.names.IrpRef.{IrpRef}
-use Rattle.irp_types.specs.declared.routine.Known.{Known}
 use Rattle.irp_types.specs.declared.asked.Asked.{Asked}
 use Rattle.irp_unwind.specs.declared.ending.Sent.{Sent}
-use Rattle.irp_unwind.specs.Conditions.{HasDevices, HasRoutines}
 use Rattle.irp_unwind.specs.Devices.{ending_at}
 
 -- a descent: what it asked stands behind the others in the list of what was asked, each answered as it may, and the
@@ -33,11 +31,3 @@ within_reach packet depth = size_of packet - ((packet.current - 1) - depth)
 -- packet may come to
 abbrev pub can_ask_down : DevicesValue → PacketValue → ℕ → ℕ
 can_ask_down devices packet target = stack_size_of devices target + within_reach packet (stack_size_of devices target)
-
--- the packet may be sent to the device: the device was created, there are locations enough, those in use have devices,
--- and from the prepared one up the routines are there
-pub record CanDescend (counts : Known) (devices : DevicesValue) (packet : PacketValue) (target : ℕ) : Type 0 where
-  pub created : target < length devices.facts
-  pub deep : stack_size_of devices target < packet.current
-  pub placed : HasDevices packet packet.current
-  pub routines : HasRoutines counts packet (packet.current - 1)

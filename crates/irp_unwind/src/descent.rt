@@ -86,10 +86,11 @@ fn descend_from<A: Ask>(
 /// function code, are this project's own rules).
 ///
 /// `irp` is the packet's own reference, which the closures are shown. What is asked goes behind the other questions in
-/// `asked`, into room that is there: it takes no memory of its own; a closure may. The conditions are those of
-/// `can_descend`, and room for one question to each device from the target down, and one to each location that the
-/// packet may come to: those from the lowest that it can reach. A prepared packet without a cancel routine keeps the
-/// standing facts.
+/// `asked`, into room that is there: it takes no memory of its own; a closure may. The device was created, the packet has
+/// a location for each device from there down, each location in use has a device, and from the prepared one up each
+/// routine is there. There is room for one question to each device from the target down, and one to each location that
+/// the packet may come to: those from the lowest that it can reach. A prepared packet without a cancel routine keeps
+/// the standing facts.
 #[inline]
 pub fn descend<A: Ask>(
     packet: &mut Packet,

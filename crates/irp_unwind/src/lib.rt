@@ -2,7 +2,6 @@
 //! finishes it, what each is shown, and who owns the packet afterwards.
 #![tactic(auto)]
 
-mod conditions;
 mod descent;
 mod device;
 mod ending;
@@ -10,7 +9,6 @@ mod turn;
 mod unwinding;
 mod unwinding_laws;
 
-pub use conditions::{can_descend, can_unwind};
 pub use descent::descend;
 pub use ending::{Ending, Sent};
 pub use unwinding::unwind;

@@ -80,9 +80,10 @@ fn unwind_from<A: Ask>(packet: &mut Packet, irp: IrpRef, ask: &A, asked: &mut Ve
 /// nobody is asked, and the test of flags against a replaced status are this project's own rules).
 ///
 /// `irp` is the packet's own reference, which the routines are shown. What is asked goes behind the other questions in
-/// `asked`, into room that is there: it takes no memory of its own; a closure may. The conditions are those of
-/// `can_unwind`, and room for one question for each location from the current one up. A packet without a cancel
-/// routine, which stands in no cancel slot, keeps the standing facts.
+/// `asked`, into room that is there: it takes no memory of its own; a closure may. The packet stands in a location, each
+/// location above it has a device, and each routine from there up is there. There is room for one question for each
+/// location from the current one up. A packet without a cancel routine, which stands in no cancel slot, keeps the
+/// standing facts.
 #[inline]
 pub fn unwind<A: Ask>(packet: &mut Packet, irp: IrpRef, ask: &A, asked: &mut Vec<Asked>) -> Ending
     requires placed { packet.old.current ≤ size_of packet.old }
