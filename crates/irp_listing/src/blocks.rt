@@ -151,7 +151,7 @@ fn put_outcome(out: &mut Vec<u8>, words: &mut String, entry: &Entry) -> Result<(
 
 /// Puts the block of an entry: a line with its number, the call and the answer, two lines for each question, and one
 /// that tells where the packet is then. The one error is want of memory.
-pub fn put_block(
+pub(crate) fn put_block(
     out: &mut Vec<u8>,
     words: &mut String,
     stacks: &Stacks,

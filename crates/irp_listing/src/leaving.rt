@@ -25,7 +25,7 @@ fn is_gone(reply: Reply) -> bool {
 }
 
 /// The device that makes a completion which is refused because the packet has ended.
-pub fn late_completion(entry: &Entry) -> Option<DeviceId> {
+pub(crate) fn late_completion(entry: &Entry) -> Option<DeviceId> {
     match (entry.call, entry.reply) {
         (
             Call::Complete {

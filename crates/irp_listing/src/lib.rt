@@ -12,9 +12,9 @@ mod stacks;
 mod word_lines;
 mod writing;
 
-pub use blocks::{CallerWords, put_block};
+pub use blocks::CallerWords;
 pub use choosing::{Choice, is_chosen};
-pub use leaving::{late_completion, taken_out};
+pub use leaving::taken_out;
 pub use lines::{put_line, put_row};
 pub use listing::{put_chosen, words_text};
 pub use outcome::{Outcome, moves, outcome_of};

@@ -33,7 +33,7 @@ pub(crate) fn put_escaped(out: &mut Vec<u8>, words: &str) -> Result<(), AllocErr
     Ok(())
 }
 
-/// Escaped words have no angle and no quotation mark, and are read again as the words.
+/// Escaped words have no angle bracket and no quotation mark.
 pub fn escapes_are_plain()
     ensures { EscapesArePlain }
 {}

@@ -30,4 +30,4 @@ pub use choosing::{Choice, MOST_ENTRIES};
 pub use draft::Draft;
 pub use drawing::draw;
 pub use escape::escapes_are_plain;
-pub use page::{Subject, page_of};
+pub use page::Subject;

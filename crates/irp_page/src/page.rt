@@ -59,7 +59,7 @@ fn has_seats(header: Option<&Header>) -> bool {
 /// The page of a history: what is judged, the devices, a line for each packet, a card for each entry that is chosen, in
 /// order and at most 2,000 of them, and the steps on remove locks and cancel slots. Any transcript has a page, also an
 /// illegal one. The one error is want of memory.
-pub fn page_of(alloc: Global, subject: &Subject) -> Result<Vec<u8>, AllocError>
+pub(crate) fn page_of(alloc: Global, subject: &Subject) -> Result<Vec<u8>, AllocError>
     ensures { (entries : List Entry) → HasDrafted subject.now.draft.now entries
         → IfOk result (λ text. IsPageOf subject.now.draft.now.choice entries text.items) }
 {

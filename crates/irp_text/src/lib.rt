@@ -34,4 +34,4 @@ pub use irp_transcript_writer::{Cause, Failed, Out, WriteFault, WriterOut, write
 pub use line::Line;
 pub use read::read_transcript;
 pub use reader::Reader;
-pub use round_trip::{entry_is_read, read_again, written_is_read};
+pub use round_trip::{read_again, written_is_read};

@@ -11,7 +11,7 @@ use irp_transcript_reader::ReadFault;
 use std::alloc::Global;
 
 /// The line of an entry that fits is read as the entry.
-pub fn entry_is_read()
+pub(crate) fn entry_is_read()
     ensures { spec.EntryIsRead }
 {}
 
