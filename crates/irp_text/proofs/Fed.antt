@@ -7,7 +7,7 @@ use Rattle.irp_forms.specs.declared.unread.Unread.TheVariants as unread
 use Rattle.irp_transcript.specs.Transcripts.{TranscriptValue, no_lines}
 use Rattle.irp_transcript_reader.specs.Reading.{cut, most_bytes, onto, ReadsFrom, Refuses, TakesAll}
 use Rattle.irp_transcript_reader.specs.declared.read_fault.ReadFault.TheVariants.{Line as LineFault}
-use Rattle.irp_text.specs.Fed.{Given, Gives, HasRead, HasTaken, Keeps, fault_at, with_line}
+use Rattle.irp_text.specs.Fed.{Given, Gives, HasRead, HasTaken, IsNextLine, Keeps, fault_at, with_line}
 use Rattle.irp_text.specs.declared.line.Line.{Line}
 use Rattle.irp_text.specs.declared.line_reader.LineReader.{LineReader}
 use Rattle.irp_text.specs.declared.reader.Reader.{Reader}
@@ -103,6 +103,10 @@ module _ (old : Reader) (text : List ℕ) (before : TranscriptValue) (read : Has
       → Given (Err unread) lines before (old.kept.items ++ take place block) → Gives (Err (fault_at (old.count + 1) unread)) new text before block
   line_fails unread.Form new lines block place ends refused = line_refused block place ends refused
   line_fails unread.NoMemory new lines block place ends refused = tt
+
+  pub next_line : (unread : Unread) → IsNextLine text (fault_at (old.count + 1) unread)
+  next_line unread.Form = ap (λ (count : ℕ). count + 1) read.counted
+  next_line unread.NoMemory = tt
 
   -- at the end of the text
   pub all_read : old.kept.items ≡ [] → ReadsFrom no_lines 0 (Ok before) (cut text)

@@ -1,7 +1,7 @@
 -- What a reader of lines has taken, with one line more.
 use Rattle.std.proofs.Common.{◌≡◌, ℕ, ◌+◌, ◌<◌, ◌&&◌, ◌==◌, nat_lt, is_some, Bool, true, false, List, [], ◌∷◌, ◌++◌, length, Option, Some, None, IfSome, Ok, Err, refl, sym, subst, ap, ◌∙◌, arith, length-append}
 use Rattle.std.specs.Option.{option_map}
-use Rattle.std.proofs.lemmas.Bool.{ltb-true, ne_eqb}
+use Rattle.std.proofs.lemmas.Bool.{eqb-true, ltb-true, ne_eqb}
 use Rattle.std.proofs.lemmas.Option.{none-some, same_Some}
 use Rattle.irp_forms.specs.declared.unread.Unread.{Unread}
 use Rattle.irp_forms.specs.declared.unread.Unread.TheVariants as unread
@@ -50,6 +50,10 @@ one_word [] first word is = (cc (is), refl)
 one_word (other ∷ []) first word is = absurd (cc (is))
 one_word (other ∷ another ∷ rest) first word is = absurd (cc (is))
 
+left : (one other : Bool) → (one && other) ≡ true → one ≡ true
+left true other is = refl
+left false other is = absurd (cc (is))
+
 both : (one other : Bool) → (one && other) ≡ true → other ≡ true
 both true other is = is
 both false other is = absurd (cc (is))
@@ -96,6 +100,9 @@ module _ (old : LineReader) (before : TranscriptValue) (has : HasTaken old befor
       room : (old.before_words && nat_lt old.entries most_entries) ≡ has_room before
       room = ap (λ (it : Bool × ℕ). it.0 && nat_lt it.1 most_entries) (λ i. (has.before_words i, has.entries i))
 
+      no_words : (old.before_words && nat_lt old.entries most_entries) ≡ true → length before.words ≡ 0
+      no_words fits = eqb-true (length before.words) 0 (sym has.before_words ∙ left old.before_words (nat_lt old.entries most_entries) fits)
+
       pub has_entry : (rest : List Entry) (entry : Entry) → mid.entries ≡ rest ++ entry ∷ [] → so_far new.alone ≡ record mid { entries = rest }
           → (old.before_words && nat_lt old.entries most_entries) ≡ true → new.entries ≡ old.entries + 1 → new.before_words ≡ old.before_words
           → Given (Ok (EntryLine entry)) new before line
@@ -104,7 +111,7 @@ module _ (old : LineReader) (before : TranscriptValue) (has : HasTaken old befor
           let after : TranscriptValue = with_line before (EntryLine entry) in
           let open_room : has_room before ≡ true = sym room ∙ fits in
           let longer : length after.entries ≡ old.entries + 1 = omega (arith, length-append before.entries (entry ∷ []), has.entries) in (
-            some_is before.header under.0 under.1,
+            (some_is before.header under.0 under.1, nothing before.words (no_words fits)),
             given.0 open_room,
             record {
               one = with_header after under.0 under.1 (accepted_of before under.0 has.one under.1);

@@ -148,12 +148,18 @@ all_same before after other (line ∷ texts) (between, taken, more) (second, sec
     let same : second ≡ between = takes_same before second between line second_taken taken in
     all_same between after other texts more (subst (λ (given : TranscriptValue). TakesAll given texts other) same second_more)
 
-never_refused : (place : ℕ) (before after : TranscriptValue) (texts : List (List ℕ)) → TakesAll before texts after → RefusedAt place before (texts, []) → ⊥
-never_refused place before after [] taken refused = omega (arith, refused.1)
-never_refused zero before after (line ∷ texts) (between, taken, more) refused = refused between taken
-never_refused (suc place) before after (line ∷ texts) (between, taken, more) (second, second_taken, refused) =
+-- behind lines that are all taken, what has no newline is refused
+pub refused_last : (place : ℕ) (before after : TranscriptValue) (texts : List (List ℕ)) (rest : List ℕ) → TakesAll before texts after
+    → RefusedAt place before (texts, rest) → (place ≡ length texts) × (0 < length rest)
+refused_last place before after [] rest taken refused = refused
+refused_last zero before after (line ∷ texts) rest (between, taken, more) refused = absurd (refused between taken)
+refused_last (suc place) before after (line ∷ texts) rest (between, taken, more) (second, second_taken, refused) =
     let same : second ≡ between = takes_same before second between line second_taken taken in
-    never_refused place between after texts more (subst (λ (given : TranscriptValue). RefusedAt place given (texts, [])) same refused)
+    let last = refused_last place between after texts rest more (subst (λ (given : TranscriptValue). RefusedAt place given (texts, rest)) same refused) in
+    (ap suc last.0, last.1)
+
+never_refused : (place : ℕ) (before after : TranscriptValue) (texts : List (List ℕ)) → TakesAll before texts after → RefusedAt place before (texts, []) → ⊥
+never_refused place before after texts taken refused = omega (arith, (refused_last place before after texts [] taken refused).1)
 
 -- ---- the laws
 

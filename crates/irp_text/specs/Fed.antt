@@ -21,10 +21,10 @@ with_line before (HeaderLine header) = record before { header = Some header }
 with_line before (EntryLine entry) = record before { entries = before.entries ++ entry ∷ [] }
 with_line before (WordLine word) = record before { words = before.words ++ word ∷ [] }
 
--- a header is the first line, and no other
+-- a header is the first line, and no other; no entry stands behind a word line
 abbrev pub IsInPlace : TranscriptValue → Line → Type 0
 IsInPlace before (HeaderLine header) = before ≡ no_lines
-IsInPlace before (EntryLine entry) = is_some before.header ≡ true
+IsInPlace before (EntryLine entry) = (is_some before.header ≡ true) × (before.words ≡ [])
 IsInPlace before (WordLine word) = is_some before.header ≡ true
 
 -- a header without its lists
@@ -98,6 +98,11 @@ Gives (Ok (Some (line, count))) reader text before block =
 Gives (Err (faults.Line line)) reader text before block =
     (more : List ℕ) → ReadsFrom no_lines 0 (Err (faults.Line line)) (cut (text ++ (block ++ more)))
 Gives (Err faults.NoMemory) reader text before block = ⊤
+
+-- the line that is refused is the next one behind this text
+abbrev pub IsNextLine : List ℕ → ReadFault → Type 0
+IsNextLine text (faults.Line line) = line ≡ length (cut text).0 + 1
+IsNextLine text faults.NoMemory = ⊤
 
 -- the answer at the end of the text: the transcript, unless the text ends before its last line does
 abbrev pub ended : TranscriptValue → Result (Unit {0}) ReadFault → Result TranscriptValue ReadFault

@@ -11,13 +11,14 @@ ghost use Rattle.std.specs.Prelude.{
   [],
   ◌++◌,
   length,
+  IfErr,
   IfOk,
   IfSome,
   OnOk,
 };
 ghost use Rattle.irp_transcript.specs.Transcripts.{TranscriptValue, no_lines};
 ghost use Rattle.irp_transcript_reader.specs.Reading.{ReadsFrom, cut};
-ghost use Rattle.irp_text.specs.Fed.{Given, Gives, HasRead, HasTaken, Keeps, ended, fault_at};
+ghost use Rattle.irp_text.specs.Fed.{Given, Gives, HasRead, HasTaken, IsNextLine, Keeps, ended, fault_at};
 
 use crate::ahead::{Ahead, Known};
 use crate::line::Line;
@@ -102,7 +103,7 @@ impl Reader {
     ///
     /// # Errors
     ///
-    /// `ReadFault::Line` with the number, from 1, of the first line that is refused, whatever follows the block
+    /// `ReadFault::Line` with the number, from 1, of the next line, where that is refused, whatever follows the block
     /// (`irp_transcript_reader::read_lines` tells which are); `ReadFault::NoMemory` where memory ran out, behind lines
     /// that are all taken. After an error the reader is of no use.
     pub fn next(&mut self, alloc: Global, block: &[u8]) -> Result<Option<(Line, usize)>, ReadFault>
@@ -111,6 +112,8 @@ impl Reader {
         ensures gives { (text : List ℕ) (before : TranscriptValue) → HasRead self.old text before
             → length text + length block.now + 1 < 2 ^ 64
             → Gives result self.new text before block.now }
+        ensures refused { (text : List ℕ) (before : TranscriptValue) → HasRead self.old text before
+            → length text + length block.now + 1 < 2 ^ 64 → IfErr result (IsNextLine text) }
     {
         self.next_ahead(alloc, block, &mut Ahead::none(alloc))
     }
@@ -131,6 +134,8 @@ impl Reader {
         ensures gives { (text : List ℕ) (before : TranscriptValue) → HasRead self.old text before
             → length text + length block.now + 1 < 2 ^ 64
             → Gives result self.new text before block.now }
+        ensures refused { (text : List ℕ) (before : TranscriptValue) → HasRead self.old text before
+            → length text + length block.now + 1 < 2 ^ 64 → IfErr result (IsNextLine text) }
     {
         let Some(place) = memchr(b'\n', block) else {
             return match self.keep(block) {

@@ -2,9 +2,9 @@
 use Rattle.std.proofs.Common.{ℕ, ◌≡◌, ◌+◌, ◌<◌, ◌^◌, Err, sym, subst, ap, ◌∙◌, arith}
 use Rattle.std.proofs.lemmas.Bool.{eq-eqb, eqb-true}
 use Rattle.irp_transcript_reader.specs.declared.read_fault.ReadFault.{ReadFault}
-use Rattle.irp_text.specs.Fed.{Gives, fault_at}
+use Rattle.irp_text.specs.Fed.{Gives, IsNextLine, fault_at}
 use Rattle.irp_text.proofs.Blocks.{IsBare, bare_all}
-use Rattle.irp_text.proofs.Fed.{EndsAt, block_fails, block_kept, line_fails, line_read, few}
+use Rattle.irp_text.proofs.Fed.{EndsAt, block_fails, block_kept, few, line_fails, line_read, next_line}
 use Rattle.irp_text.proofs.reader.Reader.next_ahead.Goals as goal
 
 pub returns-in-Ok-clause-gives : goal.returns-in-Ok-clause-gives
@@ -46,3 +46,17 @@ returns-in-Err-end_line-clause-gives c = λ text before read short.
     subst (λ (fault : ReadFault). Gives (Err fault) c.end_line.new.self text before c.args.block.now) (sym told)
     (line_fails c.args.self.now text before read c.in-Err-end_line.unread c.end_line.new.self c.end_line.new.self.lines c.args.block.now c.in-Some.place ends
     (c.in-Err-end_line.ensures.given before read.taken)))
+
+pub returns-in-Err-clause-refused : goal.returns-in-Err-clause-refused
+returns-in-Err-clause-refused c = λ text before read short.
+    (let low : c.keep.new.self.count + 1 < 2 ^ 64 = omega (arith, (few c.args.self.now text before read).0, c.keep.ensures.count, short) in
+    let told : c.fault.result ≡ fault_at (c.args.self.now.count + 1) c.in-Err.unread =
+    c.fault.ensures low ∙ ap (λ (count : ℕ). fault_at (count + 1) c.in-Err.unread) c.keep.ensures.count in
+    subst (IsNextLine text) (sym told) (next_line c.args.self.now text before read c.in-Err.unread))
+
+pub returns-in-Err-end_line-clause-refused : goal.returns-in-Err-end_line-clause-refused
+returns-in-Err-end_line-clause-refused c = λ text before read short.
+    (let low : c.end_line.new.self.count + 1 < 2 ^ 64 = omega (arith, (few c.args.self.now text before read).0, c.end_line.ensures.count, short) in
+    let told : c.fault-in-Err-end_line.result ≡ fault_at (c.args.self.now.count + 1) c.in-Err-end_line.unread =
+    c.fault-in-Err-end_line.ensures low ∙ ap (λ (count : ℕ). fault_at (count + 1) c.in-Err-end_line.unread) c.end_line.ensures.count in
+    subst (IsNextLine text) (sym told) (next_line c.args.self.now text before read c.in-Err-end_line.unread))
