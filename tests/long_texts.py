@@ -33,7 +33,10 @@ MEASURED = """import resource, subprocess, sys
 status = subprocess.run(sys.argv[1:]).returncode
 print(resource.getrusage(resource.RUSAGE_CHILDREN).ru_maxrss, file=sys.stderr)
 sys.exit(status)"""
+# A word line, and what is printed of it, below the heading of them all.
 WORD = b'{"do":"acquire","lock":0,"reply":{"status":0},"seat":0,"step":4,"tag":1}\n'
+SHOWN_WORD = "    step 4  seat 0: IoAcquireRemoveLock(remove lock 0, tag 1) -> STATUS_SUCCESS\n"
+HEADING = "Steps on remove locks and cancel slots:\n"
 
 
 class Text(NamedTuple):
@@ -163,6 +166,11 @@ def listings():
     yield "the same behind those chosen", ["text", "--entries", "5..9"], refused, shown(5, 9), late
     yield "the same, a packet", ["packet", "0", "7"], refused, shown(12, 14), late
     yield "no last newline", ["text"], text[:-1], shown(0, entries - 1), entries + 1
+    words = legal_text(1) + WORD * 1_000_000
+    steps = shown(0, 2) + HEADING + SHOWN_WORD * 1_000_000
+    yield "a million word lines", ["text"], words, steps, None
+    yield "a line refused behind them", ["text"], words + b"!\n", steps, 1_000_004
+    yield "a million word lines, some entries", ["text", "--entries", "1.."], words, shown(1, 2), None
 
 
 def fault_of_listing(irp_view, words, text, wanted, line):

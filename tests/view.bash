@@ -1,8 +1,8 @@
 #!/bin/bash
 # Shows that `irp_view text` and `irp_view packet` show the entries that their words ask for: a use of a packet, a span,
-# or all, with word lines only behind all; that entries are shown as they are read, also before a line that is refused;
-# and what they say of a completion that a right driver leaves out, and of one that is a mistake. IRP_VIEW names the
-# program; without it, it is the one that bin/irp_view runs.
+# or all, with word lines only behind all; that entries and word lines are shown as they are read, also before a line
+# that is refused; and what they say of a completion that a right driver leaves out, and of one that is a mistake.
+# IRP_VIEW names the program; without it, it is the one that bin/irp_view runs.
 # Each failure has a line of its own. Ends with status 0 where all was as expected, else with 1.
 set -u
 cd "$(dirname "$(readlink -f "$0")")" || exit 1
@@ -27,7 +27,7 @@ shows() {
 shows_steps() {
     local got
     tried=$((tried + 1))
-    got=$("$irp_view" "${@:2}" | grep -c '^    step [0-9]*  seat ')
+    got=$("$irp_view" "${@:2}" 2>/dev/null | grep -c '^    step [0-9]*  seat ')
     [ "$got" = "$1" ] && return
     wrong=$((wrong + 1))
     echo "failed: view: ${*:2}: $got steps in place of $1"
@@ -77,21 +77,33 @@ stands_before 1 ', column 1: this isn'"'"'t JSON' 0 text
 head -c -1 "$cancels" >"$room/refused"
 stands_before "$(wc -l <"$cancels")" ': the last line has no newline' $(($(wc -l <"$cancels") - 2)) text
 
-# What stands for an entry is shown before the next line comes.
-tried=$((tried + 1))
-coproc view { "$irp_view" text; }
-pid=$view_PID
-head -n 2 "$cancels" >&"${view[1]}"
-read -r -t 60 line <&"${view[0]}"
-case $line in
-'0  '*) ;;
-*)
-    wrong=$((wrong + 1))
-    echo "failed: view: text shows '$line' of a first entry before a second comes"
-    ;;
-esac
-eval "exec ${view[1]}>&-"
-wait "$pid" 2>/dev/null
+# Checks that `text` shows a line like $1 as the last of the lines in $room/first, $2 of them, before another line comes.
+shows_first() {
+    local line pid at
+    tried=$((tried + 1))
+    coproc view { "$irp_view" text; }
+    pid=$view_PID
+    cat "$room/first" >&"${view[1]}"
+    for ((at = 0; at < $2; at++)); do
+        read -r -t 60 line <&"${view[0]}"
+    done
+    # shellcheck disable=SC2053 # $1 is a pattern.
+    if [[ $line != $1 ]]; then
+        wrong=$((wrong + 1))
+        echo "failed: view: text shows '$line' in place of $1 before another line comes"
+    fi
+    eval "exec ${view[1]}>&-"
+    wait "$pid" 2>/dev/null
+}
+
+head -n 2 "$cancels" >"$room/first"
+shows_first '0  *' 1
+{ head -n 1 "$locks" && grep -m 1 '"step"' "$locks"; } >"$room/first"
+shows_first 'step *  seat *' 2
+
+# Word lines before a line that is refused are shown.
+{ cat "$locks" && echo '!'; } >"$room/refused"
+shows_steps "$(grep -c '"step"' "$locks")" text "$room/refused"
 
 # Checks that the line of entry $1 of the transcript $3 ends with $2.
 ends() {

@@ -1,3 +1,4 @@
 pub mod Adding
 pub mod Chosen
 pub mod Telling
+pub mod Worded

@@ -1,10 +1,9 @@
--- The blocks of the entries that are chosen, and what of them went out.
-use Rattle.std.specs.Prelude.{ℕ, ◌≡◌, ◌⊎◌, List, [], ◌∷◌, ◌++◌, codes, Option}
+-- The blocks of the entries that are chosen, and the lines of word lines.
+use Rattle.std.specs.Prelude.{ℕ, ◌≡◌, ◌⊎◌, List, [], ◌∷◌, ◌++◌, length, codes, Bool, true, false, Option}
 use Rattle.irp_types.specs.declared.entry.Entry.{Entry}
 use Rattle.irp_listing.specs.Blocks.{AddsLines, IsBlock}
-use Rattle.irp_listing.specs.Bytes.{Bytes}
 use Rattle.irp_listing.specs.Choosing.{IsChosen}
-use Rattle.irp_listing.specs.Writing.{Written}
+use Rattle.irp_transcript.specs.declared.word_line.WordLine.{WordLine}
 use Rattle.irp_types.specs.declared.names.IrpRef.{IrpRef}
 
 -- this text stands for an entry: its block where it is chosen, and else nothing
@@ -24,16 +23,25 @@ pub record AddsChosen (only : Option IrpRef) (entry : Entry) (before after : Lis
   pub stands : StandsFor only entry text
   pub put : after ≡ before ++ text
 
--- what stands for these entries went out, and nothing failed
-pub record Lists (only : Option IrpRef) (entries : List Entry) (old new : Bytes) (before after : ℕ) : Type 0 where
-  pub text : List ℕ
-  pub listing : IsListing only entries text
-  pub written : Written text old new before after
-
 -- the heading above word lines
 abbrev pub words_heading : List ℕ
 words_heading = codes "Steps on remove locks and cancel slots:" ++ 10 ∷ []
 
--- a heading and so many lines; nothing where there are none
-abbrev pub AreWordLines : ℕ → List ℕ → Type 0
-AreWordLines count text = ((count ≡ 0) × (text ≡ [])) ⊎ AddsLines count words_heading text
+-- it stands above the first, and nothing above another
+abbrev pub heading_above : Bool → List ℕ
+heading_above true = words_heading
+heading_above false = []
+
+-- the text for word lines: the heading, and a line for each; nothing where there is none
+abbrev pub AreWordLines : List WordLine → List ℕ → Type 0
+AreWordLines [] text = text ≡ []
+AreWordLines (word ∷ words) text = AddsLines (length (word ∷ words)) words_heading text
+
+-- there is no word line
+abbrev pub are_none : List WordLine → Bool
+are_none [] = true
+are_none (word ∷ words) = false
+
+-- the line of one more was put behind what stood there, below the heading if it is the first
+abbrev pub AddsWordLine : Bool → List ℕ → List ℕ → Type 0
+AddsWordLine is_first before after = AddsLines 1 (before ++ heading_above is_first) after

@@ -16,7 +16,7 @@ pub use blocks::CallerWords;
 pub use choosing::{Choice, is_chosen};
 pub use leaving::taken_out;
 pub use lines::{put_line, put_row};
-pub use listing::{put_chosen, words_text};
+pub use listing::{put_chosen, put_word_line};
 pub use outcome::{Outcome, moves, outcome_of};
 pub use questions::AskedWords;
 pub use stacks::Stacks;

@@ -1,8 +1,7 @@
-//! The text of a history: a block for each entry that is chosen.
+//! The text of a history: a block for each entry that is chosen, and a line for each word line.
 
-ghost use Rattle.std.specs.Prelude.{IfOk, OnOk, length};
-ghost use Rattle.irp_listing.specs.Blocks.{AddsLines};
-ghost use Rattle.irp_listing.specs.Listing.{AddsChosen, AreWordLines};
+ghost use Rattle.std.specs.Prelude.{◌≡◌, ◌++◌, OnOk};
+ghost use Rattle.irp_listing.specs.Listing.{AddsChosen, AddsWordLine, heading_above};
 
 use crate::blocks::put_block;
 use crate::choosing::{Choice, is_chosen};
@@ -11,7 +10,7 @@ use crate::stacks::Stacks;
 use crate::word_lines::WordLineWords;
 use irp_transcript::WordLine;
 use irp_types::Entry;
-use std::alloc::{AllocError, Global};
+use std::alloc::AllocError;
 
 /// Puts the block of an entry that is chosen, and nothing for another. The stacks are those that the entries up to this
 /// one lead to; `words` is room for the words of a line. The one error is want of memory.
@@ -30,27 +29,29 @@ pub fn put_chosen(
     put_block(pending, words, stacks, choice.tells_seats, entry)
 }
 
-/// Puts the line of a word line. The one error is want of memory.
-fn put_word_line(out: &mut Vec<u8>, words: &mut String, line: WordLine) -> Result<(), AllocError>
-    ensures { OnOk result (AddsLines 1 out.old.items out.new.items) }
+/// Puts the heading that stands above the first word line, and nothing above another. The one error is want of memory.
+fn put_heading(out: &mut Vec<u8>, is_first: bool) -> Result<(), AllocError>
+    ensures { OnOk result (out.new.items ≡ out.old.items ++ heading_above is_first) }
 {
-    words.clear();
-    write!(words, "{}", WordLineWords(line))?;
-    put_further(out, words.as_str())
+    if !is_first {
+        return Ok(());
+    }
+    out.extend_from_slice(b"Steps on remove locks and cancel slots:\n")?;
+    Ok(())
 }
 
-/// A heading and a line for each word line, in order; nothing where there is none.
-pub fn words_text(alloc: Global, lines: &[WordLine]) -> Result<Vec<u8>, AllocError>
-    ensures { IfOk result (λ text. AreWordLines (length lines.now) text.items) }
+/// Puts the line of a word line, and above the first the heading of them all; `words` is room for the words of a line.
+/// The one error is want of memory.
+pub fn put_word_line(
+    pending: &mut Vec<u8>,
+    words: &mut String,
+    is_first: bool,
+    line: WordLine,
+) -> Result<(), AllocError>
+    ensures { OnOk result (AddsWordLine is_first pending.old.items pending.new.items) }
 {
-    let mut out = Vec::new(alloc);
-    if lines.is_empty() {
-        return Ok(out);
-    }
-    let mut words = String::new(alloc);
-    out.extend_from_slice(b"Steps on remove locks and cancel slots:\n")?;
-    for line in lines {
-        put_word_line(&mut out, &mut words, *line)?;
-    }
-    Ok(out)
+    put_heading(pending, is_first)?;
+    words.clear();
+    write!(words, "{}", WordLineWords(line))?;
+    put_further(pending, words.as_str())
 }

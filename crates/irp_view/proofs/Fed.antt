@@ -1,19 +1,21 @@
 -- The text of an input that is read block after block.
 use Rattle.std.proofs.Common.{◌≡◌, ℕ, ◌+◌, ◌-◌, ◌<◌, ◌≤◌, ◌^◌, List, [], ◌++◌, length, take, drop, Some, None, IfSome, Err, refl, sym, subst, ap, ◌∙◌, append_assoc, append-nil, arith, length-append}
-use Rattle.std.proofs.lemmas.List.{drop-take, take-append-drop}
+use Rattle.std.proofs.lemmas.List.{drop-take, take-append-drop, take-append-le, take_all}
 use Rattle.std.specs.Io.KnownBytes.{Consumes, IsAtEnd}
 use Rattle.irp_transcript.specs.Transcripts.{TranscriptValue, no_lines}
 use Rattle.irp_transcript.specs.declared.header.Header.{Header}
-use Rattle.irp_transcript_reader.specs.Reading.{ReadsFrom, cut}
+use Rattle.irp_transcript_reader.specs.Reading.{ReadsFrom, TakesAll, cut}
 use Rattle.irp_transcript_reader.specs.declared.read_fault.ReadFault.{ReadFault}
 use Rattle.irp_transcript_reader.specs.declared.read_fault.ReadFault.TheVariants.{Line as LineFault, NoMemory as FaultMemory}
-use Rattle.irp_text.specs.Fed.{Gives, IsInPlace}
+use Rattle.irp_text.specs.Fed.{Gives, IsInPlace, IsNextLine}
 use Rattle.irp_text.specs.declared.line.Line.{Line}
 use Rattle.irp_text.specs.declared.line.Line.TheVariants.{Header as HeaderLine, Entry as EntryLine, Word as WordLine}
 use Rattle.irp_text.specs.declared.reader.Reader.{Reader}
+use Rattle.irp_text.proofs.Blocks.{Cut, cut_onward}
+use Rattle.irp_text.proofs.Whole.{refused_last}
 use Rattle.irp_listing.specs.Bytes.{Bytes}
 use Rattle.irp_view.specs.Reading.{HoldsNone, IsInput, IsNoneOf, IsTextOfNone, TakesAtMost, most_bytes, most_taken}
-use Rattle.irp_view.specs.Feeding.{Fails, FailsBehind, IsHopeless, IsSoFar, piece_of, unread_of}
+use Rattle.irp_view.specs.Feeding.{AreAllBefore, Fails, FailsBehind, IsHopeless, IsSoFar, SayFirst, StartsNone, piece_of, unread_of}
 use Rattle.irp_view.specs.declared.reading.Unread.{Unread}
 use Rattle.irp_view.specs.declared.reading.Unread.TheVariants.{Input, Refused, NoMemory}
 use Rattle.irp_view.specs.declared.refusal.Expected.{Expected}
@@ -22,7 +24,7 @@ use Rattle.irp_view.proofs.Pieces.{reads_on}
 -- the first line is a header
 pub first_header : (line : Line) → IsInPlace no_lines line → (header : Header) × (line ≡ HeaderLine header)
 first_header (HeaderLine header) place = (header, refl)
-first_header (EntryLine entry) place = absurd (cc (place))
+first_header (EntryLine entry) place = absurd (cc (place.0))
 first_header (WordLine word) place = absurd (cc (place))
 
 -- ---- within a block
@@ -85,6 +87,36 @@ pub takes_more : (old now next : Bytes) (left : ℕ) (text : List ℕ) → IsSoF
 takes_more old now next left text so_far more =
     (text ++ more.0, omega (arith, length-append text more.0, so_far.count, more.1), reads_on text more.0 old now next so_far.took more.2)
 
+-- ---- first lines
+
+-- all lines of a text
+pub say_all : (text : List ℕ) (transcript : TranscriptValue) → TakesAll no_lines (cut text).0 transcript → SayFirst (length (cut text).0) text transcript
+say_all text transcript taken =
+    (omega arith, subst (λ (lines : List (List ℕ)). TakesAll no_lines lines transcript) (sym (take_all (length (cut text).0) (cut text).0 (omega arith))) taken)
+
+-- more of the text comes
+pub say_more : (count : ℕ) (text more : List ℕ) (transcript : TranscriptValue) → SayFirst count text transcript → SayFirst count (text ++ more) transcript
+say_more count text more transcript say =
+    let others : List (List ℕ) = (cut ((cut text).1 ++ more)).0 in
+    let whole : (cut (text ++ more)).0 ≡ (cut text).0 ++ others = ap (λ (given : Cut). given.0) (cut_onward text more) in
+    let first : take count (cut (text ++ more)).0 ≡ take count (cut text).0 = ap (take count) whole ∙ take-append-le count (cut text).0 others say.0 in (
+      omega (arith, say.0, ap length whole, length-append (cut text).0 others),
+      subst (λ (lines : List (List ℕ)). TakesAll no_lines lines transcript) (sym first) say.1,
+    )
+
+-- a line that is refused is the next one
+pub all_before : (fault : ReadFault) (expected : Expected) (text : List ℕ) → IsNextLine text fault → AreAllBefore (unread_of fault expected) (length (cut text).0)
+all_before (LineFault line) expected text next = next
+all_before FaultMemory expected text next = tt
+
+-- and so is what has no newline
+pub all_before_end : (fault : ReadFault) (expected : Expected) (text : List ℕ) (before : TranscriptValue) → TakesAll no_lines (cut text).0 before
+    → ReadsFrom no_lines 0 (Err fault) (cut text) → AreAllBefore (unread_of fault expected) (length (cut text).0)
+all_before_end (LineFault line) expected text before taken reads =
+    let last = refused_last reads.0 no_lines before (cut text).0 (cut text).1 taken reads.2 in
+    omega (arith, reads.1, last.0)
+all_before_end FaultMemory expected text before taken reads = tt
+
 -- ---- endings
 
 -- the first line that is refused
@@ -103,6 +135,11 @@ pub ended_fails : (unread : Unread) (old now : Bytes) (left : ℕ) (text : List 
 ended_fails (Refused line expected) old now left text so_far end reads = ((text, is_input old now left text so_far end, reads), takes_so_far old now left text so_far)
 ended_fails Input old now left text so_far end reads = absurd reads
 ended_fails NoMemory old now left text so_far end reads = (tt, takes_so_far old now left text so_far)
+
+pub none_of_end : (unread : Unread) (old now : Bytes) (text : List ℕ) → IsInput old now text → IsTextOfNone text unread → IsNoneOf old now text unread
+none_of_end (Refused line expected) old now text input none = (input, none)
+none_of_end Input old now text input none = absurd none
+none_of_end NoMemory old now text input none = tt
 
 -- it is at its end, and a beginning of its text is refused
 none_of : (unread : Unread) (old now : Bytes) (left : ℕ) (text more : List ℕ) → IsSoFar old now left (text ++ more) → IsAtEnd now → IsHopeless unread text
@@ -141,6 +178,48 @@ holds_none NoMemory old now text none = tt
 
 pub fails_of : (unread : Unread) (text : List ℕ) (old now : Bytes) → FailsBehind text old now unread → Fails old now unread
 fails_of unread text old now behind = (holds_none unread old now (text ++ behind.more) behind.none, (text ++ behind.more, behind.few, behind.took))
+
+-- ---- no header
+
+pub fails_at_start : (unread : Unread) (old now : Bytes) → StartsNone old now unread → Fails old now unread
+fails_at_start unread old now starts = (holds_none unread old now starts.text starts.none, (starts.text, starts.few, starts.took))
+
+say_none : (text : List ℕ) → SayFirst 0 text no_lines
+say_none text = (omega arith, refl)
+
+-- the input couldn't be taken
+pub starts_unhad : (old now next : Bytes) (left : ℕ) (text : List ℕ) → IsSoFar old now left text → TakesAtMost (left + 1) now next → StartsNone old next Input
+starts_unhad old now next left text so_far more = (
+  let rest = takes_more old now next left text so_far more in
+  record { text = rest.0; none = tt; few = rest.1; took = rest.2; count = 0; all = tt; say = say_none rest.0 })
+
+-- the text in it has no newline
+pub starts_ended : (unread : Unread) (old now : Bytes) (left : ℕ) (text : List ℕ) → IsSoFar old now left text → IsAtEnd now → TakesAll no_lines (cut text).0 no_lines
+    → IsTextOfNone text unread → AreAllBefore unread (length (cut text).0) → StartsNone old now unread
+starts_ended unread old now left text so_far end taken none all = record {
+  text = text;
+  none = none_of_end unread old now text (is_input old now left text so_far end) none;
+  few = omega (arith, so_far.count);
+  took = so_far.took;
+  count = length (cut text).0;
+  all = all;
+  say = say_all text no_lines taken;
+}
+
+-- the first line is refused
+pub starts_refused : (unread told : Unread) (text block : List ℕ) (old now : Bytes) → ((count : ℕ) → AreAllBefore unread count → AreAllBefore told count)
+    → TakesAll no_lines (cut text).0 no_lines → AreAllBefore unread (length (cut text).0) → FailsBehind (text ++ block) old now told → StartsNone old now told
+starts_refused unread told text block old now same taken all behind =
+    let say : SayFirst (length (cut text).0) (text ++ block) no_lines = say_more (length (cut text).0) text block no_lines (say_all text no_lines taken) in
+    record {
+      text = (text ++ block) ++ behind.more;
+      none = behind.none;
+      few = behind.few;
+      took = behind.took;
+      count = length (cut text).0;
+      all = same (length (cut text).0) all;
+      say = say_more (length (cut text).0) (text ++ block) behind.more no_lines say;
+    }
 
 -- ---- pieces of a buffer
 

@@ -1,7 +1,7 @@
 pub mod Fed
+pub mod Gathered
 pub mod Judged
 pub mod Listed
 pub mod Pieces
 pub mod Rows
 pub mod Said
-pub mod Sent

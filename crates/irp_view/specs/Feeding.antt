@@ -3,6 +3,7 @@ use Rattle.std.specs.Prelude.{ℕ, ◌≡◌, ◌+◌, ◌-◌, ◌≤◌, List,
 use Rattle.std.specs.Io.KnownBytes.{Consumes}
 use Rattle.irp_transcript.specs.Headers.{IsHeader}
 use Rattle.irp_transcript.specs.Transcripts.{TranscriptValue, no_lines}
+use Rattle.irp_transcript_reader.specs.Reading.{TakesAll, cut}
 use Rattle.irp_transcript_reader.specs.declared.read_fault.ReadFault.{ReadFault}
 use Rattle.irp_transcript_reader.specs.declared.read_fault.ReadFault.TheVariants as faults
 use Rattle.irp_text.specs.Fed.{Gives, HasRead, with_line}
@@ -28,6 +29,16 @@ abbrev pub IsHopeless : Unread → List ℕ → Type 0
 IsHopeless (Refused line expected) text = (more : List ℕ) → IsRefused (text ++ more) line
 IsHopeless Input text = ⊥
 IsHopeless NoMemory text = Unit {0}
+
+-- so many lines stand before the one that is refused; where none is, that isn't known
+abbrev pub AreAllBefore : Unread → ℕ → Type 0
+AreAllBefore (Refused line expected) count = line ≡ count + 1
+AreAllBefore Input count = Unit {0}
+AreAllBefore NoMemory count = Unit {0}
+
+-- so many first lines of a text say this transcript
+abbrev pub SayFirst : ℕ → List ℕ → TranscriptValue → Type 0
+SayFirst count text transcript = (count ≤ length (cut text).0) × TakesAll no_lines (take count (cut text).0) transcript
 
 -- what a reader makes of one more block, behind this text and this transcript
 abbrev pub Reads : Result (Option (Line × ℕ)) Unread → Reader → List ℕ → TranscriptValue → List ℕ → Type 0
@@ -57,6 +68,16 @@ pub record FailsBehind (text : List ℕ) (old new : Bytes) (unread : Unread) : T
   pub few : length (text ++ more) ≤ most_taken
   pub took : Consumes old new (text ++ more)
 
+-- why no header was read: the lines before the one that is refused say nothing
+pub record StartsNone (old new : Bytes) (unread : Unread) : Type 0 where
+  pub text : List ℕ
+  pub none : IsNoneOf old new text unread
+  pub few : length text ≤ most_taken
+  pub took : Consumes old new text
+  pub count : ℕ
+  pub all : AreAllBefore unread count
+  pub say : SayFirst count text no_lines
+
 -- a piece of a buffer
 abbrev pub piece_of : List ℕ → ℕ → ℕ → List ℕ
 piece_of buffer from to = take (to - from) (drop from buffer)
@@ -74,4 +95,4 @@ pub record Starts (old new : Bytes) (start : Start) (reader : Reader) (buffer : 
 abbrev pub IsStart : Bytes → Bytes → Result (Option Start) Unread → Reader → List ℕ → Type 0
 IsStart old new (Ok None) reader buffer = Holds old new no_lines
 IsStart old new (Ok (Some start)) reader buffer = Starts old new start reader buffer
-IsStart old new (Err unread) reader buffer = Fails old new unread
+IsStart old new (Err unread) reader buffer = StartsNone old new unread

@@ -10,7 +10,7 @@ use Rattle.irp_page.specs.Drawing.{Draws, DrawsPart}
 use Rattle.irp_view.specs.Ending.{ending_of, of_unread, of_unwritten, of_verdict}
 use Rattle.irp_view.specs.Listed.{BreaksAt, StopsAt}
 use Rattle.irp_view.specs.Reading.{Holds, HoldsNone}
-use Rattle.irp_view.specs.Showing.{Shows, ShowsPart}
+use Rattle.irp_view.specs.Showing.{Shows}
 use Rattle.irp_view.specs.Telling.{Says, SaysNothing}
 use Rattle.irp_view.specs.declared.ending.Ending.{Ending}
 use Rattle.irp_view.specs.declared.ending.Ending.TheVariants.{Done}
@@ -51,9 +51,7 @@ Answers Why transcript before after ending =
     × MatchResult result (Says transcript before.gone after.gone before.failures after.failures)
     (SaysNothing transcript before.gone after.gone before.failures after.failures)
 Answers (Listing only span) transcript before after ending =
-    (result : Result (Unit {0}) Unwritten) × (ending ≡ ending_of (λ done. Done) result)
-    × MatchResult result (λ done. Shows only span transcript before.gone after.gone before.failures after.failures)
-    (ShowsPart only span transcript before.gone after.gone before.failures after.failures)
+    (ending ≡ Done) × Shows only span transcript before.gone after.gone before.failures after.failures
 Answers (Draw choice) transcript before after ending =
     (result : Result (Unit {0}) Unwritten) × (ending ≡ ending_of (λ done. Done) result)
     × MatchResult result (λ done. Draws choice transcript before.gone after.gone before.failures after.failures)
@@ -71,7 +69,7 @@ ReadsNone before after ending =
     (unread : Unread) × HoldsNone before.left after.left unread × (ending ≡ of_unread unread)
     × IsQuiet before.output.gone after.output.gone before.output.failures after.output.failures
 
--- it holds none, which was found behind the first lines of its text: what stands for their entries went out
+-- it holds none: what shows the lines before the one that is refused went out
 pub record ShowsBefore (only : Option IrpRef) (span : Option Span) (before after : Streams)
     (ending : Ending) : Type 0 where
   pub unread : Unread
@@ -80,8 +78,8 @@ pub record ShowsBefore (only : Option IrpRef) (span : Option Span) (before after
       before.output.gone after.output.gone before.output.failures after.output.failures
   pub ending_is : ending ≡ of_unread unread
 
--- the output failed, or memory ran out for it, behind the first lines of the input's text: a beginning of what stands
--- for their entries went out
+-- the output failed, or memory ran out for it, behind the first lines of the input's text: a beginning of what shows
+-- these went out
 pub record BreaksBefore (only : Option IrpRef) (span : Option Span) (before after : Streams)
     (ending : Ending) : Type 0 where
   pub fault : Unwritten
@@ -91,7 +89,7 @@ pub record BreaksBefore (only : Option IrpRef) (span : Option Span) (before afte
   pub ending_is : ending ≡ of_unwritten fault
 
 -- what was done: the help; or what is asked of the transcript in the input, if there is one. Where entries are listed,
--- those of its first lines may have gone out though there is none
+-- those before a line that is refused went out though there is none
 abbrev pub Obeys : Order → Streams → Streams → Ending → Type 0
 Obeys Help before after ending = (after.left ≡ before.left) × Helped before.output after.output ending
 Obeys (Read (Listing only span)) before after ending =

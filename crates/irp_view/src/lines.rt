@@ -1,9 +1,10 @@
 //! The lines of a transcript's text that comes in blocks, and what was expected of the first that is refused.
 
-ghost use Rattle.std.specs.Prelude.{ℕ, ◌≡◌, ◌+◌, ◌<◌, ◌≤◌, ◌^◌, List, [], length, IfOk, IfSome};
+ghost use Rattle.std.specs.Prelude.{ℕ, ◌≡◌, ◌+◌, ◌<◌, ◌≤◌, ◌^◌, List, [], length, IfErr, IfOk, IfSome};
 ghost use Rattle.irp_text.specs.Fed.{HasRead};
 ghost use Rattle.irp_transcript.specs.Transcripts.{TranscriptValue, no_lines};
-ghost use Rattle.irp_view.specs.Feeding.{IsEnd, IsHopeless, Reads, unread_of};
+ghost use Rattle.irp_transcript_reader.specs.Reading.{cut};
+ghost use Rattle.irp_view.specs.Feeding.{AreAllBefore, IsEnd, IsHopeless, Reads, unread_of};
 
 use crate::reading::Unread;
 use crate::refusal::{Before, Expected, bounds_of, expected_in};
@@ -36,7 +37,8 @@ fn unread_of(fault: ReadFault, expected: Expected) -> Unread
 
 /// Why a text isn't read, where this block follows: a line that ends in it had its newline, and is too long.
 pub fn before_more(unread: Unread, block: &[u8]) -> Unread
-    ensures { (text : List ℕ) → IsHopeless unread text → IsHopeless result text }
+    ensures hopeless { (text : List ℕ) → IsHopeless unread text → IsHopeless result text }
+    ensures before { (count : ℕ) → AreAllBefore unread count → AreAllBefore result count }
 {
     match unread {
         Unread::Refused {
@@ -90,6 +92,9 @@ impl Lines {
         ensures reads { (text : List ℕ) (before : TranscriptValue) → HasRead self.old.reader text before
             → length text + length block.now + 1 < 2 ^ 64
             → Reads result self.new.reader text before block.now }
+        ensures refused { (text : List ℕ) (before : TranscriptValue)
+            → HasRead self.old.reader text before → length text + length block.now + 1 < 2 ^ 64
+            → IfErr result (λ unread. AreAllBefore unread (length (cut text).0)) }
     {
         match self.reader.next_ahead(alloc, block, ahead) {
             Ok(Some(taken)) => {
@@ -109,8 +114,11 @@ impl Lines {
 
     /// The end of the text. `Refused` where its last line has no newline.
     pub fn finish(&self) -> Result<(), Unread>
-        ensures { (text : List ℕ) (before : TranscriptValue) → HasRead self.now.reader text before
+        ensures ends { (text : List ℕ) (before : TranscriptValue) → HasRead self.now.reader text before
             → length text < 2 ^ 64 → IsEnd result text before }
+        ensures refused { (text : List ℕ) (before : TranscriptValue)
+            → HasRead self.now.reader text before → length text < 2 ^ 64
+            → IfErr result (λ unread. AreAllBefore unread (length (cut text).0)) }
     {
         match self.reader.finish() {
             Ok(()) => Ok(()),

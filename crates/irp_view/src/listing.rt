@@ -1,4 +1,4 @@
-//! The words `text` and `packet`: the entries of the transcript in an input, shown block after block as they are read.
+//! The words `text` and `packet`: the transcript in an input, shown block after block as it is read.
 
 ghost use Rattle.std.specs.Prelude.{ℕ, ◌≡◌, ◌+◌, ◌<◌, ◌≤◌, List, [], ◌++◌, length, Option, Err};
 ghost use Rattle.irp_listing.specs.Bytes.{Bytes};
@@ -23,12 +23,12 @@ use std::alloc::Global;
 use std::io::Read;
 use std::thread::Threads;
 
-/// Why the entries of an input's transcript aren't all shown.
+/// Why an input's transcript isn't shown.
 #[derive(Drop)]
 pub enum Unshown {
     /// The input holds no transcript.
     Unread(Unread),
-    /// The text for the entries wasn't written.
+    /// What shows it wasn't written.
     Unwritten(Unwritten),
 }
 
@@ -102,8 +102,7 @@ fn stop<R: Read>(input: &mut R, buffer: &mut [u8], left: usize, unshown: Unshown
         (span : Option Span) (shown : Shown) (old new : Bytes) (before after : ℕ)
         → IsSoFar start (R.remaining input.old) left text
         → ShowsBlock (Err unshown) reader only span shown old new before after text
-        → ShowsInput (Err result) only span shown start (R.remaining input.new) old new before
-        after }
+        → ShowsInput (Err result) only span start (R.remaining input.new) old new before after }
 {
     match unshown {
         Unshown::Unread(unread) => Unshown::Unread(refuse(input, buffer, left, unread)),
@@ -111,7 +110,7 @@ fn stop<R: Read>(input: &mut R, buffer: &mut [u8], left: usize, unshown: Unshown
     }
 }
 
-/// Shows the entries that follow the header of a text. Several threads read a block's lines ahead, where there are
+/// Shows the lines that follow the header of a text. Several threads read a block's lines ahead, where there are
 /// such.
 fn show_rest<R: Read, O: Out, T: Threads + Sync>(
     rt: &T,
@@ -131,7 +130,7 @@ fn show_rest<R: Read, O: Out, T: Threads + Sync>(
     requires fresh { IsFresh shown.old }
     ensures { (left : Bytes)
         → Starts left (R.remaining input.old) start.now lines.old.reader buffer.old
-        → ShowsInput result wanted.choice.only wanted.span shown.new left (R.remaining input.new)
+        → ShowsInput result wanted.choice.only wanted.span left (R.remaining input.new)
         (O.gone output.old) (O.gone output.new) (O.failures output.old) (O.failures output.new) }
 {
     let threads = count_threads(rt);
@@ -160,25 +159,24 @@ fn show_rest<R: Read, O: Out, T: Threads + Sync>(
     }
 }
 
-/// Shows the entries of the transcript that the input holds, which is read up to its end: those of one use of a packet
-/// or of all, and those of a span or of the whole history. What stands for the entries of a block is sent when the
-/// block was read. Of the text a block is kept, and the beginning of a line that ends in the next one.
+/// Shows the transcript that the input holds, which is read up to its end: its entries, those of one use of a packet or
+/// of all, and those of a span or of the whole history; behind all of them its word lines. What stands for the lines of
+/// a block is sent when the block was read. Of the text a block is kept, and the beginning of a line that ends in the
+/// next one.
 ///
 /// # Errors
 ///
-/// `Unread` where the input holds no transcript, or memory ran out: what stands for the entries of its first lines went
-/// out. `Unwritten` where the output failed, and no more is read: a beginning of that went out.
-pub fn show_entries<R: Read, O: Out, T: Threads + Sync>(
+/// `Unread` where the input holds no transcript, or memory ran out: what stands for the lines before the one that is
+/// refused went out. `Unwritten` where the output failed, and no more is read: a beginning of that went out.
+pub fn show_transcript<R: Read, O: Out, T: Threads + Sync>(
     rt: &T,
     alloc: Global,
     input: &mut R,
     output: &mut O,
     only: Option<IrpRef>,
     span: Option<Span>,
-    shown: &mut Shown,
 ) -> Result<(), Unshown>
-    requires { IsFresh shown.old }
-    ensures { ShowsInput result only span shown.new (R.remaining input.old) (R.remaining input.new)
+    ensures { ShowsInput result only span (R.remaining input.old) (R.remaining input.new)
         (O.gone output.old) (O.gone output.new) (O.failures output.old) (O.failures output.new) }
 {
     let mut buffer = [0u8; BLOCK];
@@ -195,6 +193,7 @@ pub fn show_entries<R: Read, O: Out, T: Threads + Sync>(
         tells_seats: start.header.seats > 1,
     };
     let wanted = Wanted { choice, span };
+    let mut shown = Shown::new(alloc);
     show_rest(
         rt,
         alloc,
@@ -204,6 +203,6 @@ pub fn show_entries<R: Read, O: Out, T: Threads + Sync>(
         &mut lines,
         &start,
         wanted,
-        shown,
+        &mut shown,
     )
 }

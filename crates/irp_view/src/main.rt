@@ -23,11 +23,6 @@ mod showing;
 mod why;
 mod words;
 
-ghost use Rattle.std.specs.Prelude.{ℕ, ◌≡◌};
-ghost use Rattle.irp_listing.specs.Bytes.{Bytes};
-ghost use Rattle.irp_listing.specs.Listing.{Lists};
-ghost use Rattle.irp_view.specs.Listed.{KeepsWords};
-ghost use Rattle.irp_view.specs.Showing.{part_of};
 ghost use Rattle.irp_view.specs.Program.{Answers, Obeys, streams_of, output_of};
 ghost use Rattle.irp_view.specs.Judging.{IsFound};
 ghost use Rattle.irp_view.specs.Reading.{TakesAtMost, most_taken};
@@ -38,11 +33,9 @@ ghost use Rattle.irp_transcript.specs.Transcripts.{TranscriptValue};
 use crate::drawing::draw_judged;
 use crate::ending::{Ending, NoOpen};
 use crate::judging::{Judged, judge_input};
-use crate::listing::show_entries;
+use crate::listing::show_transcript;
 use crate::orders::{Asked, Order, Span, Task, Unasked};
-use crate::showing::{Shown, show_words};
 use irp_page::{Choice, Draft};
-use irp_transcript::WordLine;
 use irp_transcript_writer::{Out, WriterOut};
 use irp_types::IrpRef;
 use std::alloc::Global;
@@ -82,28 +75,7 @@ fn judge<R: Read, O: Out, T: Threads + Sync>(
     }
 }
 
-/// Sends what stands behind the entries of a transcript that were shown.
-fn list_words<O: Out>(
-    alloc: Global,
-    output: &mut O,
-    only: Option<IrpRef>,
-    span: Option<Span>,
-    words: &[WordLine],
-) -> Ending
-    ensures { (transcript : TranscriptValue) (old : Bytes) (before : ℕ)
-        → Lists only (part_of span transcript.entries) old (O.gone output.old) before
-        (O.failures output.old)
-        → KeepsWords only span words.now transcript.words
-        → Answers (Listing only span) transcript (output_of old before)
-        (output_of (O.gone output.new) (O.failures output.new)) result }
-{
-    match show_words(alloc, output, only, span, words) {
-        Ok(()) => Ending::Done,
-        Err(fault) => Ending::from(fault),
-    }
-}
-
-/// Shows the entries of the transcript in the input, as they are read.
+/// Shows the transcript in the input, as it is read.
 fn list<R: Read, O: Out, T: Threads + Sync>(
     rt: &T,
     alloc: Global,
@@ -117,9 +89,8 @@ fn list<R: Read, O: Out, T: Threads + Sync>(
         (streams_of (R.remaining input.old) (output_of (O.gone output.old) (O.failures output.old)))
         (streams_of (R.remaining input.new) (output_of (O.gone output.new) (O.failures output.new))) result }
 {
-    let mut shown = Shown::new(alloc);
-    match show_entries(rt, alloc, input, output, only, span, &mut shown) {
-        Ok(()) => list_words(alloc, output, only, span, shown.words.as_slice()),
+    match show_transcript(rt, alloc, input, output, only, span) {
+        Ok(()) => Ending::Done,
         Err(unshown) => Ending::from(unshown),
     }
 }

@@ -4,7 +4,7 @@ ghost use Rattle.std.specs.Prelude.{ℕ, ◌≡◌, ◌<◌, ◌≤◌, List, []
 ghost use Rattle.irp_listing.specs.Bytes.{Bytes};
 ghost use Rattle.irp_text.specs.Fed.{HasRead};
 ghost use Rattle.irp_transcript.specs.Transcripts.{no_lines};
-ghost use Rattle.irp_view.specs.Feeding.{FailsBehind, IsHopeless, IsSoFar, IsStart};
+ghost use Rattle.irp_view.specs.Feeding.{AreAllBefore, FailsBehind, IsHopeless, IsSoFar, IsStart};
 ghost use Rattle.irp_view.specs.Reading.{most_bytes};
 
 use crate::input::take_block;
@@ -34,8 +34,9 @@ pub enum Unread {
 pub fn refuse<R: Read>(input: &mut R, buffer: &mut [u8], left: usize, unread: Unread) -> Unread
     requires few { left ≤ most_bytes }
     requires room { 0 < length buffer.old }
-    ensures { (old : Bytes) (text : List ℕ) → IsSoFar old (R.remaining input.old) left text
+    ensures fails { (old : Bytes) (text : List ℕ) → IsSoFar old (R.remaining input.old) left text
         → IsHopeless unread text → FailsBehind text old (R.remaining input.new) result }
+    ensures before { (count : ℕ) → AreAllBefore unread count → AreAllBefore result count }
 {
     let (mut left, mut unread) = (left, unread);
     loop {

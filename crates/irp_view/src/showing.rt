@@ -1,34 +1,18 @@
-//! The words `text` and `packet`: what stands for the lines of a transcript, gathered as they are read.
+//! The words `text` and `packet`: what shows a transcript, gathered as its lines are read.
 
-ghost use Rattle.std.specs.Prelude.{
-  ℕ,
-  ◌≡◌,
-  ◌+◌,
-  ◌<◌,
-  ◌^◌,
-  List,
-  [],
-  ◌∷◌,
-  ◌++◌,
-  length,
-  IfErr,
-  OnOk,
-};
+ghost use Rattle.std.specs.Prelude.{ℕ, ◌≡◌, ◌+◌, ◌<◌, ◌^◌, List, [], ◌∷◌, ◌++◌, length, OnOk};
 ghost use Rattle.irp_types.specs.declared.entry.Entry.{Entry};
 ghost use Rattle.irp_transcript.specs.Transcripts.{TranscriptValue};
-ghost use Rattle.irp_transcript.specs.declared.word_line.WordLine.{WordLine};
-ghost use Rattle.irp_listing.specs.Bytes.{Bytes};
-ghost use Rattle.irp_listing.specs.Listing.{IsListing, Lists};
-ghost use Rattle.irp_text.specs.Fed.{with_line};
-ghost use Rattle.irp_view.specs.Listed.{IsFresh, IsGathered, KeepsWords};
-ghost use Rattle.irp_view.specs.Showing.{Shows, ShowsPart, WordsOut, WordsOff, part_of, with_wanted};
+ghost use Rattle.irp_text.specs.Fed.{IsInPlace, with_line};
+ghost use Rattle.irp_text.specs.declared.line.Line.TheVariants.{Entry as EntryLine, Word as WordOf};
+ghost use Rattle.irp_view.specs.Listed.{IsFresh, IsGathered};
+ghost use Rattle.irp_view.specs.Showing.{part_of, with_wanted};
 
 use crate::orders::Span;
-use irp_listing::{Choice, Stacks, Unwritten, put_chosen, send, words_text};
+use irp_listing::{Choice, Stacks, put_chosen, put_word_line};
 use irp_text::Line;
 use irp_transcript::WordLine;
-use irp_transcript_writer::Out;
-use irp_types::{Entry, IrpRef};
+use irp_types::Entry;
 use std::alloc::{AllocError, Global};
 
 /// Which entries of a history are shown, and how.
@@ -45,14 +29,14 @@ pub struct Wanted {
 pub struct Shown {
     /// How many entries there were.
     entries: usize,
-    /// What they lead to.
+    /// Whether there was no word line.
+    before_words: bool,
+    /// What the entries lead to.
     stacks: Stacks,
-    /// The text for them that wasn't sent yet.
+    /// The text for the lines that wasn't sent yet.
     pub text: Vec<u8>,
     /// The words of one line.
     line: String,
-    /// The word lines, where all entries are shown.
-    pub words: Vec<WordLine>,
 }
 
 /// Whether the entry at this place is one of a span's, or of all.
@@ -76,22 +60,20 @@ impl Shown {
     {
         Shown {
             entries: 0,
+            before_words: true,
             stacks: Stacks::new(),
             text: Vec::new(alloc),
             line: String::new(alloc),
-            words: Vec::new(alloc),
         }
     }
 
     /// Gathers what stands for the next entry, where it is wanted. The one error is want of memory.
     fn entry(&mut self, wanted: Wanted, entry: &Entry) -> Result<(), AllocError>
-        ensures words { self.new.words ≡ self.old.words }
-        ensures counted { (entries : List Entry) → self.old.entries ≡ length entries
-            → length entries + 1 < 2 ^ 64 → self.new.entries ≡ length (entries ++ entry.now ∷ []) }
-        ensures listing { (entries : List Entry) (sent : List ℕ) → self.old.entries ≡ length entries
-            → IsListing wanted.choice.only (part_of wanted.span entries) (sent ++ self.old.text.items)
-            → OnOk result (IsListing wanted.choice.only
-            (part_of wanted.span (entries ++ entry.now ∷ [])) (sent ++ self.new.text.items)) }
+        ensures { (before : TranscriptValue) (sent : List ℕ)
+            → IsGathered wanted.choice.only wanted.span self.old sent before
+            → IsInPlace before (EntryLine entry.now) → length before.entries + 1 < 2 ^ 64
+            → OnOk result (IsGathered wanted.choice.only wanted.span self.new sent
+            (with_line before (EntryLine entry.now))) }
     {
         let is_wanted = is_within(wanted.span, self.entries);
         self.entries = self.entries.saturating_add(1);
@@ -108,27 +90,26 @@ impl Shown {
         )
     }
 
-    /// Keeps the next word line, where all entries are shown. The one error is want of memory.
+    /// Gathers what stands for the next word line, where all entries are shown. The one error is want of memory.
     fn word(&mut self, wanted: Wanted, word: WordLine) -> Result<(), AllocError>
-        ensures entries { self.new.entries ≡ self.old.entries }
-        ensures text { self.new.text ≡ self.old.text }
-        ensures kept { (words : List WordLine)
-            → KeepsWords wanted.choice.only wanted.span self.old.words.items words
-            → OnOk result (KeepsWords wanted.choice.only wanted.span self.new.words.items
-            (words ++ word ∷ [])) }
+        ensures { (before : TranscriptValue) (sent : List ℕ)
+            → IsGathered wanted.choice.only wanted.span self.old sent before
+            → OnOk result (IsGathered wanted.choice.only wanted.span self.new sent
+            (with_line before (WordOf word))) }
     {
+        let is_first = self.before_words;
+        self.before_words = false;
         if wanted.choice.only.is_some() || wanted.span.is_some() {
             return Ok(());
         }
-        self.words.push(word)?;
-        Ok(())
+        put_word_line(&mut self.text, &mut self.line, is_first, word)
     }
 
     /// Gathers what stands for the next line. The one error is want of memory.
     pub fn line(&mut self, wanted: Wanted, line: Line) -> Result<(), AllocError>
         ensures { (before : TranscriptValue) (sent : List ℕ)
             → IsGathered wanted.choice.only wanted.span self.old sent before
-            → length before.entries + 1 < 2 ^ 64
+            → IsInPlace before line → length before.entries + 1 < 2 ^ 64
             → OnOk result (IsGathered wanted.choice.only wanted.span self.new sent
             (with_line before line)) }
     {
@@ -138,47 +119,4 @@ impl Shown {
             Line::Header(_) => Ok(()),
         }
     }
-}
-
-/// Sends the part with the word lines.
-fn send_words<O: Out>(alloc: Global, output: &mut O, words: &[WordLine]) -> Result<(), Unwritten>
-    ensures ok { OnOk result (WordsOut words.now (O.gone output.old) (O.gone output.new)
-        (O.failures output.old) (O.failures output.new)) }
-    ensures err { IfErr result (WordsOff words.now (O.gone output.old) (O.gone output.new)
-        (O.failures output.old) (O.failures output.new)) }
-{
-    let text = words_text(alloc, words)?;
-    send(output, text.as_slice())
-}
-
-/// Sends what stands behind the entries of a transcript that were shown: the part with the word lines, where all are.
-///
-/// # Errors
-///
-/// `Failed` where the output failed, and exactly then its count of failures rose; `NoMemory` where memory ran out. What
-/// went out then is a beginning.
-pub fn show_words<O: Out>(
-    alloc: Global,
-    output: &mut O,
-    only: Option<IrpRef>,
-    span: Option<Span>,
-    words: &[WordLine],
-) -> Result<(), Unwritten>
-    ensures ok { (transcript : TranscriptValue) (old : Bytes) (before : ℕ)
-        → Lists only (part_of span transcript.entries) old (O.gone output.old) before
-        (O.failures output.old)
-        → KeepsWords only span words.now transcript.words
-        → OnOk result (Shows only span transcript old (O.gone output.new) before
-        (O.failures output.new)) }
-    ensures err { (transcript : TranscriptValue) (old : Bytes) (before : ℕ)
-        → Lists only (part_of span transcript.entries) old (O.gone output.old) before
-        (O.failures output.old)
-        → KeepsWords only span words.now transcript.words
-        → IfErr result (ShowsPart only span transcript old (O.gone output.new) before
-        (O.failures output.new)) }
-{
-    if only.is_some() || span.is_some() {
-        return Ok(());
-    }
-    send_words(alloc, output, words)
 }

@@ -9,7 +9,7 @@ pub returns-in-Err-clause-ends : goal.returns-in-Err-clause-ends
 returns-in-Err-clause-ends g c = λ old starts.
     (let inv = c.loop-unread.invariant.so_far old starts in
     let block : List ℕ = piece_of c.loop-unread.buffer c.loop-unread.from c.loop-unread.to in
-    fails_of c.refuse.result (inv.0 ++ block) old (g.R.Read.remaining c.refuse.new.input) (c.refuse.ensures old (inv.0 ++ block) inv.2 (c.in-Err.ensures.judged inv.0 inv.1 (few_so_far old (g.R.Read.remaining c.loop-unread.input) c.loop-unread.left inv.0 block inv.2))))
+    fails_of c.refuse.result (inv.0 ++ block) old (g.R.Read.remaining c.refuse.new.input) (c.refuse.ensures.fails old (inv.0 ++ block) inv.2 (c.in-Err.ensures.judged inv.0 inv.1 (few_so_far old (g.R.Read.remaining c.loop-unread.input) c.loop-unread.left inv.0 block inv.2))))
 
 pub returns-in-Err-take_block-clause-ends : goal.returns-in-Err-take_block-clause-ends
 returns-in-Err-take_block-clause-ends g c = λ old starts.

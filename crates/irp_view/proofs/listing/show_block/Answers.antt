@@ -26,7 +26,7 @@ returns-in-Err-read g c = λ old before text are few.
     (let read = subst (λ (given : Result (Unit {0}) Unread). GathersBlock given c.gather_block-read.new.lines.reader c.args.wanted.choice.only c.args.wanted.span c.gather_block-read.new.shown are.sent (text ++ c.args.block.now)) c.in-Err-read.is
     (c.gather_block-read.ensures are.sent text are.gathered are.none few) in (
       read.0,
-      block_stops c.args.wanted.choice.only c.args.wanted.span are.sent c.gather_block-read.new.shown.text.items (text ++ c.args.block.now) old (g.O.Out.gone c.args.output.now) (g.O.Out.gone c.send.new.output) before (g.O.Out.failures c.args.output.now) (g.O.Out.failures c.send.new.output) are.written
+      block_stops c.in-Err-read.unread c.args.wanted.choice.only c.args.wanted.span are.sent c.gather_block-read.new.shown.text.items (text ++ c.args.block.now) old (g.O.Out.gone c.args.output.now) (g.O.Out.gone c.send.new.output) before (g.O.Out.failures c.args.output.now) (g.O.Out.failures c.send.new.output) are.written
           (subst (λ (given : List ℕ). Written given (g.O.Out.gone c.args.output.now) (g.O.Out.gone c.send.new.output) (g.O.Out.failures c.args.output.now) (g.O.Out.failures c.send.new.output)) c.as_slice.ensures.value c.in-Ok.ensures.ok)
           read.1,
     ))

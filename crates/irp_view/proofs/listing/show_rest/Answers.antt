@@ -61,7 +61,7 @@ returns-in-Ok-finish g c = λ old starts.
     let none : c.in-Ok-take_block.count ≡ 0 = grind arith in
     let ended : IsSoFar old (g.R.Read.remaining c.take_block.new.reader) c.loop-unshown.left (inv.0 ++ block) =
     so_far_end old (g.R.Read.remaining c.loop-unshown.input) (g.R.Read.remaining c.take_block.new.reader) c.loop-unshown.left c.in-Ok-take_block.count (inv.0 ++ block) c.take_block.new.buffer none inv.2 c.in-Ok-take_block.ensures.bytes in
-    end_shown c.show_block-read.new.lines.reader c.args.wanted.choice.only c.args.wanted.span c.show_block-read.new.shown old (g.R.Read.remaining c.take_block.new.reader) c.loop-unshown.left (g.O.Out.gone c.args.output.now) (g.O.Out.gone c.show_block-read.new.output) (g.O.Out.failures c.args.output.now) (g.O.Out.failures c.show_block-read.new.output) (inv.0 ++ block) ended (c.in-Ok-take_block.ensures.end none) are (c.in-Ok-finish.ensures (inv.0 ++ block) are.gathered.transcript are.gathered.read (omega (arith, ended.count))))
+    end_shown c.show_block-read.new.lines.reader c.args.wanted.choice.only c.args.wanted.span c.show_block-read.new.shown old (g.R.Read.remaining c.take_block.new.reader) c.loop-unshown.left (g.O.Out.gone c.args.output.now) (g.O.Out.gone c.show_block-read.new.output) (g.O.Out.failures c.args.output.now) (g.O.Out.failures c.show_block-read.new.output) (inv.0 ++ block) ended (c.in-Ok-take_block.ensures.end none) are (c.in-Ok-finish.ensures.ends (inv.0 ++ block) are.gathered.transcript are.gathered.read (omega (arith, ended.count))))
 
 pub returns-in-Err-finish : goal.returns-in-Err-finish
 returns-in-Err-finish g c = λ old starts.
@@ -71,4 +71,5 @@ returns-in-Err-finish g c = λ old starts.
     let none : c.in-Ok-take_block.count ≡ 0 = grind arith in
     let ended : IsSoFar old (g.R.Read.remaining c.take_block.new.reader) c.loop-unshown.left (inv.0 ++ block) =
     so_far_end old (g.R.Read.remaining c.loop-unshown.input) (g.R.Read.remaining c.take_block.new.reader) c.loop-unshown.left c.in-Ok-take_block.count (inv.0 ++ block) c.take_block.new.buffer none inv.2 c.in-Ok-take_block.ensures.bytes in
-    end_refused c.in-Err-finish.unread c.show_block-read.new.lines.reader c.args.wanted.choice.only c.args.wanted.span c.show_block-read.new.shown old (g.R.Read.remaining c.take_block.new.reader) c.loop-unshown.left (g.O.Out.gone c.args.output.now) (g.O.Out.gone c.show_block-read.new.output) (g.O.Out.failures c.args.output.now) (g.O.Out.failures c.show_block-read.new.output) (inv.0 ++ block) ended (c.in-Ok-take_block.ensures.end none) (c.in-Err-finish.ensures (inv.0 ++ block) are.gathered.transcript are.gathered.read (omega (arith, ended.count))) are)
+    end_refused c.in-Err-finish.unread c.show_block-read.new.lines.reader c.args.wanted.choice.only c.args.wanted.span c.show_block-read.new.shown old (g.R.Read.remaining c.take_block.new.reader) c.loop-unshown.left (g.O.Out.gone c.args.output.now) (g.O.Out.gone c.show_block-read.new.output) (g.O.Out.failures c.args.output.now) (g.O.Out.failures c.show_block-read.new.output) (inv.0 ++ block) ended (c.in-Ok-take_block.ensures.end none) (c.in-Err-finish.ensures.ends (inv.0 ++ block) are.gathered.transcript are.gathered.read (omega (arith, ended.count)))
+    (c.in-Err-finish.ensures.refused (inv.0 ++ block) are.gathered.transcript are.gathered.read (omega (arith, ended.count))) are)

@@ -8,7 +8,7 @@ use Rattle.irp_view.proofs.listing.stop.Goals as goal
 pub returns-in-Unread : goal.returns-in-Unread
 returns-in-Unread g c = λ start text reader only span shown old new before after so_far block.
     (let read = subst (λ (given : Unshown). ShowsBlock (Err given) reader only span shown old new before after text) c.in-Unread.is block in
-    refused_shown c.refuse.result only span start (g.R.Read.remaining c.refuse.new.input) old new before after text (c.refuse.ensures start text so_far read.0) read.1)
+    refused_shown c.in-Unread.unread c.refuse.result only span start (g.R.Read.remaining c.refuse.new.input) old new before after text c.refuse.ensures.before (c.refuse.ensures.fails start text so_far read.0) read.1)
 
 pub returns-in-Unwritten : goal.returns-in-Unwritten
 returns-in-Unwritten g c = λ start text reader only span shown old new before after so_far block.

@@ -4,12 +4,12 @@ use Rattle.irp_text.specs.Fed.{Gives, HasRead, with_line}
 use Rattle.irp_text.specs.declared.line.Line.{Line}
 use Rattle.irp_transcript.specs.Transcripts.{no_lines}
 use Rattle.irp_view.specs.Feeding.{IsSoFar, piece_of}
-use Rattle.irp_view.proofs.Fed.{both_pieces, fails_of, few_so_far, so_far_on, takes_more}
+use Rattle.irp_view.proofs.Fed.{both_pieces, few_so_far, so_far_end, so_far_on, starts_ended, starts_refused, starts_unhad}
 use Rattle.irp_view.proofs.reading.read_header.Goals as goal
 
 pub returns-in-Err-clause-start : goal.returns-in-Err-clause-start
 returns-in-Err-clause-start g c =
-    (tt, takes_more (g.R.Read.remaining c.args.input.now) (g.R.Read.remaining c.loop-to.input) (g.R.Read.remaining c.take_block.new.reader) c.loop-to.left c.loop-to.invariant.text c.loop-to.invariant.so_far c.in-Err.ensures.within)
+    starts_unhad (g.R.Read.remaining c.args.input.now) (g.R.Read.remaining c.loop-to.input) (g.R.Read.remaining c.take_block.new.reader) c.loop-to.left c.loop-to.invariant.text c.loop-to.invariant.so_far c.in-Err.ensures.within
 
 pub returns-in-Err-next-clause-start : goal.returns-in-Err-next-clause-start
 returns-in-Err-next-clause-start g c =
@@ -18,9 +18,19 @@ returns-in-Err-next-clause-start g c =
     let on = so_far_on (g.R.Read.remaining c.args.input.now) (g.R.Read.remaining c.loop-to.input) (g.R.Read.remaining c.take_block.new.reader) c.loop-to.left c.in-Ok.to text block c.loop-to.invariant.so_far c.in-Ok.ensures.bytes
     (length-take-le c.in-Ok.to c.take_block.new.buffer c.in-Ok.ensures.bound.1) c.in-Ok.ensures.bound.0 in
     let few = few_so_far (g.R.Read.remaining c.args.input.now) (g.R.Read.remaining c.take_block.new.reader) (c.loop-to.left - c.in-Ok.to) text block on in
-    fails_of c.refuse.result (text ++ block) (g.R.Read.remaining c.args.input.now) (g.R.Read.remaining c.refuse.new.input)
-    (c.refuse.ensures (g.R.Read.remaining c.args.input.now) (text ++ block) on
-    (c.in-Err-next.ensures.reads text no_lines c.loop-to.invariant.read (omega (arith, few))))
+    starts_refused c.in-Err-next.unread c.refuse.result text block (g.R.Read.remaining c.args.input.now) (g.R.Read.remaining c.refuse.new.input) c.refuse.ensures.before
+    c.loop-to.invariant.read.lines (c.in-Err-next.ensures.refused text no_lines c.loop-to.invariant.read (omega (arith, few)))
+    (c.refuse.ensures.fails (g.R.Read.remaining c.args.input.now) (text ++ block) on (c.in-Err-next.ensures.reads text no_lines c.loop-to.invariant.read (omega (arith, few))))
+
+pub returns-in-Err-finish-clause-start : goal.returns-in-Err-finish-clause-start
+returns-in-Err-finish-clause-start g c =
+    let text : List ℕ = c.loop-to.invariant.text in
+    let none : c.in-Ok.to ≡ 0 = grind arith in
+    let ended : IsSoFar (g.R.Read.remaining c.args.input.now) (g.R.Read.remaining c.take_block.new.reader) c.loop-to.left text =
+    so_far_end (g.R.Read.remaining c.args.input.now) (g.R.Read.remaining c.loop-to.input) (g.R.Read.remaining c.take_block.new.reader) c.loop-to.left c.in-Ok.to text c.take_block.new.buffer none c.loop-to.invariant.so_far c.in-Ok.ensures.bytes in
+    starts_ended c.in-Err-finish.unread (g.R.Read.remaining c.args.input.now) (g.R.Read.remaining c.take_block.new.reader) c.loop-to.left text ended (c.in-Ok.ensures.end none)
+    c.loop-to.invariant.read.lines (c.in-Err-finish.ensures.ends text no_lines c.loop-to.invariant.read (omega (arith, ended.count)))
+    (c.in-Err-finish.ensures.refused text no_lines c.loop-to.invariant.read (omega (arith, ended.count)))
 
 pub returns-in-loop-to-clause-start : goal.returns-in-loop-to-clause-start
 returns-in-loop-to-clause-start g c =

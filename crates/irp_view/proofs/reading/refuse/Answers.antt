@@ -4,13 +4,13 @@ use Rattle.irp_view.specs.Feeding.{IsSoFar}
 use Rattle.irp_view.proofs.Fed.{input_fails, refused_fails, so_far_end, so_far_more}
 use Rattle.irp_view.proofs.reading.refuse.Goals as goal
 
-pub returns-in-Err : goal.returns-in-Err
-returns-in-Err g c = λ old text so_far hopeless.
+pub returns-in-Err-clause-fails : goal.returns-in-Err-clause-fails
+returns-in-Err-clause-fails g c = λ old text so_far hopeless.
     (let inv = c.loop-count.invariant.so_far old text so_far in
     input_fails old (g.R.Read.remaining c.loop-count.input) (g.R.Read.remaining c.take_block.new.reader) c.loop-count.left text inv.0 inv.1 c.in-Err.ensures.within)
 
-pub returns-then-count-eq0 : goal.returns-then-count-eq0
-returns-then-count-eq0 g c = λ old text so_far hopeless.
+pub returns-then-count-eq0-clause-fails : goal.returns-then-count-eq0-clause-fails
+returns-then-count-eq0-clause-fails g c = λ old text so_far hopeless.
     (let inv = c.loop-count.invariant.so_far old text so_far in
     let none : c.in-Ok.count ≡ 0 = grind arith in
     let ended : IsSoFar old (g.R.Read.remaining c.take_block.new.reader) c.loop-count.left (text ++ inv.0) =
@@ -21,7 +21,8 @@ pub loop-count-preserved : goal.loop-count-preserved
 loop-count-preserved g c = record {
   few = omega (arith, c.loop-count.invariant.few);
   room = subst (λ (size : ℕ). 0 < size) (sym c.in-Ok.ensures.room) c.loop-count.invariant.room;
-  hopeless = λ text hopeless. c.before_more-unread.ensures text (c.loop-count.invariant.hopeless text hopeless);
+  hopeless = λ text hopeless. c.before_more-unread.ensures.hopeless text (c.loop-count.invariant.hopeless text hopeless);
+  before = λ count all. c.before_more-unread.ensures.before count (c.loop-count.invariant.before count all);
   so_far = λ old text so_far.
       (let inv = c.loop-count.invariant.so_far old text so_far in
       let block : List ℕ = take c.in-Ok.count c.take_block.new.buffer in (
