@@ -32,7 +32,7 @@ header_stays before (WordLine word) header place is = is
 -- the first line is a header
 pub first_header : (line : Line) → IsInPlace no_lines line → (header : Header) × (line ≡ HeaderLine header)
 first_header (HeaderLine header) place = (header, refl)
-first_header (EntryLine entry) place = absurd (cc (place))
+first_header (EntryLine entry) place = absurd (cc (place.0))
 first_header (WordLine word) place = absurd (cc (place))
 
 -- ---- within a block
