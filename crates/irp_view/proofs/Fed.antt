@@ -190,8 +190,8 @@ say_none text = (omega arith, refl)
 -- the input couldn't be taken
 pub starts_unhad : (old now next : Bytes) (left : ℕ) (text : List ℕ) → IsSoFar old now left text → TakesAtMost (left + 1) now next → StartsNone old next Input
 starts_unhad old now next left text so_far more = (
-  let rest = takes_more old now next left text so_far more in
-  record { text = rest.0; none = tt; few = rest.1; took = rest.2; count = 0; all = tt; say = say_none rest.0 })
+    let rest = takes_more old now next left text so_far more in
+    record { text = rest.0; none = tt; few = rest.1; took = rest.2; count = 0; all = tt; say = say_none rest.0 })
 
 -- the text in it has no newline
 pub starts_ended : (unread : Unread) (old now : Bytes) (left : ℕ) (text : List ℕ) → IsSoFar old now left text → IsAtEnd now → TakesAll no_lines (cut text).0 no_lines
