@@ -6,8 +6,8 @@ use std::alloc::Global;
 
 /// The first place from this one on that has no white space.
 fn behind_space(line: &[u8], from: usize) -> usize {
-    for (at, byte) in line.iter().enumerate().skip(from) {
-        if !matches!(*byte, b' ' | b'\t' | b'\r' | b'\n') {
+    for at in from..line.len() {
+        if !matches!(line[at], b' ' | b'\t' | b'\r' | b'\n') {
             return at;
         }
     }
@@ -17,8 +17,8 @@ fn behind_space(line: &[u8], from: usize) -> usize {
 /// The place behind a text, which begins with the quotation mark at this place.
 fn behind_text(line: &[u8], from: usize) -> usize {
     let mut is_escaped = false;
-    for (at, byte) in line.iter().enumerate().skip(from.saturating_add(1)) {
-        match *byte {
+    for at in from.saturating_add(1)..line.len() {
+        match line[at] {
             _ if is_escaped => is_escaped = false,
             b'\\' => is_escaped = true,
             b'"' => return at.saturating_add(1),
@@ -32,11 +32,11 @@ fn behind_text(line: &[u8], from: usize) -> usize {
 fn behind_value(line: &[u8], from: usize) -> usize {
     let mut depth = 0usize;
     let mut text_to = 0usize;
-    for (at, byte) in line.iter().enumerate().skip(from) {
+    for at in from..line.len() {
         if at < text_to {
             continue;
         }
-        match *byte {
+        match line[at] {
             b'"' => text_to = behind_text(line, at),
             b'{' | b'[' => depth = depth.saturating_add(1),
             b'}' | b']' | b',' if depth == 0 => return at,

@@ -204,10 +204,11 @@ impl<'a> Search<'a> {
 
     /// Has each of these parts looked at, which stand in a list from this place on.
     pub fn look_into(&mut self, path: Path<'a>, items: &'a [Value], from: usize, parts: &[Part]) {
-        for (at, part) in parts.iter().enumerate().rev() {
+        for behind in 0..parts.len() {
+            let at = parts.len() - 1 - behind;
             let place = at.saturating_add(from);
             if let Some(value) = items.get(place) {
-                self.ask(value, *part, path.then(Step::At(place)));
+                self.ask(value, parts[at], path.then(Step::At(place)));
             }
         }
     }
@@ -224,8 +225,9 @@ impl<'a> Search<'a> {
 
     /// Has each item of a list looked at.
     fn look_at_each(&mut self, path: Path<'a>, items: &'a [Value], of: Part) {
-        for (at, value) in items.iter().enumerate().rev() {
-            self.ask(value, of, path.then(Step::At(at)));
+        for behind in 0..items.len() {
+            let at = items.len() - 1 - behind;
+            self.ask(&items[at], of, path.then(Step::At(at)));
         }
     }
 
@@ -241,9 +243,10 @@ impl<'a> Search<'a> {
 
     /// Has what stands under each of these keys looked at.
     fn look_under(&mut self, value: &'a Value, path: Path<'a>, keys: &'static [Key]) {
-        for key in keys.iter().rev() {
-            if let Some(inner) = value.get(key.0) {
-                self.ask(inner, key.1, path.then(Step::Under(key.0)));
+        for behind in 0..keys.len() {
+            let (key, part) = keys[keys.len() - 1 - behind];
+            if let Some(inner) = value.get(key) {
+                self.ask(inner, part, path.then(Step::Under(key)));
             }
         }
     }
