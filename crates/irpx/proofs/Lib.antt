@@ -1,11 +1,11 @@
 pub mod Adding
 pub mod AtSlots
 pub mod Blocks
-pub mod Calls
 pub mod CommandLine
 pub mod Faults
 pub mod OneSeat
 pub mod Pieces
 pub mod Ran
 pub mod Runs
+pub mod Shown
 pub mod Telling

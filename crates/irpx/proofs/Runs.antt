@@ -1,5 +1,5 @@
 -- What closing a session gives is a transcript of a run, once the word lines are put in.
-use Rattle.std.proofs.Common.{◌≡◌, ◌≤◌, ℕ, List, Some, map, IfSome, refl, sym, subst, ap, ◌∙◌}
+use Rattle.std.proofs.Common.{◌≡◌, ◌≤◌, ℕ, List, Some, IfSome, refl, sym, subst, ap, ◌∙◌}
 use Rattle.std.specs.Option.{option_map}
 use Rattle.irp_types.specs.Histories.{IsLegal, CompletesOnce}
 use Rattle.irp_types.specs.State.{Fixed, Tables}
@@ -13,10 +13,8 @@ use Rattle.irp_transcript.specs.Transcripts.{TranscriptValue}
 use Rattle.irp_transcript.specs.declared.word_line.WordLine.{WordLine}
 use Rattle.irp_script_reader.specs.declared.script.Script.{Script}
 use Rattle.irp_script_reader.specs.declared.script.ScriptForm.{ScriptForm}
-use Rattle.irp_script.specs.Numbers.{NoneMoreOften}
-use Rattle.irp_script.specs.Outcomes.{Test, outcomes}
 use Rattle.irp_script.specs.Told.{IsTold}
-use Rattle.irp_script.specs.Words.{AreInOrder, told_by, word_steps}
+use Rattle.irp_script.specs.Words.{AreInOrder}
 use Rattle.irpx.specs.Running.{IsRun, run_transcript, fixed_for, form_of}
 
 -- the form of the transcript, once it is put in, has the limit that is fixed
@@ -35,8 +33,8 @@ fits_in_form form header few fits = record {
 }
 
 -- the transcript that was closed, with the script's form and these word lines
-pub closed_is_run : (script : Script) (tables : Tables) (fixed : Fixed) (expected : ℕ) (seats : List Seated) (closed : TranscriptValue) (words : List WordLine) → Closes fixed expected seats closed → fixed ≡ fixed_for script tables → expected ≡ script.seats → IfSome (run_transcript script.form words closed).header IsHeader → EachAnswered (IsTold script) closed.entries → AreInOrder words → (tokenless : Test) → NoneMoreOften (word_steps (outcomes tokenless script.steps)) (map told_by words) → IsRun script tables (run_transcript script.form words closed)
-closed_is_run script tables fixed expected seats closed words closes fixed_is seats_are fits answered in_order tokenless few =
+pub closed_is_run : (script : Script) (tables : Tables) (fixed : Fixed) (expected : ℕ) (seats : List Seated) (closed : TranscriptValue) (words : List WordLine) → Closes fixed expected seats closed → fixed ≡ fixed_for script tables → expected ≡ script.seats → IfSome (run_transcript script.form words closed).header IsHeader → EachAnswered (IsTold script) closed.entries → AreInOrder words → IsRun script tables (run_transcript script.form words closed)
+closed_is_run script tables fixed expected seats closed words closes fixed_is seats_are fits answered in_order =
     let header : Header = record closes.header { form = form_of script.form } in
     let told : (run_transcript script.form words closed).header ≡ Some header = ap (λ given. option_map (λ (header : Header). record header { form = form_of script.form }) given) closes.told in
     let is : fixed_of header ≡ fixed_for script tables = in_form script tables closes.header (closes.tables ∙ fixed_is) in
@@ -52,6 +50,4 @@ closed_is_run script tables fixed expected seats closed words closes fixed_is se
       seated = subst (λ this. AreSeated this closed.entries) seats_are closes.seated;
       answered = answered;
       words = in_order;
-      tokenless = tokenless;
-      told_steps = few;
     }

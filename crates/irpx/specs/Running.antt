@@ -3,7 +3,6 @@ use Rattle.std.specs.Prelude.{
   ℕ,
   ◌≡◌,
   ◌⊎◌,
-  ◌<◌,
   ◌+◌,
   List,
   ◌++◌,
@@ -21,11 +20,10 @@ use Rattle.std.specs.Prelude.{
 }
 use Rattle.std.specs.Io.KnownBytes.{Consumes}
 use Rattle.std.specs.Option.{option_map}
-use Rattle.irp_types.specs.Histories.{IsLegal, CompletesOnce, own_entries}
+use Rattle.irp_types.specs.Histories.{IsLegal, CompletesOnce}
 use Rattle.irp_types.specs.State.{Fixed, Tables, Entrance}
 use Rattle.irp_types.specs.declared.answer.CancelAnswer.{CancelAnswer}
 use Rattle.irp_types.specs.declared.answer.Plan.{Plan}
-use Rattle.irp_types.specs.declared.entry.Entry.{Entry}
 use Rattle.irp_routines.specs.Tables.{by_major, no_tables}
 use Rattle.irp_shared.specs.Answered.{EachAnswered}
 use Rattle.irp_transcript.specs.Headers.{fixed_of, limit_of, IsHeader}
@@ -45,11 +43,8 @@ use Rattle.irp_script_reader.specs.declared.script.ScriptForm.{ScriptForm}
 use Rattle.irp_script_reader.specs.declared.script.ScriptForm.TheVariants as script_form
 use Rattle.irp_script.specs.Between.{hands_between}
 use Rattle.irp_script.specs.Behaviours.{cancel_rule_of}
-use Rattle.irp_script.specs.Made.{calls_in, calls_of}
-use Rattle.irp_script.specs.Numbers.{EachAsOften, NoneMoreOften}
-use Rattle.irp_script.specs.Outcomes.{Outcome, Test, outcomes}
 use Rattle.irp_script.specs.Told.{IsTold}
-use Rattle.irp_script.specs.Words.{AreInOrder, told_by, word_steps}
+use Rattle.irp_script.specs.Words.{AreInOrder}
 use Rattle.irp_transcript_writer.specs.Lines.{lines, text_of}
 use Rattle.irp_script.specs.Ran.{Ran}
 use Rattle.irp_script.specs.declared.stop.Stop.{Stop}
@@ -131,8 +126,7 @@ fixed_for script tables =
 
 -- a transcript of a run of the script with these tables: its header tells the script's form, seats and locks, and the
 -- tables, and the formats accept it; its history is legal, completes each use of a packet at most once, and has entries
--- of the script's seats alone; whoever was asked answered what the script tells of it; its word lines are in order, and
--- tell of no step more often than it has a line, where some finishes of taken packets found no token
+-- of the script's seats alone; whoever was asked answered what the script tells of it; its word lines are in order
 pub record IsRun (script : Script) (tables : Tables) (transcript : TranscriptValue) : Type 0 where
   pub header : Header
   pub told : transcript.header ≡ Some header
@@ -145,26 +139,6 @@ pub record IsRun (script : Script) (tables : Tables) (transcript : TranscriptVal
   pub seated : AreSeated script.seats transcript.entries
   pub answered : EachAnswered (IsTold script) transcript.entries
   pub words : AreInOrder transcript.words
-  pub tokenless : Test
-  pub told_steps : NoneMoreOften
-      (word_steps (outcomes tokenless script.steps)) (map told_by transcript.words)
-
--- the calls of each seat's entries are those of its own among these, in order: each once and no other, but for the
--- packets and the tokens that they name
-abbrev pub MakesCalls : ℕ → List Outcome → List Entry → Type 0
-MakesCalls seats outs entries =
-    (seat : ℕ) → seat < seats → calls_in (own_entries entries seat) ≡ calls_of seat outs
-
--- a transcript shows each step of the script, where some finishes of taken packets found no token. The word lines tell
--- of each step that has one, as often as it stands in the script: of acts on locks and slots, and of those finishes.
--- The entries are the calls of all other steps, the setup's and then the others
-pub record ShowsEach (script : Script) (transcript : TranscriptValue) : Type 0 where
-  pub tokenless_first : Test
-  pub tokenless : Test
-  pub told : EachAsOften
-      (word_steps (outcomes tokenless script.steps)) (map told_by transcript.words)
-  pub made : MakesCalls script.seats
-      (outcomes tokenless_first script.setup ++ outcomes tokenless script.steps) transcript.entries
 
 -- a transcript of a session, with the form of the script that was run, and these word lines
 abbrev pub run_transcript : ScriptForm → List WordLine → TranscriptValue → TranscriptValue
@@ -184,11 +158,11 @@ IsUnrun (NoMemory Running) = Unit {0}
 IsUnrun ReceiptsDiffer = Unit {0}
 IsUnrun other = ⊥
 
--- a transcript of the run of a script with these tables, which comes of what so many workers ran
+-- a transcript of the run of a script with these tables, which comes of what so many workers ran. What it shows of each
+-- step follows (`ran_shows` in proofs/Shown.antt)
 pub record IsRanBy (workers : ℕ) (script : Script) (tables : Tables) (transcript : TranscriptValue) (stop : Option Stop)
     : Type 0 where
   pub run : IsRun script tables transcript
-  pub shows : stop ≡ None → ShowsEach script transcript
   pub ran : Ran workers script transcript stop
 
 -- what came of a script with these tables that so many workers were to run. To its end: the transcript of such a run

@@ -1,6 +1,6 @@
 //! The word `run`: a script is read and run by workers, and the transcript is written.
 
-ghost use Rattle.std.specs.Prelude.{IfErr, IfOk, ℕ, List, ◌≡◌, ◌≤◌, ◌<◌, None, position};
+ghost use Rattle.std.specs.Prelude.{IfErr, IfOk, ℕ, List, ◌≡◌, ◌≤◌, ◌<◌, position};
 ghost use Rattle.irp_types.specs.Limits.{most_slots};
 ghost use Rattle.irp_types.specs.State.{Tables};
 ghost use Rattle.irp_types.specs.declared.asked.Asked.{Asked};
@@ -22,7 +22,6 @@ ghost use Rattle.irpx.specs.Running.{
   IsRun,
   IsUnrun,
   NoScript,
-  ShowsEach,
   and_drivers,
   run_transcript,
   fixed_for,
@@ -189,7 +188,6 @@ fn session<A: Ask + Send + Drop, L: Session + Send + Sync, T: Threads + Wait + S
     requires may { AnswersSo (A.may_plan ask) (A.may_answer ask) (A.may_cancel ask) L.may }
     requires told { (asked : Asked) → ∥ L.may asked ∥₁ → ∥ IsTold script.now asked ∥₁ }
     ensures run { IfOk result (λ run. IsRun script.now (A.tables ask) run.transcript) }
-    ensures shows { IfOk result (λ run. run.stop ≡ None → ShowsEach script.now run.transcript) }
     ensures ran { IfOk result (λ run. Ran workers script.now run.transcript run.stop) }
     ensures err { IfErr result IsUnrun }
 {
