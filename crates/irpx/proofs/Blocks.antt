@@ -20,7 +20,7 @@ use Rattle.irp_judge.specs.declared.verdict.Verdict.TheVariants.{Legal}
 use Rattle.irpx.specs.Checking.{IsInput, Judges, Unjudgeable, most_bytes, most_taken}
 use Rattle.irpx.specs.Judging.{AreJudged, Concludes, Ends, Fails, IsHopeless, IsSoFar, piece_of, refusal_of}
 use Rattle.irpx.specs.declared.fault.Fault.{Fault}
-use Rattle.irpx.specs.Streams.{Bytes, IsUnhad, TakesAtMost}
+use Rattle.irpx.specs.Streams.{Bytes, IsReadingFault, TakesAtMost}
 use Rattle.irpx.proofs.Pieces.{reads_on}
 
 -- a line behind the header leaves the header
@@ -188,7 +188,7 @@ hopeless_block NoMemory after text before block gives = tt
 
 -- what is concluded of the text of an input at its end
 ends_fault : (fault : Fault) (old now : Bytes) (text : List ℕ) → IsInput old now text → TakesAtMost most_taken old now → Unjudgeable text fault → Fails old now fault
-ends_fault fault old now text input takes (inl none) = (inl (subst IsUnhad (sym none) tt), takes)
+ends_fault fault old now text input takes (inl none) = (inl (subst IsReadingFault (sym none) tt), takes)
 ends_fault fault old now text input takes (inr (line, is, refused)) = (inr (line, text, is, input, refused), takes)
 
 pub ends : (result : Result Verdict Fault) (old now : Bytes) (left : ℕ) (text : List ℕ) → IsSoFar old now left text → IsAtEnd now → Concludes result text → Ends old now result

@@ -4,7 +4,7 @@ use Rattle.irp_script.specs.declared.stop.Stop.{Stop}
 use Rattle.irp_script_reader.specs.declared.script.Script.{Script}
 use Rattle.irp_transcript.specs.Transcripts.{TranscriptValue}
 use Rattle.irp_types.specs.State.{Tables}
-use Rattle.irpx.specs.Running.{AfterScript, IsRanBy, IsUnrun, text_with}
+use Rattle.irpx.specs.Running.{AfterScript, IsRanBy, IsRunningFault, text_with}
 use Rattle.irpx.specs.Streams.{Output}
 use Rattle.irpx.specs.Writing.{BreaksOff, Written}
 use Rattle.irpx.specs.declared.fault.Fault.{Fault}
@@ -17,7 +17,7 @@ pub no_memory : (T : Type 0) (workers : ℕ) (script : Script) (tables : Tables)
 no_memory T workers script tables output = inl (tt, quiet_itself output)
 
 -- there is no transcript
-pub no_transcript : (T : Type 0) (workers : ℕ) (script : Script) (tables : Tables) (output : Output) (fault : Fault) → IsUnrun fault → AfterScript {T = T} workers script tables output output (Err fault)
+pub no_transcript : (T : Type 0) (workers : ℕ) (script : Script) (tables : Tables) (output : Output) (fault : Fault) → IsRunningFault fault → AfterScript {T = T} workers script tables output output (Err fault)
 no_transcript T workers script tables output fault unrun = inl (unrun, quiet_itself output)
 
 -- the transcript was written, and tells of this stop or of none

@@ -18,14 +18,13 @@ use Rattle.std.specs.Prelude.{
 use Rattle.std.specs.Fmt.{decimal}
 use Rattle.std.specs.Io.KnownBytes.{Consumes}
 use Rattle.irp_transcript.specs.Transcripts.{TranscriptValue, no_lines}
-use Rattle.irp_transcript_writer.specs.Out.{risen}
 use Rattle.irp_transcript_reader.specs.Reading.{ReadsFrom, cut}
 use Rattle.irp_transcript_reader.specs.declared.read_fault.ReadFault.TheVariants as fault
 use Rattle.irp_judge.specs.Checked.{IsVerdictOn}
 use Rattle.irp_judge.specs.declared.verdict.Verdict.{Verdict}
 use Rattle.irp_judge.specs.declared.verdict.Verdict.TheVariants as verdict
-use Rattle.irpx.specs.Streams.{Bytes, IsQuiet, IsUnhad, Output, Streams}
-use Rattle.irpx.specs.Writing.{Begins, Written}
+use Rattle.irpx.specs.Streams.{Bytes, IsQuiet, IsReadingFault, Output, Streams}
+use Rattle.irpx.specs.Writing.{BreaksOff, Written}
 use Rattle.irpx.specs.declared.fault.Fault.{Fault}
 use Rattle.irpx.specs.declared.fault.Fault.TheVariants.{NoMemory, Output as Failed, RefusedLine}
 use Rattle.irpx.specs.declared.fault.Phase.TheVariants.{Reading, Writing}
@@ -71,7 +70,7 @@ Unjudgeable text fault =
 -- why the input has no verdict: it isn't had; or the first line that is refused of the text that it holds
 abbrev pub NotRead : Bytes → Bytes → Fault → Type 0
 NotRead old new fault =
-    IsUnhad fault
+    IsReadingFault fault
     ⊎ ((line : ℕ) × (text : List ℕ) × (fault ≡ RefusedLine line) × IsInput old new text × IsRefused text line)
 
 -- what goes out and the count of failures where a verdict is written: its line
@@ -80,8 +79,7 @@ Told verdict before after = Written (verdict_line verdict) before after
 
 -- the same where it isn't: a beginning of its line where the output failed; nothing where there was no memory for it
 abbrev pub Untold : Verdict → Output → Output → Fault → Type 0
-Untold verdict before after Failed =
-    Begins (verdict_line verdict) before.gone after.gone × (after.failures ≡ risen before.failures)
+Untold verdict before after Failed = BreaksOff (verdict_line verdict) before after Failed
 Untold verdict before after (NoMemory Writing) = IsQuiet before after
 Untold verdict before after other = ⊥
 

@@ -86,10 +86,10 @@ abbrev pub IsOrderOrMemory : Order → Result Order Fault → Type 0
 IsOrderOrMemory order given = MatchResult given (λ it. it ≡ order) (λ fault. fault ≡ NoMemory Starting)
 
 -- why no order comes of words: they are none that the program takes, or memory ran out
-abbrev pub IsUnread : Fault → Type 0
-IsUnread Usage = Unit {0}
-IsUnread (NoMemory Starting) = Unit {0}
-IsUnread other = ⊥
+abbrev pub IsStartingFault : Fault → Type 0
+IsStartingFault Usage = Unit {0}
+IsStartingFault (NoMemory Starting) = Unit {0}
+IsStartingFault other = ⊥
 
 -- a run has 1 to 64 workers
 abbrev pub IsOrder : Order → Type 0

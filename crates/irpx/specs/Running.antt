@@ -48,7 +48,7 @@ use Rattle.irp_script.specs.Words.{AreInOrder}
 use Rattle.irp_transcript_writer.specs.Lines.{lines, text_of}
 use Rattle.irp_script.specs.Ran.{Ran}
 use Rattle.irp_script.specs.declared.stop.Stop.{Stop}
-use Rattle.irpx.specs.Streams.{Bytes, IsQuiet, IsUnhad, Output, Streams}
+use Rattle.irpx.specs.Streams.{Bytes, IsQuiet, IsReadingFault, Output, Streams}
 use Rattle.irpx.specs.Writing.{BreaksOff, Written}
 use Rattle.irpx.specs.declared.fault.Fault.{Fault}
 use Rattle.irpx.specs.declared.fault.Fault.TheVariants.{
@@ -79,7 +79,7 @@ HoldsScript old new script = (text : List ℕ) × IsRead old new text × ReadsSc
 -- why there is no script: the text isn't had; or what is read of the input is refused, so
 abbrev pub NoScript : Bytes → Bytes → Fault → Type 0
 NoScript old new fault =
-    IsUnhad fault
+    IsReadingFault fault
     ⊎ ((refusal : ScriptRefusal) × (text : List ℕ) × (fault ≡ RefusedScript refusal)
     × IsRead old new text × ReadsScript (Err (script_fault.Refused refusal)) text)
 
@@ -153,10 +153,10 @@ abbrev pub text_with : TranscriptValue → List ℕ
 text_with transcript = text_of (lines transcript)
 
 -- why there is no transcript of a script that was run: memory ran out, or the seats kept other entries
-abbrev pub IsUnrun : Fault → Type 0
-IsUnrun (NoMemory Running) = Unit {0}
-IsUnrun ReceiptsDiffer = Unit {0}
-IsUnrun other = ⊥
+abbrev pub IsRunningFault : Fault → Type 0
+IsRunningFault (NoMemory Running) = Unit {0}
+IsRunningFault ReceiptsDiffer = Unit {0}
+IsRunningFault other = ⊥
 
 -- a transcript of the run of a script with these tables, which comes of what so many workers ran. What it shows of each
 -- step follows (`ran_shows` in proofs/Shown.antt)
@@ -173,7 +173,7 @@ AfterScript workers script tables before after (Ok done) =
     (transcript : TranscriptValue) × IsRanBy workers script tables transcript None
     × Written (text_with transcript) before after
 AfterScript workers script tables before after (Err fault) =
-    (IsUnrun fault × IsQuiet before after)
+    (IsRunningFault fault × IsQuiet before after)
     ⊎ ((stop : Stop) × (transcript : TranscriptValue) × (fault ≡ Stopped stop)
     × IsRanBy workers script tables transcript (Some stop) × Written (text_with transcript) before after)
     ⊎ ((stop : Option Stop) × (transcript : TranscriptValue) × IsRanBy workers script tables transcript stop

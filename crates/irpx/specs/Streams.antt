@@ -34,7 +34,7 @@ abbrev pub IsQuiet : Output → Output → Type 0
 IsQuiet before after = Keeps before.gone after.gone × (after.failures ≡ before.failures)
 
 -- why a text isn't had from the input: it failed, or memory ran out
-abbrev pub IsUnhad : Fault → Type 0
-IsUnhad Input = Unit {0}
-IsUnhad (NoMemory Reading) = Unit {0}
-IsUnhad other = ⊥
+abbrev pub IsReadingFault : Fault → Type 0
+IsReadingFault Input = Unit {0}
+IsReadingFault (NoMemory Reading) = Unit {0}
+IsReadingFault other = ⊥

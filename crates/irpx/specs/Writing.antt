@@ -20,11 +20,11 @@ abbrev pub Written : List ℕ → Output → Output → Type 0
 Written text before after = Appends before.gone after.gone text × (after.failures ≡ before.failures)
 
 -- this fault came while something was written: the output's, and its count of failures rose, or want of memory
-abbrev pub IsUnwritten : Output → Output → Fault → Type 0
-IsUnwritten before after fault.Output = after.failures ≡ risen before.failures
-IsUnwritten before after (fault.NoMemory Writing) = after.failures ≡ before.failures
-IsUnwritten before after other = ⊥
+abbrev pub IsWritingFault : Output → Output → Fault → Type 0
+IsWritingFault before after fault.Output = after.failures ≡ risen before.failures
+IsWritingFault before after (fault.NoMemory Writing) = after.failures ≡ before.failures
+IsWritingFault before after other = ⊥
 
 -- a beginning of the text went out, before this fault
 abbrev pub BreaksOff : List ℕ → Output → Output → Fault → Type 0
-BreaksOff text before after told = Begins text before.gone after.gone × IsUnwritten before after told
+BreaksOff text before after told = Begins text before.gone after.gone × IsWritingFault before after told

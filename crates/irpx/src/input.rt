@@ -2,7 +2,7 @@
 
 ghost use Rattle.std.specs.Prelude.{◌≡◌, ◌+◌, ◌≤◌, ◌<◌, ◌^◌, length, take, vec_len, IfErr, IfOk, IfSome};
 ghost use Rattle.std.specs.Io.KnownBytes.{Consumes, IsAtEnd};
-ghost use Rattle.irpx.specs.Streams.{IsUnhad, TakesAtMost};
+ghost use Rattle.irpx.specs.Streams.{IsReadingFault, TakesAtMost};
 
 use crate::fault::{Fault, Phase};
 use std::alloc::Global;
@@ -27,7 +27,7 @@ pub fn read_up_to<R: Read>(alloc: Global, reader: &mut R, limit: usize) -> Resul
     ensures took { IfOk result (λ read.
         Consumes (R.remaining reader.old) (R.remaining reader.new) read.items) }
     ensures within { TakesAtMost limit (R.remaining reader.old) (R.remaining reader.new) }
-    ensures err { IfErr result IsUnhad }
+    ensures err { IfErr result IsReadingFault }
 {
     let mut bytes = Vec::new(alloc);
     let mut buffer = [0u8; PIECE];

@@ -15,7 +15,7 @@ mod words;
 mod writing;
 
 ghost use Rattle.std.specs.Prelude.{IfErr, IfOk};
-ghost use Rattle.irpx.specs.CommandLine.{IsOrder, IsUnread};
+ghost use Rattle.irpx.specs.CommandLine.{IsOrder, IsStartingFault};
 ghost use Rattle.irpx.specs.Program.{Obeys, ReadsFor};
 ghost use Rattle.irpx.specs.Streams.{streams_of};
 
@@ -33,7 +33,7 @@ use std::thread::Threads;
 /// The words that the program was given. `Usage` where they can't be had, and `NoMemory` where memory was missing for
 /// them.
 fn words_of(rt: &HostRuntime) -> Result<Vec<String>, Fault>
-    ensures { IfErr result IsUnread }
+    ensures { IfErr result IsStartingFault }
 {
     let words = match env::args(rt) {
         Ok(words) => words,
@@ -51,7 +51,7 @@ fn words_of(rt: &HostRuntime) -> Result<Vec<String>, Fault>
 /// What the words ask for.
 fn order(rt: &HostRuntime) -> Result<Order, Fault>
     ensures order { IfOk result IsOrder }
-    ensures unread { IfErr result IsUnread }
+    ensures unread { IfErr result IsStartingFault }
 {
     let words = words_of(rt)?;
     words::order(rt.alloc(), words.as_slice())

@@ -20,7 +20,7 @@ ghost use Rattle.irpx.specs.Running.{
   HoldsScript,
   IsRanBy,
   IsRun,
-  IsUnrun,
+  IsRunningFault,
   NoScript,
   and_drivers,
   run_transcript,
@@ -124,7 +124,7 @@ fn run_transcript(
     requires few { slots_of (form_of form) ≤ most_slots }
     ensures made { IfOk result (λ made. made ≡ run_transcript form words.items transcript) }
     ensures accepted { IfOk result IsTranscript }
-    ensures err { IfErr result IsUnrun }
+    ensures err { IfErr result IsRunningFault }
 {
     transcript.is_one();
     let TranscriptParts {
@@ -151,7 +151,7 @@ fn finish<A: Ask + Drop, L: Session>(
 ) -> Result<Finished, Fault>
     requires seats { L.seats ≡ L.parts }
     requires few { slots_of (form_of form) ≤ most_slots }
-    ensures err { IfErr result IsUnrun }
+    ensures err { IfErr result IsRunningFault }
     ensures ok { IfOk result (λ run.
         (seats : List Seated) × EachAsOften (seats_of worked.entry.seats.items) seats
         × (closed : TranscriptValue) × Closes L.fixed L.seats seats closed
@@ -189,7 +189,7 @@ fn session<A: Ask + Send + Drop, L: Session + Send + Sync, T: Threads + Wait + S
     requires told { (asked : Asked) → ∥ L.may asked ∥₁ → ∥ IsTold script.now asked ∥₁ }
     ensures run { IfOk result (λ run. IsRun script.now (A.tables ask) run.transcript) }
     ensures ran { IfOk result (λ run. Ran workers script.now run.transcript run.stop) }
-    ensures err { IfErr result IsUnrun }
+    ensures err { IfErr result IsRunningFault }
 {
     let form = form_of(script.form);
     let Ok((shared, seats)) = open_with_limit::<A, L>(
@@ -234,9 +234,9 @@ fn write_finished<O: Out>(alloc: Global, output: &mut O, run: &Finished) -> Resu
     }
 }
 
-/// Adds the script's drivers to a store that has all closures of the script, which answer as it tells, has so many
-/// workers run the script with this store, and writes the transcript.
-fn with_dispatches<O: Out, T: Threads + Wait + Sync>(
+/// Has so many workers run the script with a store that has all its closures, which answer as it tells, and writes the
+/// transcript. The script's drivers are added here.
+fn run_with_store<O: Out, T: Threads + Wait + Sync>(
     rt: &T,
     alloc: Global,
     output: &mut O,
@@ -310,7 +310,7 @@ fn run_script<O: Out, T: Threads + Wait + Sync>(
             return Err(NO_MEMORY);
         };
     }
-    with_dispatches(rt, alloc, output, parts, workers, store)
+    run_with_store(rt, alloc, output, parts, workers, store)
 }
 
 /// The first step of the script that hands a reference between seats that fall to different of so many workers.

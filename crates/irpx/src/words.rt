@@ -32,7 +32,7 @@ ghost use Rattle.irpx.specs.CommandLine.{
   IsOneWord,
   IsOrder,
   IsOrderOrMemory,
-  IsUnread,
+  IsStartingFault,
   command_line,
   run_in,
   workers_in,
@@ -120,7 +120,7 @@ fn order_of(matches: &ArgMatches<'_>) -> Result<Order, Fault>
 fn fault_of(error: &Error) -> Fault
     ensures memory { (result ≡ Fault.NoMemory Phase.Starting)
         ↔ (kind_of error.now ≡ ErrorKind.OutOfMemory) }
-    ensures usage { IsUnread result }
+    ensures usage { IsStartingFault result }
 {
     if error.kind() == ErrorKind::OutOfMemory {
         Fault::NoMemory(Phase::Starting)
@@ -138,7 +138,7 @@ pub fn order<'a, S: AsStr>(alloc: Global, words: &'a [S]) -> Result<Order, Fault
     // No order comes of words in which clap finds a fault.
     ensures ok { OnOk result (clap_fault_of command_line (map S.text words.entry.now) ≡ []) }
     ensures order { IfOk result IsOrder }
-    ensures unread { IfErr result IsUnread }
+    ensures unread { IfErr result IsStartingFault }
     ensures demo { IsOneWord (codes "demo") (map S.text words.entry.now)
         → IsOrderOrMemory Order.Demo result }
     ensures check { IsOneWord (codes "check") (map S.text words.entry.now)

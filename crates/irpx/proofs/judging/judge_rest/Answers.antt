@@ -1,7 +1,7 @@
 -- Block after block is judged, up to the end of the input.
 use Rattle.std.proofs.Common.{ℕ, ◌≡◌, ◌-◌, List, ◌++◌, take, inl, sym, subst, ◌∙◌, arith, length-take-le}
 use Rattle.irpx.specs.Judging.{IsSoFar, piece_of}
-use Rattle.irpx.specs.Streams.{IsUnhad}
+use Rattle.irpx.specs.Streams.{IsReadingFault}
 use Rattle.irpx.proofs.Blocks.{ends, few_so_far, so_far_end, so_far_on, takes_more, whole_piece}
 use Rattle.irpx.proofs.judging.judge_rest.Goals as goal
 
@@ -15,7 +15,7 @@ pub returns-in-Err-take_block : goal.returns-in-Err-take_block
 returns-in-Err-take_block g c = λ old starts.
     (let inv = c.loop-fault.invariant.so_far old starts in
     let block : List ℕ = piece_of c.loop-fault.buffer c.loop-fault.from c.loop-fault.to in
-    (inl (subst IsUnhad (sym c.in-Err-take_block.ensures.err) tt), takes_more old (g.R.Read.remaining c.loop-fault.input) (g.R.Read.remaining c.take_block.new.reader) c.loop-fault.left (inv.0 ++ block) inv.2 c.in-Err-take_block.ensures.within))
+    (inl (subst IsReadingFault (sym c.in-Err-take_block.ensures.err) tt), takes_more old (g.R.Read.remaining c.loop-fault.input) (g.R.Read.remaining c.take_block.new.reader) c.loop-fault.left (inv.0 ++ block) inv.2 c.in-Err-take_block.ensures.within))
 
 pub returns-then-to-eq0 : goal.returns-then-to-eq0
 returns-then-to-eq0 g c = λ old starts.

@@ -4,13 +4,13 @@ use Rattle.irp_text.specs.Fed.{Gives, HasRead, with_line}
 use Rattle.irp_text.specs.declared.line.Line.{Line}
 use Rattle.irp_transcript.specs.Transcripts.{no_lines}
 use Rattle.irpx.specs.Judging.{IsSoFar, piece_of}
-use Rattle.irpx.specs.Streams.{IsUnhad}
+use Rattle.irpx.specs.Streams.{IsReadingFault}
 use Rattle.irpx.proofs.Blocks.{both_pieces, few_so_far, hopeless_block, so_far_on, takes_more}
 use Rattle.irpx.proofs.judging.read_header.Goals as goal
 
 pub returns-in-Err-clause-start : goal.returns-in-Err-clause-start
 returns-in-Err-clause-start g c =
-    (inl (subst IsUnhad (sym c.in-Err.ensures.err) tt), takes_more (g.R.Read.remaining c.args.input.now) (g.R.Read.remaining c.loop-to.input) (g.R.Read.remaining c.take_block.new.reader) c.loop-to.left c.loop-to.invariant.text c.loop-to.invariant.so_far c.in-Err.ensures.within)
+    (inl (subst IsReadingFault (sym c.in-Err.ensures.err) tt), takes_more (g.R.Read.remaining c.args.input.now) (g.R.Read.remaining c.loop-to.input) (g.R.Read.remaining c.take_block.new.reader) c.loop-to.left c.loop-to.invariant.text c.loop-to.invariant.so_far c.in-Err.ensures.within)
 
 pub returns-in-Err-next-clause-start : goal.returns-in-Err-next-clause-start
 returns-in-Err-next-clause-start g c =

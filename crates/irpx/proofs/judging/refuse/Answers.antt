@@ -1,7 +1,7 @@
 -- The rest of the input was taken, or couldn't be.
 use Rattle.std.proofs.Common.{ℕ, ◌≡◌, ◌<◌, List, ◌++◌, take, inl, sym, subst, arith, length-take-le}
 use Rattle.irpx.specs.Judging.{Fails, IsSoFar}
-use Rattle.irpx.specs.Streams.{IsUnhad}
+use Rattle.irpx.specs.Streams.{IsReadingFault}
 use Rattle.irpx.specs.declared.fault.Fault.{Fault}
 use Rattle.irpx.proofs.Blocks.{refused_fails, so_far_end, so_far_more, takes_more}
 use Rattle.irpx.proofs.judging.refuse.Goals as goal
@@ -9,7 +9,7 @@ use Rattle.irpx.proofs.judging.refuse.Goals as goal
 pub returns-in-Err : goal.returns-in-Err
 returns-in-Err g c = λ old text so_far hopeless.
     (let inv = c.loop-count.invariant.so_far old text so_far in
-    (inl (subst IsUnhad (sym c.in-Err.ensures.err) tt), takes_more old (g.R.Read.remaining c.loop-count.input) (g.R.Read.remaining c.take_block.new.reader) c.loop-count.left (text ++ inv.0) inv.1 c.in-Err.ensures.within))
+    (inl (subst IsReadingFault (sym c.in-Err.ensures.err) tt), takes_more old (g.R.Read.remaining c.loop-count.input) (g.R.Read.remaining c.take_block.new.reader) c.loop-count.left (text ++ inv.0) inv.1 c.in-Err.ensures.within))
 
 pub returns-then-count-eq0 : goal.returns-then-count-eq0
 returns-then-count-eq0 g c = λ old text so_far hopeless.

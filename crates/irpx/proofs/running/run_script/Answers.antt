@@ -85,8 +85,8 @@ invariant_of-planned g c =
       named = subst (λ (counts : Known). names_known counts (get_or c.as_slice-plans.result.now c.loop-plan.plan-index none) ≡ true) (sym known) plans.2;
     }
 
-pub with_dispatches-requires-after_bounds : goal.with_dispatches-requires-after_bounds
-with_dispatches-requires-after_bounds g c = λ _ _.
+pub run_with_store-requires-after_bounds : goal.run_with_store-requires-after_bounds
+run_with_store-requires-after_bounds g c = λ _ _.
     let start = nothing_told c.new-store.result c.new-store.ensures in
     let routines = c.loop-routine.invariant.1 start.0 in
     let cancels = c.loop-answer.invariant.2 (c.loop-routine.invariant.2 start.1) in
@@ -109,6 +109,6 @@ returns g c =
     let dispatches : c.loop-plan.store.tables ≡ and_dispatches script.dispatches c.loop-answer.store.tables =
     all_of (λ (plans : List Plan). and_dispatches plans c.loop-answer.store.tables) _ _ (c.as_slice-plans.ensures ∙ ap (λ (parts : ScriptParts). parts.dispatches) c.parts-parts.ensures.parts) c.loop-plan.plan-index c.loop-plan-test.false c.loop-plan.store.tables c.loop-plan.invariant.0 in
     let after : (parts : ScriptParts) → Tables → Type 0 = λ parts tables.
-    AfterScript c.args.workers.number parts (and_drivers parts.drivers tables) (output_of (g.O.Out.gone c.args.output.now) (g.O.Out.failures c.args.output.now)) (output_of (g.O.Out.gone c.with_dispatches.new.output) (g.O.Out.failures c.with_dispatches.new.output)) c.with_dispatches.result in
+    AfterScript c.args.workers.number parts (and_drivers parts.drivers tables) (output_of (g.O.Out.gone c.args.output.now) (g.O.Out.failures c.args.output.now)) (output_of (g.O.Out.gone c.run_with_store.new.output) (g.O.Out.failures c.run_with_store.new.output)) c.run_with_store.result in
     subst (after script) (dispatches ∙ ap (and_dispatches script.dispatches) (cancels ∙ ap (and_cancels script.cancels) routines))
-    (subst (λ (parts : ScriptParts). after parts c.loop-plan.store.tables) c.parts-parts.ensures.parts c.with_dispatches.ensures)
+    (subst (λ (parts : ScriptParts). after parts c.loop-plan.store.tables) c.parts-parts.ensures.parts c.run_with_store.ensures)

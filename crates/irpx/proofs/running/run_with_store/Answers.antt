@@ -7,7 +7,7 @@ use Rattle.irp_script.proofs.Told.{answers_kept, store_answers_so}
 use Rattle.irpx.specs.Running.{AfterScript, and_drivers}
 use Rattle.irpx.specs.Streams.{output_of}
 use Rattle.irpx.proofs.Adding.{added, all_added, drivers_grow}
-use Rattle.irpx.proofs.running.with_dispatches.Goals as goal
+use Rattle.irpx.proofs.running.run_with_store.Goals as goal
 
 pub loop-driver-preserved : goal.loop-driver-preserved
 loop-driver-preserved g c = (

@@ -3,7 +3,7 @@ use Rattle.std.proofs.Common.{◌≡◌, take}
 use Rattle.irp_script_reader.specs.declared.script.ScriptParts.{ScriptParts}
 use Rattle.irp_script.specs.Told.{AnswersAll, IsTold}
 use Rattle.irpx.specs.Running.{and_drivers, fixed_for}
-use Rattle.irpx.proofs.running.with_dispatches.Given as goal
+use Rattle.irpx.proofs.running.run_with_store.Given as goal
 
 abbrev pub invariant-loop-driver : goal.invariant-loop-driver
 invariant-loop-driver g l =
