@@ -6,6 +6,7 @@ use Rattle.std.specs.Prelude.{
   ◌-◌,
   ◌*◌,
   ◌&&◌,
+  ◌⊎◌,
   ℕ,
   List,
   [],
@@ -20,10 +21,9 @@ use Rattle.std.specs.Prelude.{
   Result,
   Ok,
   Err,
-  MatchResult,
   if◌then◌else◌,
 }
-use Rattle.clap.specs.Words.{Row, Rule, fault_of, new_rule, subcommand_of}
+use Rattle.clap.specs.Words.{Row, Rule, fault_of, first_of, new_rule, subcommand_of}
 use Rattle.clap.specs.Simple.{App, new_app, on_top, with_rule, with_subcommand}
 use Rattle.clap.specs.declared.builder.ArgAction.TheVariants.{Set}
 use Rattle.irpx.specs.declared.orders.Order.{Order}
@@ -47,10 +47,6 @@ command_line =
     (new_app (codes "demo")).top)
     (with_rule (new_app (codes "run")) workers_option).top)
     (new_app (codes "check")).top
-
--- the program's name, whatever it is, and this one word
-abbrev pub IsOneWord : List ℕ → List (List ℕ) → Type 0
-IsOneWord word words = (name : List ℕ) × (words ≡ name ∷ word ∷ [])
 
 -- clap finds no fault in the words, and in them this subcommand, with these rows of options
 abbrev pub Finds : List ℕ → List Row → List (List ℕ) → Type 0
@@ -81,9 +77,15 @@ abbrev pub run_in : Option (List ℕ) → Result Order Fault
 run_in None = Ok (Run 1)
 run_in (Some text) = run_with (workers_in text)
 
--- this order comes of the words, if memory doesn't run out
-abbrev pub IsOrderOrMemory : Order → Result Order Fault → Type 0
-IsOrderOrMemory order given = MatchResult given (λ it. it ≡ order) (λ fault. fault ≡ NoMemory Starting)
+-- what the subcommand of this name asks for, with these rows of options
+pub record Asks (name : List ℕ) (rows : List Row) (order : Result Order Fault) : Type 0 where
+  pub demo : name ≡ codes "demo" → order ≡ Ok Demo
+  pub run : name ≡ codes "run" → order ≡ run_in (first_of (codes "workers") rows)
+  pub check : name ≡ codes "check" → order ≡ Ok Check
+
+-- the same, if memory doesn't run out
+abbrev pub AsksOrMemory : List ℕ → List Row → Result Order Fault → Type 0
+AsksOrMemory name rows order = Asks name rows order ⊎ (order ≡ Err (NoMemory Starting))
 
 -- why no order comes of words: they are none that the program takes, or memory ran out
 abbrev pub IsStartingFault : Fault → Type 0

@@ -24,14 +24,12 @@ ghost use Rattle.clap.specs.Words.{
   fault_of as clap_fault_of,
   first_of,
   rows_of,
-  subcommand_of,
   subcommand_rows_of,
 };
 ghost use Rattle.irpx.specs.CommandLine.{
+  AsksOrMemory,
   Finds,
-  IsOneWord,
   IsOrder,
-  IsOrderOrMemory,
   IsStartingFault,
   command_line,
   run_in,
@@ -139,21 +137,9 @@ pub fn order<'a, S: AsStr>(alloc: Global, words: &'a [S]) -> Result<Order, Fault
     ensures ok { OnOk result (clap_fault_of command_line (map S.text words.entry.now) ≡ []) }
     ensures order { IfOk result IsOrder }
     ensures unread { IfErr result IsStartingFault }
-    ensures demo { IsOneWord (codes "demo") (map S.text words.entry.now)
-        → IsOrderOrMemory Order.Demo result }
-    ensures check { IsOneWord (codes "check") (map S.text words.entry.now)
-        → IsOrderOrMemory Order.Check result }
-    ensures run { IsOneWord (codes "run") (map S.text words.entry.now)
-        → IsOrderOrMemory (Order.Run 1) result }
-    // Each order is that of the subcommand that clap finds in the words, whatever else they have.
-    ensures finds_demo { (rows : List Row) → Finds (codes "demo") rows (map S.text words.entry.now)
-        → IsOrderOrMemory Order.Demo result }
-    ensures finds_check { (rows : List Row) → Finds (codes "check") rows (map S.text words.entry.now)
-        → IsOrderOrMemory Order.Check result }
-    // An order to run has the workers that clap finds in the words, or one.
-    ensures workers { (rows : List Row)
-        → subcommand_of command_line (map S.text words.entry.now) ≡ Some (codes "run", rows)
-        → IfOk result (λ order. run_in (first_of (codes "workers") rows) ≡ Ok order) }
+    // The order is that of the subcommand that clap finds in the words, whatever else they have.
+    ensures finds { (name : List ℕ) (rows : List Row)
+        → Finds name rows (map S.text words.entry.now) → AsksOrMemory name rows result }
 {
     let Ok(command) = command(alloc) else {
         return Err(Fault::NoMemory(Phase::Starting));
