@@ -58,7 +58,7 @@ fn order(rt: &HostRuntime) -> Result<Order, Fault>
 }
 
 /// Does what is asked for: reads from the input where a script or a transcript is asked for, and writes to the output.
-fn run<R: Read, O: Out, T: Threads + Wait + Sync>(
+fn obey<R: Read, O: Out, T: Threads + Wait + Sync>(
     rt: &T,
     alloc: Global,
     input: &mut R,
@@ -86,7 +86,7 @@ fn run<R: Read, O: Out, T: Threads + Wait + Sync>(
 fn main(rt: HostRuntime) -> ExitCode {
     let mut output = WriterOut::new(io::writer(&rt));
     let mut input = rt.stdin();
-    let mut ending = run(&rt, rt.alloc(), &mut input, &mut output, order(&rt));
+    let mut ending = obey(&rt, rt.alloc(), &mut input, &mut output, order(&rt));
     if let Ending::Faulty(fault) = ending {
         if writeln!(rt.stderr(), "{fault}").is_err() {
             ending = Ending::Faulty(Fault::Output);
