@@ -2,7 +2,9 @@
 irpx prints.
 
 Usage: orders.py IRP_ORDERS IRPX COUNT RUNS SEED. Of the small scripts of the examples and of COUNT scripts made by chance
-the two have to tell as many orders for the same replies; each transcript that is shown has to be legal by the model. Of
+the two have to tell as many orders for the same replies; each transcript that is shown has to be legal by the model, and
+its calls to change their seat as often as in the order of these replies that does so least often, or less often where the
+script has steps that aren't calls. Of
 each race, RUNS runs on as many workers as it has seats have to print one of the outcomes. Prints a line for each
 difference, and then how many were tried. Ends with status 0, or 1 where something differs.
 """
@@ -21,7 +23,7 @@ sys.path.append(os.path.join(HERE, "second_reading"))
 from cases_by_chance import base_script  # noqa: E402
 from json_texts import read_json  # noqa: E402
 from layouts import encode, text_of  # noqa: E402
-from orders_of_steps import orders_of, replies_of  # noqa: E402
+from orders_of_steps import changes_of, orders_of, replies_of  # noqa: E402
 from runs import Tally, work  # noqa: E402
 from scripts import LOCK_STEPS, read_script  # noqa: E402
 from transcripts import check  # noqa: E402
@@ -50,27 +52,65 @@ def ended(program, *words, text):
     return it.stdout
 
 
+def lines_of(transcript):
+    return [read_json(line) for line in transcript.split(b"\n")[1:-1]]
+
+
 def replies_in(transcript, script):
     """Returns the replies of a transcript behind those of `setup`."""
-    lines = [read_json(line) for line in transcript.split(b"\n")[1:-1]]
-    return replies_of(lines, len(script.setup))
+    return replies_of(lines_of(transcript), len(script.setup))
+
+
+def changes_in(transcript, script):
+    """Returns how often the seat changes along the calls of a transcript behind those of `setup`."""
+    calls = [line for line in lines_of(transcript) if "call" in line]
+    return changes_of([call["seat"] for call in calls[len(script.setup) :]])
+
+
+def is_plain(script):
+    """Returns whether each step is a call and one atomic step: no label is bound by another seat than names it."""
+    binders = set()
+    for step in script.steps:
+        label = step.get("as") or (step["do"] == "reuse" and step["irp"])
+        if isinstance(label, str):
+            binders.add((label, step["seat"]))
+    for step in script.steps:
+        names = (step.get("irp"), step.get("as"))
+        if step["do"] in ON_WORDS or any(label in names and seat != step["seat"] for label, seat in binders):
+            return False
+    return True
 
 
 def told(text, script):
-    """Returns how many orders the program tells for which replies, and what is wrong with its transcripts."""
+    """Returns how many orders the program tells for which replies, with the fewest changes of seat among the calls that
+    it shows for them; and what is wrong with its transcripts."""
     table = ended(IRP_ORDERS, text=text).decode()
     counts = [int(it) for it in re.findall(r"(?m)^outcome \d+: (\d+) of \d+ orders", table)]
     head = re.match(r"outcomes: (\d+), of (\d+) orders\n", table)
     if not head or [int(it) for it in head.groups()] != [len(counts), sum(counts)]:
         return None, f"the first line is {table.splitlines()[:1]}, and {len(counts)} outcomes follow"
-    found = collections.Counter()
+    found, fewest = collections.Counter(), {}
     for at, count in enumerate(counts):
         transcript = ended(IRP_ORDERS, "--show", str(at + 1), text=text)
         verdict = check(transcript)
         if not verdict.startswith("legal"):
             return None, f"the model judges the transcript of outcome {at + 1}: {verdict}"
-        found[replies_in(transcript, script)] += count
-    return found, None
+        replies = replies_in(transcript, script)
+        found[replies] += count
+        changes = changes_in(transcript, script)
+        fewest[replies] = min(fewest.get(replies, changes), changes)
+    return (found, fewest), None
+
+
+def differs(script, wanted, got):
+    """Returns what differs in the outcomes of a script, or None."""
+    if got[0] != wanted[0]:
+        return f"expected {sorted(wanted[0].values())} orders, got {sorted(got[0].values())}"
+    for replies, changes in got[1].items():
+        least = wanted[1][replies]
+        if changes > least or (is_plain(script) and changes != least):
+            return f"expected {least} changes of seat, got {changes}"
+    return None
 
 
 def compare(name, text):
@@ -82,8 +122,8 @@ def compare(name, text):
         return tally
     try:
         found, wrong = told(text, script)
-        if found is not None and found != wanted:
-            wrong = f"expected {sorted(wanted.values())} orders, got {sorted(found.values())}"
+        if found is not None:
+            wrong = differs(script, wanted, found)
     except ValueError as error:
         wrong = str(error)
     tally.note(KIND, f"{name}: {wrong}", wrong is None)
@@ -113,7 +153,7 @@ def race(name, text, runs):
     found, wrong = told(text, script)
     for number in range(runs):
         printed = ended(IRPX, "run", "--workers", str(script.seats), text=text)
-        is_found = found is not None and replies_in(printed, script) in found
+        is_found = found is not None and replies_in(printed, script) in found[0]
         tally.note("races", f"{name}, run {number}: {wrong or 'no outcome has its replies'}", is_found)
     return tally
 

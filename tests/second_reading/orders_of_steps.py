@@ -157,13 +157,19 @@ def replies_of(lines, begun):
     return compact([sorted(calls, key=lambda c: c[0]), words])
 
 
+def changes_of(seats):
+    """Returns how often the seat changes from one step to the next."""
+    return sum(one != other for one, other in zip(seats, seats[1:]))
+
+
 def orders_of(script, most):
-    """Returns how many orders end with which replies, or None where there are more than `most`."""
+    """Returns how many orders end with which replies, and the fewest changes of seat among these; or None where there
+    are more orders than `most`."""
     lengths = collections.Counter(step['seat'] for step in script.steps)
     least = math.factorial(sum(lengths.values())) // math.prod(map(math.factorial, lengths.values()))
     if least > most:
         return None
-    found = collections.Counter()
+    found, fewest = collections.Counter(), {}
 
     def follow(path):
         """Follows all orders that begin so."""
@@ -182,7 +188,9 @@ def orders_of(script, most):
             ended = Stepper(script)
             for seat in path:
                 ended.makes(seat)
-            found[replies_of(ended.lines()[1:], ended.begun)] += 1
+            replies = replies_of(ended.lines()[1:], ended.begun)
+            found[replies] += 1
+            fewest[replies] = min(fewest.get(replies, len(path)), changes_of(path))
 
     follow([])
-    return None if sum(found.values()) > most else found
+    return None if sum(found.values()) > most else (found, fewest)

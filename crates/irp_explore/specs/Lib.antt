@@ -1,3 +1,4 @@
 pub mod Orders
+pub mod Paths
 pub mod Nodes
 pub mod Refusals

@@ -1,11 +1,13 @@
 -- Nodes: how orders lead to them, what they weigh, and what lies ahead of them.
-use Rattle.std.specs.Prelude.{ℕ, ◌≡◌, ◌≢◌, ◌<◌, ◌≤◌, Some, ◌+◌, ◌*◌, Option, IfSome, IfNone, List, ◌++◌, map, length, sum_by, All, AllPairs, Contains}
+use Rattle.std.specs.Prelude.{ℕ, ◌≡◌, ◌≢◌, ◌<◌, ◌≤◌, Some, ◌+◌, ◌*◌, Option, IfSome, IfNone, List, [], ◌∷◌, ◌++◌, map, length, sum_by, All, AllPairs, Contains}
+use Rattle.irp_explore.specs.Paths.{HasAsGood}
 use Rattle.irp_explore.specs.Orders.{Moves, Leads, HasEnded, AreSuccessors}
 use Rattle.irp_explore.specs.declared.node.Node.{Node}
 
--- what was found: the node's path leads to its state, in which no seat has a step left
+-- what was found: the node's orders lead to its state, in which no seat has a step left
 pub record IsFound {S : Type 0} (moves : Moves S) (seats : ℕ) (start : S) (node : Node S) : Type 0 where
   pub path : Leads moves seats start node.path.items node.state
+  pub fewest : All (λ path. Leads moves seats start path node.state) node.fewest.items
   pub ended : HasEnded moves seats node.state
 
 -- what a number that each state has adds up to over nodes, each as often as orders lead to it
@@ -25,14 +27,20 @@ abbrev pub HasOrderOf : {S : Type 0} → Moves S → ℕ → S → ℕ → Type 
 HasOrderOf {S} moves seats start steps =
     (path : List ℕ) × (last : S) × Leads moves seats start path last × (length path ≡ steps)
 
--- a node's path leads to its state, and its mark is the state's. In a layer each path has the same number of steps;
+-- a node's orders lead to its state, and its mark is the state's. In a layer each path has the same number of steps;
 -- where no number is given, the state has ended
 pub record IsReached {S : Type 0} (moves : Moves S) (seats : ℕ) (mark : S → ℕ) (start : S) (steps : Option ℕ)
     (node : Node S) : Type 0 where
   pub path : Leads moves seats start node.path.items node.state
+  pub fewest : All (λ path. Leads moves seats start path node.state) node.fewest.items
   pub long : IfSome steps (λ steps. length node.path.items ≡ steps)
   pub ended : IfNone steps (HasEnded moves seats node.state)
   pub marked : node.mark ≡ mark node.state
+
+-- a node of the state keeps an order that is as good as this one
+abbrev pub IsMatched : {S : Type 0} → List (Node S) → S → List ℕ → Type 0
+IsMatched {S} nodes state path =
+    (node : Node S) × Contains nodes node × (node.state ≡ state) × HasAsGood node.fewest.items path
 
 -- the nodes come in the order of falling marks
 abbrev pub AreFalling : {S : Type 0} → List (Node S) → Type 0
@@ -62,6 +70,13 @@ pub record AddsSuccessors {S : Type 0} (moves : Moves S) (seats : ℕ) (node : N
   pub follow : AreSuccessors moves seats node.state states
   pub listed : states_of new ≡ states_of old ++ states
   pub weight : (number : S → ℕ) → weigh number new ≡ weigh number old + node.orders * sum_by number states
+
+-- an order that leads to a state is matched one step further in the next layer, and is matched where it has ended
+pub record IsMatchedOn {S : Type 0} (moves : Moves S) (seats : ℕ) (found nexts : List (Node S)) (state : S)
+    (path : List ℕ) : Type 0 where
+  pub follow :
+      (seat : ℕ) (after : S) → seat < seats → moves state seat (Some after) → IsMatched nexts after (path ++ seat ∷ [])
+  pub ended : HasEnded moves seats state → IsMatched found state path
 
 -- each successor of a state is in the next layer, and the state is found where it has ended
 pub record IsExpanded {S : Type 0} (moves : Moves S) (seats : ℕ) (found nexts : List (Node S))

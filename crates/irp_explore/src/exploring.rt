@@ -1,15 +1,17 @@
 //! Exploring, layer by layer: a layer has the states that orders of equally many steps lead to.
 
-ghost use Rattle.std.specs.Prelude.{◌≡◌, ℕ, ◌+◌, ◌*◌, ◌<◌, ◌≤◌, ◌++◌, ◌∷◌, [], Option, Some, None, List, All, Contains, length, IfOk, IfErr, OnOk};
+ghost use Rattle.std.specs.Prelude.{◌≡◌, ◌≢◌, ℕ, ◌+◌, ◌*◌, ◌<◌, ◌≤◌, ◌++◌, ◌∷◌, [], Option, Some, None, List, All, Contains, length, IfOk, IfErr, OnOk};
 ghost use Rattle.irp_explore.specs.declared.node.Node.{Node};
 ghost use Rattle.irp_explore.specs.declared.refusal.NotExplored.TheVariants.{States, Steps};
 ghost use Rattle.irp_explore.specs.declared.refusal.LayerRefusal.TheVariants.{States as LayerStates};
 ghost use Rattle.irp_explore.specs.Orders.{Leads, HasEnded, IsSharedOut};
-ghost use Rattle.irp_explore.specs.Nodes.{AreApart, IsAhead, IsExpanded, IsFound, HasMoreStates, HasOrderOf, IsReached, AddsSuccessors, states_of, weigh};
+ghost use Rattle.irp_explore.specs.Paths.{HasAsGood};
+ghost use Rattle.irp_explore.specs.Nodes.{AreApart, IsAhead, IsExpanded, IsFound, IsMatched, IsMatchedOn, HasMoreStates, HasOrderOf, IsReached, AddsSuccessors, states_of, weigh};
 
 use crate::joining::join_equal;
 use crate::machine::Machine;
 use crate::node::Node;
+use crate::path::{Path, longer_paths};
 use crate::refusal::{LayerRefusal, NotExplored};
 use std::alloc::{AllocError, Global};
 
@@ -37,6 +39,12 @@ fn add_successors<M: Machine>(
         (M.mark machine.now) start in
         reached (Some steps) node.now → All (reached (Some (steps + 1))) nodes.old.items
         → All (reached (Some (steps + 1))) nodes.new.items) }
+    ensures kept { OnOk result ((state : M.State) (path : List ℕ)
+        → IsMatched nodes.old.items state path → IsMatched nodes.new.items state path) }
+    ensures matched { OnOk result ((path : List ℕ) (seat : ℕ) (after : M.State)
+        → HasAsGood node.now.fewest.items path → seat < M.seats machine.now
+        → M.moves machine.now node.now.state seat (Some after)
+        → IsMatched nodes.new.items after (path ++ seat ∷ [])) }
 {
     for seat in 0..machine.seats() {
         if let Some(state) = machine.step(alloc, &node.state, seat)? {
@@ -46,6 +54,7 @@ fn add_successors<M: Machine>(
                 mark,
                 orders: node.orders,
                 path: longer(alloc, &node.path, seat)?,
+                fewest: longer_paths(alloc, &node.fewest, seat)?,
             })?;
         }
     }
@@ -82,6 +91,13 @@ fn expand<M: Machine>(
         (M.mark machine.now) start in
         reached (Some steps) node → All (reached None) found.old.items
         → All (reached None) found.new.items) }
+    ensures matched_on { OnOk result ((path : List ℕ) → HasAsGood node.fewest.items path
+        → IsMatchedOn (M.moves machine.now) (M.seats machine.now) found.new.items next.new.items
+        node.state path) }
+    ensures matched_next { OnOk result ((state : M.State) (path : List ℕ)
+        → IsMatched next.old.items state path → IsMatched next.new.items state path) }
+    ensures matched_found { OnOk result ((state : M.State) (path : List ℕ)
+        → IsMatched found.old.items state path → IsMatched found.new.items state path) }
 {
     let before = next.len();
     add_successors(alloc, machine, &node, next)?;
@@ -107,6 +123,8 @@ fn join_where_many<M: Machine>(
         All reached nodes.items → All reached joined.items) }
     ensures kept { IfOk result (λ joined. (state : M.State)
         → Contains (states_of nodes.items) state → Contains (states_of joined.items) state) }
+    ensures matched { IfOk result (λ joined. (state : M.State) (path : List ℕ)
+        → IsMatched nodes.items state path → IsMatched joined.items state path) }
     ensures too_many { IfErr result (λ refusal. refusal ≡ LayerStates
         → (start : M.State) (steps : Option ℕ)
         → let reached = IsReached (M.moves machine.now) (M.seats machine.now)
@@ -151,6 +169,12 @@ fn next_layer<M: Machine>(
         (M.mark machine.now) start in
         All (reached (Some steps)) layer.items → All (reached None) found.old.items
         → All (reached None) found.new.items) }
+    ensures matched_on { IfOk result (λ next. (state : M.State) (path : List ℕ)
+        → IsMatched layer.items state path
+        → IsMatchedOn (M.moves machine.now) (M.seats machine.now) found.new.items next.items
+        state path) }
+    ensures matched { OnOk result ((state : M.State) (path : List ℕ)
+        → IsMatched found.old.items state path → IsMatched found.new.items state path) }
     ensures too_many { IfErr result (λ refusal. refusal ≡ LayerStates
         → (start : M.State) (steps : ℕ)
         → let reached = IsReached (M.moves machine.now) (M.seats machine.now)
@@ -168,8 +192,38 @@ fn next_layer<M: Machine>(
     Ok(joined)
 }
 
+/// The layer of the order that has no step.
+fn first_layer<M: Machine>(
+    alloc: Global,
+    machine: &M,
+    start: M::State,
+) -> Result<Vec<Node<M::State>>, LayerRefusal>
+    ensures weight { IfOk result (λ layer. (number : M.State → ℕ)
+        → weigh number layer.items ≡ number start) }
+    ensures reached { IfOk result (λ layer.
+        All (IsReached (M.moves machine.now) (M.seats machine.now) (M.mark machine.now) start
+        (Some 0)) layer.items) }
+    ensures held { IfOk result (λ layer. Contains (states_of layer.items) start) }
+    ensures matched { IfOk result (λ layer. IsMatched layer.items start []) }
+    ensures refusal { IfErr result (λ refusal. refusal ≢ LayerStates) }
+{
+    let mark = machine.mark(&start);
+    let mut fewest = Vec::new(alloc);
+    fewest.push(Path::new(alloc))?;
+    let mut layer = Vec::new(alloc);
+    layer.push(Node {
+        state: start,
+        mark,
+        orders: 1,
+        path: Vec::new(alloc),
+        fewest,
+    })?;
+    Ok(layer)
+}
+
 /// Explores each order of the steps of a machine's seats, from a state on. Returns each state in which an order ends,
-/// with how many orders end there and one of them, in the order of their marks (this project's own rule).
+/// with how many orders end there, one of them, and some of those that change their seat least often, in the order of
+/// their marks (this project's own rule).
 ///
 /// # Errors
 ///
@@ -193,6 +247,11 @@ pub fn explore<M: Machine>(
         → Leads (M.moves machine.now) (M.seats machine.now) start path last
         → HasEnded (M.moves machine.now) (M.seats machine.now) last
         → Contains (states_of found.items) last) }
+    // Each order that ends is matched by an order that is kept, which ends so and changes its seat no more often.
+    ensures fewest { IfOk result (λ found. (path : List ℕ) (last : M.State)
+        → Leads (M.moves machine.now) (M.seats machine.now) start path last
+        → HasEnded (M.moves machine.now) (M.seats machine.now) last
+        → IsMatched found.items last path) }
     // A number that each state with a step left shares out among its successors adds up to the start's over what was
     // found, each as often as orders lead to it: such as how many orders there are, or how many of them end somewhere.
     ensures orders { IfOk result (λ found. (number : M.State → ℕ)
@@ -211,14 +270,8 @@ pub fn explore<M: Machine>(
         (M.mark machine.now) start most_states) }
 {
     let mut found = Vec::new(alloc);
-    let mut layer = Vec::new(alloc);
-    let mark = machine.mark(&start);
-    layer.push(Node {
-        state: start,
-        mark,
-        orders: 1,
-        path: Vec::new(alloc),
-    })?;
+    let first = first_layer(alloc, machine, start)?;
+    let mut layer = first;
     let mut left = most_steps;
     while left > 0 {
         left -= 1;

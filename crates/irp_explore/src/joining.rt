@@ -1,12 +1,14 @@
 //! Joining nodes of one state.
 
-ghost use Rattle.std.specs.Prelude.{◌≡◌, ℕ, ◌+◌, ◌*◌, ◌<◌, ◌≤◌, Option, All, Contains, length, IfErr, IfOk, IfSome, IfNone, OnOk, ◌≢◌, slice_index_or};
+ghost use Rattle.std.specs.Prelude.{◌≡◌, ℕ, ◌+◌, ◌*◌, ◌<◌, ◌≤◌, List, Option, All, Contains, length, IfErr, IfOk, IfSome, IfNone, OnOk, ◌≢◌, slice_index_or};
 ghost use Rattle.irp_explore.specs.declared.node.Node.{Node};
 ghost use Rattle.irp_explore.specs.declared.refusal.LayerRefusal.TheVariants.{States};
-ghost use Rattle.irp_explore.specs.Nodes.{AreApart, AreFalling, HasMoreStates, IsFloor, IsReached, states_of, weigh};
+ghost use Rattle.irp_explore.specs.Paths.{HasAsGood};
+ghost use Rattle.irp_explore.specs.Nodes.{AreApart, AreFalling, HasMoreStates, IsFloor, IsMatched, IsReached, states_of, weigh};
 
 use crate::machine::Machine;
 use crate::node::Node;
+use crate::path::add_paths;
 use crate::refusal::LayerRefusal;
 use std::alloc::Global;
 
@@ -57,6 +59,10 @@ fn join_one<M: Machine>(
     ensures kept { OnOk result ((state : M.State) → Contains (states_of joined.old.items) state
         → Contains (states_of joined.new.items) state) }
     ensures held { OnOk result (Contains (states_of joined.new.items) node.state) }
+    ensures matched { OnOk result ((path : List ℕ) → HasAsGood node.fewest.items path
+        → IsMatched joined.new.items node.state path) }
+    ensures matched_still { OnOk result ((state : M.State) (path : List ℕ)
+        → IsMatched joined.old.items state path → IsMatched joined.new.items state path) }
     ensures apart { OnOk result ((start : M.State) (steps : Option ℕ)
         → let reached = IsReached (M.moves machine.now) (M.seats machine.now)
         (M.mark machine.now) start steps in
@@ -76,6 +82,7 @@ fn join_one<M: Machine>(
     let Some(orders) = other.orders.checked_add(node.orders) else {
         return Err(LayerRefusal::Orders);
     };
+    add_paths(&mut other.fewest, node.fewest)?;
     other.orders = orders;
     Ok(())
 }
@@ -100,6 +107,8 @@ pub(crate) fn join_equal<M: Machine>(
         All reached nodes.items → All reached joined.items) }
     ensures kept { IfOk result (λ joined. (state : M.State)
         → Contains (states_of nodes.items) state → Contains (states_of joined.items) state) }
+    ensures matched { IfOk result (λ joined. (state : M.State) (path : List ℕ)
+        → IsMatched nodes.items state path → IsMatched joined.items state path) }
     ensures apart { IfOk result (λ joined. (start : M.State) (steps : Option ℕ)
         → let reached = IsReached (M.moves machine.now) (M.seats machine.now)
         (M.mark machine.now) start steps in

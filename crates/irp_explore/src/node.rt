@@ -1,5 +1,7 @@
 //! A state that orders lead to.
 
+use crate::path::Path;
+
 /// A state, how many orders lead to it, and one of them (this project's own rule).
 #[derive(Drop)]
 pub struct Node<S> {
@@ -10,4 +12,6 @@ pub struct Node<S> {
     pub orders: u128,
     /// One of these orders: the seats of its steps, one after another.
     pub path: Vec<u32>,
+    /// Some of these orders. Of any order that leads to the state, one of them changes its seat no more often.
+    pub fewest: Vec<Path>,
 }

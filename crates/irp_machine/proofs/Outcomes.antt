@@ -1,12 +1,16 @@
 -- The states that were found, told as outcomes.
-use Rattle.std.proofs.Common.{◌≡◌, ℕ, ◌+◌, ◌*◌, ◌<◌, zero, suc, Bool, true, false, List, [], ◌∷◌, ◌++◌, Option, Some, None, length, get_or, Contains, nat_lt, refl, ap, sym, subst, ◌∙◌, arith}
+use Rattle.std.proofs.Common.{◌≡◌, ℕ, ◌+◌, ◌*◌, ◌<◌, ◌≤◌, ◌==◌, All, inl, inr, zero, suc, Bool, true, false, List, [], ◌∷◌, ◌++◌, Option, Some, None, length, get_or, Contains, nat_lt, refl, ap, sym, subst, ◌∙◌, arith}
 use Rattle.std.specs.Option.{option_map, option_and_then}
 use Rattle.std.specs.Prelude.{slice_get}
 use Rattle.std.proofs.lemmas.List.Sums.{sum_by-cons}
-use Rattle.std.proofs.lemmas.Bool.{lt-ltb, le-ltb}
+use Rattle.std.proofs.lemmas.Bool.{cases_eq, cases_lt, eqb-true, lt-ltb, le-ltb, ltb-false}
+use Rattle.std.proofs.lemmas.List.{append-nil, get_or_default}
+use Rattle.std.proofs.lemmas.List.Elements.{All-contains}
 use Rattle.std.proofs.lemmas.Option.{slice_get_within, same_Some, none-some}
 use Rattle.irp_explore.specs.Orders.{Leads, HasEnded}
-use Rattle.irp_explore.specs.Nodes.{states_of, weigh}
+use Rattle.irp_explore.specs.Nodes.{AreApart, IsMatched, states_of, weigh}
+use Rattle.irp_explore.specs.Paths.{changes_of, seam, HasAsGood}
+use Rattle.irp_explore.proofs.Changing.{changes_append, last_in, seam_once}
 use Rattle.irp_explore.specs.declared.node.Node.{Node}
 use Rattle.irp_machine.specs.declared.outcome.End.{End}
 use Rattle.irp_machine.specs.declared.outcome.Outcome.{Outcome}
@@ -140,6 +144,64 @@ leads_by rules start [] last end makes closes =
 leads_by rules start (seat ∷ path) last end makes closes =
     (Running makes.0, (let below = step_within rules start makes.0 seat makes.1 in omega (arith, below)), steps_at rules start seat makes.0 makes.1, leads_by rules makes.0 path last end makes.2 closes)
 
+-- ---- changes of seat
+
+-- the last step is no seat's
+closing_past_by : (rules : RulesValue) (start : StandingValue) (closing : ℕ) (end : End) (middle : Place) (below : Bool) → nat_lt closing (length rules.acts) ≡ below
+    → RunningSteps rules start closing below (Some middle) → middle ≡ Over end → length rules.acts ≤ closing
+closing_past_by rules start closing end middle true at steps is =
+    let next = seat_step rules start closing middle steps.0 steps.1 steps.2 in
+    absurd (never_over next.0 end (sym next.1 ∙ is))
+closing_past_by rules start closing end middle false at steps is = ltb-false closing (length rules.acts) at
+
+apart_seam : (last closing : ℕ) (same : Bool) → (last == closing) ≡ same → last < closing → seam (Some last) (closing ∷ []) ≡ 1
+apart_seam last closing true is below = let no = eqb-true last closing is in absurd (omega (arith, below, no))
+apart_seam last closing false is below = rw is refl
+
+-- so the seat changes before it
+closing_turn : (rules : RulesValue) (start : StandingValue) (first : ℕ) (path : List ℕ) (closing : ℕ) (end : End) → first < length rules.acts
+    → Leads (PlaceSteps rules) (length rules.acts + 1) (Running start) (path ++ closing ∷ []) (Over end)
+    → seam (last_in (first ∷ path)) (closing ∷ []) ≡ 1
+closing_turn rules start first [] closing end within leads =
+    let past = closing_past_by rules start closing end leads.0 (nat_lt closing (length rules.acts)) refl leads.2 leads.3 in
+    apart_seam first closing (first == closing) refl (omega (arith, within, past))
+closing_turn rules start first (seat ∷ path) closing end within leads =
+    let next = next_step rules start seat path closing end leads.0 (nat_lt seat (length rules.acts)) leads.2 leads.3 in
+    closing_turn rules next.0 seat path closing end (step_within rules start next.0 seat next.1) next.2
+
+-- an order without its last step has one change less, where it has a step left
+opened_changes : (rules : RulesValue) (start : StandingValue) (path : List ℕ) (closing : ℕ) (end : End) (most : ℕ)
+    → Leads (PlaceSteps rules) (length rules.acts + 1) (Running start) (path ++ closing ∷ []) (Over end)
+    → changes_of (path ++ closing ∷ []) ≤ most + 1 → changes_of path ≤ most
+opened_changes rules start [] closing end most leads few = omega arith
+opened_changes rules start (seat ∷ path) closing end most leads few =
+    let next = next_step rules start seat path closing end leads.0 (nat_lt seat (length rules.acts)) leads.2 leads.3 in
+    let turn = closing_turn rules next.0 seat path closing end (step_within rules start next.0 seat next.1) next.2 in
+    let whole = changes_append (seat ∷ path) (closing ∷ []) in
+    omega (arith, few, turn, whole)
+
+-- and one more at most
+closed_changes : (path : List ℕ) (closing : ℕ) → changes_of (path ++ closing ∷ []) ≤ changes_of path + 1
+closed_changes path closing =
+    let whole = changes_append path (closing ∷ []) in
+    let once = seam_once (last_in path) (closing ∷ []) in
+    omega (arith, whole, once)
+
+-- one state is one node's
+same_node : (found : List (Node Place)) (k : ℕ) (node d : Node Place) → AreApart found → k < length found → Contains found node
+    → node.state ≡ (get_or found k d).state → node ≡ get_or found k d
+same_node found k node d apart below (i, within, is) same =
+    elim (cases_eq i k) as (λ _. node ≡ get_or found k d) [
+      | inl here ↦
+          sym is ∙ ap (λ (i : ℕ). get_or found i node) here ∙ get_or_default found k node d below
+      | inr elsewhere ↦ absurd (elim (cases_lt i k) as (λ _. ⊥) [
+        | inl before ↦ apart i k node before below (ap (λ (node : Node Place). node.state) is ∙ same ∙ ap (λ (node : Node Place). node.state) (get_or_default found k d node below))
+        | inr after ↦
+            apart k i node (omega (arith, after, elsewhere)) within
+            (ap (λ (node : Node Place). node.state) (get_or_default found k node d below) ∙ sym same ∙ sym (ap (λ (node : Node Place). node.state) is))
+      ])
+    ]
+
 -- ---- outcomes
 
 over_ended : (rules : RulesValue) (end : End) → HasEnded (PlaceSteps rules) (length rules.acts + 1) (Over end)
@@ -189,6 +251,26 @@ weighed number (node ∷ found) (outcome ∷ outcomes) tell =
     let rest = weighed number found outcomes tell.1 in
     omega (arith, first, second, one, rest)
 
+-- what an outcome tells is an order that was found
+told_leads : (rules : RulesValue) (start : StandingValue) (node : Node Place) (outcome : Outcome) → (told : Tells node outcome)
+    → All (λ path. Leads (PlaceSteps rules) (length rules.acts + 1) (Running start) path node.state) node.fewest.items
+    → Leads (PlaceSteps rules) (length rules.acts + 1) (Running start) (outcome.path.items ++ told.path.closing ∷ []) (Over outcome.end)
+told_leads rules start node outcome told all =
+    let path = outcome.path.items ++ told.path.closing ∷ [] in
+    subst (λ (place : Place). Leads (PlaceSteps rules) (length rules.acts + 1) (Running start) path place) told.state
+    (All-contains (λ (path : List ℕ). Leads (PlaceSteps rules) (length rules.acts + 1) (Running start) path node.state) node.fewest.items path all told.path.held)
+
+-- an order with the fewest changes of those that are kept has no more than any
+fewest_of : (orders : List (List ℕ)) (opened path : List ℕ) (closing : ℕ) → All (λ other. changes_of opened ≤ changes_of other) orders
+    → HasAsGood orders (path ++ closing ∷ []) → changes_of opened ≤ changes_of path + 1
+fewest_of orders opened path closing fewest good =
+    let least = All-contains (λ (other : List ℕ). changes_of opened ≤ changes_of other) orders good.0 fewest good.1 in
+    let better = good.2 [] in
+    let one = ap changes_of (append-nil good.0) in
+    let other = ap changes_of (append-nil (path ++ closing ∷ [])) in
+    let more = closed_changes path closing in
+    omega (arith, least, better, one, other, more)
+
 -- what is found is told by the outcomes
 pub outcomes_hold : (rules : RulesValue) (start : StandingValue) (found : List (Node Place)) (outcomes : List Outcome)
     → AreOrders (PlaceSteps rules) (length rules.acts + 1) (Running start) found → AllTell found outcomes → AreOutcomes rules start outcomes
@@ -197,11 +279,24 @@ outcomes_hold rules start found outcomes orders tell = record {
       let some = some_node found outcomes k tell below in
       let told = tell_at found outcomes k some outcome tell below in
       let long = tell_long found outcomes tell in
-      let is = (orders.sound k some (omega (arith, below, long))).path in
-      let outcome = get_or outcomes k outcome in
-      let leads = subst (λ (path : List ℕ). Leads (PlaceSteps rules) (length rules.acts + 1) (Running start) path (get_or found k some).state) told.path is in
-      order_of rules start outcome.path.items told.closing outcome.end
-      (subst (λ (place : Place). Leads (PlaceSteps rules) (length rules.acts + 1) (Running start) (outcome.path.items ++ told.closing ∷ []) place) told.state leads);
+      let all = (orders.sound k some (omega (arith, below, long))).fewest in
+      order_of rules start (get_or outcomes k outcome).path.items told.path.closing (get_or outcomes k outcome).end
+      (told_leads rules start (get_or found k some) (get_or outcomes k outcome) told all);
+  fewest = λ k outcome below path order.
+      let some = some_node found outcomes k tell below in
+      let told = tell_at found outcomes k some outcome tell below in
+      let long = tell_long found outcomes tell in
+      let within : k < length found = omega (arith, below, long) in
+      let all = (orders.sound k some within).fewest in
+      let one = get_or outcomes k outcome in
+      let matched =
+      orders.fewest (path ++ length rules.acts ∷ []) (Over one.end) (leads_by rules start path order.0 one.end order.1 order.2)
+      (over_ended rules one.end) in
+      let same = same_node found k matched.0 some orders.once within matched.1 (matched.2 ∙ sym told.state) in
+      let good = subst (λ (node : Node Place). HasAsGood node.fewest.items (path ++ length rules.acts ∷ [])) same matched.3 in
+      opened_changes rules start one.path.items told.path.closing one.end (changes_of path)
+      (told_leads rules start (get_or found k some) one told all)
+      (fewest_of (get_or found k some).fewest.items (one.path.items ++ told.path.closing ∷ []) path (length rules.acts) told.path.fewest good);
   complete = λ path end order.
       contained found outcomes end tell
       (orders.complete (path ++ length rules.acts ∷ []) (Over end) (leads_by rules start path order.0 end order.1 order.2) (over_ended rules end));

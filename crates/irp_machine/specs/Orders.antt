@@ -1,9 +1,10 @@
 -- What is found of the orders of a script's atomic steps.
-use Rattle.std.specs.Prelude.{ℕ, ◌≡◌, ◌≢◌, ◌+◌, ◌*◌, Bool, List, ◌∷◌, [], ◌++◌, length, map, sum_by, All, AllPairs, Contains, Some}
+use Rattle.std.specs.Prelude.{ℕ, ◌≡◌, ◌≢◌, ◌+◌, ◌*◌, ◌≤◌, Bool, List, ◌∷◌, [], ◌++◌, length, map, sum_by, All, AllPairs, Contains, Some}
 use Rattle.irp_transcript.specs.Headers.{IsHeader}
 use Rattle.irp_transcript.specs.declared.header.Header.{Header}
 use Rattle.irp_explore.specs.Orders.{Moves, Leads, HasEnded, IsSharedOut}
-use Rattle.irp_explore.specs.Nodes.{IsFound, AreApart, states_of, weigh}
+use Rattle.irp_explore.specs.Nodes.{IsFound, IsMatched, AreApart, states_of, weigh}
+use Rattle.irp_explore.specs.Paths.{changes_of}
 use Rattle.irp_explore.specs.declared.node.Node.{Node}
 use Rattle.irp_script_reader.specs.declared.script.ScriptParts.{ScriptParts}
 use Rattle.irp_machine.specs.declared.outcome.End.{End}
@@ -15,14 +16,18 @@ use Rattle.irp_machine.specs.Machine.{RulesValue, PlaceSteps, ClosesTo}
 use Rattle.irp_machine.specs.Openings.{MakesAll, Opens, rules_of}
 use Rattle.irp_machine.specs.Standings.{StandingValue}
 
--- each that is found is the end of an order; each order that ends, ends in one that is found; none is found twice; and
--- a number that each state shares out among those that follow, such as how many orders end somewhere, adds up
+-- each that is found is the end of an order; each order that ends, ends in one that is found, which keeps an order that
+-- is as good; none is found twice; and a number that each state shares out among those that follow, such as how many
+-- orders end somewhere, adds up
 pub record AreOrders {S : Type 0} (moves : Moves S) (seats : ℕ) (start : S) (found : List (Node S)) : Type 0 where
   pub sound : All (IsFound moves seats start) found
   pub once : AreApart found
   pub complete :
       (path : List ℕ) (last : S) → Leads moves seats start path last → HasEnded moves seats last
       → Contains (states_of found) last
+  pub fewest :
+      (path : List ℕ) (last : S) → Leads moves seats start path last → HasEnded moves seats last
+      → IsMatched found last path
   pub orders : (number : S → ℕ) → IsSharedOut moves seats number → weigh number found ≡ number start
 
 -- an order of the seats' atomic steps from a start, after which no seat has an act left, and what is told of its end
@@ -38,10 +43,14 @@ ends_of outcomes = map (λ (outcome : Outcome). outcome.end) outcomes
 abbrev pub weigh_outcomes : (Place → ℕ) → List Outcome → ℕ
 weigh_outcomes number outcomes = sum_by (λ (outcome : Outcome). outcome.orders * number (Over outcome.end)) outcomes
 
--- each outcome's path is an order that ends so; each order ends in an outcome; no two outcomes end alike; and a number
--- that each place shares out among those that follow, such as how many orders there are, adds up to the start's
+-- each outcome's path is an order that ends so, and no order that ends so changes its seat less often; each order ends in
+-- an outcome; no two outcomes end alike; and a number that each place shares out among those that follow, such as how
+-- many orders there are, adds up to the start's
 pub record AreOutcomes (rules : RulesValue) (start : StandingValue) (outcomes : List Outcome) : Type 0 where
   pub sound : All (λ outcome. IsOrder rules start outcome.path.items outcome.end) outcomes
+  pub fewest :
+      All (λ outcome. (path : List ℕ) → IsOrder rules start path outcome.end
+      → changes_of outcome.path.items ≤ changes_of path) outcomes
   pub complete : (path : List ℕ) (end : End) → IsOrder rules start path end → Contains (ends_of outcomes) end
   pub once : AllPairs (λ one other. one.end ≢ other.end) outcomes
   pub orders :
@@ -57,13 +66,18 @@ pub record AreOutcomesOf (script : ScriptParts) (tells : Bool) (outcomes : List 
   pub opens : Opens header script start
   pub whole : AreOutcomes (rules_of header script script.steps script.steps tells) start outcomes
 
--- an outcome tells a state that was found: its end, how many orders lead there, and one of them without the last step,
--- which closes it
-pub record Tells (node : Node Place) (outcome : Outcome) : Type 0 where
+-- one of these orders, without its last step, which closes it; none of them changes its seat less often
+pub record IsOpened (orders : List (List ℕ)) (path : List ℕ) : Type 0 where
   pub closing : ℕ
+  pub held : Contains orders (path ++ closing ∷ [])
+  pub fewest : All (λ other. changes_of (path ++ closing ∷ []) ≤ changes_of other) orders
+
+-- an outcome tells a state that was found: its end, how many orders lead there, and one with the fewest changes of seat,
+-- without the last step, which closes it
+pub record Tells (node : Node Place) (outcome : Outcome) : Type 0 where
   pub state : node.state ≡ Over outcome.end
   pub orders : node.orders ≡ outcome.orders
-  pub path : node.path.items ≡ outcome.path.items ++ closing ∷ []
+  pub path : IsOpened node.fewest.items outcome.path.items
 
 -- each outcome tells the state at its place
 abbrev pub AllTell : List (Node Place) → List Outcome → Type 0

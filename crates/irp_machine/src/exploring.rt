@@ -1,11 +1,11 @@
 //! Every order of a script.
 
-ghost use Rattle.std.specs.Prelude.{◌≡◌, ◌≤◌, ◌+◌, ◌==◌, IfOk, length, vec_len};
+ghost use Rattle.std.specs.Prelude.{◌≡◌, ◌≤◌, ◌+◌, ◌==◌, IfOk, IfSome, length, vec_len};
 ghost use Rattle.irp_transcript.specs.Headers.{fixed_of};
 ghost use Rattle.irp_machine.specs.Machine.{PlaceSteps, place_mark};
 ghost use Rattle.irp_machine.specs.declared.place.Place.TheVariants.{Running};
 ghost use Rattle.irp_machine.specs.Limits.{tells_replies};
-ghost use Rattle.irp_machine.specs.Orders.{AllTell, AreOrders, AreOutcomesOf, Tells};
+ghost use Rattle.irp_machine.specs.Orders.{AllTell, AreOrders, AreOutcomesOf, IsOpened, Tells};
 
 use crate::header::header_of;
 use crate::limits::{Compared, Limits, NotFound};
@@ -14,16 +14,26 @@ use crate::opening::{machine_of, opening};
 use crate::outcome::Outcome;
 use crate::place::Place;
 use crate::standing::Standing;
-use irp_explore::{Node, explore};
+use irp_explore::{Node, Path, explore, fewest_changes};
 use irp_script_reader::Script;
 use std::alloc::Global;
+
+/// Of these orders the one that changes its seat least often, without its last step, which closes it; none where there
+/// are no orders, or that one has no step.
+fn opened_path(fewest: Vec<Path>) -> Option<Vec<u32>>
+    ensures { IfSome result (λ path. IsOpened fewest.items path.items) }
+{
+    let mut path = fewest_changes(fewest)?.into_vec();
+    path.pop()?;
+    Some(path)
+}
 
 /// What a state tells in which an order has ended.
 fn outcome_of(node: Node<Place>) -> Result<Outcome, NotFound>
     ensures { IfOk result (Tells node) }
 {
-    let (state, orders, mut path) = (node.state, node.orders, node.path);
-    let (Place::Over(end), Some(_closing)) = (state, path.pop()) else {
+    let (state, orders, fewest) = (node.state, node.orders, node.fewest);
+    let (Place::Over(end), Some(path)) = (state, opened_path(fewest)) else {
         return Err(NotFound::Script);
     };
     Ok(Outcome { orders, path, end })

@@ -49,11 +49,11 @@ pub struct End {
     pub slots: Row<SlotEnd>,
 }
 
-/// One way in which orders end, how many do, and one of them.
+/// One way in which orders end, how many do, and one of them that changes its seat least often.
 #[derive(Drop)]
 pub struct Outcome {
     pub orders: u128,
-    /// The seats of the atomic steps of one order, one after another.
+    /// The seats of the atomic steps of one order, one after another. None that ends so changes its seat less often.
     pub path: Vec<u32>,
     pub end: End,
 }

@@ -5,6 +5,7 @@ use Rattle.irp_explore.specs.Nodes.{states_of, IsReached}
 use Rattle.irp_explore.proofs.Weighing.{pushed_states, expand_weight_done, expand_weight_on}
 use Rattle.irp_explore.proofs.Reaching.{reached_done, ended_from_none, never_both}
 use Rattle.irp_explore.proofs.Ahead.{added_count, expanded_by}
+use Rattle.irp_explore.proofs.Matching.{push_matched, push_still}
 use Rattle.irp_explore.proofs.exploring.expand.Goals as goal
 
 pub returns-then-len-before-clause-weight : goal.returns-then-len-before-clause-weight
@@ -71,3 +72,25 @@ returns-clause-found g c = λ start steps reached all.
     let ended : HasEnded moves seats c.args.node.state = ended_from_none moves seats c.args.node.state added.states added.follow none in
     All-same (IsReached moves seats mark start None) c.push.new.self.items (c.args.found.now.items ++ c.args.node ∷ []) c.in_ok-push.ensures.items
     (All-push (IsReached moves seats mark start None) c.args.found.now.items c.args.node all (reached_done moves seats mark start steps c.args.node ended reached))
+
+pub returns-clause-matched_on : goal.returns-clause-matched_on
+returns-clause-matched_on g c = λ path good. record {
+  follow = λ seat after below moved. c.in_ok-add_successors.ensures.matched path seat after good below moved;
+  ended = λ ended. push_matched c.args.found.now.items c.push.new.self.items c.args.node path c.in_ok-push.ensures.items good;
+}
+
+pub returns-clause-matched_found : goal.returns-clause-matched_found
+returns-clause-matched_found g c = λ state path held.
+    push_still c.args.found.now.items c.push.new.self.items c.args.node state path c.in_ok-push.ensures.items held
+
+pub returns-then-len-before-clause-matched_on : goal.returns-then-len-before-clause-matched_on
+returns-then-len-before-clause-matched_on g c = λ path good.
+    let moves = g.M.Machine.moves c.args.machine.now in
+    let seats = g.M.Machine.seats c.args.machine.now in
+    let settled = g.met.M.Machine.settled c.args.machine.now in
+    let added = c.in_ok-add_successors.ensures.successors in
+    let some : 0 < length added.states = omega (arith, added_count moves seats c.args.node c.args.next.now.items c.add_successors.new.nodes.items added, c.if-len-before.true, c.len.ensures, c.len-before.ensures) in
+    record {
+      follow = λ seat after below moved. c.in_ok-add_successors.ensures.matched path seat after good below moved;
+      ended = λ ended. absurd (never_both moves settled seats c.args.node.state added.states added.follow ended some);
+    }

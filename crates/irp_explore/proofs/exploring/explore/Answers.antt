@@ -1,10 +1,60 @@
-use Rattle.std.proofs.Common.{arith, ◌≡◌, ◌+◌, ◌-◌, ◌<◌, vec_len, Some, All, subst}
+use Rattle.std.proofs.Common.{arith, ◌≡◌, ◌+◌, ◌-◌, ◌<◌, vec_len, inl, inr, [], length, Some, None, All, Contains, ap, subst}
+use Rattle.std.proofs.lemmas.List.{nil_from_length}
+use Rattle.std.proofs.lemmas.List.Elements.{All-nil, All-same}
 use Rattle.std.proofs.lemmas.Bool.Decides.{nat_tests}
 use Rattle.std.proofs.lemmas.Result.{err_from_is_err_and}
-use Rattle.irp_explore.specs.Nodes.{IsReached}
+use Rattle.irp_explore.specs.Nodes.{IsMatched, IsReached, states_of, weigh}
 use Rattle.irp_explore.proofs.Reaching.{found_from_reached, order_from_layer}
-use Rattle.irp_explore.proofs.Ahead.{reach_step}
+use Rattle.irp_explore.proofs.Ahead.{nothing_contained, reach_step}
+use Rattle.irp_explore.proofs.Matching.{match_first, match_layer, match_found}
 use Rattle.irp_explore.proofs.exploring.explore.Goals as goal
+
+pub loop-left-init : goal.loop-left-init
+loop-left-init g c =
+    let moves = g.M.Machine.moves c.args.machine.now in
+    let seats = g.M.Machine.seats c.args.machine.now in
+    let mark = g.M.Machine.mark c.args.machine.now in
+    let start = c.args.start in
+    let most = c.args.most_steps in
+    let none : 0 ≡ most - most = omega arith in
+    record {
+      within = omega arith;
+      orders = λ number shared.
+          let empty = ap (λ nodes. weigh number nodes) c.new-found.ensures.items in
+          omega (arith, empty, c.in_ok-first.ensures.weight number);
+      layer = subst (λ steps. All (IsReached moves seats mark start (Some steps)) c.in_ok-first.first.items) none c.in_ok-first.ensures.reached;
+      found = All-same (IsReached moves seats mark start None) c.new-found.result.items [] c.new-found.ensures.items (All-nil (IsReached moves seats mark start None));
+      reach = λ path last leads. inr (start, path, c.in_ok-first.ensures.held, leads, omega arith);
+      matched = λ path last leads long. match_first moves seats start c.in_ok-first.first.items c.in_ok-first.ensures.matched path last leads (omega (arith, long));
+      ended = λ path last leads short ended. absurd (omega (arith, short));
+    }
+
+pub returns-clause-orders : goal.returns-clause-orders
+returns-clause-orders g c = λ number shared.
+    let none : vec_len c.loop-left.layer ≡ 0 = grind (arith, nat_tests, c.is_empty.ensures, c.if-not-is_empty.false) in
+    let empty = ap (λ nodes. weigh number nodes) (nil_from_length c.loop-left.layer.items (omega (arith, none))) in
+    omega (arith, c.in_ok-joined.ensures.weight number, c.loop-left.invariant.orders number shared, empty)
+
+pub returns-clause-steps : goal.returns-clause-steps
+returns-clause-steps g c = λ path last leads.
+    elim (c.loop-left.invariant.reach path last leads) as (λ _. length path < c.args.most_steps) [
+      | inl was ↦ omega (arith, was.0)
+      | inr ahead ↦ absurd (nothing_contained c.loop-left.layer.items ahead.0 (grind (arith, nat_tests, c.is_empty.ensures, c.if-not-is_empty.false)) ahead.2)
+    ]
+
+pub returns-clause-complete : goal.returns-clause-complete
+returns-clause-complete g c = λ path last leads ended.
+    elim (c.loop-left.invariant.reach path last leads) as (λ _. Contains (states_of c.in_ok-joined.joined.items) last) [
+      | inl was ↦ c.in_ok-joined.ensures.kept last (was.1 ended)
+      | inr ahead ↦ absurd (nothing_contained c.loop-left.layer.items ahead.0 (grind (arith, nat_tests, c.is_empty.ensures, c.if-not-is_empty.false)) ahead.2)
+    ]
+
+pub returns-clause-fewest : goal.returns-clause-fewest
+returns-clause-fewest g c = λ path last leads ended.
+    elim (c.loop-left.invariant.reach path last leads) as (λ _. IsMatched c.in_ok-joined.joined.items last path) [
+      | inl was ↦ c.in_ok-joined.ensures.matched last path (c.loop-left.invariant.ended path last leads was.0 ended)
+      | inr ahead ↦ absurd (nothing_contained c.loop-left.layer.items ahead.0 (grind (arith, nat_tests, c.is_empty.ensures, c.if-not-is_empty.false)) ahead.2)
+    ]
 
 pub loop-left-preserved : goal.loop-left-preserved
 loop-left-preserved g c =
@@ -29,6 +79,14 @@ loop-left-preserved g c =
           (λ state held ended. c.in_ok-found.ensures.kept state (c.in_ok-layer.ensures.ended state held ended))
           (λ state held. c.in_ok-found.ensures.kept state (c.in_ok-layer.ensures.kept state held))
           (λ state held. held) (c.loop-left.invariant.reach path last leads);
+      matched = λ path last leads long.
+          match_layer moves seats start c.loop-left.layer.items c.in_ok-layer.layer.items c.next_layer.new.found.items (most - left)
+          c.loop-left.invariant.matched c.in_ok-layer.ensures.matched_on path last leads (omega (arith, long, one_more));
+      ended = λ path last leads short ended.
+          c.in_ok-found.ensures.matched last path
+          (match_found moves seats start c.loop-left.layer.items c.in_ok-layer.layer.items c.loop-left.found.items c.next_layer.new.found.items (most - left)
+          c.loop-left.invariant.matched c.in_ok-layer.ensures.matched_on c.loop-left.invariant.ended c.in_ok-layer.ensures.matched path last leads
+          (omega (arith, short, one_more)) ended);
     }
 
 pub returns-clause-sound : goal.returns-clause-sound

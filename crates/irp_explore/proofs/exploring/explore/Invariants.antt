@@ -1,6 +1,6 @@
 use Rattle.std.proofs.Common.{◌≡◌, ℕ, ◌+◌, ◌-◌, ◌<◌, ◌≤◌, ◌⊎◌, Some, None, List, All, Contains, length}
 use Rattle.irp_explore.specs.Orders.{IsSharedOut, Leads, HasEnded}
-use Rattle.irp_explore.specs.Nodes.{weigh, states_of, IsReached, IsAhead}
+use Rattle.irp_explore.specs.Nodes.{weigh, states_of, IsMatched, IsReached, IsAhead}
 use Rattle.irp_explore.proofs.exploring.explore.Given as goal
 
 abbrev pub invariant-loop-left : goal.invariant-loop-left
@@ -17,6 +17,10 @@ invariant-loop-left g l =
       reach : (path : List ℕ) (last : g.row.M-State.Denot) → Leads moves seats l.fn.start path last
           → ((length path < l.most_steps - l.left) × (HasEnded moves seats last → Contains (states_of l.found.items) last))
           ⊎ IsAhead moves seats l.layer.items (length path - (l.most_steps - l.left)) last;
+      matched : (path : List ℕ) (last : g.row.M-State.Denot) → Leads moves seats l.fn.start path last
+          → length path ≡ l.most_steps - l.left → IsMatched l.layer.items last path;
+      ended : (path : List ℕ) (last : g.row.M-State.Denot) → Leads moves seats l.fn.start path last
+          → length path < l.most_steps - l.left → HasEnded moves seats last → IsMatched l.found.items last path;
     }
 
 abbrev pub decreases-loop-left : goal.decreases-loop-left

@@ -1,9 +1,10 @@
 use Rattle.std.proofs.Common.{arith, sym, ◌∙◌, ◌+◌, inl, inr, Some, Contains}
 use Rattle.std.proofs.lemmas.List.Elements.{All-pop}
 use Rattle.std.proofs.lemmas.Result.{err_from_is_err_and}
-use Rattle.irp_explore.specs.Nodes.{states_of, IsReached, IsExpanded}
+use Rattle.irp_explore.specs.Nodes.{states_of, IsMatchedOn, IsReached, IsExpanded}
 use Rattle.irp_explore.proofs.Weighing.{weigh_push}
 use Rattle.irp_explore.proofs.Ahead.{ahead_step, done_more, layer_expanded, nothing_contained}
+use Rattle.irp_explore.proofs.Matching.{layer_matched, matched_on_more, none_matched}
 use Rattle.irp_explore.proofs.exploring.next_layer.Goals as goal
 
 pub loop-node-preserved : goal.loop-node-preserved
@@ -29,6 +30,14 @@ loop-node-preserved g c =
           c.in_ok-expand.ensures.kept_found (λ state held. c.in_ok-next.ensures.kept state (c.in_ok-expand.ensures.kept_next state held)) expanded
           (c.loop-node.invariant.done state first);
       kept = λ state there. c.in_ok-expand.ensures.kept_found state (c.loop-node.invariant.kept state there);
+      matched_on = λ state path held.
+          layer_matched moves seats c.loop-node.found.items c.expand.new.found.items c.loop-node.next.items c.in_ok-next.next.items c.loop-node.layer.items c.pop.new.self.items node state path c.in-Some.ensures.items
+          c.in_ok-expand.ensures.matched_found (λ state path held. c.in_ok-next.ensures.matched state path (c.in_ok-expand.ensures.matched_next state path held))
+          (λ path good.
+          matched_on_more moves seats c.expand.new.found.items c.expand.new.found.items c.expand.new.next.items c.in_ok-next.next.items node.state path
+          (λ state path held. held) c.in_ok-next.ensures.matched (c.in_ok-expand.ensures.matched_on path good))
+          (c.loop-node.invariant.matched_on state path held);
+      matched = λ state path held. c.in_ok-expand.ensures.matched_found state path (c.loop-node.invariant.matched state path held);
     }
 
 pub returns-clause-ahead : goal.returns-clause-ahead
@@ -48,6 +57,17 @@ returns-clause-ended g c = λ state held ended.
     elim (c.loop-node.invariant.done state held) as (λ _. Contains (states_of c.loop-node.found.items) state) [
       | inl left ↦ absurd (nothing_contained c.loop-node.layer.items state (omega (arith, c.in_default.ensures.cases.0)) left)
       | inr done ↦ done.ended ended
+    ]
+
+pub returns-clause-matched_on : goal.returns-clause-matched_on
+returns-clause-matched_on g c = λ state path held.
+    let moves = g.M.Machine.moves c.args.machine.now in
+    let seats = g.M.Machine.seats c.args.machine.now in
+    elim (c.loop-node.invariant.matched_on state path held) as (λ _. IsMatchedOn moves seats c.loop-node.found.items c.in_ok-joined.joined.items state path) [
+      | inl left ↦ absurd (none_matched c.loop-node.layer.items state path (omega (arith, c.in_default.ensures.cases.0)) left)
+      | inr done ↦
+          matched_on_more moves seats c.loop-node.found.items c.loop-node.found.items c.loop-node.next.items c.in_ok-joined.joined.items state path
+          (λ state path held. held) c.in_ok-joined.ensures.matched done
     ]
 
 pub returns-clause-reached : goal.returns-clause-reached

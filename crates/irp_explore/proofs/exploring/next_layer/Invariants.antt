@@ -1,6 +1,6 @@
-use Rattle.std.proofs.Common.{◌≡◌, ℕ, ◌+◌, ◌⊎◌, Some, None, All, Contains, vec_len}
+use Rattle.std.proofs.Common.{◌≡◌, ℕ, ◌+◌, ◌⊎◌, Some, None, List, All, Contains, vec_len}
 use Rattle.irp_explore.specs.Orders.{IsSharedOut}
-use Rattle.irp_explore.specs.Nodes.{weigh, states_of, IsReached, IsExpanded}
+use Rattle.irp_explore.specs.Nodes.{weigh, states_of, IsMatched, IsMatchedOn, IsReached, IsExpanded}
 use Rattle.irp_explore.proofs.exploring.next_layer.Given as goal
 
 abbrev pub invariant-loop-node : goal.invariant-loop-node
@@ -23,6 +23,9 @@ invariant-loop-node g l =
           → Contains (states_of l.layer.items) state ⊎ IsExpanded moves seats l.found.items l.next.items state;
       kept : (state : g.row.M-State.Denot) → Contains (states_of l.fn.found.items) state
           → Contains (states_of l.found.items) state;
+      matched_on : (state : g.row.M-State.Denot) (path : List ℕ) → IsMatched l.fn.layer.items state path
+          → IsMatched l.layer.items state path ⊎ IsMatchedOn moves seats l.found.items l.next.items state path;
+      matched : (state : g.row.M-State.Denot) (path : List ℕ) → IsMatched l.fn.found.items state path → IsMatched l.found.items state path;
     }
 
 abbrev pub decreases-loop-node : goal.decreases-loop-node

@@ -3,10 +3,11 @@ use Rattle.std.proofs.lemmas.List.Elements.{All-nil, All-pop, All-same, Contains
 use Rattle.std.proofs.lemmas.List.Sums.{sum_by_push}
 use Rattle.std.proofs.lemmas.List.Sorted.{All-permutation, Contains-permutation, IsPermutation-map, sum_by-IsPermutation, IsNonDecreasingBy-from_sort_by_key}
 use Rattle.irp_explore.specs.declared.node.Node.{Node}
-use Rattle.irp_explore.specs.Nodes.{weigh, states_of, IsReached, IsFloor}
+use Rattle.irp_explore.specs.Nodes.{weigh, states_of, IsReached, IsFloor, IsMatched}
 use Rattle.irp_explore.proofs.Weighing.{pushed_states}
 use Rattle.irp_explore.proofs.Apart.{apart_none, falling_none, rising_rest, rest_below}
 use Rattle.irp_explore.proofs.Ahead.{nothing_contained}
+use Rattle.irp_explore.proofs.Matching.{matched_popped, none_matched}
 use Rattle.irp_explore.proofs.joining.join_equal.Goals as goal
 
 pub loop-node-init : goal.loop-node-init
@@ -24,6 +25,7 @@ loop-node-init g c =
       );
       kept = λ state held. inl (Contains-permutation (states_of c.args.nodes.items) (states_of c.sort_by_key.new.self.items) state
           (IsPermutation-map (λ (node : Node g.row.M-State.Denot). node.state) c.args.nodes.items c.sort_by_key.new.self.items c.in_ok-sort_by_key.ensures.permutation) held);
+      matched = λ state path held. inl (held.0, Contains-permutation c.args.nodes.items c.sort_by_key.new.self.items held.0 c.in_ok-sort_by_key.ensures.permutation held.1, held.2, held.3);
       rising = IsNonDecreasingBy-from_sort_by_key (λ (node : Node g.row.M-State.Denot). node.mark) _ c.in_ok-sort_by_key.ensures.sorted (λ a r q k. search rules);
       floor = λ i d below. rw c.new-joined.ensures.items (All-nil (λ (node : Node g.row.M-State.Denot). _));
       falling = rw c.new-joined.ensures.items falling_none;
@@ -56,6 +58,16 @@ loop-node-preserved g c =
                 ])
             | inr there ↦ inr (c.in_ok-join_one.ensures.kept state there)
           ];
+      matched = λ state path held.
+          elim (c.loop-node.invariant.matched state path held) as (λ _. IsMatched c.pop.new.self.items state path ⊎ IsMatched c.join_one.new.joined.items state path) [
+            | inl left ↦
+                (elim (matched_popped c.loop-node.nodes.items c.pop.new.self.items c.in-Some.node state path c.in-Some.ensures.items left)
+                as (λ _. IsMatched c.pop.new.self.items state path ⊎ IsMatched c.join_one.new.joined.items state path) [
+                  | inl still ↦ inl still
+                  | inr now ↦ inr (subst (λ state. IsMatched c.join_one.new.joined.items state path) now.0 (c.in_ok-join_one.ensures.matched path now.1))
+                ])
+            | inr there ↦ inr (c.in_ok-join_one.ensures.matched_still state path there)
+          ];
       rising = rising_rest c.loop-node.nodes.items c.pop.new.self.items c.in-Some.node c.in-Some.ensures.items c.loop-node.invariant.rising;
       floor = λ i d below.
           c.in_ok-join_one.ensures.floor _ (rest_below c.loop-node.nodes.items c.pop.new.self.items c.in-Some.node c.in-Some.ensures.items c.loop-node.invariant.rising i d below)
@@ -74,6 +86,13 @@ returns-clause-kept g c = λ state held.
       | inr there ↦ there
     ]
 
+pub returns-clause-matched : goal.returns-clause-matched
+returns-clause-matched g c = λ state path held.
+    elim (c.loop-node.invariant.matched state path held) as (λ _. IsMatched c.loop-node.joined.items state path) [
+      | inl left ↦ absurd (none_matched c.loop-node.nodes.items state path (omega (arith, c.in_default.ensures.cases.0)) left)
+      | inr there ↦ there
+    ]
+
 pub returns-then-len-most_states-clause-too_many : goal.returns-then-len-most_states-clause-too_many
 returns-then-len-most_states-clause-too_many g c = λ same start steps all. (
   steps,
@@ -85,3 +104,6 @@ returns-then-len-most_states-clause-too_many g c = λ same start steps all. (
 
 pub returns-clause-apart : goal.returns-clause-apart
 returns-clause-apart g c = λ start steps all. c.loop-node.invariant.apart start steps all
+
+pub returns-clause-reached : goal.returns-clause-reached
+returns-clause-reached g c = λ start steps all. (c.loop-node.invariant.reached start steps all).1

@@ -1,10 +1,13 @@
-use Rattle.std.proofs.Common.{arith, ◌≡◌, ◌≢◌, ◌<◌, ◌≤◌, ◌∷◌, [], All, length, get_or, Contains, sym, ap, subst, ◌∙◌, refl}
-use Rattle.std.proofs.lemmas.List.Elements.{All-push, All-set, All-get_or, Contains-get_or, Contains-append_left}
+use Rattle.std.proofs.Common.{arith, ◌≡◌, ◌≢◌, ◌<◌, ◌≤◌, ◌∷◌, ◌++◌, [], All, length, get_or, Contains, sym, ap, subst, ◌∙◌, refl}
+use Rattle.std.proofs.lemmas.List.Elements.{All-push, All-same, All-set, All-get_or, Contains-get_or, Contains-append_left}
 use Rattle.std.proofs.lemmas.List.{get_or-map, length-map}
 use Rattle.irp_explore.specs.declared.node.Node.{Node}
+use Rattle.irp_explore.specs.Orders.{Leads}
 use Rattle.irp_explore.specs.Nodes.{states_of, IsReached}
 use Rattle.irp_explore.proofs.Weighing.{joined_weight, joined_states, pushed_states}
 use Rattle.irp_explore.proofs.Apart.{apart_set, apart_push, falling_set, falling_push, floor_set}
+use Rattle.irp_explore.proofs.Reaching.{fewest_joined}
+use Rattle.irp_explore.proofs.Matching.{push_matched, push_still, set_matched, set_still}
 use Rattle.irp_explore.proofs.joining.join_one.Goals as goal
 
 pub returns-clause-weight : goal.returns-clause-weight
@@ -23,7 +26,41 @@ returns-clause-reached g c = λ start steps all one.
     let there : c.in-Some.place < length c.args.joined.now.items = omega (arith, c.in-Some.ensures.there, ap length c.deref.ensures.value) in
     let at : reached (get_or c.args.joined.now.items c.in-Some.place other) = All-get_or reached c.args.joined.now.items c.in-Some.place other there all in
     let before : reached other = rw c.index_mut-other.ensures.value at in
-    All-set reached c.args.joined.now.items c.in-Some.place _ (record { path = before.path; long = before.long; ended = before.ended; marked = before.marked }) all
+    let same : other.state ≡ c.args.node.state =
+    ap (λ node. node.state) c.index_mut-other.ensures.value ∙ ap (λ nodes. (get_or nodes c.in-Some.place other).state) (sym c.deref.ensures.value) ∙ c.in-Some.ensures.same other in
+    let fewest = fewest_joined (g.M.Machine.moves c.args.machine.now) (g.M.Machine.seats c.args.machine.now) start other.fewest.items c.args.node.fewest.items _ other.state
+    before.fewest (subst (λ state. All (λ path. Leads (g.M.Machine.moves c.args.machine.now) (g.M.Machine.seats c.args.machine.now) start path state) c.args.node.fewest.items) (sym same) one.fewest)
+    c.in_ok-add_paths.ensures.only in
+    All-set reached c.args.joined.now.items c.in-Some.place _
+    (record { path = before.path; fewest = fewest; long = before.long; ended = before.ended; marked = before.marked }) all
+
+pub returns-clause-matched : goal.returns-clause-matched
+returns-clause-matched g c = λ path good.
+    let other = c.index_mut-other.result.now in
+    let there : c.in-Some.place < length c.args.joined.now.items = omega (arith, c.in-Some.ensures.there, ap length c.deref.ensures.value) in
+    let same : other.state ≡ c.args.node.state =
+    ap (λ node. node.state) c.index_mut-other.ensures.value ∙ ap (λ nodes. (get_or nodes c.in-Some.place other).state) (sym c.deref.ensures.value) ∙ c.in-Some.ensures.same other in
+    set_matched c.args.joined.now.items c.in-Some.place _ c.args.node.state path there same (c.in_ok-add_paths.ensures.held path good)
+
+pub returns-clause-matched_still : goal.returns-clause-matched_still
+returns-clause-matched_still g c = λ state path held.
+    let other = c.index_mut-other.result.now in
+    let there : c.in-Some.place < length c.args.joined.now.items = omega (arith, c.in-Some.ensures.there, ap length c.deref.ensures.value) in
+    set_still c.args.joined.now.items c.in-Some.place other _ state path there c.index_mut-other.ensures.value refl c.in_ok-add_paths.ensures.kept held
+
+pub returns-in_default-clause-reached : goal.returns-in_default-clause-reached
+returns-in_default-clause-reached g c = λ start steps all one.
+    let reached = IsReached (g.M.Machine.moves c.args.machine.now) (g.M.Machine.seats c.args.machine.now) (g.M.Machine.mark c.args.machine.now) start steps in
+    All-same reached c.push.new.self.items (c.args.joined.now.items ++ c.args.node ∷ []) c.in_ok-push.ensures.items
+    (All-push reached c.args.joined.now.items c.args.node all one)
+
+pub returns-in_default-clause-matched : goal.returns-in_default-clause-matched
+returns-in_default-clause-matched g c = λ path good.
+    push_matched c.args.joined.now.items c.push.new.self.items c.args.node path c.in_ok-push.ensures.items good
+
+pub returns-in_default-clause-matched_still : goal.returns-in_default-clause-matched_still
+returns-in_default-clause-matched_still g c = λ state path held.
+    push_still c.args.joined.now.items c.push.new.self.items c.args.node state path c.in_ok-push.ensures.items held
 
 pub returns-clause-kept : goal.returns-clause-kept
 returns-clause-kept g c = λ state held.

@@ -1,0 +1,137 @@
+-- Lemmas on changes of seat along orders.
+use Rattle.std.proofs.Common.{ℕ, zero, suc, ◌≡◌, ◌+◌, ◌-◌, ◌<◌, ◌≤◌, ◌==◌, ◌⊎◌, inl, inr, Bool, true, false, not, if◌then◌else◌, List, [], ◌∷◌, ◌++◌, All, Contains, length, get_or, drop, Option, Some, None, refl, ap, sym, subst, ◌∙◌, arith, append_assoc}
+use Rattle.std.specs.Prelude.{count_by, slice_get}
+use Rattle.std.specs.List.{zip}
+use Rattle.std.specs.Option.{option_eq}
+use Rattle.std.proofs.lemmas.Bool.{eqb-true}
+use Rattle.std.proofs.lemmas.List.Sums.{sum_by-cons}
+use Rattle.irp_explore.specs.Paths.{changes_of, differ, seam, IsAsGood, HasAsGood}
+
+-- the seat of the last step
+abbrev pub last_in : List ℕ → Option ℕ
+last_in [] = None
+last_in (seat ∷ []) = Some seat
+last_in (seat ∷ next ∷ path) = last_in (next ∷ path)
+
+abbrev count_of : ℕ × ℕ → ℕ
+count_of pair = if differ pair then 1 else 0
+
+differ_count : (one other : ℕ) (same : Bool) → (one == other) ≡ same
+    → count_of (one, other) ≡ (if same then 0 else 1)
+differ_count one other true is = rw is refl
+differ_count one other false is = rw is refl
+
+pub changes_first : (seat : ℕ) (rest : List ℕ) → changes_of (seat ∷ rest) ≡ seam (Some seat) rest + changes_of rest
+changes_first seat [] = refl
+changes_first seat (next ∷ rest) =
+    let more = sum_by-cons count_of (seat, next) (zip (next ∷ rest) rest) in
+    let one = differ_count seat next (seat == next) refl in
+    omega (arith, more, one)
+
+-- changes within, at the seam and behind it
+pub changes_append : (one rest : List ℕ) → changes_of (one ++ rest) ≡ changes_of one + seam (last_in one) rest + changes_of rest
+changes_append [] rest = omega arith
+changes_append (seat ∷ []) rest = let whole = changes_first seat rest in omega (arith, whole)
+changes_append (seat ∷ next ∷ path) rest =
+    let whole = changes_first seat (next ∷ path ++ rest) in
+    let part = changes_first seat (next ∷ path) in
+    let more = changes_append (next ∷ path) rest in
+    omega (arith, whole, part, more)
+
+seam_by : (last next : ℕ) (rest : List ℕ) (same : Bool) → (last == next) ≡ same → seam (Some last) (next ∷ rest) ≤ 1
+seam_by last next rest true is = rw is (omega arith)
+seam_by last next rest false is = rw is (omega arith)
+
+pub seam_once : (last : Option ℕ) (rest : List ℕ) → seam last rest ≤ 1
+seam_once None rest = omega arith
+seam_once (Some last) [] = omega arith
+seam_once (Some last) (next ∷ rest) = seam_by last next rest (last == next) refl
+
+-- fewer changes are as good, whatever the last seats
+pub fewer_is_good : (one other : List ℕ) → changes_of one < changes_of other → IsAsGood one other
+fewer_is_good one other fewer rest =
+    let first = changes_append one rest in
+    let second = changes_append other rest in
+    let most = seam_once (last_in one) rest in
+    omega (arith, fewer, first, second, most)
+
+-- so are as many with the same last seat
+pub same_is_good : (one other : List ℕ) → changes_of one ≡ changes_of other → last_in one ≡ last_in other → IsAsGood one other
+same_is_good one other many last rest =
+    let first = changes_append one rest in
+    let second = changes_append other rest in
+    let seams = ap (λ (last : Option ℕ). seam last rest) last in
+    omega (arith, many, first, second, seams)
+
+-- the last of some seats is at their end
+last_behind : (path : List ℕ) (seat : ℕ) → slice_get (seat ∷ path) (length path) ≡ last_in (seat ∷ path)
+last_behind [] seat = refl
+last_behind (next ∷ path) seat = last_behind path next
+
+pub last_at : (path : List ℕ) → slice_get path (length path - 1) ≡ last_in path
+last_at [] = refl
+last_at (seat ∷ path) =
+    let place : suc (length path) - 1 ≡ length path = omega arith in
+    ap (λ (place : ℕ). slice_get (seat ∷ path) place) place ∙ last_behind path seat
+
+pub as_itself : (path : List ℕ) → IsAsGood path path
+as_itself path rest = omega arith
+
+pub as_good_both : (one other third : List ℕ) → IsAsGood one other → IsAsGood other third → IsAsGood one third
+as_good_both one other third first second rest =
+    let a = first rest in
+    let b = second rest in
+    omega (arith, a, b)
+
+-- one more step
+pub as_good_more : (one other more : List ℕ) → IsAsGood one other → IsAsGood (one ++ more) (other ++ more)
+as_good_more one other more good rest =
+    let whole = good (more ++ rest) in
+    rw (append_assoc one more rest, append_assoc other more rest) whole
+
+-- nothing follows
+pub as_good_now : (one other : List ℕ) → IsAsGood one other → changes_of (one ++ []) ≤ changes_of (other ++ [])
+as_good_now one other good = good []
+
+-- one step further along an order
+pub seam_first : (last : Option ℕ) (next : ℕ) (rest : List ℕ) → seam last (next ∷ rest) ≡ seam last (next ∷ [])
+seam_first None next rest = refl
+seam_first (Some last) next rest = refl
+
+pub along : (last : Option ℕ) (next : ℕ) (rest : List ℕ)
+    → seam last (next ∷ rest) + changes_of (next ∷ rest) ≡ seam last (next ∷ []) + (seam (Some next) rest + changes_of rest)
+along last next rest =
+    let a = seam_first last next rest in
+    let b = changes_first next rest in
+    omega (arith, a, b)
+
+-- ---- the rest of an order
+
+drop_suc : (items : List ℕ) (place d : ℕ) → place < length items
+    → drop place items ≡ get_or items place d ∷ drop (suc place) items
+drop_suc [] place d below = absurd (omega (arith, below))
+drop_suc (item ∷ items) zero d below = refl
+drop_suc (item ∷ items) (suc place) d below = drop_suc items place d (omega (arith, below))
+
+pub drop_here : (items : List ℕ) (place d : ℕ) → place < length items
+    → drop place items ≡ get_or items place d ∷ drop (place + 1) items
+drop_here items place d below =
+    let next : suc place ≡ place + 1 = omega arith in
+    drop_suc items place d below ∙ ap (λ (n : ℕ). get_or items place d ∷ drop n items) next
+
+pub drop_past : (items : List ℕ) (place : ℕ) → length items ≤ place → drop place items ≡ []
+drop_past [] zero past = refl
+drop_past [] (suc place) past = refl
+drop_past (item ∷ items) zero past = absurd (omega (arith, past))
+drop_past (item ∷ items) (suc place) past = drop_past items place (omega (arith, past))
+
+pub seam_none : (last : Option ℕ) → seam last [] ≡ 0
+seam_none None = refl
+seam_none (Some last) = refl
+
+-- what compares equal is equal
+pub same_seats : (one other : Option ℕ) → option_eq (λ a b. a == b) one other ≡ true → one ≡ other
+same_seats None None same = refl
+same_seats None (Some seat) same = let no : false ≡ true = same in absurd (let never : ⊥ = cc in never)
+same_seats (Some seat) None same = let no : false ≡ true = same in absurd (let never : ⊥ = cc in never)
+same_seats (Some one) (Some other) same = ap (λ (seat : ℕ). Some seat) (eqb-true one other same)
