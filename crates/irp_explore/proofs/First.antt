@@ -1,5 +1,5 @@
 -- Lemmas on the layer of the order that has no step.
-use Rattle.std.proofs.Common.{arith, ℕ, ◌≡◌, ◌+◌, ◌*◌, ◌<◌, ◌∷◌, ◌++◌, [], List, All, Contains, Some, length, ap, sym, subst, ◌∙◌, refl}
+use Rattle.std.proofs.Common.{arith, ℕ, ◌≡◌, ◌*◌, ◌∷◌, [], List, All, Contains, Some, length, ap, sym, subst, ◌∙◌, refl}
 use Rattle.std.proofs.lemmas.List.Elements.{All-nil, All-push, All-same}
 use Rattle.std.proofs.lemmas.List.Sums.{sum_by-cons}
 use Rattle.irp_explore.specs.declared.node.Node.{Node}

@@ -1,8 +1,8 @@
 -- Lemmas on the orders that are kept since they have the fewest changes of seat.
-use Rattle.std.proofs.Common.{ℕ, ◌≡◌, ◌≢◌, ◌+◌, ◌<◌, ◌≤◌, ◌⊎◌, inl, inr, List, [], ◌∷◌, ◌++◌, All, Contains, length, get_or, set, take, refl, ap, sym, subst, ◌∙◌, arith}
+use Rattle.std.proofs.Common.{ℕ, ◌≡◌, ◌+◌, ◌<◌, ◌⊎◌, inl, inr, List, [], ◌∷◌, ◌++◌, All, Contains, length, get_or, set, take, refl, ap, sym, subst, ◌∙◌, arith}
 use Rattle.std.proofs.lemmas.Bool.{cases_eq}
 use Rattle.std.proofs.lemmas.List.{get_or-set_same, get_or-set_other, length-set, get_or_read, take_more}
-use Rattle.std.proofs.lemmas.List.Elements.{All-contains_itself, All-push, All-contains, All-same, All-set, All-weaker, Contains-append_left, Contains-get_or, Contains-push, Contains-push_cases}
+use Rattle.std.proofs.lemmas.List.Elements.{All-contains_itself, All-push, All-contains, All-same, All-set, All-weaker, Contains-append_left, Contains-push, Contains-push_cases}
 use Rattle.irp_explore.specs.Paths.{IsAsGood, HasAsGood}
 use Rattle.irp_explore.proofs.Changing.{as_good_both, as_good_more}
 

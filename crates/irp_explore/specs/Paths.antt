@@ -1,5 +1,5 @@
 -- Changes of seat along orders, and the orders that are kept since they have the fewest.
-use Rattle.std.specs.Prelude.{ℕ, ◌≡◌, ◌≤◌, ◌==◌, Bool, not, if◌then◌else◌, Option, Some, None, List, ◌++◌, ◌∷◌, [], drop, count_by, Contains}
+use Rattle.std.specs.Prelude.{ℕ, ◌≤◌, ◌==◌, Bool, not, if◌then◌else◌, Option, Some, None, List, ◌++◌, ◌∷◌, [], drop, count_by, Contains}
 use Rattle.std.specs.List.{zip}
 
 -- two seats that differ

@@ -1,4 +1,4 @@
-use Rattle.std.proofs.Common.{rules, ◌≡◌, ◌++◌, ◌∷◌, [], ◌<◌, ◌∙◌, sym, ap, subst, arith, List, ℕ, All, set, length, refl}
+use Rattle.std.proofs.Common.{sym, ap, subst, arith, List, ℕ, All, set, refl}
 use Rattle.irp_explore.specs.Paths.{HasAsGood, IsAsGood}
 use Rattle.irp_explore.proofs.Keeping.{IsOldOr, has_held, only_old, set_held, set_kept, set_only, push_held, push_kept, push_only}
 use Rattle.irp_explore.proofs.path.add_path.Goals as goal

@@ -1,6 +1,6 @@
-use Rattle.std.proofs.Common.{rules, ◌≡◌, ◌⊎◌, inl, inr, ◌∙◌, sym, ap, subst, arith, List, ℕ, All, Contains, length, refl}
+use Rattle.std.proofs.Common.{◌⊎◌, inl, inr, arith, Contains}
 use Rattle.std.proofs.lemmas.List.Elements.{All-contains_itself, All-weaker}
-use Rattle.irp_explore.specs.Paths.{HasAsGood, IsAsGood}
+use Rattle.irp_explore.specs.Paths.{HasAsGood}
 use Rattle.irp_explore.proofs.Keeping.{held_popped, last_popped, left_popped, none_held, only_both}
 use Rattle.irp_explore.proofs.path.add_paths.Goals as goal
 

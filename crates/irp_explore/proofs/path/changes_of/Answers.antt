@@ -1,4 +1,4 @@
-use Rattle.std.proofs.Common.{rules, ◌≡◌, ◌+◌, ◌∷◌, List, ℕ, drop, Some, ap, sym, subst, ◌∙◌, arith, refl, slice_index_or}
+use Rattle.std.proofs.Common.{◌+◌, List, ℕ, drop, ap, arith, slice_index_or}
 use Rattle.irp_explore.specs.Paths.{changes_of, seam}
 use Rattle.irp_explore.proofs.Changing.{along, seam_none, drop_here, drop_past}
 use Rattle.irp_explore.proofs.path.changes_of.Goals as goal

@@ -1,4 +1,4 @@
-use Rattle.std.proofs.Common.{ℕ, ◌≡◌, ◌<◌, ◌≤◌, List, length, get_or}
+use Rattle.std.proofs.Common.{ℕ, ◌<◌, ◌≤◌, List, length, get_or}
 use Rattle.irp_explore.specs.Paths.{changes_of}
 use Rattle.irp_explore.proofs.path.fewest_changes.Given as goal
 

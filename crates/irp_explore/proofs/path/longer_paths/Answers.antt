@@ -1,7 +1,7 @@
-use Rattle.std.proofs.Common.{rules, ◌≡◌, ◌++◌, ◌∷◌, [], ◌<◌, inl, inr, ◌∙◌, sym, ap, subst, arith, List, ℕ, All, Contains, length, get_or, take, refl}
+use Rattle.std.proofs.Common.{◌≡◌, ◌++◌, ◌∷◌, [], ◌<◌, inl, inr, ◌∙◌, sym, ap, subst, arith, List, ℕ, length, get_or}
 use Rattle.std.proofs.lemmas.List.Elements.{Contains-get_or}
 use Rattle.std.proofs.lemmas.List.{take_all}
-use Rattle.irp_explore.specs.Paths.{HasAsGood, IsAsGood}
+use Rattle.irp_explore.specs.Paths.{HasAsGood}
 use Rattle.irp_explore.proofs.Keeping.{held_longer, only_longer, taken_cases}
 use Rattle.irp_explore.proofs.path.longer_paths.Goals as goal
 

@@ -1,4 +1,4 @@
-use Rattle.std.proofs.Common.{rules, ◌≡◌, ◌<◌, ◌∙◌, sym, ap, arith, Bool, true, Option, ℕ}
+use Rattle.std.proofs.Common.{◌∙◌, sym, arith}
 use Rattle.std.proofs.lemmas.Bool.{ltb-true}
 use Rattle.irp_explore.proofs.Changing.{fewer_is_good, same_is_good, last_at, same_seats}
 use Rattle.irp_explore.proofs.path.Path.is_as_good.Goals as goal
