@@ -13,7 +13,7 @@ mod tokens;
 mod value;
 mod words;
 
-pub use condition::{Comparison, Condition, Fact, Term};
+pub use condition::Condition;
 pub use facts::{Facts, Packet, Told};
 pub use fault::{Expected, Fault, Unread};
 pub use holding::holds;

@@ -13,7 +13,8 @@ line_of words = map on_one_line words ++ 10 ∷ []
 -- the spaces that let numbers of up to four digits end in one column
 abbrev pub padding_of : ℕ → List ℕ
 padding_of number =
-    if nat_lt number 10 then codes "   " else if nat_lt number 100 then codes "  " else if nat_lt number 1000 then codes " " else []
+    if nat_lt number 10 then codes "   " else if nat_lt number 100 then codes "  "
+    else if nat_lt number 1000 then codes " " else []
 
 -- the first line of an entry: its number, and words
 abbrev pub head_of : ℕ → List ℕ → List ℕ

@@ -8,7 +8,7 @@ use Rattle.std.proofs.lemmas.List.{append-nil, get_or_default}
 use Rattle.std.proofs.lemmas.List.Elements.{All-contains}
 use Rattle.std.proofs.lemmas.Option.{slice_get_within, same_Some, none-some}
 use Rattle.irp_explore.specs.Orders.{Leads, HasEnded}
-use Rattle.irp_explore.specs.Nodes.{AreApart, IsMatched, states_of, weigh}
+use Rattle.irp_explore.specs.Nodes.{AreApart, states_of, weigh}
 use Rattle.irp_explore.specs.Paths.{changes_of, seam, HasAsGood}
 use Rattle.irp_explore.proofs.Changing.{changes_append, last_in, seam_once}
 use Rattle.irp_explore.specs.declared.node.Node.{Node}

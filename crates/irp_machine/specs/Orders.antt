@@ -43,9 +43,9 @@ ends_of outcomes = map (λ (outcome : Outcome). outcome.end) outcomes
 abbrev pub weigh_outcomes : (Place → ℕ) → List Outcome → ℕ
 weigh_outcomes number outcomes = sum_by (λ (outcome : Outcome). outcome.orders * number (Over outcome.end)) outcomes
 
--- each outcome's path is an order that ends so, and no order that ends so changes its seat less often; each order ends in
--- an outcome; no two outcomes end alike; and a number that each place shares out among those that follow, such as how
--- many orders there are, adds up to the start's
+-- each outcome's path is an order that ends so, and no order that ends so changes its seat less often; each order ends
+-- in an outcome; no two outcomes end alike; and a number that each place shares out among those that follow, such as
+-- how many orders there are, adds up to the start's
 pub record AreOutcomes (rules : RulesValue) (start : StandingValue) (outcomes : List Outcome) : Type 0 where
   pub sound : All (λ outcome. IsOrder rules start outcome.path.items outcome.end) outcomes
   pub fewest :
@@ -72,8 +72,8 @@ pub record IsOpened (orders : List (List ℕ)) (path : List ℕ) : Type 0 where
   pub held : Contains orders (path ++ closing ∷ [])
   pub fewest : All (λ other. changes_of (path ++ closing ∷ []) ≤ changes_of other) orders
 
--- an outcome tells a state that was found: its end, how many orders lead there, and one with the fewest changes of seat,
--- without the last step, which closes it
+-- an outcome tells a state that was found: its end, how many orders lead there, and one with the fewest changes of
+-- seat, without the last step, which closes it
 pub record Tells (node : Node Place) (outcome : Outcome) : Type 0 where
   pub state : node.state ≡ Over outcome.end
   pub orders : node.orders ≡ outcome.orders

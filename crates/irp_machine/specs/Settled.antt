@@ -50,9 +50,10 @@ unwinding reply irp packet first second asked others some within one two answere
     (same, one.left ∙ ap (unwound_packet packet) same ∙ sym two.left)
 
 step_settled : StepIsSettled
-step_settled plan_of reply_of cancel_reply_of fixed old drained call asked others reply other new another stands first second slots given answers =
-    same_step plan_of reply_of cancel_reply_of unwinding same_descent fixed old drained call asked others reply other new another (first_refusal fixed old drained call)
-    stands refl first second slots given answers
+step_settled plan_of reply_of cancel_reply_of fixed old drained call asked others reply other new another stands first
+    second slots given answers =
+    same_step plan_of reply_of cancel_reply_of unwinding same_descent fixed old drained call asked others reply other new
+    another (first_refusal fixed old drained call) stands refl first second slots given answers
 
 -- two slots that are the lowest ones are one
 lowest_below : (state : StateValue) (one other : ℕ) → IsLowest state one → IsLowest state other → one < other

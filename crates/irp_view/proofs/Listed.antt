@@ -298,14 +298,3 @@ no_header unread only span left rest old before starts = record {
     written = (appends_none old, refl);
   };
 }
-
--- ---- how much was taken
-
-pub takes_whole : (left rest : Bytes) (transcript : TranscriptValue) → Holds left rest transcript → TakesAtMost most_taken left rest
-takes_whole left rest transcript holds = (holds.0, omega (arith, holds.1.few), holds.1.took)
-
-pub takes_some : (result : Result (Unit {0}) Unshown) (only : Option IrpRef) (span : Option Span) (left rest old new : Bytes) (before after : ℕ)
-    → ShowsInput result only span left rest old new before after → TakesAtMost most_taken left rest
-takes_some (Ok done) only span left rest old new before after is = takes_whole left rest is.0 is.1
-takes_some (Err (IsUnread unread)) only span left rest old new before after is = (is.text, is.few, is.took)
-takes_some (Err (IsUnwritten fault)) only span left rest old new before after is = (is.text, is.few, is.took)

@@ -27,7 +27,8 @@ AreWordsFor None (Some span) words text = text ≡ []
 
 -- this text shows a transcript: what stands for the entries of the span, one after the other, a block for each that is
 -- chosen; and behind it what stands for the word lines
-pub record IsShowing (only : Option IrpRef) (span : Option Span) (transcript : TranscriptValue) (text : List ℕ) : Type 0 where
+pub record IsShowing (only : Option IrpRef) (span : Option Span) (transcript : TranscriptValue) (text : List ℕ)
+    : Type 0 where
   pub listing : List ℕ
   pub is_listing : IsListing only (part_of span transcript.entries) listing
   pub words : List ℕ
