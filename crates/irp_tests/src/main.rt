@@ -4,8 +4,7 @@
 //! Each test ends by itself, and what is printed is the same whatever the schedule.
 #![tactic(auto)]
 
-mod counting;
-mod order;
+mod closures;
 mod outcome;
 mod remove;
 mod shared;
@@ -24,8 +23,7 @@ use std::thread::Threads;
 /// The tests.
 #[derive(Clone, Copy)]
 enum Test {
-    Counting,
-    Order,
+    Closures,
     Behind,
     AcquireDuringCall,
     DroppedSeat,
@@ -38,12 +36,11 @@ enum Test {
 }
 
 /// The tests by their names, in the order in which they are played.
-static TESTS: [(&str, Test); 11] = [
+static TESTS: [(&str, Test); 10] = [
     (
-        "each_closure_is_asked_once_for_each_question",
-        Test::Counting,
+        "closures_are_called_once_in_the_order_of_the_list",
+        Test::Closures,
     ),
-    ("closures_are_called_in_the_order_of_the_list", Test::Order),
     ("a_seat_is_behind_what_it_learned", Test::Behind),
     ("acquire_during_call", Test::AcquireDuringCall),
     (
@@ -67,8 +64,7 @@ static TESTS: [(&str, Test); 11] = [
 /// Plays a test.
 fn outcome_of<R: Threads + Wait + Sync>(rt: &R, alloc: Global, test: Test) -> Outcome {
     match test {
-        Test::Counting => counting::each_closure_is_asked_once_for_each_question(alloc),
-        Test::Order => order::closures_are_called_in_the_order_of_the_list(alloc),
+        Test::Closures => closures::closures_are_called_once_in_the_order_of_the_list(rt, alloc),
         Test::Behind => shared::a_seat_is_behind_what_it_learned(rt, alloc),
         Test::AcquireDuringCall => sharing::acquire_during_call(rt, alloc),
         Test::DroppedSeat => remove::a_seat_dropped_while_it_holds_keeps_the_lock_busy(alloc),

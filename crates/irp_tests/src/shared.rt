@@ -96,7 +96,7 @@ fn behind_receipt(rt: &impl Wait, alloc: Global, receipt: &Receipt) -> Outcome {
 
 /// A seat that has learned of a receipt of another session is behind, until the history is as long.
 pub fn a_seat_is_behind_what_it_learned(rt: &impl Wait, alloc: Global) -> Outcome {
-    let Some(made) = made_of(alloc, Store::new(alloc), &ELSEWHERE) else {
+    let Some(made) = made_of(rt, alloc, Store::new(alloc), &ELSEWHERE) else {
         return NO_MEMORY;
     };
     let is_made = made.are_right(ELSEWHERE.len());

@@ -1,16 +1,20 @@
-//! The calls of a manager that asks a store.
+//! The calls of a session that asks a store.
 
 ghost use Rattle.std.specs.Prelude.{◌≡◌, true};
 ghost use Rattle.irp_types.specs.Rules.{is_allowed};
+ghost use Rattle.irp_types.specs.declared.limit.Limit.TheVariants.{ThirtyTwo};
 ghost use Rattle.irp_types.specs.declared.routine.Rule.TheVariants.{Watch};
+ghost use Rattle.irp_shared.specs.Answered.{AnswersSo};
 
 use super::outcome::{NO_MEMORY, Outcome, number};
-use irp_manager::{Book, KnowsNothing, Manager, Receipt, Seat};
-use irp_routines::Store;
+use irp_manager::{KnowsNothing, Receipt};
+use irp_routines::{Ask, Store};
+use irp_shared::{Seat, Session, Shared, needs_token, open};
 use irp_types::{Answer, Call, DispatchId, Reply, Rule, Shown};
 use std::alloc::Global;
 use std::marker::Brand;
-use std::sync::ledger::{Blank, Ledger};
+use std::sync::Wait;
+use std::sync::ledger::Blank;
 
 pub const READ: u8 = 0x03;
 
@@ -51,15 +55,24 @@ impl Made {
     }
 }
 
-/// Makes the steps, up to one that is answered otherwise than it has to be.
-fn makes<L: Ledger>(book: &mut Book<Store>, seat: &Seat<L>, steps: &[Step]) -> Made {
+/// Makes the steps in a seat, up to one that is answered otherwise than it has to be.
+fn makes<A: Ask, L: Session>(
+    rt: &impl Wait,
+    shared: &Shared<A, L>,
+    seat: &mut Seat<L>,
+    steps: &[Step],
+) -> Made {
     let mut made = Made {
         right: 0,
         last: None,
     };
-    for (call, reply) in steps {
-        match book.record(seat, *call, &KnowsNothing) {
-            Ok(receipt) if receipt.reply() == *reply => made.last = Some(receipt),
+    for step in steps {
+        let (call, reply) = *step;
+        if needs_token(call) {
+            return made;
+        }
+        match shared.call(rt, seat, call, &KnowsNothing) {
+            Ok(receipt) if receipt.reply() == reply => made.last = Some(receipt),
             _ => return made,
         }
         made.right = made.right.wrapping_add(1);
@@ -67,31 +80,36 @@ fn makes<L: Ledger>(book: &mut Book<Store>, seat: &Seat<L>, steps: &[Step]) -> M
     made
 }
 
-/// The same in a new book of this store, by a seat that is the only one of its ledger.
-fn makes_in_book<L: Ledger>(
+/// The same in a new session of this asker, in its one seat.
+fn makes_in_session<A: Ask + Drop, L: Session>(
+    rt: &impl Wait,
     alloc: Global,
     blank: Blank,
-    store: Store,
+    ask: A,
     steps: &[Step],
 ) -> Option<Made>
-    requires { (blank.name ≡ L.name) × (blank.parts ≡ L.parts) × (blank.parts ≡ 1) }
+    requires blank { (blank.name ≡ L.name) × (blank.parts ≡ L.parts) }
+    requires seats { (L.parts ≡ 1) × (L.seats ≡ 1) }
+    requires fixed { L.fixed ≡ record { locks = 1; tables = A.tables ask; limit = ThirtyTwo } }
+    requires may { AnswersSo (A.may_plan ask) (A.may_answer ask) (A.may_cancel ask) L.may }
 {
-    let (_total, share) = blank.open::<L>();
-    let seat = Seat::new(alloc, 0, share);
-    match Book::new(Manager::new(alloc, store, 1)) {
-        Ok(mut book) => Some(makes(&mut book, &seat, steps)),
-        Err(_) => None,
+    let Ok((shared, mut seats)) = open::<A, L>(alloc, blank, ask, 1, 1) else {
+        return None;
+    };
+    match seats.first_mut() {
+        Some(seat) => Some(makes(rt, &shared, seat, steps)),
+        None => None,
     }
 }
 
-/// Makes the steps in a new book of this store. None where memory is missing for the book.
-pub fn made_of(alloc: Global, store: Store, steps: &[Step]) -> Option<Made> {
-    makes_in_book::<Brand>(alloc, Blank::new(1), store, steps)
+/// Makes the steps in a new session of this store. None where memory is missing for it.
+pub fn made_of(rt: &impl Wait, alloc: Global, store: Store, steps: &[Step]) -> Option<Made> {
+    makes_in_session::<Store, Brand>(rt, alloc, Blank::new(1), store, steps)
 }
 
-/// Makes the steps in a new book of this store. Right where each is answered as it has to be.
-pub fn answered(alloc: Global, store: Store, steps: &[Step]) -> Outcome {
-    match made_of(alloc, store, steps) {
+/// Makes the steps in a new session of this store. Right where each is answered as it has to be.
+pub fn answered(rt: &impl Wait, alloc: Global, store: Store, steps: &[Step]) -> Outcome {
+    match made_of(rt, alloc, store, steps) {
         Some(made) => made.are_right(steps.len()),
         None => NO_MEMORY,
     }
