@@ -110,7 +110,7 @@ fn joined_at<'a>(
     Ok((so_far, rest))
 }
 
-/// Reads the condition that a text says, of what is in the scope (this project's own rule).
+/// Reads the condition that a text says, of what is in the scope.
 ///
 /// # Errors
 ///

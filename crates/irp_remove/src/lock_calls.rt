@@ -1,6 +1,6 @@
 //! The calls on remove locks. A refusal that leaves a seat as it was leaves each view of the seat's parties as it was.
-//! That refusals come in the order in which they are listed, and what names no page of the WDK, is this project's own
-//! rule.
+//! This project's own rule: that refusals come in the order in which they are listed; the word, the seat, the limit and all
+//! refusals but `DeletePending`; that `begin_remove` doesn't wait; and what names no page of the WDK.
 ghost use Rattle.std.specs.Prelude.{◌≡◌, ◌<◌, ◌≤◌, Contains, Err, length, MatchResult, IfSome, IfNone, slice_get, Some};
 ghost use Rattle.std.specs.Prelude.{map};
 ghost use Rattle.irp_types.specs.Limits.{most_held};
@@ -36,8 +36,7 @@ impl Locks {
     /// It is refused with the first of these that holds: `NoLock` if there is no such lock; `SeatFull` if the seat
     /// holds 64 references; `DeletePending` if the removal of the lock has begun. The first two leave the seat as it
     /// was. After `DeletePending` the references are unchanged, and the seat knows the lock removed; where its own
-    /// `begin_remove` of the lock had answered Ok or `AlreadyRemoving`, the seat is as it was. (The word, the seat, the
-    /// limit and all refusals but `DeletePending` are this project's own rule.) It takes constant time.
+    /// `begin_remove` of the lock had answered Ok or `AlreadyRemoving`, the seat is as it was. It takes constant time.
     pub fn acquire(
         &self,
         seat: &mut RemoveSeat,
@@ -110,8 +109,7 @@ impl Locks {
     }
 
     /// Begins the removal of a lock, and gives the caller's reference under the tag back: nobody acquires any more
-    /// (WDK: "IoReleaseRemoveLockAndWait"; that it doesn't wait is this project's own rule: `drained` tells when it is
-    /// over).
+    /// (WDK: "IoReleaseRemoveLockAndWait"). It doesn't wait: `drained` tells when it is over.
     ///
     /// It is refused with the first of these that holds: `NoLock` if there is no such lock; `NotHeld` if the seat holds
     /// no reference to the lock under the tag; `AlreadyRemoving` if the removal had begun. The first two leave the seat

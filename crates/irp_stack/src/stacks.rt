@@ -1,5 +1,5 @@
-//! The devices and their stacks. That refusals come in the order in which they are listed, and what names no page of the
-//! WDK, is this project's own rule.
+//! The devices and their stacks. That refusals come in the order in which they are listed, that a device's driver and
+//! lock are numbers which nothing checks here, and what names no page of the WDK, is this project's own rule.
 
 mod looks;
 
@@ -92,8 +92,7 @@ impl Stacks {
     }
 
     /// Creates a live device, alone in a stack of its own, and answers its number: how many there were (WDK:
-    /// "IoCreateDevice"; that a device has a driver's number and a lock's, which nothing checks here, is this
-    /// project's own rule).
+    /// "IoCreateDevice").
     ///
     /// The error is `Full` exactly where 64 devices were created before, deleted ones among them. It is `Memory` only
     /// where fewer were created. Either changes nothing.

@@ -3,7 +3,7 @@
 ghost use Rattle.std.specs.Prelude.{◌≡◌};
 ghost use Rattle.irp_types.specs.Refusal.{refusal_number};
 
-/// Why a call is refused (this project's own rules; `docs/RULES.md` says when each comes).
+/// Why a call is refused; `docs/RULES.md` says when each comes.
 #[derive(Clone, Copy, PartialEq, Eq, Debug)]
 pub enum Refusal {
     /// The slot has no live packet.
