@@ -1,5 +1,5 @@
 -- Lemmas on changes of seat along orders.
-use Rattle.std.proofs.Common.{ℕ, zero, suc, ◌≡◌, ◌+◌, ◌-◌, ◌<◌, ◌≤◌, ◌==◌, Bool, true, false, if◌then◌else◌, List, [], ◌∷◌, ◌++◌, length, get_or, drop, Option, Some, None, refl, ap, ◌∙◌, arith, append_assoc}
+use Rattle.std.proofs.Common.{ℕ, suc, ◌≡◌, ◌+◌, ◌-◌, ◌<◌, ◌≤◌, ◌==◌, Bool, true, false, if◌then◌else◌, List, [], ◌∷◌, ◌++◌, length, Option, Some, None, refl, ap, sym, ◌∙◌, arith, append_assoc}
 use Rattle.std.specs.Prelude.{slice_get}
 use Rattle.std.specs.List.{zip}
 use Rattle.std.specs.Option.{option_eq}
@@ -55,8 +55,8 @@ fewer_is_good one other fewer rest =
     let most = seam_once (last_in one) rest in
     omega (arith, fewer, first, second, most)
 
--- so are as many with the same last seat
-pub same_is_good : (one other : List ℕ) → changes_of one ≡ changes_of other → last_in one ≡ last_in other → IsAsGood one other
+-- so are no more with the same last seat
+pub same_is_good : (one other : List ℕ) → changes_of one ≤ changes_of other → last_in one ≡ last_in other → IsAsGood one other
 same_is_good one other many last rest =
     let first = changes_append one rest in
     let second = changes_append other rest in
@@ -93,41 +93,29 @@ as_good_more one other more good rest =
 pub as_good_now : (one other : List ℕ) → IsAsGood one other → changes_of (one ++ []) ≤ changes_of (other ++ [])
 as_good_now one other good = good []
 
--- one step further along an order
-pub seam_first : (last : Option ℕ) (next : ℕ) (rest : List ℕ) → seam last (next ∷ rest) ≡ seam last (next ∷ [])
-seam_first None next rest = refl
-seam_first (Some last) next rest = refl
+-- the last seat with one more step
+last_more : (path : List ℕ) (seat : ℕ) → last_in (path ++ seat ∷ []) ≡ Some seat
+last_more [] seat = refl
+last_more (first ∷ []) seat = refl
+last_more (first ∷ next ∷ path) seat = last_more (next ∷ path) seat
 
-pub along : (last : Option ℕ) (next : ℕ) (rest : List ℕ)
-    → seam last (next ∷ rest) + changes_of (next ∷ rest) ≡ seam last (next ∷ []) + (seam (Some next) rest + changes_of rest)
-along last next rest =
-    let a = seam_first last next rest in
-    let b = changes_first next rest in
-    omega (arith, a, b)
+-- with the same step more, no more changes are as good
+pub fewest_more : (one other : List ℕ) (seat : ℕ) → changes_of (one ++ seat ∷ []) ≤ changes_of (other ++ seat ∷ [])
+    → IsAsGood (one ++ seat ∷ []) (other ++ seat ∷ [])
+fewest_more one other seat fewer = same_is_good (one ++ seat ∷ []) (other ++ seat ∷ []) fewer (last_more one seat ∙ sym (last_more other seat))
 
--- ---- the rest of an order
+-- the changes with one more step
+pub changes_more : (path : List ℕ) (seat : ℕ) → changes_of (path ++ seat ∷ []) ≡ changes_of path + seam (last_in path) (seat ∷ [])
+changes_more path seat = let whole = changes_append path (seat ∷ []) in omega (arith, whole)
 
-drop_suc : (items : List ℕ) (place d : ℕ) → place < length items
-    → drop place items ≡ get_or items place d ∷ drop (suc place) items
-drop_suc [] place d below = absurd (omega (arith, below))
-drop_suc (item ∷ items) zero d below = refl
-drop_suc (item ∷ items) (suc place) d below = drop_suc items place d (omega (arith, below))
-
-pub drop_here : (items : List ℕ) (place d : ℕ) → place < length items
-    → drop place items ≡ get_or items place d ∷ drop (place + 1) items
-drop_here items place d below =
-    let next : suc place ≡ place + 1 = omega arith in
-    drop_suc items place d below ∙ ap (λ (n : ℕ). get_or items place d ∷ drop n items) next
-
-pub drop_past : (items : List ℕ) (place : ℕ) → length items ≤ place → drop place items ≡ []
-drop_past [] zero past = refl
-drop_past [] (suc place) past = refl
-drop_past (item ∷ items) zero past = absurd (omega (arith, past))
-drop_past (item ∷ items) (suc place) past = drop_past items place (omega (arith, past))
-
-pub seam_none : (last : Option ℕ) → seam last [] ≡ 0
-seam_none None = refl
-seam_none (Some last) = refl
+-- no more changes than steps
+pub changes_few : (path : List ℕ) → changes_of path ≤ length path
+changes_few [] = omega arith
+changes_few (seat ∷ rest) =
+    let whole = changes_first seat rest in
+    let once = seam_once (Some seat) rest in
+    let few = changes_few rest in
+    omega (arith, whole, once, few)
 
 -- what compares equal is equal
 pub same_seats : (one other : Option ℕ) → option_eq (λ a b. a == b) one other ≡ true → one ≡ other

@@ -15,14 +15,14 @@ first_weight {S} number layer node is once =
     omega (arith, whole, one)
 
 pub first_reached : {S : Type 0} (moves : Moves S) (seats : ℕ) (mark : S → ℕ) (start : S) (layer : List (Node S)) (node : Node S)
-    → layer ≡ node ∷ [] → node.state ≡ start → node.mark ≡ mark start → node.path.items ≡ [] → node.fewest.items ≡ [] ∷ []
+    → layer ≡ node ∷ [] → node.state ≡ start → node.mark ≡ mark start → node.fewest.items ≡ [] ∷ []
     → All (IsReached moves seats mark start (Some 0)) layer
-first_reached {S} moves seats mark start layer node is state marked path fewest =
+first_reached {S} moves seats mark start layer node is state marked fewest =
     let here : Leads moves seats start [] node.state = sym state in
     let reached : IsReached moves seats mark start (Some 0) node = record {
-      path = subst (λ (path : List ℕ). Leads moves seats start path node.state) (sym path) here;
+      some = rw fewest (omega arith);
       fewest = rw fewest (All-push (λ (path : List ℕ). Leads moves seats start path node.state) [] [] (All-nil (λ (path : List ℕ). Leads moves seats start path node.state)) here);
-      long = ap length path;
+      long = rw fewest (All-push (λ (path : List ℕ). length path ≡ 0) [] [] (All-nil (λ (path : List ℕ). length path ≡ 0)) refl);
       ended = tt;
       marked = marked ∙ ap mark (sym state);
     } in

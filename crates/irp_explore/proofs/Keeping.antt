@@ -1,10 +1,10 @@
 -- Lemmas on the orders that are kept since they have the fewest changes of seat.
-use Rattle.std.proofs.Common.{ℕ, ◌≡◌, ◌+◌, ◌<◌, ◌⊎◌, inl, inr, List, [], ◌∷◌, ◌++◌, All, Contains, length, get_or, set, take, refl, ap, sym, subst, ◌∙◌, arith}
+use Rattle.std.proofs.Common.{ℕ, ◌≡◌, ◌<◌, ◌≤◌, ◌⊎◌, inl, inr, List, [], ◌∷◌, ◌++◌, All, Contains, length, get_or, set, refl, ap, sym, subst, ◌∙◌, arith}
 use Rattle.std.proofs.lemmas.Bool.{cases_eq}
-use Rattle.std.proofs.lemmas.List.{get_or-set_same, get_or-set_other, length-set, get_or_read, take_more}
+use Rattle.std.proofs.lemmas.List.{get_or-set_same, get_or-set_other, length-set, get_or_read}
 use Rattle.std.proofs.lemmas.List.Elements.{All-contains_itself, All-push, All-contains, All-same, All-set, All-weaker, Contains-append_left, Contains-push, Contains-push_cases}
-use Rattle.irp_explore.specs.Paths.{IsAsGood, HasAsGood}
-use Rattle.irp_explore.proofs.Changing.{as_good_both, as_good_more}
+use Rattle.irp_explore.specs.Paths.{changes_of, IsAsGood, HasAsGood}
+use Rattle.irp_explore.proofs.Changing.{as_good_both, as_good_more, as_itself, fewest_more}
 
 -- an order of the old ones, or the new one
 abbrev pub IsOldOr : List (List ℕ) → List ℕ → List ℕ → Type 0
@@ -85,6 +85,18 @@ none_held paths other none held =
     let below = held.1.1 in
     omega (arith, none, below)
 
+-- where an order is held, there are some
+pub some_held : (paths : List (List ℕ)) (other : List ℕ) → HasAsGood paths other → 0 < length paths
+some_held paths other held =
+    let below = held.1.1 in
+    omega (arith, below)
+
+-- so there are where each order that was held still is, changed or not
+pub some_still : (change : List ℕ → List ℕ) (paths new : List (List ℕ)) → ((other : List ℕ) → HasAsGood paths other → HasAsGood new (change other))
+    → 0 < length paths → 0 < length new
+some_still change [] new kept some = absurd (omega (arith, some))
+some_still change (path ∷ paths) new kept some = some_held new (change path) (kept path (path, (0, omega arith, refl), as_itself path))
+
 pub left_popped : (others rest : List (List ℕ)) (path one : List ℕ) → others ≡ rest ++ path ∷ [] → Contains rest one → Contains others one
 left_popped others rest path one is held =
     subst (λ (paths : List (List ℕ)). Contains paths one) (sym is) (Contains-append_left rest (path ∷ []) one held)
@@ -105,22 +117,13 @@ only_both paths others old new path there before only =
 
 -- ---- one more step
 
-pub held_longer : (one more longer other : List ℕ) → longer ≡ one ++ more → IsAsGood one other → IsAsGood longer (other ++ more)
-held_longer one more longer other is good =
-    subst (λ (path : List ℕ). IsAsGood path (other ++ more)) (sym is) (as_good_more one other more good)
-
--- the first ones, and one more
-pub taken_cases : (paths : List (List ℕ)) (place : ℕ) (d other : List ℕ) → place < length paths → HasAsGood (take (place + 1) paths) other
-    → HasAsGood (take place paths) other ⊎ IsAsGood (get_or paths place d) other
-taken_cases paths place d other below held = held_popped (take (place + 1) paths) (take place paths) (get_or paths place d) other (take_more paths place d below) held
-
--- each is an order with one more step
-pub only_longer : (paths old new : List (List ℕ)) (path longer more : List ℕ) → Contains paths path → longer ≡ path ++ more
-    → All (λ one. (before : List ℕ) × Contains paths before × (one ≡ before ++ more)) old → All (IsOldOr old longer) new
-    → All (λ one. (before : List ℕ) × Contains paths before × (one ≡ before ++ more)) new
-only_longer paths old new path longer more there is before only =
-    All-weaker (IsOldOr old longer) (λ one. (before : List ℕ) × Contains paths before × (one ≡ before ++ more))
-    (λ one from. elim from as (λ _. (before : List ℕ) × Contains paths before × (one ≡ before ++ more)) [
-      | inl was ↦ All-contains (λ one. (before : List ℕ) × Contains paths before × (one ≡ before ++ more)) old one before was
-      | inr same ↦ (path, there, same ∙ is)
-    ]) new only
+-- the order with the fewest changes then is as good as each
+pub fewest_held : (paths new : List (List ℕ)) (best longer other : List ℕ) (seat : ℕ)
+    → All (λ one. changes_of (best ++ seat ∷ []) ≤ changes_of (one ++ seat ∷ [])) paths
+    → longer ≡ best ++ seat ∷ [] → Contains new longer → HasAsGood paths other → HasAsGood new (other ++ seat ∷ [])
+fewest_held paths new best longer other seat fewest is there held =
+    let more = seat ∷ [] in
+    let fewer = All-contains (λ (one : List ℕ). changes_of (best ++ more) ≤ changes_of (one ++ more)) paths held.0 fewest held.1 in
+    let better : IsAsGood (held.0 ++ more) (other ++ more) = as_good_more held.0 other more held.2 in
+    let good = as_good_both (best ++ more) (held.0 ++ more) (other ++ more) (fewest_more best held.0 seat fewer) better in
+    (longer, there, subst (λ (path : List ℕ). IsAsGood path (other ++ more)) (sym is) good)

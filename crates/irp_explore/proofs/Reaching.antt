@@ -1,5 +1,5 @@
 -- Lemmas on orders of steps and the states that they reach.
-use Rattle.std.proofs.Common.{ℕ, zero, suc, ◌≡◌, ◌+◌, ◌<◌, ◌⊎◌, All, inl, inr, List, [], ◌∷◌, ◌++◌, length, Contains, Option, Some, None, refl, ap, sym, subst, ◌∙◌, arith}
+use Rattle.std.proofs.Common.{ℕ, zero, suc, ◌≡◌, ◌+◌, ◌<◌, ◌⊎◌, All, inl, inr, List, [], ◌∷◌, ◌++◌, length, get_or, Contains, Option, Some, None, refl, ap, sym, subst, ◌∙◌, arith}
 use Rattle.std.specs.Option.{option_to_list}
 use Rattle.std.proofs.lemmas.Bool.{cases_eq}
 use Rattle.std.proofs.lemmas.List.{length-append, length_push}
@@ -15,18 +15,23 @@ leads_more moves seats start (first ∷ path) middle last seat leads below steps
     (leads.0, leads.1, leads.2, leads_more moves seats leads.0 path middle last seat leads.3 below steps)
 
 -- a node that comes one step after another
-pub reached_more : {S : Type 0} (moves : Moves S) (seats : ℕ) (mark : S → ℕ) (start : S) (node after : Node S) (seat steps : ℕ) → IsReached moves seats mark start (Some steps) node → seat < seats → moves node.state seat (Some after.state) → after.path.items ≡ node.path.items ++ seat ∷ []
+pub reached_more : {S : Type 0} (moves : Moves S) (seats : ℕ) (mark : S → ℕ) (start : S) (node after : Node S) (seat steps : ℕ) → IsReached moves seats mark start (Some steps) node → seat < seats → moves node.state seat (Some after.state) → 0 < length after.fewest.items
     → All (λ one. (before : List ℕ) × Contains node.fewest.items before × (one ≡ before ++ seat ∷ [])) after.fewest.items
     → after.mark ≡ mark after.state → IsReached moves seats mark start (Some (steps + 1)) after
-reached_more moves seats mark start node after seat steps reached below moved path fewest marked = record {
-  path = rw path (leads_more moves seats start node.path.items node.state after.state seat reached.path below moved);
+reached_more moves seats mark start node after seat steps reached below moved some fewest marked = record {
+  some = some;
   fewest =
       All-weaker (λ one. (before : List ℕ) × Contains node.fewest.items before × (one ≡ before ++ seat ∷ [])) (λ one. Leads moves seats start one after.state)
       (λ one from.
       let before = All-contains (λ one. Leads moves seats start one node.state) node.fewest.items from.0 reached.fewest from.1 in
       subst (λ (path : List ℕ). Leads moves seats start path after.state) (sym from.2) (leads_more moves seats start from.0 node.state after.state seat before below moved))
       after.fewest.items fewest;
-  long = omega (arith, ap length path, length_push node.path.items seat, reached.long);
+  long =
+      All-weaker (λ one. (before : List ℕ) × Contains node.fewest.items before × (one ≡ before ++ seat ∷ [])) (λ one. length one ≡ steps + 1)
+      (λ one from.
+      let before : length from.0 ≡ steps = All-contains (λ (one : List ℕ). length one ≡ steps) node.fewest.items from.0 reached.long from.1 in
+      omega (arith, ap length from.2, length_push from.0 seat, before))
+      after.fewest.items fewest;
   ended = tt;
   marked = marked;
 }
@@ -71,32 +76,31 @@ none_from_ended moves settled (suc seats) state states follow ended =
 
 -- a node that has no successor has ended
 pub reached_done : {S : Type 0} (moves : Moves S) (seats : ℕ) (mark : S → ℕ) (start : S) (steps : ℕ) (node : Node S) → HasEnded moves seats node.state → IsReached moves seats mark start (Some steps) node → IsReached moves seats mark start None node
-reached_done moves seats mark start steps node ended reached = record { path = reached.path; fewest = reached.fewest; long = tt; ended = ended; marked = reached.marked }
+reached_done moves seats mark start steps node ended reached = record { some = reached.some; fewest = reached.fewest; long = λ k d below. tt; ended = ended; marked = reached.marked }
 
 -- what is reached and has ended is found
 pub found_from_reached : {S : Type 0} (moves : Moves S) (seats : ℕ) (mark : S → ℕ) (start : S) (nodes : List (Node S)) → All (IsReached moves seats mark start None) nodes → All (IsFound moves seats start) nodes
 found_from_reached moves seats mark start nodes all =
-    All-weaker (IsReached moves seats mark start None) (IsFound moves seats start) (λ node reached. record { path = reached.path; fewest = reached.fewest; ended = reached.ended }) nodes all
+    All-weaker (IsReached moves seats mark start None) (IsFound moves seats start) (λ node reached. record { some = reached.some; fewest = reached.fewest; ended = reached.ended }) nodes all
 
 -- a layer that has a node tells of an order
 pub order_from_layer : {S : Type 0} (moves : Moves S) (seats : ℕ) (mark : S → ℕ) (start : S) (steps : ℕ) (nodes : List (Node S)) → 0 < length nodes → All (IsReached moves seats mark start (Some steps)) nodes → HasOrderOf moves seats start steps
 order_from_layer moves seats mark start steps [] some all = absurd (omega (arith, some))
 order_from_layer moves seats mark start steps (node ∷ nodes) some all =
     let reached = All-head (IsReached moves seats mark start (Some steps)) node nodes all in
-    (node.path.items, node.state, reached.path, reached.long)
+    (get_or node.fewest.items 0 [], node.state, reached.fewest 0 [] reached.some, reached.long 0 [] reached.some)
 
 -- a state has ended, or something follows
 pub never_both : {S : Type 0} (moves : Moves S) → IsSettled moves → (seats : ℕ) (state : S) (states : List S) → AreSuccessors moves seats state states → HasEnded moves seats state → 0 < length states → ⊥
 never_both moves settled seats state states follow ended some =
     let none = ap length (none_from_ended moves settled seats state states follow ended) in omega (arith, none, some)
 
--- orders of two nodes of one state
-pub fewest_joined : {S : Type 0} (moves : Moves S) (seats : ℕ) (start : S) (paths others both : List (List ℕ)) (state : S)
-    → All (λ path. Leads moves seats start path state) paths → All (λ path. Leads moves seats start path state) others
-    → All (λ one. Contains paths one ⊎ Contains others one) both → All (λ path. Leads moves seats start path state) both
-fewest_joined moves seats start paths others both state one other from =
-    All-weaker (λ one. Contains paths one ⊎ Contains others one) (λ path. Leads moves seats start path state)
-    (λ path held. elim held as (λ _. Leads moves seats start path state) [
-      | inl was ↦ All-contains (λ path. Leads moves seats start path state) paths path one was
-      | inr is ↦ All-contains (λ path. Leads moves seats start path state) others path other is
+-- what is true of each of some orders and of each of others is true of those that are kept of both
+pub both_kept : (P : List ℕ → Type 0) (paths others both : List (List ℕ)) → All P paths → All P others
+    → All (λ one. Contains paths one ⊎ Contains others one) both → All P both
+both_kept P paths others both one other from =
+    All-weaker (λ one. Contains paths one ⊎ Contains others one) P
+    (λ path held. elim held as (λ _. P path) [
+      | inl was ↦ All-contains P paths path one was
+      | inr is ↦ All-contains P others path other is
     ]) both from

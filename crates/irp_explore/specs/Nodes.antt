@@ -4,9 +4,9 @@ use Rattle.irp_explore.specs.Paths.{HasAsGood}
 use Rattle.irp_explore.specs.Orders.{Moves, Leads, HasEnded, AreSuccessors}
 use Rattle.irp_explore.specs.declared.node.Node.{Node}
 
--- what was found: the node's orders lead to its state, in which no seat has a step left
+-- what was found: the node keeps an order, and each that it keeps leads to its state, in which no seat has a step left
 pub record IsFound {S : Type 0} (moves : Moves S) (seats : ℕ) (start : S) (node : Node S) : Type 0 where
-  pub path : Leads moves seats start node.path.items node.state
+  pub some : 0 < length node.fewest.items
   pub fewest : All (λ path. Leads moves seats start path node.state) node.fewest.items
   pub ended : HasEnded moves seats node.state
 
@@ -27,13 +27,13 @@ abbrev pub HasOrderOf : {S : Type 0} → Moves S → ℕ → S → ℕ → Type 
 HasOrderOf {S} moves seats start steps =
     (path : List ℕ) × (last : S) × Leads moves seats start path last × (length path ≡ steps)
 
--- a node's orders lead to its state, and its mark is the state's. In a layer each path has the same number of steps;
--- where no number is given, the state has ended
+-- a node keeps an order, each that it keeps leads to its state, and its mark is the state's. In a layer each order has
+-- the same number of steps; where no number is given, the state has ended
 pub record IsReached {S : Type 0} (moves : Moves S) (seats : ℕ) (mark : S → ℕ) (start : S) (steps : Option ℕ)
     (node : Node S) : Type 0 where
-  pub path : Leads moves seats start node.path.items node.state
+  pub some : 0 < length node.fewest.items
   pub fewest : All (λ path. Leads moves seats start path node.state) node.fewest.items
-  pub long : IfSome steps (λ steps. length node.path.items ≡ steps)
+  pub long : All (λ path. IfSome steps (λ steps. length path ≡ steps)) node.fewest.items
   pub ended : IfNone steps (HasEnded moves seats node.state)
   pub marked : node.mark ≡ mark node.state
 

@@ -15,16 +15,6 @@ use crate::path::{Path, longer_paths};
 use crate::refusal::{LayerRefusal, NotExplored};
 use std::alloc::{AllocError, Global};
 
-/// A path and one more seat.
-fn longer(alloc: Global, path: &[u32], seat: u32) -> Result<Vec<u32>, AllocError>
-    ensures { IfOk result (λ longer. longer.items ≡ path.now ++ seat ∷ []) }
-{
-    let mut longer = Vec::new(alloc);
-    longer.extend_from_slice(path)?;
-    longer.push(seat)?;
-    Ok(longer)
-}
-
 /// Appends a node for each state that the next step of some seat leads to.
 fn add_successors<M: Machine>(
     alloc: Global,
@@ -53,7 +43,6 @@ fn add_successors<M: Machine>(
                 state,
                 mark,
                 orders: node.orders,
-                path: longer(alloc, &node.path, seat)?,
                 fewest: longer_paths(alloc, &node.fewest, seat)?,
             })?;
         }
@@ -215,15 +204,14 @@ fn first_layer<M: Machine>(
         state: start,
         mark,
         orders: 1,
-        path: Vec::new(alloc),
         fewest,
     })?;
     Ok(layer)
 }
 
 /// Explores each order of the steps of a machine's seats, from a state on. Returns each state in which an order ends,
-/// with how many orders end there, one of them, and some of those that change their seat least often, in the order of
-/// their marks (this project's own rule).
+/// with how many orders end there and some of them, among which is one that changes its seat least often, in the order
+/// of their marks (this project's own rule).
 ///
 /// # Errors
 ///
@@ -237,7 +225,7 @@ pub fn explore<M: Machine>(
     most_steps: u32,
     most_states: usize,
 ) -> Result<Vec<Node<M::State>>, NotExplored>
-    // Each state that was found has ended, and its path is an order that leads to it.
+    // Each state that was found has ended. An order is kept that leads to it, and each that is kept does.
     ensures sound { IfOk result (λ found.
         All (IsFound (M.moves machine.now) (M.seats machine.now) start) found.items) }
     // No state is found twice.

@@ -2,7 +2,7 @@
 
 use crate::path::Path;
 
-/// A state, how many orders lead to it, and one of them (this project's own rule).
+/// A state, how many orders lead to it, and some of them (this project's own rule).
 #[derive(Drop)]
 pub struct Node<S> {
     pub state: S,
@@ -10,8 +10,7 @@ pub struct Node<S> {
     pub(crate) mark: u64,
     /// How many orders lead to the state, 1 to 2^128 - 1.
     pub orders: u128,
-    /// One of these orders: the seats of its steps, one after another.
-    pub path: Vec<u32>,
-    /// Some of these orders. Of any order that leads to the state, one of them changes its seat no more often.
+    /// Some of these orders, one at least. Of any order that leads to the state, one of them changes its seat no more
+    /// often.
     pub fewest: Vec<Path>,
 }

@@ -12,14 +12,19 @@ use std::marker::Model;
 #[derive(Drop)]
 pub struct Path {
     seats: Vec<u32>,
+    /// How often the seat changes along them.
+    changes: usize,
 }
 
 impl Model for Path {
-    ghost use Rattle.std.specs.Prelude.{ℕ, List};
+    ghost use Rattle.std.specs.Prelude.{◌≡◌, ℕ, List};
+    ghost use Rattle.irp_explore.specs.Paths.{changes_of};
 
     ghost Value = { List ℕ };
 
     ghost view = { λ path. path.seats.items };
+
+    ghost invariant = { λ path. path.changes ≡ changes_of path.seats.items };
 }
 
 /// How often the seat changes between the last step, if there is one, and a step of this seat.
@@ -33,19 +38,6 @@ fn seam(last: Option<u32>, seat: u32) -> usize
     }
 }
 
-/// How often the seat changes along an order.
-fn changes_of(path: &[u32]) -> usize
-    ensures { result ≡ changes_of path.now }
-{
-    let mut changes = 0;
-    let mut last = None;
-    for seat in path {
-        changes += seam(last, *seat);
-        last = Some(*seat);
-    }
-    changes
-}
-
 impl Path {
     /// The order that has no step.
     pub(crate) fn new(alloc: Global) -> Path
@@ -53,6 +45,7 @@ impl Path {
     {
         Path {
             seats: Vec::new(alloc),
+            changes: 0,
         }
     }
 
@@ -67,7 +60,7 @@ impl Path {
     fn changes(&self) -> usize
         ensures { result ≡ changes_of self.now }
     {
-        changes_of(&self.seats)
+        self.changes
     }
 
     /// The seat of its last step.
@@ -88,14 +81,24 @@ impl Path {
         self.last() == other.last()
     }
 
+    /// How often the seat changes along it with one more step.
+    fn changes_with(&self, seat: u32) -> usize
+        ensures { result ≡ changes_of (self.now ++ seat ∷ []) }
+    {
+        self.changes + seam(self.last(), seat)
+    }
+
     /// The order with one more step.
     fn longer(&self, alloc: Global, seat: u32) -> Result<Path, AllocError>
         ensures { IfOk result (λ longer. longer ≡ self.now ++ seat ∷ []) }
     {
-        let mut seats = Vec::new(alloc);
+        let mut seats = Vec::with_capacity(alloc, self.seats.len() + 1)?;
         seats.extend_from_slice(&self.seats)?;
         seats.push(seat)?;
-        Ok(Path { seats })
+        Ok(Path {
+            seats,
+            changes: self.changes_with(seat),
+        })
     }
 }
 
@@ -137,7 +140,7 @@ pub(crate) fn add_paths(paths: &mut Vec<Path>, mut others: Vec<Path>) -> Result<
     Ok(())
 }
 
-/// The orders with one more step, those to which none of the others is as good.
+/// Of the orders with one more step one that changes its seat least often, since then it is as good as each.
 pub(crate) fn longer_paths(
     alloc: Global,
     paths: &[Path],
@@ -148,10 +151,17 @@ pub(crate) fn longer_paths(
     ensures only { IfOk result (λ longer. All (λ one. (before : List ℕ)
         × Contains paths.now before × (one ≡ before ++ seat ∷ [])) longer.items) }
 {
-    let mut longer = Vec::new(alloc);
-    for path in paths {
-        add_path(&mut longer, path.longer(alloc, seat)?)?;
+    let mut longer = Vec::with_capacity(alloc, 1)?;
+    if paths.is_empty() {
+        return Ok(longer);
     }
+    let mut best = 0;
+    for place in 1..paths.len() {
+        if paths[place].changes_with(seat) < paths[best].changes_with(seat) {
+            best = place;
+        }
+    }
+    longer.push(paths[best].longer(alloc, seat)?)?;
     Ok(longer)
 }
 

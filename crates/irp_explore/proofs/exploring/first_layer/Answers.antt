@@ -5,28 +5,28 @@ use Rattle.irp_explore.proofs.exploring.first_layer.Goals as goal
 
 pub returns-clause-weight : goal.returns-clause-weight
 returns-clause-weight g c = λ number.
-    let node : Node g.row.M-State.Denot = record { state = c.args.start; mark = c.mark-mark.result; orders = 1; path = c.new-2.result; fewest = c.push.new.self } in
+    let node : Node g.row.M-State.Denot = record { state = c.args.start; mark = c.mark-mark.result; orders = 1; fewest = c.push.new.self } in
     let is : c.push-2.new.self.items ≡ node ∷ [] = c.in_ok-push-2.ensures.items ∙ ap (λ nodes. nodes ++ node ∷ []) c.new-layer.ensures.items in
     first_weight number c.push-2.new.self.items node is refl
 
 pub returns-clause-reached : goal.returns-clause-reached
 returns-clause-reached g c =
-    let node : Node g.row.M-State.Denot = record { state = c.args.start; mark = c.mark-mark.result; orders = 1; path = c.new-2.result; fewest = c.push.new.self } in
+    let node : Node g.row.M-State.Denot = record { state = c.args.start; mark = c.mark-mark.result; orders = 1; fewest = c.push.new.self } in
     let is : c.push-2.new.self.items ≡ node ∷ [] = c.in_ok-push-2.ensures.items ∙ ap (λ nodes. nodes ++ node ∷ []) c.new-layer.ensures.items in
     let fewest : c.push.new.self.items ≡ [] ∷ [] =
     c.in_ok-push.ensures.items ∙ ap (λ paths. paths ++ c.new.result ∷ []) c.new-fewest.ensures.items ∙ ap (λ (path : List ℕ). path ∷ []) c.new.ensures in
     first_reached (g.M.Machine.moves c.args.machine.now) (g.M.Machine.seats c.args.machine.now) (g.M.Machine.mark c.args.machine.now) c.args.start c.push-2.new.self.items node is refl
-    c.mark-mark.ensures c.new-2.ensures.items fewest
+    c.mark-mark.ensures fewest
 
 pub returns-clause-held : goal.returns-clause-held
 returns-clause-held g c =
-    let node : Node g.row.M-State.Denot = record { state = c.args.start; mark = c.mark-mark.result; orders = 1; path = c.new-2.result; fewest = c.push.new.self } in
+    let node : Node g.row.M-State.Denot = record { state = c.args.start; mark = c.mark-mark.result; orders = 1; fewest = c.push.new.self } in
     let is : c.push-2.new.self.items ≡ node ∷ [] = c.in_ok-push-2.ensures.items ∙ ap (λ nodes. nodes ++ node ∷ []) c.new-layer.ensures.items in
     first_held c.args.start c.push-2.new.self.items node is refl
 
 pub returns-clause-matched : goal.returns-clause-matched
 returns-clause-matched g c =
-    let node : Node g.row.M-State.Denot = record { state = c.args.start; mark = c.mark-mark.result; orders = 1; path = c.new-2.result; fewest = c.push.new.self } in
+    let node : Node g.row.M-State.Denot = record { state = c.args.start; mark = c.mark-mark.result; orders = 1; fewest = c.push.new.self } in
     let is : c.push-2.new.self.items ≡ node ∷ [] = c.in_ok-push-2.ensures.items ∙ ap (λ nodes. nodes ++ node ∷ []) c.new-layer.ensures.items in
     let fewest : c.push.new.self.items ≡ [] ∷ [] =
     c.in_ok-push.ensures.items ∙ ap (λ paths. paths ++ c.new.result ∷ []) c.new-fewest.ensures.items ∙ ap (λ (path : List ℕ). path ∷ []) c.new.ensures in

@@ -1,4 +1,4 @@
-use Rattle.std.proofs.Common.{arith, ◌≡◌, ◌≢◌, ◌<◌, ◌≤◌, ◌∷◌, ◌++◌, [], All, length, get_or, Contains, sym, ap, subst, ◌∙◌, refl}
+use Rattle.std.proofs.Common.{arith, ◌≡◌, ◌≢◌, ◌<◌, ◌≤◌, ◌∷◌, ◌++◌, [], ℕ, List, All, IfSome, length, get_or, Contains, sym, ap, subst, ◌∙◌, refl}
 use Rattle.std.proofs.lemmas.List.Elements.{All-push, All-same, All-set, All-get_or, Contains-get_or, Contains-append_left}
 use Rattle.std.proofs.lemmas.List.{get_or-map, length-map}
 use Rattle.irp_explore.specs.declared.node.Node.{Node}
@@ -6,7 +6,8 @@ use Rattle.irp_explore.specs.Orders.{Leads}
 use Rattle.irp_explore.specs.Nodes.{states_of, IsReached}
 use Rattle.irp_explore.proofs.Weighing.{joined_weight, joined_states, pushed_states}
 use Rattle.irp_explore.proofs.Apart.{apart_set, apart_push, falling_set, falling_push, floor_set}
-use Rattle.irp_explore.proofs.Reaching.{fewest_joined}
+use Rattle.irp_explore.proofs.Keeping.{some_still}
+use Rattle.irp_explore.proofs.Reaching.{both_kept}
 use Rattle.irp_explore.proofs.Matching.{push_matched, push_still, set_matched, set_still}
 use Rattle.irp_explore.proofs.joining.join_one.Goals as goal
 
@@ -28,11 +29,17 @@ returns-clause-reached g c = λ start steps all one.
     let before : reached other = rw c.index_mut-other.ensures.value at in
     let same : other.state ≡ c.args.node.state =
     ap (λ node. node.state) c.index_mut-other.ensures.value ∙ ap (λ nodes. (get_or nodes c.in-Some.place other).state) (sym c.deref.ensures.value) ∙ c.in-Some.ensures.same other in
-    let fewest = fewest_joined (g.M.Machine.moves c.args.machine.now) (g.M.Machine.seats c.args.machine.now) start other.fewest.items c.args.node.fewest.items _ other.state
-    before.fewest (subst (λ state. All (λ path. Leads (g.M.Machine.moves c.args.machine.now) (g.M.Machine.seats c.args.machine.now) start path state) c.args.node.fewest.items) (sym same) one.fewest)
-    c.in_ok-add_paths.ensures.only in
+    let Led = λ (path : List ℕ). Leads (g.M.Machine.moves c.args.machine.now) (g.M.Machine.seats c.args.machine.now) start path other.state in
+    let led = subst (λ state. All (λ path. Leads (g.M.Machine.moves c.args.machine.now) (g.M.Machine.seats c.args.machine.now) start path state) c.args.node.fewest.items) (sym same) one.fewest in
+    let only = c.in_ok-add_paths.ensures.only in
     All-set reached c.args.joined.now.items c.in-Some.place _
-    (record { path = before.path; fewest = fewest; long = before.long; ended = before.ended; marked = before.marked }) all
+    (record {
+      some = some_still (λ path. path) other.fewest.items _ c.in_ok-add_paths.ensures.kept before.some;
+      fewest = both_kept Led other.fewest.items c.args.node.fewest.items _ before.fewest led only;
+      long = both_kept (λ path. IfSome steps (λ steps. length path ≡ steps)) other.fewest.items c.args.node.fewest.items _ before.long one.long only;
+      ended = before.ended;
+      marked = before.marked;
+    }) all
 
 pub returns-clause-matched : goal.returns-clause-matched
 returns-clause-matched g c = λ path good.

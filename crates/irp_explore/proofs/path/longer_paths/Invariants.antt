@@ -1,10 +1,10 @@
-use Rattle.std.proofs.Common.{ℕ, ◌≡◌, ◌++◌, ◌∷◌, [], List, All, Contains, take}
-use Rattle.irp_explore.specs.Paths.{HasAsGood}
+use Rattle.std.proofs.Common.{ℕ, ◌++◌, ◌∷◌, [], ◌<◌, ◌≤◌, List, length, get_or}
+use Rattle.irp_explore.specs.Paths.{changes_of}
 use Rattle.irp_explore.proofs.path.longer_paths.Given as goal
 
-abbrev pub invariant-loop-path : goal.invariant-loop-path
-invariant-loop-path l =
-    record {
-      held : (other : List ℕ) → HasAsGood (take l.path-index l.paths) other → HasAsGood l.longer.items (other ++ l.seat ∷ []);
-      only : All (λ one. (before : List ℕ) × Contains l.paths before × (one ≡ before ++ l.seat ∷ [])) l.longer.items;
-    }
+abbrev pub invariant-loop-place : goal.invariant-loop-place
+invariant-loop-place l = record {
+  there : l.best < length l.paths;
+  fewest : (k : ℕ) (d : List ℕ) → k < l.place → k < length l.paths
+      → changes_of (get_or l.paths l.best d ++ l.seat ∷ []) ≤ changes_of (get_or l.paths k d ++ l.seat ∷ []);
+}

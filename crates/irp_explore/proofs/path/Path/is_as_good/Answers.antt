@@ -12,5 +12,5 @@ pub returns : goal.returns
 returns c = λ same.
     let seats = same_seats c.last.result c.last-2.result (sym c.eq.ensures ∙ same) in
     same_is_good c.args.self.now c.args.other.now
-    (sym c.changes-few.ensures ∙ c.if-few-many.false ∙ c.changes-many.ensures)
+    (omega (arith, c.changes-few.ensures, c.if-few-many.false, c.changes-many.ensures))
     (sym (last_at c.args.self.now) ∙ sym c.last.ensures ∙ seats ∙ c.last-2.ensures ∙ last_at c.args.other.now)
