@@ -3,6 +3,5 @@ pub mod Later
 pub mod Lowest
 pub mod OneHeader
 pub mod Outcomes
-pub mod Quiet
 pub mod Repeats
 pub mod Sorting

@@ -20,7 +20,7 @@ use Rattle.irp_machine.specs.declared.place.Place.TheVariants.{Running, Over}
 use Rattle.irp_machine.specs.Machine.{RulesValue, PlaceSteps, RunningSteps, ClosesTo, StepsTo, act_of}
 use Rattle.irp_machine.specs.Openings.{MakesAll}
 use Rattle.irp_machine.specs.Orders.{AreOrders, AreOutcomes, IsOrder, Tells, AllTell, ends_of, weigh_outcomes}
-use Rattle.irp_machine.specs.Seats.{SeatValue}
+use Rattle.irp_plain.specs.Seats.{SeatValue}
 use Rattle.irp_machine.specs.Standings.{StandingValue}
 
 -- ---- places

@@ -1,5 +1,5 @@
--- Calls of the manager of a script, and the states that they lead to.
-use Rattle.std.specs.Prelude.{ℕ, ◌≡◌, ◌<◌, Bool, true, List, [], ◌∷◌, None, is_some}
+-- Calls of the manager of a script.
+use Rattle.std.specs.Prelude.{ℕ, ◌≡◌, ◌<◌, Bool, true, List, None, is_some}
 use Rattle.irp_types.specs.Calls.{Call}
 use Rattle.irp_types.specs.declared.call.Call.TheVariants.{Allocate}
 use Rattle.irp_types.specs.declared.names.IrpRef.{IrpRef}
@@ -12,8 +12,8 @@ use Rattle.irp_types.specs.Steps.{Step}
 use Rattle.irp_types.specs.Histories.{lock_of}
 use Rattle.irp_types.specs.Standing.{StandingFacts}
 use Rattle.irp_manager.specs.Notes.{known_by}
+use Rattle.irp_manager.specs.declared.manager_state.Applied.{Applied}
 use Rattle.irp_script_reader.specs.declared.script.ScriptParts.{ScriptParts}
-use Rattle.irp_machine.specs.declared.parts.Made.{Made}
 use Rattle.irp_machine.specs.Asking.{AreTold}
 
 -- the slot isn't live, and each lower one is
@@ -32,9 +32,9 @@ pub record IsCalled (fixed : Fixed) (script : ScriptParts) (knows : LockNo → B
   pub told : AreTold fixed.tables script asked
   pub lowest : (size : ℕ) (irp : IrpRef) → call ≡ Allocate size → reply ≡ Irp irp → IsLowest old irp.slot
 
--- these calls, one after another, lead from one state to another
-abbrev pub Leads : Fixed → ScriptParts → List Made → StateValue → StateValue → Type 0
-Leads fixed script [] old new = old ≡ new
-Leads fixed script (made ∷ calls) old new =
-    (middle : StateValue) × (drained : Bool) × (reply : Reply)
-    × IsCalled fixed script (λ _. made.knows) old made.call drained reply middle × Leads fixed script calls middle new
+-- a call was made and answered so: what was asked is told, and the lock of the device that it deletes, if it names one
+pub record IsApplied (fixed : Fixed) (script : ScriptParts) (knows : LockNo → Bool) (old : StateValue) (call : Call)
+    (applied : Applied) (new : StateValue) : Type 0 where
+  pub called : IsCalled fixed script knows old call applied.drained applied.reply new
+  pub asked : applied.asked.items ≡ called.asked
+  pub lock : applied.lock ≡ lock_of old call

@@ -9,11 +9,11 @@ use Rattle.irp_machine.specs.declared.outcome.Holder.{Holder}
 use Rattle.irp_machine.specs.declared.outcome.LockEnd.{LockEnd}
 use Rattle.irp_machine.specs.declared.outcome.Replies.{Replies}
 use Rattle.irp_machine.specs.declared.outcome.SlotEnd.{SlotEnd}
-use Rattle.irp_machine.specs.declared.parts.Held.{Held}
-use Rattle.irp_machine.specs.declared.parts.Slot.{Slot}
-use Rattle.irp_machine.specs.Lists.{with_more}
+use Rattle.irp_plain.specs.declared.parts.Held.{Held}
+use Rattle.irp_plain.specs.declared.parts.Slot.{Slot}
+use Rattle.irp_plain.specs.Lists.{with_more}
 use Rattle.irp_machine.specs.Marks.{told_mark}
-use Rattle.irp_machine.specs.Seats.{SeatValue, new_seat}
+use Rattle.irp_plain.specs.Seats.{SeatValue, new_seat}
 use Rattle.irp_machine.specs.Standings.{StandingValue}
 
 -- ---- packets
@@ -65,11 +65,12 @@ replies_of seat = record { told = seat.told }
 
 -- ---- the end
 
--- what is told of the end of a script that stands so, where the manager's state is this
-abbrev pub end_of : StateValue → StandingValue → End
-end_of state standing = record {
+-- what is told of the end of a script that stands so. A new packet gets the lowest slot that isn't live, so each live
+-- packet's slot is below the number of the next use
+abbrev pub end_of : StandingValue → End
+end_of standing = record {
   replies = map replies_of standing.seats;
-  packets = packets_below state (length standing.made);
+  packets = packets_below standing.state standing.state.next_use;
   labels = standing.labels;
   locks = locks_below standing.words standing.seats (length standing.words);
   slots = map slot_end standing.slots;

@@ -1,8 +1,5 @@
 pub mod Asking
-pub mod Lists
 pub mod Marks
-pub mod Seats
-pub mod Changes
 pub mod Standings
 pub mod Next
 pub mod Calling

@@ -2,21 +2,22 @@
 use Rattle.std.specs.Prelude.{ℕ, zero, suc, ◌≡◌, ◌&&◌, Bool, true, false, not, nat_lt, List, length, slice_get, slice_index_or, Option, Some, None, is_some}
 use Rattle.std.specs.List.{list_any}
 use Rattle.std.specs.Option.{option_map, option_and_then}
-use Rattle.irp_types.specs.State.{StateValue, Fixed, opening_state}
+use Rattle.irp_types.specs.State.{StateValue, Fixed}
 use Rattle.irp_types.specs.declared.names.LockNo.{LockNo}
 use Rattle.irp_types.specs.declared.reply.Reply.{Reply}
 use Rattle.irp_script_reader.specs.declared.script.ScriptParts.{ScriptParts}
 use Rattle.irp_machine.specs.declared.parts.Calling.{Calling}
-use Rattle.irp_machine.specs.declared.parts.Change.{Change}
+use Rattle.irp_plain.specs.declared.parts.Change.{Change}
+use Rattle.irp_plain.specs.declared.parts.Learned.{Learned}
 use Rattle.irp_machine.specs.declared.parts.Next.{Next}
 use Rattle.irp_machine.specs.declared.parts.Next.TheVariants.{Changes, Calls}
 use Rattle.irp_machine.specs.declared.parts.Planned.{Planned}
 use Rattle.irp_machine.specs.declared.place.Place.{Place}
 use Rattle.irp_machine.specs.declared.place.Place.TheVariants.{Running, Over}
-use Rattle.irp_machine.specs.Seats.{SeatValue, new_seat, is_drained}
-use Rattle.irp_machine.specs.Standings.{StandingValue, after_change}
+use Rattle.irp_plain.specs.Seats.{SeatValue, new_seat, is_drained}
+use Rattle.irp_machine.specs.Standings.{StandingValue, after_change, with_state}
 use Rattle.irp_machine.specs.Next.{next_of, called}
-use Rattle.irp_machine.specs.Calling.{IsCalled, Leads}
+use Rattle.irp_machine.specs.Calling.{IsCalled}
 use Rattle.irp_machine.specs.declared.outcome.End.{End}
 use Rattle.irp_machine.specs.Endings.{end_of, end_mark}
 
@@ -40,33 +41,52 @@ act_of rules standing seat =
     option_and_then (λ (acts : List Planned). slice_get acts own.made) (slice_get rules.acts seat))
     (slice_get standing.seats seat)
 
--- which locks a seat knows to be drained
-abbrev pub knows_of : SeatValue → LockNo → Bool
-knows_of seat lock = list_any (is_drained lock.0) seat.learned
+-- which locks are known to be drained
+abbrev pub knows_of : List Learned → LockNo → Bool
+knows_of learned lock = list_any (is_drained lock.0) learned
 
--- a change is that of a call of a seat: the manager's state is the one that the calls so far lead to, and the reply is
--- the one that it gives
+-- a change is that of a call of a seat, which the manager answered, and this is its state then
 pub record IsCallOf (rules : RulesValue) (standing : StandingValue) (seat : ℕ) (planned : Planned) (calling : Calling)
     (change : Change) : Type 0 where
-  pub before : StateValue
   pub after : StateValue
   pub drained : Bool
   pub reply : Reply
-  pub leads : Leads rules.fixed rules.script standing.made opening_state before
   pub call :
-      IsCalled rules.fixed rules.script (knows_of (seat_at standing seat)) before calling.call drained reply after
-  pub changes : change ≡ called planned calling drained reply
+      IsCalled rules.fixed rules.script (knows_of (seat_at standing seat).learned) standing.state calling.call drained reply
+      after
+  pub changes : change ≡ called planned calling reply
 
 -- a change is the one that comes next
 abbrev pub IsNext : RulesValue → StandingValue → ℕ → Planned → Next → Change → Type 0
 IsNext rules standing seat planned (Changes one) change = change ≡ one
 IsNext rules standing seat planned (Calls calling) change = IsCallOf rules standing seat planned calling change
 
+-- the manager's state behind a change: a call's, or the one before
+abbrev pub state_behind :
+    (rules : RulesValue) (standing : StandingValue) (seat : ℕ) (planned : Planned) (next : Next) (change : Change)
+    → IsNext rules standing seat planned next change → StateValue
+state_behind rules standing seat planned (Changes one) change is = standing.state
+state_behind rules standing seat planned (Calls calling) change call = call.after
+
+-- where the script stands behind a change that comes next
+abbrev pub stepped :
+    (rules : RulesValue) (standing : StandingValue) (seat : ℕ) (planned : Planned) (next : Next) (change : Change)
+    → IsNext rules standing seat planned next change → StandingValue
+stepped rules standing seat planned next change is =
+    after_change seat change planned.step rules.tells
+    (with_state standing (state_behind rules standing seat planned next change is))
+
+-- this change comes next, and beside it the manager's state changes
+abbrev pub Acts : RulesValue → StandingValue → ℕ → Planned → Next → StandingValue → Change → Type 0
+Acts rules standing seat planned next new change =
+    (is : IsNext rules standing seat planned next change)
+    × (new ≡ with_state standing (state_behind rules standing seat planned next change is))
+
 -- the next step of a seat in an act
 abbrev pub Makes : RulesValue → StandingValue → ℕ → Planned → Next → StandingValue → Type 0
 Makes rules standing seat planned next new =
-    (change : Change) × IsNext rules standing seat planned next change
-    × (new ≡ after_change seat change planned.step rules.tells standing)
+    (change : Change) × (is : IsNext rules standing seat planned next change)
+    × (new ≡ stepped rules standing seat planned next change is)
 
 -- the next step of a seat: none where it has no act left
 abbrev pub StepsTo : RulesValue → StandingValue → ℕ → Option Planned → Option StandingValue → Type 0
@@ -87,9 +107,7 @@ has_ended rules standing = has_ended_below rules standing (length rules.acts)
 
 -- the last step: how the script has ended is told, once no seat has an act left
 abbrev pub ClosesIf : RulesValue → StandingValue → Bool → Option End → Type 0
-ClosesIf rules standing true after =
-    (state : StateValue) × Leads rules.fixed rules.script standing.made opening_state state
-    × (after ≡ Some (end_of state standing))
+ClosesIf rules standing true after = after ≡ Some (end_of standing)
 ClosesIf rules standing false after = after ≡ None
 
 abbrev pub ClosesTo : RulesValue → StandingValue → Option End → Type 0

@@ -4,11 +4,11 @@ use Rattle.irp_types.specs.declared.reply.Reply.{Reply}
 use Rattle.irp_types.specs.declared.reply.Reply.TheVariants.{Done, Device, Irp, Status, Previous, Cancelled, Seen, Refused}
 use Rattle.irp_transcript.specs.declared.word_line.WordReply.{WordReply}
 use Rattle.irp_transcript.specs.declared.word_line.WordReply.TheVariants.{Busy, Taken, Acquired, DeletePending, Yes, Standing, Lost}
-use Rattle.irp_machine.specs.declared.parts.After.{After}
-use Rattle.irp_machine.specs.declared.parts.After.TheVariants.{In, Told, Binds, Bound}
-use Rattle.irp_machine.specs.declared.told.Answered.{Answered}
-use Rattle.irp_machine.specs.declared.told.Told.{Told as ToldOf}
-use Rattle.irp_machine.specs.declared.told.Answered.TheVariants.{Reply as Replied, Word}
+use Rattle.irp_plain.specs.declared.parts.After.{After}
+use Rattle.irp_plain.specs.declared.parts.After.TheVariants.{In, Told, Binds, Bound}
+use Rattle.irp_plain.specs.declared.answered.Answered.{Answered}
+use Rattle.irp_plain.specs.declared.answered.Told.{Told as ToldOf}
+use Rattle.irp_plain.specs.declared.answered.Answered.TheVariants.{Reply as Replied, Word}
 
 -- of a reply of the manager
 abbrev pub reply_mark : Reply → ℕ

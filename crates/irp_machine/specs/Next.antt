@@ -1,7 +1,6 @@
 -- What a seat does next.
-use Rattle.std.specs.Prelude.{ℕ, ◌&&◌, Bool, true, false, not, if◌then◌else◌, List, slice_get, Option, Some, None, is_some, unwrap_or, position}
+use Rattle.std.specs.Prelude.{ℕ, ◌&&◌, Bool, true, not, if◌then◌else◌, List, slice_get, Option, Some, None, is_some, unwrap_or, position}
 use Rattle.std.specs.Option.{option_map_or, option_and_then}
-use Rattle.std.specs.Bool.{then_some}
 use Rattle.irp_types.specs.Calls.{Call, packet_named}
 use Rattle.irp_types.specs.Calls as calls
 use Rattle.irp_types.specs.declared.call.Call.TheVariants.{FinishTaken, Reuse, Look}
@@ -14,21 +13,21 @@ use Rattle.irp_script_reader.specs.declared.act.Named.{Named}
 use Rattle.irp_script_reader.specs.declared.act.Named.TheVariants.{Label, Irp}
 use Rattle.irp_script_reader.specs.declared.act.StepAct.{StepAct}
 use Rattle.irp_script_reader.specs.declared.act.StepAct.TheVariants as does
-use Rattle.irp_machine.specs.declared.parts.Stage.{Stage}
-use Rattle.irp_machine.specs.declared.parts.Stage.TheVariants as stages
-use Rattle.irp_machine.specs.declared.parts.Taken.{Taken}
-use Rattle.irp_machine.specs.declared.parts.After.{After}
-use Rattle.irp_machine.specs.declared.parts.After.TheVariants.{In, Told, Binds}
-use Rattle.irp_machine.specs.declared.parts.NewLabel.{NewLabel}
-use Rattle.irp_machine.specs.declared.parts.Change.{Change}
+use Rattle.irp_plain.specs.declared.parts.Stage.{Stage}
+use Rattle.irp_plain.specs.declared.parts.Stage.TheVariants as stages
+use Rattle.irp_plain.specs.declared.parts.Taken.{Taken}
+use Rattle.irp_plain.specs.declared.parts.After.{After}
+use Rattle.irp_plain.specs.declared.parts.After.TheVariants.{In, Told, Binds}
+use Rattle.irp_plain.specs.declared.parts.NewLabel.{NewLabel}
+use Rattle.irp_plain.specs.declared.parts.Change.{Change}
 use Rattle.irp_machine.specs.declared.parts.Planned.{Planned}
 use Rattle.irp_machine.specs.declared.parts.Calling.{Calling}
 use Rattle.irp_machine.specs.declared.parts.Next.{Next}
 use Rattle.irp_machine.specs.declared.parts.Next.TheVariants.{Changes, Calls}
-use Rattle.irp_machine.specs.declared.told.Answered.TheVariants.{Reply as Replied}
-use Rattle.irp_machine.specs.Seats.{SeatValue, is_taken}
+use Rattle.irp_plain.specs.declared.answered.Answered.TheVariants.{Reply as Replied}
+use Rattle.irp_plain.specs.Seats.{SeatValue, is_taken}
 use Rattle.irp_machine.specs.Standings.{StandingValue}
-use Rattle.irp_machine.specs.Changes as change
+use Rattle.irp_plain.specs.Changes as change
 
 -- what a label stands for that isn't bound
 abbrev pub unbound : IrpRef
@@ -132,15 +131,6 @@ next_of standing seat planned = next_by planned.act standing seat planned
 
 -- ---- behind a call
 
--- a call that was answered so changed the manager's state: one that is refused or looks changes nothing
-abbrev pub is_refused : Reply → Bool
-is_refused (manager.Refused refusal) = true
-is_refused other = false
-
-abbrev pub has_changed : Call → Reply → Bool
-has_changed (Look irp) reply = false
-has_changed call reply = not (is_refused reply)
-
 -- the packet that a label is to stand for behind a call, where the act binds one
 abbrev pub binding_of : Option ℕ → Reply → Option NewLabel
 binding_of (Some label) (manager.Irp irp) = Some (record { label = label; irp = irp })
@@ -160,10 +150,9 @@ spent spends manager.Done = spends
 spent spends other = None
 
 -- what a call changes that was answered so
-abbrev pub called : Planned → Calling → Bool → Reply → Change
-called planned calling knows reply =
+abbrev pub called : Planned → Calling → Reply → Change
+called planned calling reply =
     record (change.only (after_call planned.binds_alone (binding planned.act reply) reply)) {
       label = if planned.binds_alone then None else binding planned.act reply;
       spends = spent calling.spends reply;
-      made = then_some (has_changed calling.call reply) (record { call = calling.call; knows = knows });
     }

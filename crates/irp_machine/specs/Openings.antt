@@ -1,16 +1,16 @@
 -- Where a script stands as the steps of its seats begin, and where these lead.
 use Rattle.std.specs.Prelude.{ℕ, ◌≡◌, Bool, false, List, [], ◌∷◌, map, replicate, Some}
+use Rattle.irp_types.specs.State.{StateValue, opening_state}
 use Rattle.irp_types.specs.declared.names.IrpRef.{IrpRef}
 use Rattle.irp_transcript.specs.Headers.{fixed_of, slots_of}
 use Rattle.irp_transcript.specs.declared.header.Header.{Header}
 use Rattle.irp_script_reader.specs.declared.act.Step.{Step}
 use Rattle.irp_script_reader.specs.declared.script.ScriptParts.{ScriptParts}
-use Rattle.irp_machine.specs.declared.parts.Made.{Made}
-use Rattle.irp_machine.specs.declared.parts.Slot.{Slot}
+use Rattle.irp_plain.specs.declared.parts.Slot.{Slot}
 use Rattle.irp_machine.specs.Machine.{RulesValue, StepsTo, act_of}
 use Rattle.irp_machine.specs.Next.{unbound}
 use Rattle.irp_machine.specs.Planning.{acts_below}
-use Rattle.irp_machine.specs.Seats.{new_seat}
+use Rattle.irp_plain.specs.Seats.{new_seat}
 use Rattle.irp_machine.specs.Standings.{StandingValue}
 
 -- the rules of these steps of a script; labels that others of the rivals bind are read and bound alone
@@ -33,11 +33,11 @@ MakesAll rules old (seat ∷ path) new =
 abbrev pub empty_slot : Slot
 empty_slot = record { flag = false; content = 0; used = false; stands = false }
 
--- nobody has made a step yet; the manager has these calls behind it, and the labels stand for this
-abbrev pub begun : Header → List Made → List IrpRef → StandingValue
-begun header made labels = record {
+-- nobody has made a step yet; this is the manager's state, and the labels stand for this
+abbrev pub begun : Header → StateValue → List IrpRef → StandingValue
+begun header state labels = record {
   mark = 0;
-  made = made;
+  state = state;
   labels = labels;
   words = replicate header.locks 0;
   slots = replicate (slots_of header.form) empty_slot;
@@ -46,16 +46,16 @@ begun header made labels = record {
 
 -- before the setup no label is bound
 abbrev pub first_standing : Header → ScriptParts → StandingValue
-first_standing header script = begun header [] (replicate script.labels unbound)
+first_standing header script = begun header opening_state (replicate script.labels unbound)
 
 -- the seats of steps
 abbrev pub seats_of : List Step → List ℕ
 seats_of steps = map (λ (step : Step). step.seat) steps
 
--- the setup was made in the script's order; its calls and labels stay, and all else begins anew
+-- the setup was made in the script's order; the manager's state and the labels stay, and all else begins anew
 abbrev pub Opens : Header → ScriptParts → StandingValue → Type 0
 Opens header script start =
     (ended : StandingValue)
     × MakesAll (rules_of header script [] script.setup false)
     (first_standing header script) (seats_of script.setup) ended
-    × (start ≡ begun header ended.made ended.labels)
+    × (start ≡ begun header ended.state ended.labels)

@@ -1,24 +1,16 @@
 -- Orders made again, and recorded.
 use Rattle.std.specs.Prelude.{ℕ, zero, suc, ◌≡◌, Bool, false, true, List, [], ◌∷◌, ◌++◌, filter_map, Option, Some, None, slice_get, slice_index_or}
-use Rattle.std.specs.List.{list_any}
 use Rattle.std.specs.Option.{option_map, option_and_then}
-use Rattle.irp_types.specs.State.{StateValue, Fixed, opening_state}
-use Rattle.irp_types.specs.Calls.{Call}
 use Rattle.irp_types.specs.declared.call.Call.TheVariants.{FinishTaken}
 use Rattle.irp_types.specs.declared.entry.Entry.{Entry}
-use Rattle.irp_types.specs.declared.names.LockNo.{LockNo}
-use Rattle.irp_types.specs.declared.reply.Reply.{Reply}
 use Rattle.irp_types.specs.declared.seat_act.SlotAct.TheVariants as slots
 use Rattle.irp_types.specs.Histories.{LeadsTo, lock_of}
-use Rattle.irp_types.specs.Standing.{StandingFacts}
 use Rattle.irp_transcript.specs.Headers.{IsHeader, fixed_of}
 use Rattle.irp_transcript.specs.Transcripts.{TranscriptValue}
 use Rattle.irp_transcript.specs.declared.header.Header.{Header}
 use Rattle.irp_transcript.specs.declared.word_line.Act.{Act}
 use Rattle.irp_transcript.specs.declared.word_line.Act.TheVariants as word
 use Rattle.irp_transcript.specs.declared.word_line.WordLine.{WordLine}
-use Rattle.irp_manager.specs.ManagerStates.{state_of, Agrees}
-use Rattle.irp_manager.specs.Slots.{live_of}
 use Rattle.irp_script_reader.specs.declared.act.Step.{Step}
 use Rattle.irp_script_reader.specs.declared.act.StepAct.{StepAct}
 use Rattle.irp_script_reader.specs.declared.act.StepAct.TheVariants as does
@@ -26,52 +18,48 @@ use Rattle.irp_script_reader.specs.declared.script.ScriptParts.{ScriptParts}
 use Rattle.irp_machine.specs.declared.outcome.End.{End}
 use Rattle.irp_machine.specs.declared.outcome.Outcome.{Outcome}
 use Rattle.irp_machine.specs.declared.parts.Calling.{Calling}
-use Rattle.irp_machine.specs.declared.parts.Change.{Change}
-use Rattle.irp_machine.specs.declared.parts.Learned.{Learned}
-use Rattle.irp_machine.specs.declared.parts.Made.{Made}
+use Rattle.irp_plain.specs.declared.parts.Change.{Change}
 use Rattle.irp_machine.specs.declared.parts.Next.{Next}
 use Rattle.irp_machine.specs.declared.parts.Next.TheVariants.{Changes, Calls}
 use Rattle.irp_machine.specs.declared.parts.Planned.{Planned}
-use Rattle.irp_machine.specs.declared.recorded.Recorded.{Recorded}
-use Rattle.irp_machine.specs.declared.told.Answered.{Answered}
-use Rattle.irp_machine.specs.declared.told.Answered.TheVariants.{Reply as Replied, Word}
-use Rattle.irp_machine.specs.declared.told.Told.{Told}
-use Rattle.irp_machine.specs.Calling.{IsCalled, Leads}
+use Rattle.irp_plain.specs.declared.answered.Answered.{Answered}
+use Rattle.irp_plain.specs.declared.answered.Answered.TheVariants.{Reply as Replied, Word}
+use Rattle.irp_plain.specs.declared.answered.Told.{Told}
 use Rattle.irp_machine.specs.Endings.{end_of}
 use Rattle.irp_machine.specs.Headers.{IsHeaderOf}
-use Rattle.irp_machine.specs.Machine.{RulesValue, IsCallOf, act_of, seat_at}
+use Rattle.irp_machine.specs.Machine.{RulesValue, Acts, IsCallOf, IsNext, Makes, act_of, seat_at}
 use Rattle.irp_machine.specs.Next.{next_of}
 use Rattle.irp_machine.specs.Openings.{Opens, begun, first_standing, rules_of, seats_of}
 use Rattle.irp_machine.specs.Orders.{AreOutcomesOf, IsOrder}
-use Rattle.irp_machine.specs.Seats.{SeatValue, is_drained, new_seat}
-use Rattle.irp_machine.specs.Standings.{StandingValue, after_change}
+use Rattle.irp_plain.specs.Seats.{SeatValue, new_seat}
+use Rattle.irp_machine.specs.Standings.{StandingValue}
 
 -- ---- entries
 
--- an entry tells a call of a seat, which changes this: it was made and answered so
+-- an entry tells a call of a seat, which was made and answered so
 pub record TellsCall (rules : RulesValue) (standing : StandingValue) (seat : ℕ) (planned : Planned) (calling : Calling)
-    (change : Change) (entry : Entry) : Type 0 where
-  pub made : IsCallOf rules standing seat planned calling change
+    (change : Change) (made : IsCallOf rules standing seat planned calling change) (entry : Entry) : Type 0 where
   pub caller : entry.seat ≡ seat
   pub call : entry.call ≡ calling.call
   pub asked : entry.asked ≡ made.call.asked
   pub reply : entry.reply ≡ made.reply
-  pub lock : entry.lock ≡ lock_of made.before calling.call
+  pub lock : entry.lock ≡ lock_of standing.state calling.call
   pub drained : entry.drained ≡ made.drained
 
 -- what is recorded of a step: of a call its entry, behind the others; of any other step nothing
-abbrev pub Records : RulesValue → StandingValue → ℕ → Planned → Next → Change → List Entry → List Entry → Type 0
-Records rules standing seat planned (Changes one) change old new = (change ≡ one) × (new ≡ old)
-Records rules standing seat planned (Calls calling) change old new =
-    (entry : Entry) × TellsCall rules standing seat planned calling change entry × (new ≡ old ++ entry ∷ [])
+abbrev pub Records :
+    (rules : RulesValue) (standing : StandingValue) (seat : ℕ) (planned : Planned) (next : Next) (change : Change)
+    → IsNext rules standing seat planned next change → List Entry → List Entry → Type 0
+Records rules standing seat planned (Changes one) change is old new = new ≡ old
+Records rules standing seat planned (Calls calling) change made old new =
+    (entry : Entry) × TellsCall rules standing seat planned calling change made entry × (new ≡ old ++ entry ∷ [])
 
 -- the next step of a seat was made, in this act, and recorded
 abbrev pub PlaysIn : RulesValue → StandingValue → List Entry → ℕ → Option Planned → StandingValue → List Entry → Type 0
 PlaysIn rules standing old seat None after new = ⊥
 PlaysIn rules standing old seat (Some planned) after new =
-    (change : Change)
-    × Records rules standing seat planned (next_of standing (seat_at standing seat) planned) change old new
-    × (after ≡ after_change seat change planned.step rules.tells standing)
+    (made : Makes rules standing seat planned (next_of standing (seat_at standing seat) planned) after)
+    × Records rules standing seat planned (next_of standing (seat_at standing seat) planned) made.0 made.1 old new
 
 -- the next steps of these seats were made, one after another, and recorded
 abbrev pub Plays : RulesValue → StandingValue → List Entry → List ℕ → StandingValue → List Entry → Type 0
@@ -82,9 +70,9 @@ Plays rules standing old (seat ∷ path) last new =
     × Plays rules middle entries path last new
 
 -- the setup of a script was made, then the next steps of these seats, and recorded. The entries are a legal history
--- that leads to this state, and so do the calls among them that changed it
+-- that leads to the manager's state
 pub record IsPlayed (header : Header) (script : ScriptParts) (tells : Bool) (path : List ℕ) (last : StandingValue)
-    (state : StateValue) (entries : List Entry) : Type 0 where
+    (entries : List Entry) : Type 0 where
   pub ended : StandingValue
   pub front : List Entry
   pub setup :
@@ -92,9 +80,8 @@ pub record IsPlayed (header : Header) (script : ScriptParts) (tells : Bool) (pat
       (first_standing header script) [] (seats_of script.setup) ended front
   pub steps :
       Plays (rules_of header script script.steps script.steps tells)
-      (begun header ended.made ended.labels) front path last entries
-  pub history : LeadsTo (fixed_of header) entries state
-  pub calls : Leads (fixed_of header) script last.made opening_state state
+      (begun header ended.state ended.labels) front path last entries
+  pub history : LeadsTo (fixed_of header) entries last.state
 
 -- ---- word lines
 
@@ -136,8 +123,7 @@ pub record IsReplay (script : ScriptParts) (path : List ℕ) (transcript : Trans
   pub accepted : IsHeader header
   pub told : transcript.header ≡ Some header
   pub last : StandingValue
-  pub state : StateValue
-  pub played : IsPlayed header script true path last state transcript.entries
+  pub played : IsPlayed header script true path last transcript.entries
   pub words : transcript.words ≡ words_below script.steps last.seats header.seats
 
 -- ---- laws
@@ -147,42 +133,24 @@ abbrev pub OrdersHaveHistories : Type 0
 OrdersHaveHistories =
     (header : Header) (script : ScriptParts) (tells : Bool) (start : StandingValue) (path : List ℕ) (end : End)
     → Opens header script start → IsOrder (rules_of header script script.steps script.steps tells) start path end
-    → (last : StandingValue) × (state : StateValue) × (entries : List Entry)
-    × IsPlayed header script tells path last state entries × (end ≡ end_of state last)
+    → (last : StandingValue) × (entries : List Entry) × IsPlayed header script tells path last entries
+    × (end ≡ end_of last)
 
 -- a replay of an outcome's path ends as the outcome, where replies are compared
 abbrev pub ReplaysEndSo : Type 0
 ReplaysEndSo =
     (script : ScriptParts) (outcomes : List Outcome) (k : ℕ) (outcome : Outcome) (transcript : TranscriptValue)
     → AreOutcomesOf script true outcomes → slice_get outcomes k ≡ Some outcome
-    → (replay : IsReplay script outcome.path.items transcript) → outcome.end ≡ end_of replay.state replay.last
+    → (replay : IsReplay script outcome.path.items transcript) → outcome.end ≡ end_of replay.last
 
 -- ---- as a replay is made
 
--- one entry was added, of a call of a seat that knows this of locks
-pub record Adds (fixed : Fixed) (script : ScriptParts) (learned : List Learned) (old : StateValue) (call : Call)
-    (seat : ℕ) (drained : Bool) (reply : Reply) (new : StateValue) (entries longer : List Entry) : Type 0 where
-  pub entry : Entry
-  pub called :
-      IsCalled fixed script (λ (lock : LockNo). list_any (is_drained lock.0) learned) old call drained reply new
-  pub caller : entry.seat ≡ seat
-  pub call_is : entry.call ≡ call
-  pub asked_is : entry.asked ≡ called.asked
-  pub reply_is : entry.reply ≡ reply
-  pub lock : entry.lock ≡ lock_of old call
-  pub drained_is : entry.drained ≡ drained
-  pub grown : longer ≡ entries ++ entry ∷ []
-
--- the entries are a legal history that leads to the manager's state
-pub record IsRecorded (fixed : Fixed) (kept : Recorded) : Type 0 where
-  pub leads : LeadsTo fixed kept.entries.items (state_of live_of kept.manager)
-  pub stands : StandingFacts fixed.tables.counts (state_of live_of kept.manager)
-  pub agrees : Agrees fixed kept.manager
-
--- these calls lead to that state too
-pub record IsMade (fixed : Fixed) (script : ScriptParts) (made : List Made) (kept : Recorded) : Type 0 where
-  pub recorded : IsRecorded fixed kept
-  pub calls : Leads fixed script made opening_state (state_of live_of kept.manager)
+-- this change comes next, the manager's state changes beside it, and what is to be recorded is
+abbrev pub IsActed :
+    RulesValue → StandingValue → ℕ → Planned → Next → List Entry → StandingValue → List Entry → Change → Type 0
+IsActed rules standing seat planned next old new entries change =
+    (acts : Acts rules standing seat planned next new change)
+    × Records rules standing seat planned next change acts.0 old entries
 
 -- the setup was made and recorded; the script then stands at this start
 pub record IsSetUp (header : Header) (script : ScriptParts) (old new : List Entry)
@@ -191,4 +159,4 @@ pub record IsSetUp (header : Header) (script : ScriptParts) (old new : List Entr
   pub setup :
       Plays (rules_of header script [] script.setup false)
       (first_standing header script) old (seats_of script.setup) ended new
-  pub begun : start ≡ begun header ended.made ended.labels
+  pub begun : start ≡ begun header ended.state ended.labels

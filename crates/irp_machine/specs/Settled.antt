@@ -5,7 +5,7 @@ use Rattle.std.specs.Option.{option_map}
 use Rattle.std.proofs.Common.{ap, sym, subst, ◌∙◌, refl, inl, inr, arith}
 use Rattle.std.proofs.lemmas.Bool.{cases_eq, cases_lt}
 use Rattle.irp_types.specs.Calls.{Call}
-use Rattle.irp_types.specs.State.{StateValue, Fixed, opening_state}
+use Rattle.irp_types.specs.State.{StateValue, Fixed}
 use Rattle.irp_types.specs.Packet.{size_of}
 use Rattle.irp_types.specs.Unwinding.{unwound_packet}
 use Rattle.irp_types.specs.Refusals.{first_refusal}
@@ -22,20 +22,18 @@ use Rattle.irp_manager.specs.Laws.{StepIsSettled, IsSameSlot}
 use Rattle.irp_script_reader.specs.declared.script.ScriptParts.{ScriptParts}
 use Rattle.irp_explore.specs.Orders.{IsSettled}
 use Rattle.irp_machine.specs.declared.parts.Calling.{Calling}
-use Rattle.irp_machine.specs.declared.parts.Change.{Change}
-use Rattle.irp_machine.specs.declared.parts.Made.{Made}
+use Rattle.irp_plain.specs.declared.parts.Change.{Change}
 use Rattle.irp_machine.specs.declared.parts.Next.{Next}
 use Rattle.irp_machine.specs.declared.parts.Next.TheVariants.{Changes, Calls}
 use Rattle.irp_machine.specs.declared.parts.Planned.{Planned}
 use Rattle.irp_machine.specs.declared.place.Place.{Place}
 use Rattle.irp_machine.specs.declared.place.Place.TheVariants.{Running, Over}
 use Rattle.irp_machine.specs.Asking.{AreTold, plan_told, answer_told, cancel_told}
-use Rattle.irp_machine.specs.Standings.{StandingValue, after_change}
+use Rattle.irp_machine.specs.Standings.{StandingValue, after_change, with_state}
 use Rattle.irp_machine.specs.Next.{next_of, called}
-use Rattle.irp_machine.specs.Calling.{IsLowest, IsCalled, Leads}
+use Rattle.irp_machine.specs.Calling.{IsLowest, IsCalled}
 use Rattle.irp_machine.specs.declared.outcome.End.{End}
-use Rattle.irp_machine.specs.Endings.{end_of}
-use Rattle.irp_machine.specs.Machine.{RulesValue, IsCallOf, IsNext, Makes, StepsTo, ClosesIf, RunningSteps, PlaceSteps, act_of, has_ended, seat_at, knows_of}
+use Rattle.irp_machine.specs.Machine.{RulesValue, IsCallOf, IsNext, Makes, StepsTo, ClosesIf, RunningSteps, PlaceSteps, act_of, has_ended, seat_at, knows_of, state_behind}
 
 -- ---- calls
 
@@ -105,47 +103,35 @@ module _ (fixed : Fixed) (script : ScriptParts) where
       (told_replies fixed script two.asked two.told) in
       (same, all.1, all.2)
 
-  -- calls lead to one state
-  pub leads_settled : (calls : List Made) (old new another : StateValue) → Leads fixed script calls old new
-      → Leads fixed script calls old another → new ≡ another
-  leads_settled [] old new another one two = sym one ∙ two
-  leads_settled (made ∷ calls) old new another one two =
-      let same = called_settled (λ _. made.knows) old made.call one.1 two.1 one.2 two.2 one.0 two.0 one.3 two.3 in
-      leads_settled calls one.0 new another one.4
-      (subst (λ (middle : StateValue). Leads fixed script calls middle another) (sym same.2) two.4)
-
 -- ---- steps
 
 module _ (rules : RulesValue) (standing : StandingValue) where
   call_settled : (seat : ℕ) (planned : Planned) (calling : Calling) (change other : Change)
-      → IsCallOf rules standing seat planned calling change → IsCallOf rules standing seat planned calling other
-      → change ≡ other
+      → (one : IsCallOf rules standing seat planned calling change)
+      → (two : IsCallOf rules standing seat planned calling other) → (change ≡ other) × (one.after ≡ two.after)
   call_settled seat planned calling change other one two =
-      let before =
-      leads_settled rules.fixed rules.script standing.made opening_state one.before two.before one.leads two.leads in
-      let moved =
-      subst
-      (λ (state : StateValue).
-      IsCalled rules.fixed rules.script (knows_of (seat_at standing seat)) state calling.call two.drained two.reply
-      two.after)
-      (sym before) two.call in
       let same =
-      called_settled rules.fixed rules.script (knows_of (seat_at standing seat)) one.before calling.call
-      one.drained two.drained one.reply two.reply one.after two.after one.call moved in
-      one.changes ∙ ap (λ (drained : Bool). called planned calling drained one.reply) same.0
-      ∙ ap (λ (reply : Reply). called planned calling two.drained reply) same.1 ∙ sym two.changes
+      called_settled rules.fixed rules.script (knows_of (seat_at standing seat).learned) standing.state calling.call
+      one.drained two.drained one.reply two.reply one.after two.after one.call two.call in
+      (one.changes ∙ ap (λ (reply : Reply). called planned calling reply) same.1 ∙ sym two.changes, same.2)
 
   next_settled : (seat : ℕ) (planned : Planned) (next : Next) (change other : Change)
-      → IsNext rules standing seat planned next change → IsNext rules standing seat planned next other → change ≡ other
-  next_settled seat planned (Changes given) change other one two = one ∙ sym two
+      → (one : IsNext rules standing seat planned next change) → (two : IsNext rules standing seat planned next other)
+      → (change ≡ other)
+      × (state_behind rules standing seat planned next change one ≡ state_behind rules standing seat planned next other two)
+  next_settled seat planned (Changes given) change other one two = (one ∙ sym two, refl)
   next_settled seat planned (Calls calling) change other one two =
       call_settled seat planned calling change other one two
 
   makes_settled : (seat : ℕ) (planned : Planned) (next : Next) (new another : StandingValue)
       → Makes rules standing seat planned next new → Makes rules standing seat planned next another → new ≡ another
   makes_settled seat planned next new another one two =
-      one.2 ∙ ap (λ (change : Change). after_change seat change planned.step rules.tells standing)
-      (next_settled seat planned next one.0 two.0 one.1 two.1) ∙ sym two.2
+      let same = next_settled seat planned next one.0 two.0 one.1 two.1 in
+      let behind = state_behind rules standing seat planned next one.0 one.1 in
+      one.2
+      ∙ ap (λ (change : Change). after_change seat change planned.step rules.tells (with_state standing behind)) same.0
+      ∙ ap (λ (state : StateValue). after_change seat two.0 planned.step rules.tells (with_state standing state)) same.1
+      ∙ sym two.2
 
   pub steps_settled : (seat : ℕ) (act : Option Planned) (after other : Option StandingValue)
       → StepsTo rules standing seat act after → StepsTo rules standing seat act other → after ≡ other
@@ -157,9 +143,7 @@ module _ (rules : RulesValue) (standing : StandingValue) where
 
   closes_settled : (ended : Bool) (after other : Option End)
       → ClosesIf rules standing ended after → ClosesIf rules standing ended other → after ≡ other
-  closes_settled true after other one two =
-      one.2 ∙ ap (λ (state : StateValue). Some (end_of state standing))
-      (leads_settled rules.fixed rules.script standing.made opening_state one.0 two.0 one.1 two.1) ∙ sym two.2
+  closes_settled true after other one two = one ∙ sym two
   closes_settled false after other one two = one ∙ sym two
 
   running_settled : (seat : ℕ) (below : Bool) (after other : Option Place)

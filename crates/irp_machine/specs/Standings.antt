@@ -1,26 +1,41 @@
 -- Where a script stands between two atomic steps, and what a change makes of that.
-use Rattle.std.specs.Prelude.{ℕ, Bool, List, Option, Some, None, slice_index_or}
+use Rattle.std.specs.Prelude.{ℕ, ◌≡◌, Bool, List, Option, Some, None, slice_index_or}
+use Rattle.irp_types.specs.State.{StateValue, Fixed, LivePacket}
+use Rattle.irp_types.specs.Standing.{StandingFacts}
 use Rattle.irp_types.specs.declared.names.IrpRef.{IrpRef}
-use Rattle.irp_machine.specs.declared.parts.Change.{Change}
-use Rattle.irp_machine.specs.declared.parts.Given.{Given}
-use Rattle.irp_machine.specs.declared.parts.Made.{Made}
-use Rattle.irp_machine.specs.declared.parts.NewLabel.{NewLabel}
-use Rattle.irp_machine.specs.declared.parts.NewSlot.{NewSlot}
-use Rattle.irp_machine.specs.declared.parts.NewWord.{NewWord}
-use Rattle.irp_machine.specs.declared.parts.Slot.{Slot}
-use Rattle.irp_machine.specs.Lists.{with_more, with_item}
+use Rattle.irp_manager.specs.ManagerStates.{state_of}
+use Rattle.irp_manager.specs.Slots.{live_of}
+use Rattle.irp_manager.specs.declared.manager_state.ManagerState.{ManagerState}
+use Rattle.irp_plain.specs.declared.parts.Change.{Change}
+use Rattle.irp_plain.specs.declared.parts.Given.{Given}
+use Rattle.irp_plain.specs.declared.parts.NewLabel.{NewLabel}
+use Rattle.irp_plain.specs.declared.parts.NewSlot.{NewSlot}
+use Rattle.irp_plain.specs.declared.parts.NewWord.{NewWord}
+use Rattle.irp_plain.specs.declared.parts.Slot.{Slot}
+use Rattle.irp_plain.specs.Lists.{with_item}
+use Rattle.irp_machine.specs.declared.terms.Terms.{Terms}
 use Rattle.irp_machine.specs.Marks.{mark_after}
-use Rattle.irp_machine.specs.Seats.{SeatValue, new_seat, after_step, with_held}
+use Rattle.irp_plain.specs.Seats.{SeatValue, new_seat, after_step, with_held}
 
--- the mark, the calls that changed the manager's state, what each label stands for, the words of the remove locks, the
--- cancel slots, and the seats
+-- the mark, the manager's state, what each label stands for, the words of the remove locks, the cancel slots, and the
+-- seats
 pub record StandingValue : Type 0 where
   pub mark : ℕ
-  pub made : List Made
+  pub state : StateValue
   pub labels : List IrpRef
   pub words : List ℕ
   pub slots : List Slot
   pub seats : List SeatValue
+
+-- a manager stands by what a header tells it: how many closures there are, how many remove locks, and the limit
+pub record StandsBy (terms : Terms) (manager : ManagerState (List (Option LivePacket))) : Type 0 where
+  pub facts : StandingFacts terms.counts (state_of live_of manager)
+  pub locks : terms.locks ≡ manager.locks
+  pub limit : terms.limit ≡ manager.stacks.limit
+
+-- what a header tells a manager
+abbrev pub terms_of : Fixed → Terms
+terms_of fixed = record { counts = fixed.tables.counts; locks = fixed.locks; limit = fixed.limit }
 
 -- another word of a lock, where one is named
 abbrev pub with_word : Option NewWord → List ℕ → List ℕ
@@ -48,11 +63,15 @@ with_given None seats = seats
 with_given (Some given) seats =
     with_item given.seat (with_held given.held (slice_index_or seats given.seat new_seat)) seats
 
+-- where the script stands with another state of the manager
+abbrev pub with_state : StandingValue → StateValue → StandingValue
+with_state standing state = record standing { state = state }
+
 -- where the script stands behind an atomic step of a seat that changes this
 abbrev pub after_change : ℕ → Change → ℕ → Bool → StandingValue → StandingValue
 after_change seat change step tells old = record {
   mark = mark_after old.mark change.after step tells;
-  made = with_more change.made old.made;
+  state = old.state;
   labels = with_label change.label old.labels;
   words = with_word change.word old.words;
   slots = with_slot change.slot old.slots;

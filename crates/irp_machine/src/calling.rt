@@ -1,41 +1,41 @@
-//! The manager of a script, whose state is made again from its calls.
+//! Calls of the manager of a script.
 
-ghost use Rattle.std.specs.Prelude.{◌≡◌, IfOk, OnOk, None};
-ghost use Rattle.irp_types.specs.State.{StateValue, opening_state};
+ghost use Rattle.std.specs.Prelude.{◌≡◌, IfOk};
+ghost use Rattle.irp_types.specs.State.{opening_state};
 ghost use Rattle.irp_types.specs.Standing.{StandingFacts};
 ghost use Rattle.irp_transcript.specs.Headers.{fixed_of};
-ghost use Rattle.irp_manager.specs.ManagerStates.{state_of, Agrees};
+ghost use Rattle.irp_manager.specs.ManagerStates.{Agrees, state_of};
 ghost use Rattle.irp_manager.specs.Slots.{live_of};
-ghost use Rattle.irp_machine.specs.Calling.{Leads, IsCalled};
+ghost use Rattle.irp_machine.specs.Calling.{IsApplied};
+ghost use Rattle.irp_machine.specs.Standings as spec;
 
 use crate::asker::ScriptAsker;
-use crate::note::OneNote;
-use crate::parts::Made;
-use irp_manager::{DrainNote, ManagerState};
+use crate::terms::Terms;
+use irp_manager::{Applied, DrainNote, ManagerState};
 use irp_plain::PlainKeep;
-use irp_types::{Call, Reply};
+use irp_transcript::Header;
+use irp_types::Call;
 use std::alloc::{AllocError, Global};
 
-/// What a call was answered, and whether its caller knew the lock of the device that it deletes to be drained.
-#[derive(Clone, Copy)]
-pub struct Reached {
-    pub reply: Reply,
-    pub knows: bool,
+/// What a header tells a manager.
+pub fn terms_of(header: &Header) -> Terms
+    ensures { result ≡ spec.terms_of (fixed_of header.now) }
+{
+    Terms {
+        counts: header.completions,
+        locks: header.locks,
+        limit: header.form.limit(),
+    }
 }
 
 /// A manager that nobody has called.
-pub fn new_manager(alloc: Global, asker: &ScriptAsker) -> ManagerState<PlainKeep>
+pub fn new_manager(alloc: Global, header: &Header) -> ManagerState<PlainKeep>
     ensures state { state_of live_of result ≡ opening_state }
-    ensures stands { StandingFacts (fixed_of asker.now.header.now).tables.counts opening_state }
-    ensures agrees { Agrees (fixed_of asker.now.header.now) result }
+    ensures stands { StandingFacts (fixed_of header.now).tables.counts opening_state }
+    ensures agrees { Agrees (fixed_of header.now) result }
 {
     let keep = PlainKeep::new(alloc);
-    ManagerState::with_limit(
-        alloc,
-        keep,
-        asker.header().locks,
-        asker.header().form.limit(),
-    )
+    ManagerState::with_limit(alloc, keep, header.locks, header.form.limit())
 }
 
 /// Makes a call with what the note knows.
@@ -44,44 +44,17 @@ pub fn call<N: DrainNote>(
     manager: &mut ManagerState<PlainKeep>,
     call: Call,
     note: &N,
-) -> Result<Reached, AllocError>
+) -> Result<Applied, AllocError>
     requires stands { StandingFacts (fixed_of asker.now.header.now).tables.counts
         (state_of live_of manager.old) }
     requires agrees { Agrees (fixed_of asker.now.header.now) manager.old }
-    ensures called { IfOk result (λ reached.
-        IsCalled (fixed_of asker.now.header.now) asker.now.script.now (N.knows_drained note.now)
-        (state_of live_of manager.old) call reached.knows reached.reply
-        (state_of live_of manager.new)) }
-    ensures stands { OnOk result (StandingFacts (fixed_of asker.now.header.now).tables.counts
-        (state_of live_of manager.new)) }
-    ensures agrees { OnOk result (Agrees (fixed_of asker.now.header.now) manager.new) }
+    ensures applied { IfOk result (λ applied.
+        IsApplied (fixed_of asker.now.header.now) asker.now.script.now (N.knows_drained note.now)
+        (state_of live_of manager.old) call applied (state_of live_of manager.new)) }
+    ensures stands { StandingFacts (fixed_of asker.now.header.now).tables.counts
+        (state_of live_of manager.new) }
+    ensures agrees { Agrees (fixed_of asker.now.header.now) manager.new }
 {
     let applied = manager.apply(asker, call, note, None)?;
-    Ok(Reached {
-        reply: applied.reply,
-        knows: applied.drained,
-    })
-}
-
-/// The manager's state that these calls lead to.
-pub fn manager_after(
-    alloc: Global,
-    asker: &ScriptAsker,
-    calls: &[Made],
-) -> Result<ManagerState<PlainKeep>, AllocError>
-    ensures leads { IfOk result (λ manager.
-        Leads (fixed_of asker.now.header.now) asker.now.script.now calls.now opening_state
-        (state_of live_of manager)) }
-    ensures stands { IfOk result (λ manager.
-        StandingFacts (fixed_of asker.now.header.now).tables.counts (state_of live_of manager)) }
-    ensures agrees { IfOk result (λ manager. Agrees (fixed_of asker.now.header.now) manager) }
-{
-    let mut manager = new_manager(alloc, asker);
-    for made in calls {
-        let note = OneNote {
-            drained: made.knows,
-        };
-        let _reached = call(asker, &mut manager, made.call, &note)?;
-    }
-    Ok(manager)
+    Ok(applied)
 }

@@ -7,16 +7,12 @@ ghost use Rattle.irp_manager.specs.Slots.{live_of};
 ghost use Rattle.irp_machine.specs.Endings as spec;
 ghost use Rattle.irp_machine.specs.Marks as marks;
 
-use crate::lists::push_if;
 use crate::live_end::LiveEnd;
 use crate::marks::told_mark;
 use crate::outcome::{End, Holder, LockEnd, Replies, SlotEnd};
-use crate::parts::{Held, Slot};
-use crate::seat_state::SeatState;
 use crate::standing::Standing;
-use crate::told::Told;
 use irp_manager::ManagerState;
-use irp_plain::PlainKeep;
+use irp_plain::{Held, PlainKeep, SeatState, Slot, Told, push_if};
 use irp_types::Row;
 use std::alloc::{AllocError, Global};
 
@@ -40,14 +36,14 @@ fn live_end(manager: &ManagerState<PlainKeep>, slot: usize) -> Option<LiveEnd>
 fn packets_below(
     alloc: Global,
     manager: &ManagerState<PlainKeep>,
-    below: usize,
+    below: u64,
 ) -> Result<Vec<LiveEnd>, AllocError>
     ensures { IfOk result (λ packets.
         packets.items ≡ spec.packets_below (state_of live_of manager.now) below) }
 {
     let mut packets = Vec::new(alloc);
     for slot in 0..below {
-        push_if(&mut packets, live_end(manager, slot))?;
+        push_if(&mut packets, live_end(manager, slot as usize))?;
     }
     Ok(packets)
 }
@@ -121,16 +117,12 @@ fn replies_of(alloc: Global, seats: &[SeatState]) -> Result<Vec<Replies>, AllocE
     Ok(replies)
 }
 
-/// What is told of the end of a script that stands so, with this manager. A packet's slot is below the number of calls.
-pub fn end_of(
-    alloc: Global,
-    manager: &ManagerState<PlainKeep>,
-    standing: &Standing,
-) -> Result<End, AllocError>
-    ensures { IfOk result (λ end.
-        end ≡ spec.end_of (state_of live_of manager.now) standing.now) }
+/// What is told of the end of a script that stands so. A packet's slot is below the number of the next use.
+pub fn end_of(alloc: Global, standing: &Standing) -> Result<End, AllocError>
+    ensures { IfOk result (λ end. end ≡ spec.end_of standing.now) }
 {
-    let packets = packets_below(alloc, manager, standing.made().len())?;
+    let manager = standing.manager();
+    let packets = packets_below(alloc, manager, manager.next_use())?;
     let (words, seats) = (standing.words(), standing.seats());
     Ok(End {
         replies: Row::from_vec(replies_of(alloc, seats)?),

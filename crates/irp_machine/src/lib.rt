@@ -3,13 +3,11 @@
 
 mod asker;
 mod calling;
-mod changes;
 mod ending;
 mod equal;
 mod exploring;
 mod header;
 mod limits;
-mod lists;
 mod live_end;
 mod machine;
 mod marks;
@@ -21,16 +19,14 @@ mod outcome;
 mod parts;
 mod place;
 mod planning;
-mod recorded;
 mod replaying;
-mod seat_state;
 mod standing;
-mod told;
+mod terms;
 
 pub use exploring::orders;
+pub use irp_plain::{Answered, Told};
 pub use limits::{Compared, Limits, NotFound};
 pub use live_end::LiveEnd;
 pub use order_laws::{orders_have_histories, replays_end_so};
 pub use outcome::{End, Holder, LockEnd, Outcome, Replies, SlotEnd};
 pub use replaying::replay;
-pub use told::{Answered, Told};

@@ -1,24 +1,27 @@
 //! The machine of a script.
 
-ghost use Rattle.std.specs.Prelude.{◌≡◌, ◌+◌, ◌<◌, ◌≤◌, IfOk, length};
+ghost use Rattle.std.specs.Prelude.{◌≡◌, ◌+◌, ◌<◌, ◌≤◌, IfOk, OnOk, length};
 ghost use mathlib.Core.Logic.{◌↔◌};
 ghost use Rattle.irp_transcript.specs.Headers.{fixed_of};
-ghost use Rattle.irp_machine.specs.Machine.{RulesValue, StepsTo, PlaceSteps, IsCallOf, Makes, ClosesTo, act_of, has_ended, place_mark, seat_at};
+ghost use Rattle.irp_machine.specs.Calling.{IsApplied};
+ghost use Rattle.irp_machine.specs.Machine.{RulesValue, StepsTo, PlaceSteps, Acts, Makes, ClosesTo, act_of, has_ended, knows_of, place_mark, seat_at};
+ghost use Rattle.irp_machine.specs.declared.parts.Next.TheVariants.{Calls};
 ghost use Rattle.irp_machine.specs.Next.{next_of};
-ghost use Rattle.irp_machine.specs.Standings.{after_change};
+ghost use Rattle.irp_machine.specs.Standings.{with_state};
 ghost use Rattle.irp_machine.specs.Settled.{moves_settled};
 
 use crate::asker::ScriptAsker;
-use crate::calling::{call, manager_after};
 use crate::ending::{end_mark, end_of};
 use crate::equal::is_end;
 use crate::next::{called, next_of};
 use crate::note::SeatNote;
 use crate::outcome::End;
-use crate::parts::{Calling, Change, Learned, Next, Planned};
+use crate::parts::{Calling, Next, Planned};
 use crate::place::Place;
 use crate::standing::Standing;
 use irp_explore::Machine;
+use irp_manager::Applied;
+use irp_plain::{Change, Learned};
 use irp_types::Row;
 use std::alloc::{AllocError, Global};
 use std::marker::Model;
@@ -80,14 +83,6 @@ impl<'a> ScriptMachine<'a> {
         self.tells
     }
 
-    /// Who is asked.
-    pub fn asker(&self) -> &ScriptAsker<'a>
-        ensures fixed { fixed_of result.now.header.now ≡ self.now.fixed }
-        ensures script { result.now.script.now ≡ self.now.script }
-    {
-        &self.asker
-    }
-
     /// Whether no seat has an act left.
     fn has_ended(&self, standing: &Standing) -> bool
         ensures { result ≡ has_ended self.now standing.now }
@@ -99,46 +94,61 @@ impl<'a> ScriptMachine<'a> {
         ended
     }
 
-    /// Where a script stands behind a step of a seat that changes this.
-    fn changed(
+    /// Makes a call of a seat that knows this of locks.
+    pub fn call(
         &self,
-        standing: &Standing,
-        seat: usize,
-        planned: Planned,
-        change: Change,
-    ) -> Result<Standing, AllocError>
-        ensures { IfOk result (λ next.
-            next ≡ after_change seat change planned.step self.now.tells standing.now) }
+        next: &mut Standing,
+        learned: &[Learned],
+        calling: Calling,
+    ) -> Result<Applied, AllocError>
+        ensures applied { IfOk result (λ applied.
+            IsApplied self.now.fixed self.now.script (knows_of learned.now) next.old.state
+            calling.call applied next.new.state) }
+        ensures rest { OnOk result (next.new ≡ with_state next.old next.new.state) }
     {
-        let mut next = standing.clone()?;
-        next.change(seat, change, planned.step, self.tells)?;
-        Ok(next)
+        next.call(&self.asker, calling.call, &SeatNote { learned })
     }
 
-    /// What a call of a seat changes.
-    fn calls(
+    /// Makes a call of a seat, and returns what it changes beside the manager's state.
+    fn called(
         &self,
-        alloc: Global,
-        standing: &Standing,
+        next: &mut Standing,
         seat: usize,
         learned: &[Learned],
         planned: Planned,
         calling: Calling,
     ) -> Result<Change, AllocError>
-        requires { learned.now ≡ (seat_at standing.now seat).learned }
-        ensures { IfOk result (IsCallOf self.now standing.now seat planned calling) }
+        requires { learned.now ≡ (seat_at next.old seat).learned }
+        ensures { IfOk result (Acts self.now next.old seat planned (Calls calling) next.new) }
     {
-        let mut manager = manager_after(alloc, &self.asker, standing.made())?;
         let _ = seat;
-        let note = SeatNote { learned };
-        let reached = call(&self.asker, &mut manager, calling.call, &note)?;
-        Ok(called(planned, calling, reached.knows, reached.reply))
+        let applied = self.call(next, learned, calling)?;
+        Ok(called(planned, calling, applied.reply))
+    }
+
+    /// Makes what the next step of a seat in this act makes of the manager's state, and returns what else it changes.
+    fn acted(
+        &self,
+        next: &mut Standing,
+        standing: &Standing,
+        seat: usize,
+        planned: Planned,
+    ) -> Result<Change, AllocError>
+        requires there { seat < length standing.now.seats }
+        requires same { next.old ≡ standing.now }
+        ensures { IfOk result (Acts self.now standing.now seat planned
+            (next_of standing.now (seat_at standing.now seat) planned) next.new) }
+    {
+        let own = &standing.seats()[seat];
+        match next_of(standing, own, planned) {
+            Next::Changes(change) => Ok(change),
+            Next::Calls(calling) => self.called(next, seat, own.learned(), planned, calling),
+        }
     }
 
     /// Makes the next step of a seat in this act.
     fn step_in(
         &self,
-        alloc: Global,
         standing: &Standing,
         seat: usize,
         planned: Planned,
@@ -147,23 +157,14 @@ impl<'a> ScriptMachine<'a> {
         ensures { IfOk result (Makes self.now standing.now seat planned
             (next_of standing.now (seat_at standing.now seat) planned)) }
     {
-        let change = match next_of(standing, &standing.seats()[seat], planned) {
-            Next::Changes(change) => change,
-            Next::Calls(calling) => {
-                let learned = standing.seats()[seat].learned();
-                self.calls(alloc, standing, seat, learned, planned, calling)?
-            },
-        };
-        self.changed(standing, seat, planned, change)
+        let mut next = standing.copy()?;
+        let change = self.acted(&mut next, standing, seat, planned)?;
+        next.change(seat, change, planned.step, self.tells)?;
+        Ok(next)
     }
 
     /// Makes the next step of a seat, where it has one.
-    pub fn step_of(
-        &self,
-        alloc: Global,
-        standing: &Standing,
-        seat: usize,
-    ) -> Result<Option<Standing>, AllocError>
+    pub fn step_of(&self, standing: &Standing, seat: usize) -> Result<Option<Standing>, AllocError>
         ensures { IfOk result (StepsTo self.now standing.now seat
             (act_of self.now standing.now seat)) }
     {
@@ -173,7 +174,7 @@ impl<'a> ScriptMachine<'a> {
         if seat >= standing.seats().len() {
             return Ok(None);
         }
-        let next = self.step_in(alloc, standing, seat, planned)?;
+        let next = self.step_in(standing, seat, planned)?;
         Ok(Some(next))
     }
 
@@ -184,8 +185,7 @@ impl<'a> ScriptMachine<'a> {
         if !self.has_ended(standing) {
             return Ok(None);
         }
-        let manager = manager_after(alloc, &self.asker, standing.made())?;
-        let end = end_of(alloc, &manager, standing)?;
+        let end = end_of(alloc, standing)?;
         Ok(Some(end))
     }
 }
@@ -210,7 +210,7 @@ impl<'a> Machine for ScriptMachine<'a> {
             return Ok(None);
         };
         if (seat as usize) < self.acts.len() {
-            let next = self.step_of(alloc, standing, seat as usize)?;
+            let next = self.step_of(standing, seat as usize)?;
             return Ok(next.map(Place::Running));
         }
         let end = self.close(alloc, standing)?;

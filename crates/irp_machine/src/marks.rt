@@ -3,8 +3,7 @@
 ghost use Rattle.std.specs.Prelude.{◌≡◌};
 ghost use Rattle.irp_machine.specs.Marks as spec;
 
-use crate::parts::After;
-use crate::told::{Answered, Told};
+use irp_plain::{After, Answered, Told};
 use irp_transcript::WordReply;
 use irp_types::Reply;
 

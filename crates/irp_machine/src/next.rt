@@ -3,11 +3,12 @@
 ghost use Rattle.std.specs.Prelude.{◌≡◌};
 ghost use Rattle.irp_machine.specs.Next as spec;
 
-use crate::changes::{bound, going, hand, on_lock, publish, request, told, withdraw};
-use crate::parts::{After, Calling, Change, Made, NewLabel, Next, Planned, Stage, Taken};
-use crate::seat_state::{SeatState, place_of_taken};
+use crate::parts::{Calling, Next, Planned};
 use crate::standing::Standing;
-use crate::told::Answered;
+use irp_plain::{
+    After, Answered, Change, NewLabel, SeatState, Stage, Taken, bound, going, hand, on_lock, only,
+    place_of_taken, publish, request, told, withdraw,
+};
 use irp_script_reader::{Named, StepAct};
 use irp_transcript::WordReply;
 use irp_types::{Call, IrpRef, Reply};
@@ -175,17 +176,6 @@ pub fn next_of(standing: &Standing, seat: &SeatState, planned: Planned) -> Next
     }
 }
 
-/// Whether a call that was answered so changed the manager's state. (One that is refused or looks changes nothing.)
-fn has_changed(call: Call, reply: Reply) -> bool
-    ensures { result ≡ spec.has_changed call reply }
-{
-    match (call, reply) {
-        (Call::Look { .. }, _) => false,
-        (_, Reply::Refused(_)) => false,
-        _ => true,
-    }
-}
-
 /// The packet that a label is to stand for behind a call, where the act binds one.
 fn binding(act: StepAct, reply: Reply) -> Option<NewLabel>
     ensures { result ≡ spec.binding act reply }
@@ -216,27 +206,15 @@ fn spent(spends: Option<usize>, reply: Reply) -> Option<usize>
     }
 }
 
-/// What a call changes that was answered so.
-pub fn called(planned: Planned, calling: Calling, knows: bool, reply: Reply) -> Change
-    ensures { result ≡ spec.called planned calling knows reply }
+/// What a call changes that was answered so, the manager's state aside.
+pub fn called(planned: Planned, calling: Calling, reply: Reply) -> Change
+    ensures { result ≡ spec.called planned calling reply }
 {
     let bind = binding(planned.act, reply);
     let after = after_call(planned.binds_alone, bind, reply);
-    let made = Made {
-        call: calling.call,
-        knows,
-    };
     Change {
-        after,
-        word: None,
-        slot: None,
         label: if planned.binds_alone { None } else { bind },
-        drops: None,
-        holds: None,
-        gives: None,
-        learns: None,
         spends: spent(calling.spends, reply),
-        takes: None,
-        made: has_changed(calling.call, reply).then_some(made),
+        ..only(after)
     }
 }

@@ -2,11 +2,10 @@
 
 ghost use Rattle.std.specs.Prelude.{◌≡◌};
 ghost use Rattle.std.specs.List.{list_any};
-ghost use Rattle.irp_machine.specs.Seats.{is_drained};
+ghost use Rattle.irp_plain.specs.Seats.{is_drained};
 
-use crate::parts::Learned;
-use crate::seat_state::knows_drained;
 use irp_manager::DrainNote;
+use irp_plain::{Learned, knows_drained};
 use irp_types::LockNo;
 
 /// A note that knows what a seat has learned.
@@ -20,20 +19,5 @@ impl DrainNote for SeatNote<'_> {
 
     fn knows(&self, lock: LockNo) -> bool {
         knows_drained(self.learned, lock.0)
-    }
-}
-
-/// A note that knows of each lock that it is drained, or of none.
-#[derive(Clone, Copy)]
-pub struct OneNote {
-    pub drained: bool,
-}
-
-impl DrainNote for OneNote {
-    ghost knows_drained = { λ note lock. note.drained };
-
-    fn knows(&self, lock: LockNo) -> bool {
-        let _ = lock;
-        self.drained
     }
 }

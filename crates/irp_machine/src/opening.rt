@@ -4,7 +4,7 @@ ghost use Rattle.std.specs.Prelude.{◌≡◌, IfOk, replicate};
 ghost use Rattle.irp_types.specs.State.{AreTables};
 ghost use Rattle.irp_transcript.specs.Headers.{fixed_of};
 ghost use Rattle.irp_machine.specs.Planning.{acts_below};
-ghost use Rattle.irp_machine.specs.Seats.{new_seat};
+ghost use Rattle.irp_plain.specs.Seats.{new_seat};
 ghost use Rattle.irp_machine.specs.Openings as spec;
 ghost use Rattle.irp_machine.specs.Openings.{MakesAll, Opens};
 
@@ -12,13 +12,11 @@ use crate::asker::ScriptAsker;
 use crate::limits::NotFound;
 use crate::machine::ScriptMachine;
 use crate::next::UNBOUND;
-use crate::parts::{Made, Slot};
 use crate::planning::acts_of;
-use crate::seat_state::SeatState;
 use crate::standing::Standing;
+use irp_plain::{SeatState, Slot};
 use irp_script_reader::{ScriptParts, Step};
 use irp_transcript::Header;
-use irp_types::IrpRef;
 use std::alloc::{AllocError, Global};
 
 /// A slot that nobody has touched.
@@ -39,24 +37,6 @@ fn new_seats(alloc: Global, seats: u32) -> Result<Vec<SeatState>, AllocError>
         all.push(SeatState::new(alloc))?;
     }
     Ok(all)
-}
-
-/// Where a script stands whose manager has these calls behind it, and whose labels stand for this.
-fn begun(
-    alloc: Global,
-    header: &Header,
-    made: &[Made],
-    labels: &[IrpRef],
-) -> Result<Standing, AllocError>
-    ensures { IfOk result (λ standing. standing ≡ spec.begun header.now made.now labels.now) }
-{
-    Ok(Standing::new(
-        made.to_vec(alloc)?,
-        labels.to_vec(alloc)?,
-        Vec::from_elem(alloc, 0u64, header.locks as usize)?,
-        Vec::from_elem(alloc, EMPTY, header.form.slots() as usize)?,
-        new_seats(alloc, header.seats)?,
-    ))
 }
 
 /// The machine of these steps of a script. Labels that others of the rivals bind are read and bound alone.
@@ -97,16 +77,25 @@ pub fn first_standing(
     ensures { IfOk result (λ standing.
         standing ≡ spec.first_standing header.now script.now) }
 {
-    let labels = Vec::from_elem(alloc, UNBOUND, script.labels)?;
-    begun(alloc, header, &[], &labels)
+    Ok(Standing::new(
+        alloc,
+        header,
+        Vec::from_elem(alloc, UNBOUND, script.labels)?,
+        Vec::from_elem(alloc, 0u64, header.locks as usize)?,
+        Vec::from_elem(alloc, EMPTY, header.form.slots() as usize)?,
+        new_seats(alloc, header.seats)?,
+    ))
 }
 
 /// Where a script stands whose setup ended so: nobody has made a step.
-pub fn opened(alloc: Global, header: &Header, ended: &Standing) -> Result<Standing, AllocError>
+pub fn opened(alloc: Global, header: &Header, ended: Standing) -> Result<Standing, AllocError>
     ensures { IfOk result (λ standing.
-        standing ≡ spec.begun header.now ended.now.made ended.now.labels) }
+        standing ≡ spec.begun header.now ended.state ended.labels) }
 {
-    begun(alloc, header, ended.made(), ended.labels())
+    let words = Vec::from_elem(alloc, 0u64, header.locks as usize)?;
+    let slots = Vec::from_elem(alloc, EMPTY, header.form.slots() as usize)?;
+    let seats = new_seats(alloc, header.seats)?;
+    Ok(ended.begun(words, slots, seats))
 }
 
 /// The seats of steps.
@@ -121,17 +110,12 @@ pub fn seats_of(alloc: Global, steps: &[Step]) -> Result<Vec<u32>, AllocError>
 }
 
 /// Makes the next steps of these seats, one after another.
-fn make_all(
-    alloc: Global,
-    machine: &ScriptMachine,
-    first: Standing,
-    seats: &[u32],
-) -> Result<Standing, NotFound>
+fn make_all(machine: &ScriptMachine, first: Standing, seats: &[u32]) -> Result<Standing, NotFound>
     ensures { IfOk result (MakesAll machine.now first seats.now) }
 {
     let mut standing = first;
     for seat in seats {
-        let Some(next) = machine.step_of(alloc, &standing, *seat as usize)? else {
+        let Some(next) = machine.step_of(&standing, *seat as usize)? else {
             return Err(NotFound::Script);
         };
         standing = next;
@@ -148,7 +132,7 @@ pub fn opening(alloc: Global, header: &Header, script: &ScriptParts) -> Result<S
     let machine = machine_of(alloc, header, script, &[], setup, false)?;
     let first = first_standing(alloc, header, script)?;
     let seats = seats_of(alloc, setup)?;
-    let ended = make_all(alloc, &machine, first, &seats)?;
-    let opened = opened(alloc, header, &ended)?;
+    let ended = make_all(&machine, first, &seats)?;
+    let opened = opened(alloc, header, ended)?;
     Ok(opened)
 }

@@ -2,7 +2,7 @@
 //! these.
 
 use crate::live_end::LiveEnd;
-use crate::told::Told;
+use irp_plain::Told;
 use irp_types::{IrpRef, Row};
 
 /// What a seat was told, in the order of its steps.

@@ -1,73 +1,8 @@
-//! The parts of where a script stands, and what an atomic step changes. A file of its own, since definitions that
-//! clauses cite name these.
+//! What a seat does next. A file of its own, since definitions that clauses cite name these.
 
-use crate::told::Answered;
+use irp_plain::Change;
 use irp_script_reader::StepAct;
-use irp_types::{Call, IrpRef};
-
-/// How far a seat is in its present act.
-#[derive(Clone, Copy, PartialEq, Eq)]
-pub enum Stage {
-    /// It has made no step of the act.
-    Between,
-    /// It has read that its label stands for this packet.
-    Read(IrpRef),
-    /// Its call was answered by this packet, which the label doesn't stand for yet.
-    Answered(IrpRef),
-    /// It has added to the word of a lock, and found its removal begun.
-    Tried,
-    /// It has begun the removal of a lock, and holds its reference still.
-    Begun,
-    /// It has put its use into a slot.
-    Published,
-    /// It has then found the flag of the slot set.
-    FoundSet,
-    /// It has set the flag of a slot.
-    Flagged,
-}
-
-/// A reference to a remove lock.
-#[derive(Clone, Copy, PartialEq, Eq)]
-pub struct Held {
-    pub lock: u32,
-    pub tag: u32,
-}
-
-/// A use that a seat took out of a cancel slot, and hasn't finished.
-#[derive(Clone, Copy, PartialEq, Eq)]
-pub struct Taken {
-    pub slot: u32,
-    pub use_no: u64,
-}
-
-/// What a seat knows of a remove lock for good.
-#[derive(Clone, Copy, PartialEq, Eq)]
-pub enum Learned {
-    /// Its removal has begun.
-    Removed(u32),
-    /// It is drained.
-    Drained(u32),
-}
-
-/// A cancel slot.
-#[derive(Clone, Copy, PartialEq, Eq)]
-pub struct Slot {
-    /// Its flag: whether somebody asked.
-    pub flag: bool,
-    /// The use that stands in it, 0 where none does.
-    pub content: u64,
-    /// Whether its owner has published.
-    pub used: bool,
-    /// Whether its owner's publication was answered `Standing`, and nothing was withdrawn since.
-    pub stands: bool,
-}
-
-/// A call of the manager, and whether its caller knew that the lock of the device that it deletes is drained.
-#[derive(Clone, Copy, PartialEq, Eq)]
-pub struct Made {
-    pub call: Call,
-    pub knows: bool,
-}
+use irp_types::Call;
 
 /// An act of a seat.
 #[derive(Clone, Copy)]
@@ -79,68 +14,6 @@ pub struct Planned {
     pub reads_alone: bool,
     /// Whether binding its label is a step of its own.
     pub binds_alone: bool,
-}
-
-/// Where the seat of an atomic step is behind it.
-#[derive(Clone, Copy)]
-pub enum After {
-    /// In the same act.
-    In(Stage),
-    /// Behind the act, which was answered so.
-    Told(Answered),
-    /// In the same act, which was answered so: a label is to be bound to this packet.
-    Binds(Answered, IrpRef),
-    /// Behind the act, which was answered before.
-    Bound,
-}
-
-/// A lock's new word.
-#[derive(Clone, Copy)]
-pub struct NewWord {
-    pub lock: u32,
-    pub word: u64,
-}
-
-/// A slot's new state.
-#[derive(Clone, Copy)]
-pub struct NewSlot {
-    pub number: u32,
-    pub slot: Slot,
-}
-
-/// What a label stands for from now on.
-#[derive(Clone, Copy)]
-pub struct NewLabel {
-    pub label: usize,
-    pub irp: IrpRef,
-}
-
-/// A reference that another seat is given.
-#[derive(Clone, Copy)]
-pub struct Given {
-    pub seat: u32,
-    pub held: Held,
-}
-
-/// What an atomic step changes.
-#[derive(Clone, Copy)]
-pub struct Change {
-    pub after: After,
-    pub word: Option<NewWord>,
-    pub slot: Option<NewSlot>,
-    pub label: Option<NewLabel>,
-    /// The place of the reference that the seat holds no more.
-    pub drops: Option<usize>,
-    /// A reference that the seat holds from now on.
-    pub holds: Option<Held>,
-    pub gives: Option<Given>,
-    pub learns: Option<Learned>,
-    /// The place of the taken use that the seat has finished.
-    pub spends: Option<usize>,
-    /// A use that the seat took.
-    pub takes: Option<Taken>,
-    /// The call that changed the manager's state.
-    pub made: Option<Made>,
 }
 
 /// A call that a seat is to make, and the place of the taken use that it finishes, if it does.

@@ -1,69 +1,52 @@
 //! One order made again, as a transcript.
 
 ghost use Rattle.std.specs.Prelude.{◌≡◌, ◌<◌, ◌++◌, IfOk, OnOk, [], filter_map, length, true};
+ghost use Rattle.irp_types.specs.Histories.{LeadsTo};
 ghost use Rattle.irp_types.specs.State.{AreTables};
 ghost use Rattle.irp_transcript.specs.Headers.{fixed_of};
-ghost use Rattle.irp_manager.specs.ManagerStates.{state_of};
-ghost use Rattle.irp_manager.specs.Slots.{live_of};
-ghost use Rattle.irp_machine.specs.Lists.{with_more};
 ghost use Rattle.irp_machine.specs.Machine.{act_of, seat_at};
 ghost use Rattle.irp_machine.specs.Next.{next_of};
 ghost use Rattle.irp_machine.specs.Openings.{rules_of};
 ghost use Rattle.irp_machine.specs.Replays as spec;
-ghost use Rattle.irp_machine.specs.Replays.{Adds, IsMade, IsRecorded, IsReplay, IsSetUp, Plays, PlaysIn, Records};
+ghost use Rattle.irp_machine.specs.Replays.{IsActed, IsReplay, IsSetUp, Plays, PlaysIn};
 ghost use Rattle.irp_machine.specs.declared.parts.Next.TheVariants.{Calls};
 
-use crate::asker::ScriptAsker;
-use crate::calling::{Reached, new_manager};
 use crate::header::header_of;
 use crate::limits::NotFound;
-use crate::lists::push_if;
 use crate::machine::ScriptMachine;
 use crate::next::{called, next_of};
-use crate::note::SeatNote;
 use crate::opening::{first_standing, machine_of, opened, seats_of};
-use crate::parts::{Calling, Change, Learned, Next, Planned};
-use crate::recorded::Recorded;
+use crate::parts::{Calling, Next, Planned};
 use crate::standing::Standing;
-use crate::told::{Answered, Told};
+use irp_plain::{Answered, Change, Learned, Told, push_if};
 use irp_script_reader::{Script, ScriptParts, Step, StepAct};
 use irp_transcript::{Act, Header, Transcript, WordLine};
 use irp_types::{Call, Entry, Questions, Row, SlotAct, history_goes_on};
 use std::alloc::{AllocError, Global};
 
-/// A manager that nobody has called, and no entries.
-fn nothing_kept(alloc: Global, header: &Header, script: &ScriptParts) -> Recorded
-    requires { AreTables (fixed_of header.now).tables }
-    ensures made { IsMade (fixed_of header.now) script.now [] result }
-    ensures none { result.entries.items ≡ [] }
-{
-    let asker = ScriptAsker::new(header, script);
-    let manager = new_manager(alloc, &asker);
-    let entries = Vec::new(alloc);
-    Recorded { manager, entries }
-}
-
-/// Makes a call of a seat and records it.
-fn record_call(
-    asker: &ScriptAsker,
-    kept: &mut Recorded,
+/// Makes a call of a seat in an act, records it, and returns what it changes beside the manager's state.
+fn call_again(
+    machine: &ScriptMachine,
+    entries: &mut Vec<Entry>,
+    standing: &mut Standing,
     seat: u32,
-    call: Call,
-    note: &SeatNote<'_>,
-) -> Result<Reached, AllocError>
-    requires { IsRecorded (fixed_of asker.now.header.now) kept.old }
-    ensures kept { OnOk result (IsRecorded (fixed_of asker.now.header.now) kept.new) }
-    ensures adds { IfOk result (λ reached.
-        Adds (fixed_of asker.now.header.now) asker.now.script.now note.now.learned.now
-        (state_of live_of kept.old.manager) call seat reached.knows reached.reply
-        (state_of live_of kept.new.manager) kept.old.entries.items kept.new.entries.items) }
+    learned: &[Learned],
+    planned: Planned,
+    calling: Calling,
+) -> Result<Change, AllocError>
+    requires learned { learned.now ≡ (seat_at standing.old seat).learned }
+    requires leads { LeadsTo machine.now.fixed entries.old.items standing.old.state }
+    ensures records { IfOk result (IsActed machine.now standing.old seat planned (Calls calling)
+        entries.old.items standing.new entries.new.items) }
+    ensures leads { OnOk result
+        (LeadsTo machine.now.fixed entries.new.items standing.new.state) }
 {
-    let number = kept.entries.len() as u64;
-    kept.entries.reserve(1)?;
-    let applied = kept.manager.apply(asker, call, note, None)?;
-    kept.entries.push_reserved(Entry {
+    let number = entries.len() as u64;
+    entries.reserve(1)?;
+    let applied = machine.call(standing, learned, calling)?;
+    entries.push_reserved(Entry {
         number,
-        call,
+        call: calling.call,
         asked: Questions::from_vec(applied.asked),
         reply: applied.reply,
         seat,
@@ -71,68 +54,34 @@ fn record_call(
         drained: applied.drained,
     });
     history_goes_on();
-    Ok(Reached {
-        reply: applied.reply,
-        knows: applied.drained,
-    })
+    Ok(called(planned, calling, applied.reply))
 }
 
-/// Makes a call of a seat in an act, records it, and returns what it changes.
-fn call_again(
+/// Makes what the next step of a seat in an act makes of the manager's state, records its call, and returns what else
+/// it changes.
+fn act_again(
     machine: &ScriptMachine,
-    kept: &mut Recorded,
-    standing: &Standing,
-    seat: u32,
-    learned: &[Learned],
-    planned: Planned,
-    calling: Calling,
-) -> Result<Change, AllocError>
-    requires learned { learned.now ≡ (seat_at standing.now seat).learned }
-    requires made { IsMade machine.now.fixed machine.now.script standing.now.made kept.old }
-    ensures records { IfOk result (λ change.
-        Records machine.now standing.now seat planned (Calls calling) change kept.old.entries.items
-        kept.new.entries.items) }
-    ensures made { IfOk result (λ change.
-        IsMade machine.now.fixed machine.now.script (with_more change.made standing.now.made)
-        kept.new) }
-{
-    let _ = standing;
-    let note = SeatNote { learned };
-    let reached = record_call(machine.asker(), kept, seat, calling.call, &note)?;
-    Ok(called(planned, calling, reached.knows, reached.reply))
-}
-
-/// Makes the next step of a seat in an act again, records its call, and returns what it changes.
-fn step_again(
-    machine: &ScriptMachine,
-    kept: &mut Recorded,
-    standing: &Standing,
+    entries: &mut Vec<Entry>,
+    standing: &mut Standing,
+    before: &Standing,
     seat: u32,
     planned: Planned,
 ) -> Result<Change, AllocError>
-    requires there { seat < length standing.now.seats }
-    requires made { IsMade machine.now.fixed machine.now.script standing.now.made kept.old }
-    ensures records { IfOk result (λ change.
-        Records machine.now standing.now seat planned
-        (next_of standing.now (seat_at standing.now seat) planned) change kept.old.entries.items
-        kept.new.entries.items) }
-    ensures made { IfOk result (λ change.
-        IsMade machine.now.fixed machine.now.script (with_more change.made standing.now.made)
-        kept.new) }
+    requires there { seat < length before.now.seats }
+    requires same { standing.old ≡ before.now }
+    requires leads { LeadsTo machine.now.fixed entries.old.items standing.old.state }
+    ensures records { IfOk result (IsActed machine.now before.now seat planned
+        (next_of before.now (seat_at before.now seat) planned) entries.old.items standing.new
+        entries.new.items) }
+    ensures leads { OnOk result
+        (LeadsTo machine.now.fixed entries.new.items standing.new.state) }
 {
-    let own = &standing.seats()[seat as usize];
-    match next_of(standing, own, planned) {
+    let own = &before.seats()[seat as usize];
+    match next_of(before, own, planned) {
         Next::Changes(change) => Ok(change),
         Next::Calls(calling) => {
-            call_again(
-                machine,
-                kept,
-                standing,
-                seat,
-                own.learned(),
-                planned,
-                calling,
-            )
+            let learned = own.learned();
+            call_again(machine, entries, standing, seat, learned, planned, calling)
         }
     }
 }
@@ -144,15 +93,15 @@ fn step_again(
 /// `Script` where the seat isn't there, or has no step left; `Memory` where memory runs out.
 fn play(
     machine: &ScriptMachine,
-    kept: &mut Recorded,
+    entries: &mut Vec<Entry>,
     standing: &mut Standing,
     seat: u32,
 ) -> Result<(), NotFound>
-    requires { IsMade machine.now.fixed machine.now.script standing.old.made kept.old }
-    ensures plays { OnOk result (PlaysIn machine.now standing.old kept.old.entries.items seat
-        (act_of machine.now standing.old seat) standing.new kept.new.entries.items) }
-    ensures made { OnOk result
-        (IsMade machine.now.fixed machine.now.script standing.new.made kept.new) }
+    requires { LeadsTo machine.now.fixed entries.old.items standing.old.state }
+    ensures plays { OnOk result (PlaysIn machine.now standing.old entries.old.items seat
+        (act_of machine.now standing.old seat) standing.new entries.new.items) }
+    ensures leads { OnOk result
+        (LeadsTo machine.now.fixed entries.new.items standing.new.state) }
 {
     let place = seat as usize;
     let Some(planned) = machine.act_of(standing, place) else {
@@ -161,7 +110,8 @@ fn play(
     if place >= standing.seats().len() {
         return Err(NotFound::Script);
     }
-    let change = step_again(machine, kept, standing, seat, planned)?;
+    let before = standing.copy()?;
+    let change = act_again(machine, entries, standing, &before, seat, planned)?;
     standing.change(place, change, planned.step, machine.tells())?;
     Ok(())
 }
@@ -169,18 +119,18 @@ fn play(
 /// Makes the steps of these seats, one after another, and records their calls.
 fn play_all(
     machine: &ScriptMachine,
-    kept: &mut Recorded,
+    entries: &mut Vec<Entry>,
     standing: &mut Standing,
     path: &[u32],
 ) -> Result<(), NotFound>
-    requires { IsMade machine.now.fixed machine.now.script standing.old.made kept.old }
-    ensures plays { OnOk result (Plays machine.now standing.old kept.old.entries.items path.now
-        standing.new kept.new.entries.items) }
-    ensures made { OnOk result
-        (IsMade machine.now.fixed machine.now.script standing.new.made kept.new) }
+    requires { LeadsTo machine.now.fixed entries.old.items standing.old.state }
+    ensures plays { OnOk result (Plays machine.now standing.old entries.old.items path.now
+        standing.new entries.new.items) }
+    ensures leads { OnOk result
+        (LeadsTo machine.now.fixed entries.new.items standing.new.state) }
 {
     for seat in path {
-        play(machine, kept, standing, *seat)?;
+        play(machine, entries, standing, *seat)?;
     }
     Ok(())
 }
@@ -190,21 +140,20 @@ fn play_setup(
     alloc: Global,
     header: &Header,
     script: &ScriptParts,
-    kept: &mut Recorded,
+    entries: &mut Vec<Entry>,
 ) -> Result<Standing, NotFound>
     requires tables { AreTables (fixed_of header.now).tables }
-    requires made { IsMade (fixed_of header.now) script.now [] kept.old }
-    ensures setup { IfOk result
-        (IsSetUp header.now script.now kept.old.entries.items kept.new.entries.items) }
-    ensures made { IfOk result (λ start.
-        IsMade (fixed_of header.now) script.now start.made kept.new) }
+    requires none { entries.old.items ≡ [] }
+    ensures setup { IfOk result (IsSetUp header.now script.now [] entries.new.items) }
+    ensures leads { IfOk result (λ start.
+        LeadsTo (fixed_of header.now) entries.new.items start.state) }
 {
     let setup = script.setup.as_slice();
     let machine = machine_of(alloc, header, script, &[], setup, false)?;
     let mut standing = first_standing(alloc, header, script)?;
     let seats = seats_of(alloc, setup)?;
-    play_all(&machine, kept, &mut standing, seats.as_slice())?;
-    let opened = opened(alloc, header, &standing)?;
+    play_all(&machine, entries, &mut standing, seats.as_slice())?;
+    let opened = opened(alloc, header, standing)?;
     Ok(opened)
 }
 
@@ -213,21 +162,21 @@ fn play_path(
     alloc: Global,
     header: &Header,
     script: &ScriptParts,
-    kept: &mut Recorded,
+    entries: &mut Vec<Entry>,
     standing: &mut Standing,
     path: &[u32],
 ) -> Result<(), NotFound>
     requires tables { AreTables (fixed_of header.now).tables }
-    requires made { IsMade (fixed_of header.now) script.now standing.old.made kept.old }
+    requires leads { LeadsTo (fixed_of header.now) entries.old.items standing.old.state }
     ensures plays { OnOk result
         (Plays (rules_of header.now script.now script.now.steps script.now.steps true) standing.old
-        kept.old.entries.items path.now standing.new kept.new.entries.items) }
-    ensures made { OnOk result
-        (IsMade (fixed_of header.now) script.now standing.new.made kept.new) }
+        entries.old.items path.now standing.new entries.new.items) }
+    ensures leads { OnOk result
+        (LeadsTo (fixed_of header.now) entries.new.items standing.new.state) }
 {
     let steps = script.steps.as_slice();
     let machine = machine_of(alloc, header, script, steps, steps, true)?;
-    play_all(&machine, kept, standing, path)?;
+    play_all(&machine, entries, standing, path)?;
     Ok(())
 }
 
@@ -314,10 +263,10 @@ pub fn replay(alloc: Global, script: &Script, path: &[u32]) -> Result<Transcript
     if !header.is_accepted() {
         return Err(NotFound::Script);
     }
-    let mut kept = nothing_kept(alloc, &header, script);
-    let mut standing = play_setup(alloc, &header, script, &mut kept)?;
-    play_path(alloc, &header, script, &mut kept, &mut standing, path)?;
+    let mut entries = Vec::new(alloc);
+    let mut standing = play_setup(alloc, &header, script, &mut entries)?;
+    play_path(alloc, &header, script, &mut entries, &mut standing, path)?;
     let words = words_of(alloc, script.steps.as_slice(), &standing, header.seats)?;
-    let entries = Row::from_vec(kept.entries);
+    let entries = Row::from_vec(entries);
     Ok(Transcript::new(header, entries, Row::from_vec(words)))
 }

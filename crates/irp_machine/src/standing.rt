@@ -2,26 +2,35 @@
 
 ghost use Rattle.std.specs.Prelude.{◌≡◌, IfOk, OnOk, true};
 ghost use mathlib.Core.Logic.{◌↔◌};
-ghost use Rattle.irp_machine.specs.Standings.{after_change, with_word, with_slot, with_label, with_given, with_seat_changed};
+ghost use Rattle.irp_types.specs.State.{opening_state};
+ghost use Rattle.irp_transcript.specs.Headers.{fixed_of};
+ghost use Rattle.irp_manager.specs.ManagerStates.{state_of};
+ghost use Rattle.irp_manager.specs.Slots.{live_of};
+ghost use Rattle.irp_machine.specs.Calling.{IsApplied};
+ghost use Rattle.irp_machine.specs.Standings.{after_change, with_state, with_word, with_slot, with_label, with_given, with_seat_changed};
 
-use crate::equal::are_labels;
-use crate::lists::{push_if, put_at};
+use crate::asker::ScriptAsker;
+use crate::calling::{self, new_manager, terms_of};
 use crate::marks::mark_after;
-use crate::parts::{Change, Given, Made, NewLabel, NewSlot, NewWord, Slot};
-use crate::seat_state::SeatState;
-use irp_plain::are_same;
-use irp_types::IrpRef;
-use std::alloc::AllocError;
+use crate::terms::Terms;
+use irp_manager::{Applied, DrainNote, ManagerState};
+use irp_plain::{
+    Change, Given, NewLabel, NewSlot, NewWord, PlainKeep, SeatState, Slot, are_labels, are_same,
+    copy_of_manager, is_same_manager, put_at,
+};
+use irp_transcript::Header;
+use irp_types::{Call, IrpRef};
+use std::alloc::{AllocError, Global};
 use std::marker::Model;
 
-/// Where a script stands between two atomic steps. The manager's state isn't kept: the calls that changed it are, and
-/// it is the one that they lead to.
+/// Where a script stands between two atomic steps, the manager among it.
 ///
 /// Contracts see it as the record `StandingValue` of this crate.
-#[derive(Clone, Drop)]
+#[derive(Drop)]
 pub struct Standing {
     mark: u64,
-    made: Vec<Made>,
+    terms: Terms,
+    manager: ManagerState<PlainKeep>,
     labels: Vec<IrpRef>,
     words: Vec<u64>,
     slots: Vec<Slot>,
@@ -29,18 +38,26 @@ pub struct Standing {
 }
 
 impl Model for Standing {
-    ghost use Rattle.irp_machine.specs.Standings.{StandingValue};
+    ghost use Rattle.irp_manager.specs.ManagerStates.{state_of};
+    ghost use Rattle.irp_manager.specs.Slots.{live_of};
+    ghost use Rattle.irp_machine.specs.Standings.{StandingValue, StandsBy};
+    ghost use Rattle.std.specs.Coded.{codes};
+    ghost use Rattle.std.specs.FinMap as fin;
 
     ghost Value = { StandingValue };
 
+    ghost coded = { Prim.hlevel (codes, fin.code) };
+
     ghost view = { λ own. record {
       mark = own.mark;
-      made = own.made.items;
+      state = state_of live_of own.manager;
       labels = own.labels.items;
       words = own.words.items;
       slots = own.slots.items;
       seats = own.seats.items;
     } };
+
+    ghost invariant = { λ own. StandsBy own.terms own.manager };
 }
 
 /// Changes a lock's word, where one is named.
@@ -102,9 +119,10 @@ fn give(seats: &mut Vec<SeatState>, given: Option<Given>) -> Result<(), AllocErr
 }
 
 impl Standing {
-    /// Where a script stands whose manager has these calls behind it. It takes no memory.
+    /// Where a script stands before anything was done. It takes no memory.
     pub fn new(
-        made: Vec<Made>,
+        alloc: Global,
+        header: &Header,
         labels: Vec<IrpRef>,
         words: Vec<u64>,
         slots: Vec<Slot>,
@@ -112,7 +130,7 @@ impl Standing {
     ) -> Standing
         ensures { result ≡ record {
           mark = 0;
-          made = made.items;
+          state = opening_state;
           labels = labels.items;
           words = words.items;
           slots = slots.items;
@@ -121,12 +139,51 @@ impl Standing {
     {
         Standing {
             mark: 0,
-            made,
+            terms: terms_of(header),
+            manager: new_manager(alloc, header),
             labels,
             words,
             slots,
             seats,
         }
+    }
+
+    /// Where a script stands with this manager and these labels, and all else anew.
+    pub fn begun(self, words: Vec<u64>, slots: Vec<Slot>, seats: Vec<SeatState>) -> Standing
+        ensures { result ≡ record {
+          mark = 0;
+          state = self.state;
+          labels = self.labels;
+          words = words.items;
+          slots = slots.items;
+          seats = seats.items;
+        } }
+    {
+        Standing {
+            mark: 0,
+            terms: self.terms,
+            manager: self.manager,
+            labels: self.labels,
+            words,
+            slots,
+            seats,
+        }
+    }
+
+    /// A copy.
+    pub fn copy(&self) -> Result<Standing, AllocError>
+        ensures { IfOk result (λ copy. copy ≡ self.now) }
+    {
+        let manager = copy_of_manager(&self.manager)?;
+        Ok(Standing {
+            mark: self.mark,
+            terms: self.terms,
+            manager,
+            labels: self.labels.clone()?,
+            words: self.words.clone()?,
+            slots: self.slots.clone()?,
+            seats: self.seats.clone()?,
+        })
     }
 
     /// A number by which standings are sorted.
@@ -136,11 +193,11 @@ impl Standing {
         self.mark
     }
 
-    /// The calls that changed the manager's state, in order.
-    pub fn made(&self) -> &[Made]
-        ensures { result.now ≡ self.now.made }
+    /// The manager.
+    pub fn manager(&self) -> &ManagerState<PlainKeep>
+        ensures { state_of live_of result.now ≡ self.now.state }
     {
-        self.made.as_slice()
+        &self.manager
     }
 
     /// What each label stands for.
@@ -171,6 +228,29 @@ impl Standing {
         self.seats.as_slice()
     }
 
+    /// Makes a call of the manager with what the note knows.
+    ///
+    /// # Errors
+    ///
+    /// `AllocError` where memory runs out. It would also be the answer where the asker's header tells a manager other
+    /// numbers, but nobody asks so.
+    pub fn call<N: DrainNote>(
+        &mut self,
+        asker: &ScriptAsker,
+        call: Call,
+        note: &N,
+    ) -> Result<Applied, AllocError>
+        ensures applied { IfOk result (λ applied.
+            IsApplied (fixed_of asker.now.header.now) asker.now.script.now (N.knows_drained note.now)
+            self.old.state call applied self.new.state) }
+        ensures rest { OnOk result (self.new ≡ with_state self.old self.new.state) }
+    {
+        if self.terms != terms_of(asker.header()) {
+            return Err(AllocError);
+        }
+        calling::call(asker, &mut self.manager, call, note)
+    }
+
     /// Makes a change of an atomic step of a seat.
     pub fn change(
         &mut self,
@@ -182,7 +262,6 @@ impl Standing {
         ensures { OnOk result (self.new ≡ after_change seat change step tells self.old) }
     {
         self.mark = mark_after(self.mark, change.after, step, tells);
-        push_if(&mut self.made, change.made)?;
         put_label(&mut self.labels, change.label);
         put_word(&mut self.words, change.word);
         put_slot(&mut self.slots, change.slot);
@@ -197,7 +276,7 @@ impl Standing {
     {
         self.mark == other.mark
             && are_same(&self.seats, &other.seats)
-            && are_same(&self.made, &other.made)
+            && is_same_manager(&self.manager, &other.manager)
             && are_labels(&self.labels, &other.labels)
             && are_same(&self.words, &other.words)
             && are_same(&self.slots, &other.slots)

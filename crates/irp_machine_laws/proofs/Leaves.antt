@@ -8,18 +8,18 @@ use Rattle.irp_transcript.specs.declared.word_line.WordReply.{WordReply}
 use Rattle.irp_script_reader.specs.declared.act.StepAct.{StepAct}
 use Rattle.irp_script_reader.specs.declared.act.StepAct.TheVariants as does
 use Rattle.irp_machine.specs.declared.parts.Calling.{Calling}
-use Rattle.irp_machine.specs.declared.parts.Change.{Change}
-use Rattle.irp_machine.specs.declared.parts.NewLabel.{NewLabel}
+use Rattle.irp_plain.specs.declared.parts.Change.{Change}
+use Rattle.irp_plain.specs.declared.parts.NewLabel.{NewLabel}
 use Rattle.irp_machine.specs.declared.parts.Next.{Next}
 use Rattle.irp_machine.specs.declared.parts.Next.TheVariants.{Changes, Calls}
 use Rattle.irp_machine.specs.declared.parts.Planned.{Planned}
-use Rattle.irp_machine.specs.declared.parts.Slot.{Slot}
-use Rattle.irp_machine.specs.declared.parts.Stage.{Stage}
-use Rattle.irp_machine.specs.declared.parts.Stage.TheVariants as stages
-use Rattle.irp_machine.specs.Changes as change
+use Rattle.irp_plain.specs.declared.parts.Slot.{Slot}
+use Rattle.irp_plain.specs.declared.parts.Stage.{Stage}
+use Rattle.irp_plain.specs.declared.parts.Stage.TheVariants as stages
+use Rattle.irp_plain.specs.Changes as change
 use Rattle.irp_machine.specs.Machine.{RulesValue, IsNext}
 use Rattle.irp_machine.specs.Next.{after_call, binding, called, is_tokenless, naming_at, with_packet, with_token}
-use Rattle.irp_machine.specs.Seats.{SeatValue, place_after}
+use Rattle.irp_plain.specs.Seats.{SeatValue, place_after}
 use Rattle.irp_machine.specs.Standings.{StandingValue}
 
 -- the stage is to try a lock
@@ -77,8 +77,8 @@ called_after true None reply made = refl
 called_after true (Some label) reply made = refl
 called_after false bind reply made = refl
 
-called_leaves : (planned : Planned) (calling : Calling) (knows : Bool) (reply : Reply) → Leaves (called planned calling knows reply)
-called_leaves planned calling knows reply =
+called_leaves : (planned : Planned) (calling : Calling) (reply : Reply) → Leaves (called planned calling reply)
+called_leaves planned calling reply =
     (refl, refl, refl, refl, refl, λ made. called_after planned.binds_alone (binding planned.act reply) reply made)
 
 -- ---- what a seat does next
@@ -99,7 +99,7 @@ module _ (rules : RulesValue) (standing : StandingValue) (seat : ℕ) (planned :
   )
 
   calls_leave : (calling : Calling) → NextLeaves (Calls calling)
-  calls_leave calling step is = changes_leave (called planned calling is.drained is.reply) (called_leaves planned calling is.drained is.reply) step is.changes
+  calls_leave calling step is = changes_leave (called planned calling is.reply) (called_leaves planned calling is.reply) step is.changes
 
   either_next : (test : Bool) (one other : Next) → NextLeaves one → NextLeaves other → NextLeaves (if test then one else other)
   either_next true one other first second = first

@@ -16,17 +16,17 @@ use Rattle.irp_remove.specs.declared.views.View.TheVariants.{First, Observer, St
 use Rattle.irp_remove.specs.declared.views.Parties.{Parties}
 use Rattle.irp_remove.specs.Core.{Kept, acquired}
 use Rattle.irp_remove.proofs.Knowing.{acquired_clear, acquired_taken, trying_here, trying_else, held_here, held_else}
-use Rattle.irp_machine.specs.declared.parts.After.TheVariants.{In, Told}
-use Rattle.irp_machine.specs.declared.parts.Change.{Change}
-use Rattle.irp_machine.specs.declared.parts.Held.{Held as Reference}
+use Rattle.irp_plain.specs.declared.parts.After.TheVariants.{In, Told}
+use Rattle.irp_plain.specs.declared.parts.Change.{Change}
+use Rattle.irp_plain.specs.declared.parts.Held.{Held as Reference}
 use Rattle.irp_machine.specs.declared.parts.Planned.{Planned}
-use Rattle.irp_machine.specs.declared.parts.Stage.{Stage}
-use Rattle.irp_machine.specs.declared.parts.Stage.TheVariants as stages
-use Rattle.irp_machine.specs.declared.told.Answered.TheVariants.{Word}
-use Rattle.irp_machine.specs.Changes as change
-use Rattle.irp_machine.specs.Lists.{with_item, with_more, without}
+use Rattle.irp_plain.specs.declared.parts.Stage.{Stage}
+use Rattle.irp_plain.specs.declared.parts.Stage.TheVariants as stages
+use Rattle.irp_plain.specs.declared.answered.Answered.TheVariants.{Word}
+use Rattle.irp_plain.specs.Changes as change
+use Rattle.irp_plain.specs.Lists.{with_item, with_more, without}
 use Rattle.irp_machine.specs.Machine.{RulesValue}
-use Rattle.irp_machine.specs.Seats.{SeatValue, new_seat, is_held, after_step}
+use Rattle.irp_plain.specs.Seats.{SeatValue, new_seat, is_held, after_step}
 use Rattle.irp_machine.specs.Standings.{StandingValue, after_change, with_given, with_word}
 use Rattle.irp_machine_laws.specs.Seats.{one_if}
 use Rattle.irp_machine_laws.specs.LockTables.{LockTable, StandsFor, of_stake, holding_at, trying_at, references, holds, tried, tried_at, tries, keeps_busy}

@@ -13,13 +13,13 @@ use Rattle.irp_transcript.specs.declared.word_line.WordReply.TheVariants as repl
 use Rattle.irp_script_reader.specs.declared.act.StepAct.TheVariants as does
 use Rattle.irp_remove.specs.declared.views.Stage.TheVariants.{Trying, Held}
 use Rattle.irp_remove.specs.declared.views.Parties.{Parties}
-use Rattle.irp_machine.specs.declared.parts.Change.{Change}
+use Rattle.irp_plain.specs.declared.parts.Change.{Change}
 use Rattle.irp_machine.specs.declared.parts.Planned.{Planned}
-use Rattle.irp_machine.specs.declared.parts.Stage.{Stage}
-use Rattle.irp_machine.specs.declared.parts.Stage.TheVariants as stages
-use Rattle.irp_machine.specs.Changes as change
+use Rattle.irp_plain.specs.declared.parts.Stage.{Stage}
+use Rattle.irp_plain.specs.declared.parts.Stage.TheVariants as stages
+use Rattle.irp_plain.specs.Changes as change
 use Rattle.irp_machine.specs.Machine.{RulesValue}
-use Rattle.irp_machine.specs.Seats.{SeatValue, new_seat, is_held, is_removed}
+use Rattle.irp_plain.specs.Seats.{SeatValue, new_seat, is_held, is_removed}
 use Rattle.irp_machine.specs.Standings.{StandingValue}
 use Rattle.irp_machine_laws.specs.Seats.{one_if}
 use Rattle.irp_machine_laws.specs.LockTables.{LockTable, StandsFor, tried, tried_at, tries, acquired_by}

@@ -12,13 +12,13 @@ use native.Mathlib.Decide.{ℕ_discrete}
 use Rattle.irp_types.specs.declared.seat_act.Hand.{Hand}
 use Rattle.irp_transcript.specs.declared.word_line.WordReply.TheVariants as reply
 use Rattle.irp_remove.specs.declared.views.Parties.{Parties}
-use Rattle.irp_machine.specs.declared.parts.Change.{Change}
-use Rattle.irp_machine.specs.declared.parts.Held.{Held as Reference}
+use Rattle.irp_plain.specs.declared.parts.Change.{Change}
+use Rattle.irp_plain.specs.declared.parts.Held.{Held as Reference}
 use Rattle.irp_machine.specs.declared.parts.Planned.{Planned}
-use Rattle.irp_machine.specs.Changes as change
-use Rattle.irp_machine.specs.Lists.{with_item}
+use Rattle.irp_plain.specs.Changes as change
+use Rattle.irp_plain.specs.Lists.{with_item}
 use Rattle.irp_machine.specs.Machine.{RulesValue, seat_at}
-use Rattle.irp_machine.specs.Seats.{SeatValue, new_seat, is_held, after_step, with_held}
+use Rattle.irp_plain.specs.Seats.{SeatValue, new_seat, is_held, after_step, with_held}
 use Rattle.irp_machine.specs.Standings.{StandingValue, after_change}
 use Rattle.irp_machine_laws.specs.Seats.{one_if, over_seats}
 use Rattle.irp_machine_laws.specs.LockTables.{LockTable, StandsFor, references, holds, tried, tries, keeps_busy}

@@ -15,17 +15,17 @@ use Rattle.irp_remove.specs.declared.views.View.TheVariants.{Observer}
 use Rattle.irp_remove.specs.declared.views.Parties.{Parties}
 use Rattle.irp_remove.specs.Core.{Kept, flag, begun, looked}
 use Rattle.irp_remove.proofs.Observing.{or_one}
-use Rattle.irp_machine.specs.declared.parts.After.TheVariants.{In, Told}
-use Rattle.irp_machine.specs.declared.parts.Change.{Change}
-use Rattle.irp_machine.specs.declared.parts.Learned.{Learned}
-use Rattle.irp_machine.specs.declared.parts.Learned.TheVariants.{Removed, Drained}
+use Rattle.irp_plain.specs.declared.parts.After.TheVariants.{In, Told}
+use Rattle.irp_plain.specs.declared.parts.Change.{Change}
+use Rattle.irp_plain.specs.declared.parts.Learned.{Learned}
+use Rattle.irp_plain.specs.declared.parts.Learned.TheVariants.{Removed, Drained}
 use Rattle.irp_machine.specs.declared.parts.Planned.{Planned}
-use Rattle.irp_machine.specs.declared.parts.Stage.TheVariants as stages
-use Rattle.irp_machine.specs.declared.told.Answered.TheVariants.{Word}
-use Rattle.irp_machine.specs.Changes as change
-use Rattle.irp_machine.specs.Lists.{with_item}
+use Rattle.irp_plain.specs.declared.parts.Stage.TheVariants as stages
+use Rattle.irp_plain.specs.declared.answered.Answered.TheVariants.{Word}
+use Rattle.irp_plain.specs.Changes as change
+use Rattle.irp_plain.specs.Lists.{with_item}
 use Rattle.irp_machine.specs.Machine.{RulesValue}
-use Rattle.irp_machine.specs.Seats.{SeatValue, new_seat, is_removed, is_drained, after_step}
+use Rattle.irp_plain.specs.Seats.{SeatValue, new_seat, is_removed, is_drained, after_step}
 use Rattle.irp_machine.specs.Standings.{StandingValue, after_change, with_given, with_word}
 use Rattle.irp_machine_laws.specs.LockTables.{LockTable, StandsFor, IsLearned, tried}
 use Rattle.irp_machine_laws.specs.LockSteps.{moved, IsBegin, IsLook}

@@ -9,14 +9,15 @@ use Rattle.irp_remove.specs.declared.views.View.{View}
 use Rattle.irp_remove.specs.declared.views.Parties.{Parties}
 use Rattle.irp_remove.specs.Core.{Kept, total, flag, began, staked, saw, knows_drained, observers, stakes, new_observer, new_stake, new_watch}
 use Rattle.irp_remove.proofs.Observing.{blank_observer, blank_stake}
-use Rattle.irp_machine.specs.Lists.{with_item}
-use Rattle.irp_machine.specs.declared.parts.Change.{Change}
-use Rattle.irp_machine.specs.declared.parts.Given.{Given}
-use Rattle.irp_machine.specs.declared.parts.Made.{Made}
+use Rattle.irp_plain.specs.Lists.{with_item}
+use Rattle.irp_plain.specs.declared.parts.Change.{Change}
+use Rattle.irp_plain.specs.declared.parts.Given.{Given}
+use Rattle.irp_types.specs.State.{StateValue}
 use Rattle.irp_machine.specs.declared.parts.Planned.{Planned}
-use Rattle.irp_machine.specs.Machine.{RulesValue, StepsTo, act_of}
+use Rattle.irp_machine.specs.Machine.{RulesValue, StepsTo, act_of, seat_at, stepped}
+use Rattle.irp_machine.specs.Next.{next_of}
 use Rattle.irp_machine.specs.Openings.{MakesAll, begun, rules_of}
-use Rattle.irp_machine.specs.Seats.{SeatValue, new_seat, after_step, with_held}
+use Rattle.irp_plain.specs.Seats.{SeatValue, new_seat, after_step, with_held}
 use Rattle.irp_machine.specs.Standings.{StandingValue, after_change, with_given}
 use Rattle.irp_machine_laws.specs.Hands.{HandsLand}
 use Rattle.irp_machine_laws.specs.LockLaws.{LockOpeningLaw, LockOrderLaw, Follows}
@@ -103,10 +104,10 @@ knows_nothing locks seat is = subst (λ (s : SeatValue). IsLearned locks s new_w
   drained_flags = long 64 false;
 })
 
-stands_fresh : (rules : RulesValue) (header : Header) (made : List Made) (labels : List IrpRef) → header.locks ≤ 64 → header.seats < 64 → (idle : ℕ) → idle ≡ 4096
-    → StandsFor rules (begun header made labels) (record { locks = header.locks; observers = header.seats; stakes = idle })
+stands_fresh : (rules : RulesValue) (header : Header) (state : StateValue) (labels : List IrpRef) → header.locks ≤ 64 → header.seats < 64 → (idle : ℕ) → idle ≡ 4096
+    → StandsFor rules (begun header state labels) (record { locks = header.locks; observers = header.seats; stakes = idle })
     (record { words = replicate header.locks 0; homes = []; views = fresh header.seats idle })
-stands_fresh rules header made labels few_locks few_seats idle is =
+stands_fresh rules header state labels few_locks few_seats idle is =
     let seats_long : length (replicate header.seats new_seat) ≡ header.seats = long header.seats new_seat in
     let of_stakes : (f : Rattle.irp_remove.specs.declared.views.Stage.Stage → ℕ) → total (of_stake f) (fresh header.seats idle) ≡ header.seats * 0 + idle * f Rattle.irp_remove.specs.declared.views.Stage.TheVariants.Idle =
     λ f. total_fresh (of_stake f) header.seats idle in
@@ -127,12 +128,12 @@ stands_fresh rules header made labels few_locks few_seats idle is =
     }
 
 pub lock_opening_law : LockOpeningLaw
-lock_opening_law rules header made labels few_locks few_seats = (
+lock_opening_law rules header state labels few_locks few_seats = (
   record { locks = header.locks; observers = header.seats; stakes = 4096 },
   record { words = replicate header.locks 0; homes = []; views = fresh header.seats 4096 },
   refl,
   refl,
-  stands_fresh rules header made labels few_locks few_seats 4096 refl,
+  stands_fresh rules header state labels few_locks few_seats 4096 refl,
 )
 
 -- ---- orders
@@ -170,7 +171,7 @@ module _ (rules : RulesValue) (key : Parties) where
       let told : Some middle ≡ Some one = steps.1 in
       let same : middle ≡ one = cc in
       let step : Change = steps.2.0 in
-      let lead : middle ≡ after_change seat step planned.step rules.tells old = same ∙ steps.2.2 in
+      let lead : middle ≡ stepped rules old seat planned (next_of old (seat_at old seat) planned) step steps.2.1 = same ∙ steps.2.2 in
       let done = lock_step_law rules old key table seat planned step lands stands is steps.2.1 in
       let seats : length middle.seats ≡ length old.seats = ap (λ (s : StandingValue). length s.seats) lead ∙ same_seats seat step planned.step rules.tells old in
       let rest = on done.0 (subst (λ (n : ℕ). HandsLand rules.acts n) (sym seats) lands) (subst (λ (s : StandingValue). StandsFor rules s key done.0) (sym lead) done.2) in
@@ -187,7 +188,7 @@ pub lock_order_law : LockOrderLaw
 lock_order_law header script rivals steps tells start path new order =
     let rules : RulesValue = rules_of header script rivals steps tells in
     let opens = order.opens in
-    let opened = lock_opening_law rules header opens.0.made opens.0.labels order.few_locks order.few_seats in
+    let opened = lock_opening_law rules header opens.0.state opens.0.labels order.few_locks order.few_seats in
     let key : Parties = opened.0 in
     let table : LockTable = opened.1 in
     let stands : StandsFor rules start key table = subst (λ (s : StandingValue). StandsFor rules s key table) (sym opens.2) opened.4 in

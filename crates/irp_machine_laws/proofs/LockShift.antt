@@ -15,9 +15,9 @@ use Rattle.irp_remove.specs.declared.views.Parties.{Parties}
 use Rattle.irp_remove.specs.Core.{Kept, total}
 use Rattle.irp_remove.proofs.Totals.{total_set}
 use Rattle.irp_machine.specs.declared.parts.Planned.{Planned}
-use Rattle.irp_machine.specs.Lists.{with_item}
+use Rattle.irp_plain.specs.Lists.{with_item}
 use Rattle.irp_machine.specs.Machine.{RulesValue, seat_at}
-use Rattle.irp_machine.specs.Seats.{SeatValue, new_seat, is_removed, is_drained}
+use Rattle.irp_plain.specs.Seats.{SeatValue, new_seat, is_removed, is_drained}
 use Rattle.irp_machine.specs.Standings.{StandingValue}
 use Rattle.irp_machine_laws.specs.Seats.{over_seats}
 use Rattle.irp_machine_laws.specs.LockTables.{LockTable, StandsFor, IsLearned, Observes, of_stake, one_each, holding, holding_at, trying, trying_at, busy, busy_at, references, holds, tries, keeps_busy}

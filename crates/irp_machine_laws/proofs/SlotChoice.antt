@@ -10,18 +10,18 @@ use Rattle.irp_script_reader.specs.declared.act.Named.{Named}
 use Rattle.irp_script_reader.specs.declared.act.StepAct.{StepAct}
 use Rattle.irp_script_reader.specs.declared.act.StepAct.TheVariants as does
 use Rattle.irp_slots.specs.declared.views.Parties.{Parties}
-use Rattle.irp_machine.specs.declared.parts.After.TheVariants.{In}
-use Rattle.irp_machine.specs.declared.parts.Change.{Change}
+use Rattle.irp_plain.specs.declared.parts.After.TheVariants.{In}
+use Rattle.irp_plain.specs.declared.parts.Change.{Change}
 use Rattle.irp_machine.specs.declared.parts.Next.TheVariants.{Changes}
 use Rattle.irp_machine.specs.declared.parts.Planned.{Planned}
-use Rattle.irp_machine.specs.declared.parts.Slot.{Slot}
-use Rattle.irp_machine.specs.declared.parts.Stage.{Stage}
-use Rattle.irp_machine.specs.declared.parts.Stage.TheVariants as stages
-use Rattle.irp_machine.specs.Changes as change
+use Rattle.irp_plain.specs.declared.parts.Slot.{Slot}
+use Rattle.irp_plain.specs.declared.parts.Stage.{Stage}
+use Rattle.irp_plain.specs.declared.parts.Stage.TheVariants as stages
+use Rattle.irp_plain.specs.Changes as change
 use Rattle.irp_machine.specs.Machine.{RulesValue, IsNext}
 use Rattle.irp_machine.specs.Next.{is_tokenless, naming_at, next_by, packet_of, with_packet}
 use Rattle.irp_machine.specs.Openings.{empty_slot}
-use Rattle.irp_machine.specs.Seats.{SeatValue, new_seat, after_step}
+use Rattle.irp_plain.specs.Seats.{SeatValue, new_seat, after_step}
 use Rattle.irp_machine.specs.Standings.{StandingValue, after_change}
 use Rattle.irp_machine_laws.specs.SlotSteps.{IsCheck, IsFlag, IsPublish, IsRefused, IsTakeBack, IsTakeOut, Publishes, Requests, Stays, is_refusal}
 use Rattle.irp_machine_laws.specs.SlotTables.{SlotTable, StandsFor, asker_no, asked, asked_at, found, found_at, published_by, put, put_at, requested_by}

@@ -4,13 +4,14 @@ use Rattle.std.specs.Prelude.{slice_get}
 use Rattle.irp_script_reader.specs.declared.act.StepAct.{StepAct}
 use Rattle.irp_script_reader.specs.declared.act.StepAct.TheVariants as does
 use Rattle.irp_slots.specs.declared.views.Parties.{Parties}
-use Rattle.irp_machine.specs.declared.parts.Change.{Change}
+use Rattle.irp_plain.specs.declared.parts.Change.{Change}
+use Rattle.irp_types.specs.State.{StateValue}
 use Rattle.irp_machine.specs.declared.parts.Planned.{Planned}
-use Rattle.irp_machine.specs.Changes as change
-use Rattle.irp_machine.specs.Machine.{RulesValue, IsNext}
-use Rattle.irp_machine.specs.Next.{next_by, with_packet}
-use Rattle.irp_machine.specs.Seats.{SeatValue, new_seat}
-use Rattle.irp_machine.specs.Standings.{StandingValue}
+use Rattle.irp_plain.specs.Changes as change
+use Rattle.irp_machine.specs.Machine.{RulesValue, IsNext, seat_at, state_behind}
+use Rattle.irp_machine.specs.Next.{next_by, next_of, with_packet}
+use Rattle.irp_plain.specs.Seats.{SeatValue, new_seat}
+use Rattle.irp_machine.specs.Standings.{StandingValue, after_change, with_state}
 use Rattle.irp_machine_laws.specs.SlotLaws.{SlotStepLaw}
 use Rattle.irp_machine_laws.specs.SlotSteps.{IsStepAt}
 use Rattle.irp_machine_laws.specs.SlotTables.{SlotTable, StandsFor, published_by}
@@ -49,7 +50,20 @@ module _ (rules : RulesValue) (standing : StandingValue) (key : Parties) (table 
       (λ irp. subst (λ (act : StepAct). NextIs rules standing seat planned LeavesSlots (with_packet standing own act irp)) (sym act_is)
       (call_next rules standing seat planned own (does.Allocate size label) irp)) step next)
 
+-- no table hangs on the manager's state
+beside : (rules : RulesValue) (standing : StandingValue) (key : Parties) (table : SlotTable) (state : StateValue) → StandsFor rules standing key table
+    → StandsFor rules (with_state standing state) key table
+beside rules standing key table state r = record {
+  kept = r.kept;
+  homes = r.homes;
+  slots = r.slots;
+  owned = r.owned;
+  askers = r.askers;
+}
+
 pub slot_step_law : SlotStepLaw
 slot_step_law rules standing key table seat planned step r is next =
     let found = act_found rules.acts standing.seats seat planned is in
-    by_act rules standing key table r seat found.0 planned found.1 planned.act refl step next
+    let done = by_act rules standing key table r seat found.0 planned found.1 planned.act refl step next in
+    let state = state_behind rules standing seat planned (next_of standing (seat_at standing seat) planned) step next in
+    (done.0, done.1, beside rules (after_change seat step planned.step rules.tells standing) key done.0 state done.2)

@@ -9,21 +9,21 @@ use Rattle.irp_types.specs.declared.seat_act.Hand.{Hand}
 use Rattle.irp_types.specs.declared.seat_act.LockAct.{LockAct}
 use Rattle.irp_types.specs.declared.seat_act.LockAct.TheVariants.{Acquire, Release, BeginRemove, Drained as AsksDrained}
 use Rattle.irp_script_reader.specs.declared.act.StepAct.{StepAct}
-use Rattle.irp_machine.specs.declared.parts.After.TheVariants.{In, Told}
-use Rattle.irp_machine.specs.declared.told.Answered.TheVariants.{Word}
+use Rattle.irp_plain.specs.declared.parts.After.TheVariants.{In, Told}
+use Rattle.irp_plain.specs.declared.answered.Answered.TheVariants.{Word}
 use Rattle.irp_transcript.specs.declared.word_line.WordReply.TheVariants.{AlreadyRemoving}
 use Rattle.irp_machine.specs.declared.parts.Calling.{Calling}
-use Rattle.irp_machine.specs.declared.parts.Change.{Change}
-use Rattle.irp_machine.specs.declared.parts.NewLabel.{NewLabel}
+use Rattle.irp_plain.specs.declared.parts.Change.{Change}
+use Rattle.irp_plain.specs.declared.parts.NewLabel.{NewLabel}
 use Rattle.irp_machine.specs.declared.parts.Next.{Next}
 use Rattle.irp_machine.specs.declared.parts.Next.TheVariants.{Changes, Calls}
 use Rattle.irp_machine.specs.declared.parts.Planned.{Planned}
-use Rattle.irp_machine.specs.declared.parts.Stage.{Stage}
-use Rattle.irp_machine.specs.declared.parts.Stage.TheVariants as stages
-use Rattle.irp_machine.specs.Changes as change
+use Rattle.irp_plain.specs.declared.parts.Stage.{Stage}
+use Rattle.irp_plain.specs.declared.parts.Stage.TheVariants as stages
+use Rattle.irp_plain.specs.Changes as change
 use Rattle.irp_machine.specs.Machine.{RulesValue, IsNext}
 use Rattle.irp_machine.specs.Next.{after_call, binding, called, calling, is_tokenless, naming_at, with_packet, with_token}
-use Rattle.irp_machine.specs.Seats.{SeatValue, is_held, is_removed, place_after}
+use Rattle.irp_plain.specs.Seats.{SeatValue, is_held, is_removed, place_after}
 use Rattle.irp_machine.specs.Standings.{StandingValue}
 
 -- the stage is one of an act at a slot
@@ -97,7 +97,7 @@ module _ (rules : RulesValue) (standing : StandingValue) (seat : ℕ) (planned :
 
   calls_leave : (calling : Calling) → NextIs LeavesSlots (Calls calling)
   calls_leave calling step is =
-      left (called planned calling is.drained is.reply) (refl, λ made. called_after planned.binds_alone (binding planned.act is.reply) is.reply made) step is.changes
+      left (called planned calling is.reply) (refl, λ made. called_after planned.binds_alone (binding planned.act is.reply) is.reply made) step is.changes
 
   -- the next step of an act is one kind where it is so of each case
   pub either_next : (kind : Change → Type 0) (test : Bool) (one other : Next) → NextIs kind one → NextIs kind other → NextIs kind (if test then one else other)

@@ -12,12 +12,12 @@ use Rattle.irp_slots.specs.declared.views.View.TheVariants.{Owner, Canceller}
 use Rattle.irp_slots.specs.declared.views.Parties.{Parties}
 use Rattle.irp_slots.specs.Core.{Kept, content_of, flag_of, is_begun, is_standing, owns, published, one_if as as_one}
 use Rattle.irp_slots.proofs.Totals.{alone, published_view}
-use Rattle.irp_machine.specs.declared.parts.Change.{Change}
+use Rattle.irp_plain.specs.declared.parts.Change.{Change}
 use Rattle.irp_machine.specs.declared.parts.Planned.{Planned}
-use Rattle.irp_machine.specs.declared.parts.Slot.{Slot}
+use Rattle.irp_plain.specs.declared.parts.Slot.{Slot}
 use Rattle.irp_machine.specs.Machine.{RulesValue}
 use Rattle.irp_machine.specs.Openings.{empty_slot}
-use Rattle.irp_machine.specs.Seats.{SeatValue, new_seat, after_step}
+use Rattle.irp_plain.specs.Seats.{SeatValue, new_seat, after_step}
 use Rattle.irp_machine.specs.Standings.{StandingValue, after_change, with_slot}
 use Rattle.irp_machine_laws.specs.Seats.{one_if, over_seats}
 use Rattle.irp_machine_laws.specs.SlotSteps.{moved}

@@ -9,13 +9,14 @@ use Rattle.irp_slots.specs.declared.views.View.TheVariants.{First, Owner}
 use Rattle.irp_slots.specs.declared.views.Parties.{Parties}
 use Rattle.irp_slots.specs.Core.{Kept, flag_of, new_asking, new_canceller, new_owning, span}
 use Rattle.irp_slots.proofs.Making.{at_opening, owner_made, canceller_made, span_step, zero_words}
-use Rattle.irp_machine.specs.declared.parts.Change.{Change}
+use Rattle.irp_plain.specs.declared.parts.Change.{Change}
 use Rattle.irp_machine.specs.declared.parts.Planned.{Planned}
-use Rattle.irp_machine.specs.declared.parts.Slot.{Slot}
-use Rattle.irp_machine.specs.Machine.{RulesValue, StepsTo, act_of}
+use Rattle.irp_plain.specs.declared.parts.Slot.{Slot}
+use Rattle.irp_machine.specs.Machine.{RulesValue, StepsTo, act_of, seat_at, stepped}
+use Rattle.irp_machine.specs.Next.{next_of}
 use Rattle.irp_machine.specs.Openings.{MakesAll, empty_slot, rules_of}
-use Rattle.irp_machine.specs.Seats.{SeatValue, new_seat}
-use Rattle.irp_machine.specs.Standings.{StandingValue, after_change}
+use Rattle.irp_plain.specs.Seats.{SeatValue, new_seat}
+use Rattle.irp_machine.specs.Standings.{StandingValue}
 use Rattle.irp_machine_laws.specs.SlotLaws.{Follows, SlotOpeningLaw, SlotOrderLaw}
 use Rattle.irp_machine_laws.specs.SlotTables.{SlotTable, StandsFor, IsOwned, IsAsking, asker_no, finds, puts}
 use Rattle.irp_machine_laws.proofs.SlotLaw.{slot_step_law}
@@ -158,7 +159,7 @@ module _ (slots askers : ℕ) (few_slots : slots ≤ 64) (few_askers : askers �
       }
 
 pub slot_opening_law : SlotOpeningLaw
-slot_opening_law rules header made labels few_slots few_seats =
+slot_opening_law rules header state labels few_slots few_seats =
     let slots : ℕ = slots_of header.form in
     let key : Parties = fresh_key slots header.seats few_slots few_seats in
     let table : SlotTable = fresh slots header.seats few_slots few_seats in (
@@ -202,7 +203,7 @@ module _ (rules : RulesValue) (key : Parties) where
       let told : Some middle ≡ Some one = steps.1 in
       let same : middle ≡ one = cc in
       let step : Change = steps.2.0 in
-      let lead : middle ≡ after_change seat step planned.step rules.tells old = same ∙ steps.2.2 in
+      let lead : middle ≡ stepped rules old seat planned (next_of old (seat_at old seat) planned) step steps.2.1 = same ∙ steps.2.2 in
       let done = slot_step_law rules old key table seat planned step stands is steps.2.1 in
       let rest = on done.0 (subst (λ (s : StandingValue). StandsFor rules s key done.0) (sym lead) done.2) in
       (rest.0, (middle, done.0, record { planned = planned; step = step; act = is; next = steps.2.1; leads = lead; at = done.1 }, rest.1), rest.2)
@@ -218,7 +219,7 @@ pub slot_order_law : SlotOrderLaw
 slot_order_law header script rivals steps tells start path new order =
     let rules : RulesValue = rules_of header script rivals steps tells in
     let opens = order.opens in
-    let opened = slot_opening_law rules header opens.0.made opens.0.labels order.few_slots order.few_seats in
+    let opened = slot_opening_law rules header opens.0.state opens.0.labels order.few_slots order.few_seats in
     let key : Parties = opened.0 in
     let table : SlotTable = opened.1 in
     let stands : StandsFor rules start key table = subst (λ (s : StandingValue). StandsFor rules s key table) (sym opens.2) opened.4 in

@@ -9,14 +9,14 @@ use lib.ListN.{get_elem?}
 use Rattle.irp_slots.specs.declared.views.View.{View}
 use Rattle.irp_slots.specs.declared.views.Parties.{Parties}
 use Rattle.irp_slots.specs.Core.{Kept, content_of, flag_of}
-use Rattle.irp_machine.specs.declared.parts.Change.{Change}
-use Rattle.irp_machine.specs.declared.parts.Held.{Held}
-use Rattle.irp_machine.specs.declared.parts.Given.{Given}
+use Rattle.irp_plain.specs.declared.parts.Change.{Change}
+use Rattle.irp_plain.specs.declared.parts.Held.{Held}
+use Rattle.irp_plain.specs.declared.parts.Given.{Given}
 use Rattle.irp_machine.specs.declared.parts.Planned.{Planned}
-use Rattle.irp_machine.specs.declared.parts.Slot.{Slot}
+use Rattle.irp_plain.specs.declared.parts.Slot.{Slot}
 use Rattle.irp_machine.specs.Machine.{RulesValue, seat_at}
 use Rattle.irp_machine.specs.Openings.{empty_slot}
-use Rattle.irp_machine.specs.Seats.{SeatValue, new_seat, after_step, with_held}
+use Rattle.irp_plain.specs.Seats.{SeatValue, new_seat, after_step, with_held}
 use Rattle.irp_machine.specs.Standings.{StandingValue, after_change, with_given}
 use Rattle.irp_machine_laws.specs.Seats.{one_if, over_seats}
 use Rattle.irp_machine_laws.specs.SlotTables.{SlotTable, StandsFor, IsOwned, IsAsking, asker_no, owner_no, asked_at, finds, found_at, is_at, put_at, puts}

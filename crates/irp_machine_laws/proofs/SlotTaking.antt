@@ -13,15 +13,15 @@ use Rattle.irp_slots.specs.declared.views.Parties.{Parties}
 use Rattle.irp_slots.specs.Core.{Kept, content_of, flag, flag_of, is_begun, is_standing, may_take_back, out_of}
 use Rattle.irp_slots.proofs.Steps.{take_back_keeps, flag_keeps, take_out_keeps}
 use Rattle.irp_remove.proofs.Observing.{or_one}
-use Rattle.irp_machine.specs.declared.parts.After.TheVariants.{In, Told}
-use Rattle.irp_machine.specs.declared.parts.Change.{Change}
+use Rattle.irp_plain.specs.declared.parts.After.TheVariants.{In, Told}
+use Rattle.irp_plain.specs.declared.parts.Change.{Change}
 use Rattle.irp_machine.specs.declared.parts.Planned.{Planned}
-use Rattle.irp_machine.specs.declared.parts.Slot.{Slot}
-use Rattle.irp_machine.specs.declared.parts.Stage.TheVariants as stages
-use Rattle.irp_machine.specs.declared.told.Answered.TheVariants.{Word}
-use Rattle.irp_machine.specs.Changes as change
+use Rattle.irp_plain.specs.declared.parts.Slot.{Slot}
+use Rattle.irp_plain.specs.declared.parts.Stage.TheVariants as stages
+use Rattle.irp_plain.specs.declared.answered.Answered.TheVariants.{Word}
+use Rattle.irp_plain.specs.Changes as change
 use Rattle.irp_machine.specs.Machine.{RulesValue}
-use Rattle.irp_machine.specs.Seats.{SeatValue, new_seat, after_step}
+use Rattle.irp_plain.specs.Seats.{SeatValue, new_seat, after_step}
 use Rattle.irp_machine.specs.Standings.{StandingValue}
 use Rattle.irp_machine_laws.specs.Seats.{one_if, over_seats}
 use Rattle.irp_machine_laws.specs.SlotSteps.{moved, IsFlag, IsTakeBack, IsTakeOut, taken_or}

@@ -10,7 +10,7 @@ use Rattle.irp_remove.specs.declared.views.View.{View}
 use Rattle.irp_remove.specs.declared.views.View.TheVariants.{First, Observer, Stake}
 use Rattle.irp_remove.specs.Core.{total}
 use Rattle.irp_machine.specs.declared.parts.Planned.{Planned}
-use Rattle.irp_machine.specs.Seats.{SeatValue, new_seat}
+use Rattle.irp_plain.specs.Seats.{SeatValue, new_seat}
 use Rattle.irp_machine_laws.specs.Seats.{over_seats}
 use Rattle.irp_machine_laws.specs.LockTables.{of_stake, one_each, busy, keeps_busy, tried}
 

@@ -1,19 +1,19 @@
 -- The machine's steps at remove locks are steps of the table of remove locks.
 use Rattle.std.specs.Prelude.{◌≡◌, ℕ, ◌%◌, ◌<◌, ◌≤◌, Bool, true, List, [], ◌∷◌, length, slice_index_or, Some}
 use Rattle.irp_types.specs.Limits.{most_locks, most_seats}
+use Rattle.irp_types.specs.State.{StateValue}
 use Rattle.irp_types.specs.declared.names.IrpRef.{IrpRef}
 use Rattle.irp_types.specs.declared.names.LockNo.{LockNo}
 use Rattle.irp_transcript.specs.declared.header.Header.{Header}
 use Rattle.irp_script_reader.specs.declared.act.Step.{Step}
 use Rattle.irp_script_reader.specs.declared.script.ScriptParts.{ScriptParts}
 use Rattle.irp_remove.specs.declared.views.Parties.{Parties}
-use Rattle.irp_machine.specs.declared.parts.Change.{Change}
-use Rattle.irp_machine.specs.declared.parts.Made.{Made}
+use Rattle.irp_plain.specs.declared.parts.Change.{Change}
 use Rattle.irp_machine.specs.declared.parts.Planned.{Planned}
-use Rattle.irp_machine.specs.Machine.{RulesValue, IsNext, act_of, knows_of, seat_at}
+use Rattle.irp_machine.specs.Machine.{RulesValue, IsNext, act_of, knows_of, seat_at, stepped}
 use Rattle.irp_machine.specs.Next.{next_of}
 use Rattle.irp_machine.specs.Openings.{MakesAll, Opens, begun, rules_of}
-use Rattle.irp_machine.specs.Standings.{StandingValue, after_change}
+use Rattle.irp_machine.specs.Standings.{StandingValue}
 use Rattle.irp_machine_laws.specs.Hands.{AreHandsWithin, HandsLand}
 use Rattle.irp_machine_laws.specs.LockSteps.{IsStepAt}
 use Rattle.irp_machine_laws.specs.LockTables.{LockTable, StandsFor, references}
@@ -25,17 +25,18 @@ LockStepLaw =
     (rules : RulesValue) (standing : StandingValue) (key : Parties) (table : LockTable) (seat : ℕ) (planned : Planned)
     (step : Change) → HandsLand rules.acts (length standing.seats) → StandsFor rules standing key table
     → act_of rules standing seat ≡ Some planned
-    → IsNext rules standing seat planned (next_of standing (seat_at standing seat) planned) step
+    → (next : IsNext rules standing seat planned (next_of standing (seat_at standing seat) planned) step)
     → (new : LockTable) × IsStepAt seat planned.act (seat_at standing seat).stage step table new
-    × StandsFor rules (after_change seat step planned.step rules.tells standing) key new
+    × StandsFor rules
+    (stepped rules standing seat planned (next_of standing (seat_at standing seat) planned) step next) key new
 
 -- as the steps of seats begin, a table stands for where the script stands
 abbrev pub LockOpeningLaw : Type 0
 LockOpeningLaw =
-    (rules : RulesValue) (header : Header) (made : List Made) (labels : List IrpRef) → header.locks ≤ most_locks
+    (rules : RulesValue) (header : Header) (state : StateValue) (labels : List IrpRef) → header.locks ≤ most_locks
     → header.seats < most_seats
     → (key : Parties) × (table : LockTable) × (key.locks ≡ header.locks) × (key.observers ≡ header.seats)
-    × StandsFor rules (begun header made labels) key table
+    × StandsFor rules (begun header state labels) key table
 
 -- the next step of a seat, and what it is at a table
 pub record Makes (rules : RulesValue) (old : StandingValue) (seat : ℕ) (new : StandingValue)
@@ -44,7 +45,7 @@ pub record Makes (rules : RulesValue) (old : StandingValue) (seat : ℕ) (new : 
   pub step : Change
   pub act : act_of rules old seat ≡ Some planned
   pub next : IsNext rules old seat planned (next_of old (seat_at old seat) planned) step
-  pub leads : new ≡ after_change seat step planned.step rules.tells old
+  pub leads : new ≡ stepped rules old seat planned (next_of old (seat_at old seat) planned) step next
   pub at : IsStepAt seat planned.act (seat_at old seat).stage step table after
 
 -- the next steps of these seats, one after another, lead from where a script stands to where it stands then, and from
@@ -80,7 +81,7 @@ LockOrderLaw =
 -- knows it drained, its removal has begun, and no seat has a reference to it
 pub record IsSoundAt (standing : StandingValue) (lock : LockNo) : Type 0 where
   pub small : slice_index_or standing.words lock.0 0 ≤ 8193
-  pub drained : (seat : ℕ) → seat < length standing.seats → knows_of (seat_at standing seat) lock ≡ true
+  pub drained : (seat : ℕ) → seat < length standing.seats → knows_of (seat_at standing seat).learned lock ≡ true
       → (slice_index_or standing.words lock.0 0 % 2 ≡ 1)
       × ((other tag : ℕ) → other < length standing.seats
       → references lock.0 tag (seat_at standing other).held ≡ 0)

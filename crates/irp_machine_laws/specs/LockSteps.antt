@@ -15,11 +15,11 @@ use Rattle.irp_remove.specs.declared.views.Watch.{Watch}
 use Rattle.irp_remove.specs.declared.views.View.{View}
 use Rattle.irp_remove.specs.declared.views.View.TheVariants.{Observer, Stake}
 use Rattle.irp_remove.specs.Core.{IsEvent, acquired, given_back, begun, looked}
-use Rattle.irp_machine.specs.declared.parts.Change.{Change}
-use Rattle.irp_machine.specs.declared.parts.After.TheVariants.{In, Told}
-use Rattle.irp_machine.specs.declared.parts.Stage.{Stage}
-use Rattle.irp_machine.specs.declared.parts.Stage.TheVariants as stages
-use Rattle.irp_machine.specs.declared.told.Answered.TheVariants.{Word}
+use Rattle.irp_plain.specs.declared.parts.Change.{Change}
+use Rattle.irp_plain.specs.declared.parts.After.TheVariants.{In, Told}
+use Rattle.irp_plain.specs.declared.parts.Stage.{Stage}
+use Rattle.irp_plain.specs.declared.parts.Stage.TheVariants as stages
+use Rattle.irp_plain.specs.declared.answered.Answered.TheVariants.{Word}
 use Rattle.irp_machine_laws.specs.LockTables.{LockTable}
 
 -- the word of a lock

@@ -17,12 +17,12 @@ use Rattle.irp_remove.specs.declared.views.View.{View}
 use Rattle.irp_remove.specs.declared.views.View.TheVariants.{First, Observer, Stake}
 use Rattle.irp_remove.specs.declared.views.Parties.{Parties}
 use Rattle.irp_remove.specs.Core.{Kept, total, flag}
-use Rattle.irp_machine.specs.declared.parts.Held.{Held as Reference}
+use Rattle.irp_plain.specs.declared.parts.Held.{Held as Reference}
 use Rattle.irp_machine.specs.declared.parts.Planned.{Planned}
-use Rattle.irp_machine.specs.declared.parts.Stage.{Stage}
-use Rattle.irp_machine.specs.declared.parts.Stage.TheVariants as stages
+use Rattle.irp_plain.specs.declared.parts.Stage.{Stage}
+use Rattle.irp_plain.specs.declared.parts.Stage.TheVariants as stages
 use Rattle.irp_machine.specs.Machine.{RulesValue, seat_at}
-use Rattle.irp_machine.specs.Seats.{SeatValue, is_held, is_removed, is_drained}
+use Rattle.irp_plain.specs.Seats.{SeatValue, is_held, is_removed, is_drained}
 use Rattle.irp_machine.specs.Standings.{StandingValue}
 use Rattle.irp_machine_laws.specs.Seats.{one_if, over_seats}
 

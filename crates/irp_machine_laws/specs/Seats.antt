@@ -1,7 +1,7 @@
 -- What is added up over all seats.
 use Rattle.std.specs.Prelude.{ℕ, ◌+◌, Bool, true, false, List, [], ◌∷◌}
 use Rattle.irp_machine.specs.declared.parts.Planned.{Planned}
-use Rattle.irp_machine.specs.Seats.{SeatValue}
+use Rattle.irp_plain.specs.Seats.{SeatValue}
 
 -- a truth value as a number
 abbrev pub one_if : Bool → ℕ

@@ -1,19 +1,19 @@
 -- The machine's steps at cancel slots are steps of the table of cancel slots.
 use Rattle.std.specs.Prelude.{◌≡◌, ℕ, ◌<◌, ◌≤◌, Bool, false, List, [], ◌∷◌, slice_index_or, Some}
 use Rattle.irp_types.specs.Limits.{most_seats, most_slots}
+use Rattle.irp_types.specs.State.{StateValue}
 use Rattle.irp_types.specs.declared.names.IrpRef.{IrpRef}
 use Rattle.irp_transcript.specs.Headers.{slots_of}
 use Rattle.irp_transcript.specs.declared.header.Header.{Header}
 use Rattle.irp_script_reader.specs.declared.act.Step.{Step}
 use Rattle.irp_script_reader.specs.declared.script.ScriptParts.{ScriptParts}
 use Rattle.irp_slots.specs.declared.views.Parties.{Parties}
-use Rattle.irp_machine.specs.declared.parts.Change.{Change}
-use Rattle.irp_machine.specs.declared.parts.Made.{Made}
+use Rattle.irp_plain.specs.declared.parts.Change.{Change}
 use Rattle.irp_machine.specs.declared.parts.Planned.{Planned}
-use Rattle.irp_machine.specs.Machine.{RulesValue, IsNext, act_of, seat_at}
+use Rattle.irp_machine.specs.Machine.{RulesValue, IsNext, act_of, seat_at, stepped}
 use Rattle.irp_machine.specs.Next.{next_of}
 use Rattle.irp_machine.specs.Openings.{MakesAll, Opens, begun, empty_slot, rules_of}
-use Rattle.irp_machine.specs.Standings.{StandingValue, after_change}
+use Rattle.irp_machine.specs.Standings.{StandingValue}
 use Rattle.irp_machine_laws.specs.Seats.{over_seats}
 use Rattle.irp_machine_laws.specs.SlotSteps.{IsStepAt}
 use Rattle.irp_machine_laws.specs.SlotTables.{SlotTable, StandsFor, finds, puts}
@@ -24,17 +24,18 @@ abbrev pub SlotStepLaw : Type 0
 SlotStepLaw =
     (rules : RulesValue) (standing : StandingValue) (key : Parties) (table : SlotTable) (seat : ℕ) (planned : Planned)
     (step : Change) → StandsFor rules standing key table → act_of rules standing seat ≡ Some planned
-    → IsNext rules standing seat planned (next_of standing (seat_at standing seat) planned) step
+    → (next : IsNext rules standing seat planned (next_of standing (seat_at standing seat) planned) step)
     → (new : SlotTable) × IsStepAt key.slots seat planned.act (seat_at standing seat).stage step table new
-    × StandsFor rules (after_change seat step planned.step rules.tells standing) key new
+    × StandsFor rules
+    (stepped rules standing seat planned (next_of standing (seat_at standing seat) planned) step next) key new
 
 -- as the steps of seats begin, a table stands for where the script stands
 abbrev pub SlotOpeningLaw : Type 0
 SlotOpeningLaw =
-    (rules : RulesValue) (header : Header) (made : List Made) (labels : List IrpRef) → slots_of header.form ≤ most_slots
+    (rules : RulesValue) (header : Header) (state : StateValue) (labels : List IrpRef) → slots_of header.form ≤ most_slots
     → header.seats ≤ most_seats
     → (key : Parties) × (table : SlotTable) × (key.slots ≡ slots_of header.form) × (key.cancellers ≡ header.seats)
-    × StandsFor rules (begun header made labels) key table
+    × StandsFor rules (begun header state labels) key table
 
 -- the next step of a seat, and what it is at a table of so many slots
 pub record Makes (rules : RulesValue) (slots : ℕ) (old : StandingValue) (seat : ℕ) (new : StandingValue)
@@ -43,7 +44,7 @@ pub record Makes (rules : RulesValue) (slots : ℕ) (old : StandingValue) (seat 
   pub step : Change
   pub act : act_of rules old seat ≡ Some planned
   pub next : IsNext rules old seat planned (next_of old (seat_at old seat) planned) step
-  pub leads : new ≡ after_change seat step planned.step rules.tells old
+  pub leads : new ≡ stepped rules old seat planned (next_of old (seat_at old seat) planned) step next
   pub at : IsStepAt slots seat planned.act (seat_at old seat).stage step table after
 
 -- the next steps of these seats, one after another, lead from where a script stands to where it stands then, and from

@@ -17,12 +17,12 @@ use Rattle.irp_slots.specs.declared.views.View.TheVariants.{Owner, Canceller}
 use Rattle.irp_slots.specs.declared.views.Parties.{Parties}
 use Rattle.irp_slots.specs.Core.{Kept, content_of, flag, flag_of, is_begun, is_standing}
 use Rattle.irp_machine.specs.declared.parts.Planned.{Planned}
-use Rattle.irp_machine.specs.declared.parts.Slot.{Slot}
-use Rattle.irp_machine.specs.declared.parts.Stage.{Stage}
-use Rattle.irp_machine.specs.declared.parts.Stage.TheVariants as stages
+use Rattle.irp_plain.specs.declared.parts.Slot.{Slot}
+use Rattle.irp_plain.specs.declared.parts.Stage.{Stage}
+use Rattle.irp_plain.specs.declared.parts.Stage.TheVariants as stages
 use Rattle.irp_machine.specs.Machine.{RulesValue, seat_at}
 use Rattle.irp_machine.specs.Openings.{empty_slot}
-use Rattle.irp_machine.specs.Seats.{SeatValue}
+use Rattle.irp_plain.specs.Seats.{SeatValue}
 use Rattle.irp_machine.specs.Standings.{StandingValue}
 use Rattle.irp_machine_laws.specs.Seats.{one_if, over_seats}
 

@@ -1,5 +1,5 @@
 -- A list of places as the map of its live packets.
-use Rattle.std.proofs.Common.{ℕ, ◌≡◌, ◌≢◌, ◌<◌, ◌≤◌, inl, inr, List, [], ◌∷◌, ◌++◌, length, set, get_or, Option, Some, None, is_some, true, false, ap, sym, ◌∙◌, arith}
+use Rattle.std.proofs.Common.{ℕ, ◌≡◌, ◌≢◌, ◌<◌, ◌≤◌, inl, inr, List, [], ◌∷◌, ◌++◌, length, set, get_or, Option, Some, None, is_some, true, false, ap, sym, ◌∙◌, refl, arith}
 use Rattle.std.proofs.lemmas.Bool.{cases_eq, cases_lt}
 use Rattle.std.proofs.lemmas.List.{get_or-set_same, get_or-set_other, get_or_append_left, get_or_push, length_push, get_or_read}
 use Rattle.std.proofs.Math.ListN.{get_or-eq_default}
@@ -97,3 +97,12 @@ some_within places slot live there =
       | inl within ↦ within
       | inr past ↦ (let never : None ≡ Some live = sym (nothing_past places slot past) ∙ there in absurd (let no : ⊥ = cc in no))
     ]
+
+-- places that have the same in each slot below both their ends are the same map
+pub same_places : (one other : List (Option LivePacket)) (past : ℕ) → length one ≤ past → length other ≤ past
+    → ((slot : ℕ) → slot < past → fin.get (live_of one) slot ≡ fin.get (live_of other) slot) → live_of one ≡ live_of other
+same_places one other past one_ends other_ends reads = same _ _ (λ q.
+    elim (cases_lt q past) as (λ _. fin.get (live_of one) q ≡ fin.get (live_of other) q) [
+      | inl below ↦ reads q below
+      | inr above ↦ sym (none_at one one refl q (omega arith)) ∙ none_at other other refl q (omega arith)
+    ])

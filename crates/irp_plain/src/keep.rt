@@ -41,19 +41,11 @@ impl PlainKeep {
         }
     }
 
-    /// A copy.
-    ///
-    /// # Errors
-    ///
-    /// `AllocError` where memory runs out.
-    pub fn copy(&self, alloc: Global) -> Result<PlainKeep, AllocError>
-        ensures { IfOk result (λ copy. copy ≡ self.now) }
+    /// How many places there are, taken or not.
+    pub(crate) fn places(&self) -> usize
+        ensures { result ≡ length self.now }
     {
-        let mut places = Vec::new(alloc);
-        for place in &self.places {
-            places.push(copy_of(place)?)?;
-        }
-        Ok(PlainKeep { places })
+        self.places.len()
     }
 
     /// The lowest slot that isn't live.
@@ -69,16 +61,13 @@ impl PlainKeep {
     }
 }
 
-/// A copy of what stands at a place.
-fn copy_of(place: &Option<Live>) -> Result<Option<Live>, AllocError>
-    ensures { IfOk result (λ copy. copy ≡ place.now) }
-{
-    match place {
-        None => Ok(None),
-        Some(live) => Ok(Some(Live {
-            packet: live.packet.clone()?,
-            use_no: live.use_no,
-        })),
+impl Clone for PlainKeep {
+    ghost is_clone = { λ keep copy. copy ≡ keep };
+
+    fn clone(&self) -> Result<PlainKeep, AllocError> {
+        Ok(PlainKeep {
+            places: self.places.clone()?,
+        })
     }
 }
 

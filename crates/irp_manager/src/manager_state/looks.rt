@@ -32,6 +32,13 @@ fn no_more(packet: &Packet) -> Option<Refusal>
 }
 
 impl<K: Keep> ManagerState<K> {
+    /// The keep of its live packets.
+    pub fn keep(&self) -> &K
+        ensures { result.now ≡ self.now.keep }
+    {
+        &self.keep
+    }
+
     /// The live packet of a slot, if there is one.
     pub fn live(&self, slot: usize) -> Option<&Live>
         ensures { option_copied result ≡ live_at (state_of K.live self.now) slot }

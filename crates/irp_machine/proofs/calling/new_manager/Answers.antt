@@ -4,5 +4,5 @@ use Rattle.irp_machine.proofs.calling.new_manager.Goals as goal
 
 pub returns-clause-stands : goal.returns-clause-stands
 returns-clause-stands c =
-    let counts = c.args.asker.now.header.now.completions in
+    let counts = c.args.header.now.completions in
     subst (StandingFacts counts) c.with_limit.ensures.state (c.with_limit.ensures.stands counts)

@@ -1,6 +1,7 @@
 use Rattle.std.proofs.Common.{List, drop}
+use Rattle.irp_types.specs.Histories.{LeadsTo}
 use Rattle.irp_types.specs.declared.entry.Entry.{Entry}
-use Rattle.irp_machine.specs.Replays.{IsMade, Plays}
+use Rattle.irp_machine.specs.Replays.{Plays}
 use Rattle.irp_machine.specs.Standings.{StandingValue}
 use Rattle.irp_machine.proofs.replaying.play_all.Given as goal
 
@@ -9,7 +10,7 @@ abbrev pub invariant-loop-seat : goal.invariant-loop-seat
 invariant-loop-seat l = record {
   rest :
       (last : StandingValue) (all : List Entry)
-      → Plays l.machine l.standing l.kept.entries.items (drop l.seat-index l.path) last all
-      → Plays l.machine l.fn.standing l.fn.kept.entries.items l.path last all;
-  made : IsMade l.machine.fixed l.machine.script l.standing.made l.kept;
+      → Plays l.machine l.standing l.entries.items (drop l.seat-index l.path) last all
+      → Plays l.machine l.fn.standing l.fn.entries.items l.path last all;
+  leads : LeadsTo l.machine.fixed l.entries.items l.standing.state;
 }

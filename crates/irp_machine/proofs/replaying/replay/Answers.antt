@@ -1,11 +1,9 @@
 use Rattle.std.proofs.Common.{◌≡◌, true, [], List, refl, Some, sym, ap, ◌∙◌, subst}
 use Rattle.irp_types.specs.declared.entry.Entry.{Entry}
 use Rattle.irp_transcript.specs.Transcripts.{TranscriptValue}
-use Rattle.irp_manager.specs.ManagerStates.{state_of}
-use Rattle.irp_manager.specs.Slots.{live_of}
 use Rattle.irp_script_reader.specs.declared.act.Step.{Step}
 use Rattle.irp_script_reader.specs.declared.script.ScriptParts.{ScriptParts}
-use Rattle.irp_machine.specs.Replays.{IsPlayed, IsReplay, IsSetUp, words_below}
+use Rattle.irp_machine.specs.Replays.{IsPlayed, IsReplay, words_below}
 use Rattle.irp_machine.proofs.Histories.{played_on}
 use Rattle.irp_machine.proofs.replaying.replay.Goals as goal
 
@@ -15,16 +13,12 @@ returns c =
     let script = c.parts-script.result.now in
     let path = c.args.path.now in
     let start = c.in_ok-standing.standing in
-    let front = c.play_setup.new.kept.entries.items in
+    let front = c.play_setup.new.entries.items in
     let last = c.play_path.new.standing in
-    let kept = c.play_path.new.kept in
-    let state = state_of live_of kept.manager in
-    let setup : IsSetUp header script [] front start =
-    subst (λ (none : List Entry). IsSetUp header script none front start) c.nothing_kept-kept.ensures.none c.in_ok-standing.ensures.setup in
-    let made = c.in_ok-play_path.ensures.made in
-    let played = played_on header script path start last state front kept.entries.items setup c.in_ok-play_path.ensures.plays made.recorded.leads made.calls in
+    let kept = c.play_path.new.entries.items in
+    let played = played_on header script path start last front kept c.in_ok-standing.ensures.setup c.in_ok-play_path.ensures.plays c.in_ok-play_path.ensures.leads in
     let told : c.new.result.header ≡ Some header = ap (λ (transcript : TranscriptValue). transcript.header) c.new.ensures in
-    let entries : c.new.result.entries ≡ kept.entries.items = ap (λ (transcript : TranscriptValue). transcript.entries) c.new.ensures ∙ c.from_vec-entries.ensures in
+    let entries : c.new.result.entries ≡ kept = ap (λ (transcript : TranscriptValue). transcript.entries) c.new.ensures ∙ c.from_vec-entries.ensures in
     let words : c.new.result.words ≡ words_below script.steps last.seats header.seats =
     ap (λ (transcript : TranscriptValue). transcript.words) c.new.ensures ∙ c.from_vec.ensures ∙ c.in_ok-words.ensures
     ∙ ap (λ (steps : List Step). words_below steps last.seats header.seats) c.as_slice.ensures in
@@ -34,8 +28,7 @@ returns c =
       accepted = c.if-not-is_accepted.ensures.0 refl;
       told = told;
       last = last;
-      state = state;
-      played = subst (λ (entries : List Entry). IsPlayed header script true path last state entries) (sym entries) played;
+      played = subst (λ (entries : List Entry). IsPlayed header script true path last entries) (sym entries) played;
       words = words;
     } in
     record { replay = subst (λ (script : ScriptParts). IsReplay script path c.new.result) c.parts-script.ensures.parts replayed }

@@ -1,8 +1,0 @@
-use Rattle.std.proofs.Common.{sym, ◌∙◌}
-use Rattle.irp_types.proofs.Deciding.{call}
-use Rattle.irp_machine.proofs.equal.is_call.Goals as goal
-
-pub returns : goal.returns
-returns c =
-    let decides = call c.args.one c.args.other in
-    (λ is. decides.0 (sym c.eq.ensures ∙ is), λ same. c.eq.ensures ∙ decides.1 same)

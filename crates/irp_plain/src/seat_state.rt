@@ -1,0 +1,205 @@
+//! How far a seat is, and what it has.
+
+ghost use Rattle.std.specs.Prelude.{◌≡◌, [], true, IfOk, OnOk, position};
+ghost use Rattle.std.specs.List.{list_any};
+ghost use mathlib.Core.Logic.{◌↔◌};
+ghost use Rattle.irp_plain.specs.Seats.{is_held, is_taken, is_removed, is_drained, after_step, new_seat, told_of, one_more, place_after, with_held};
+
+use crate::answered::{Answered, Told};
+use crate::lists::{push_if, remove_if};
+use crate::parts::{After, Change, Held, Learned, Stage, Taken};
+use std::alloc::{AllocError, Global};
+use std::marker::Model;
+
+/// How far a seat is, what it holds and knows, and what it was told.
+///
+/// Contracts see it as the record `SeatValue` of this crate.
+#[derive(Clone, Drop)]
+pub struct SeatState {
+    made: usize,
+    stage: Stage,
+    held: Vec<Held>,
+    learned: Vec<Learned>,
+    taken: Vec<Taken>,
+    told: Vec<Told>,
+}
+
+impl Model for SeatState {
+    ghost use Rattle.irp_plain.specs.Seats.{SeatValue};
+
+    ghost Value = { SeatValue };
+
+    ghost view = { λ seat. record {
+      made = seat.made;
+      stage = seat.stage;
+      held = seat.held.items;
+      learned = seat.learned.items;
+      taken = seat.taken.items;
+      told = seat.told.items;
+    } };
+}
+
+impl SeatState {
+    /// A seat that has made nothing. It takes no memory.
+    pub fn new(alloc: Global) -> SeatState
+        ensures { result ≡ new_seat }
+    {
+        SeatState {
+            made: 0,
+            stage: Stage::Between,
+            held: Vec::new(alloc),
+            learned: Vec::new(alloc),
+            taken: Vec::new(alloc),
+            told: Vec::new(alloc),
+        }
+    }
+
+    /// How many of its acts it has made.
+    pub fn made(&self) -> usize
+        ensures { result ≡ self.now.made }
+    {
+        self.made
+    }
+
+    /// How far it is in its present act.
+    pub fn stage(&self) -> Stage
+        ensures { result ≡ self.now.stage }
+    {
+        self.stage
+    }
+
+    /// The references that it holds.
+    pub fn held(&self) -> &[Held]
+        ensures { result.now ≡ self.now.held }
+    {
+        self.held.as_slice()
+    }
+
+    /// The uses that it took.
+    pub fn taken(&self) -> &[Taken]
+        ensures { result.now ≡ self.now.taken }
+    {
+        self.taken.as_slice()
+    }
+
+    /// What it was told.
+    pub fn told(&self) -> &[Told]
+        ensures { result.now ≡ self.now.told }
+    {
+        self.told.as_slice()
+    }
+
+    /// What it knows of locks.
+    pub fn learned(&self) -> &[Learned]
+        ensures { result.now ≡ self.now.learned }
+    {
+        self.learned.as_slice()
+    }
+
+    /// Makes a change of its own.
+    pub fn change(&mut self, change: Change, step: u32, tells: bool) -> Result<(), AllocError>
+        ensures { OnOk result (self.new ≡ after_step change step tells self.old) }
+    {
+        remove_if(&mut self.held, change.drops);
+        push_if(&mut self.held, change.holds)?;
+        push_if(&mut self.learned, change.learns)?;
+        remove_if(&mut self.taken, change.spends);
+        push_if(&mut self.taken, change.takes)?;
+        push_if(&mut self.told, told_of(change.after, step, tells))?;
+        let (made, stage) = place_after(self.made, change.after);
+        self.made = made;
+        self.stage = stage;
+        Ok(())
+    }
+
+    /// Gets a reference from another seat.
+    pub fn take(&mut self, held: Held) -> Result<(), AllocError>
+        ensures { OnOk result (self.new ≡ with_held held self.old) }
+    {
+        self.held.push(held)?;
+        Ok(())
+    }
+}
+
+/// What is told behind a step, where anything is.
+fn told_of(after: After, step: u32, tells: bool) -> Option<Told>
+    ensures { result ≡ told_of after step tells }
+{
+    if !tells {
+        return None;
+    }
+    match after {
+        After::Told(answer) | After::Binds(answer, _) => Some(Told { step, answer }),
+        After::In(_) | After::Bound => None,
+    }
+}
+
+/// One more act made. No seat gets to where there is none.
+fn one_more(made: usize) -> usize
+    ensures { result ≡ one_more made }
+{
+    if made >= 1 << 62 {
+        return made;
+    }
+    made + 1
+}
+
+/// How many acts were made behind a step, and how far the present one is.
+fn place_after(made: usize, after: After) -> (usize, Stage)
+    ensures { result ≡ place_after made after }
+{
+    match after {
+        After::In(stage) => (made, stage),
+        After::Binds(_, irp) => (made, Stage::Answered(irp)),
+        After::Told(_) | After::Bound => (one_more(made), Stage::Between),
+    }
+}
+
+/// The place of the first reference to a lock under a tag.
+pub fn place_of(held: &[Held], lock: u32, tag: u32) -> Option<usize>
+    ensures { result ≡ position (is_held lock tag) held.now }
+{
+    held.iter()
+        .position(|one| one.lock == lock && one.tag == tag)
+}
+
+/// The place of the first use that was taken out of a slot.
+pub fn place_of_taken(taken: &[Taken], slot: u32) -> Option<usize>
+    ensures { result ≡ position (is_taken slot) taken.now }
+{
+    taken.iter().position(|one| one.slot == slot)
+}
+
+/// Whether this tells that the removal of a lock has begun.
+fn is_removed(learned: Learned, lock: u32) -> bool
+    ensures { result ≡ is_removed lock learned }
+{
+    match learned {
+        Learned::Removed(one) => one == lock,
+        Learned::Drained(_) => false,
+    }
+}
+
+/// Whether this tells that a lock is drained.
+fn is_drained(learned: Learned, lock: u32) -> bool
+    ensures { result ≡ is_drained lock learned }
+{
+    match learned {
+        Learned::Drained(one) => one == lock,
+        Learned::Removed(_) => false,
+    }
+}
+
+/// Whether the removal of a lock is known to have begun.
+pub fn knows_removed(learned: &[Learned], lock: u32) -> bool
+    ensures { result ≡ list_any (is_removed lock) learned.now }
+{
+    learned.iter().any(|one| is_removed(*one, lock))
+}
+
+/// Whether a lock is known to be drained.
+pub fn knows_drained(learned: &[Learned], lock: u32) -> bool
+    ensures { result ≡ list_any (is_drained lock) learned.now }
+{
+    learned.iter().any(|one| is_drained(*one, lock))
+}
