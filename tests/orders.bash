@@ -15,7 +15,7 @@ trap 'rm -rf "$room"' EXIT
 examples=../examples/orders
 tried=0
 wrong=0
-case $irp_orders in *.unproved) count=${COUNT:-10} runs=${RUNS:-5} ;; *) count=${COUNT:-60} runs=${RUNS:-40} ;; esac
+case $irp_orders in *.unproved) count=${COUNT:-10} runs=${RUNS:-5} ;; *) count=${COUNT:-300} runs=${RUNS:-40} ;; esac
 
 # Counts one check. Its name is $1; the rest is a command that succeeds where the check is met.
 meets() {
