@@ -2,3 +2,4 @@ pub mod Orders
 pub mod Paths
 pub mod Nodes
 pub mod Refusals
+pub mod Counted

@@ -2,10 +2,11 @@
 
 ghost use Rattle.std.specs.Prelude.{◌≡◌, ◌≢◌, ℕ, ◌+◌, ◌*◌, ◌<◌, ◌≤◌, ◌++◌, ◌∷◌, [], Option, Some, None, List, All, Contains, length, IfOk, IfErr, OnOk};
 ghost use Rattle.irp_explore.specs.declared.node.Node.{Node};
-ghost use Rattle.irp_explore.specs.declared.refusal.NotExplored.TheVariants.{States, Steps};
-ghost use Rattle.irp_explore.specs.declared.refusal.LayerRefusal.TheVariants.{States as LayerStates};
+ghost use Rattle.irp_explore.specs.declared.refusal.NotExplored.TheVariants.{Orders, States, Steps};
+ghost use Rattle.irp_explore.specs.declared.refusal.LayerRefusal.TheVariants.{Memory as LayerMemory, Orders as LayerOrders, States as LayerStates};
 ghost use Rattle.irp_explore.specs.Orders.{Leads, HasEnded, IsSharedOut};
 ghost use Rattle.irp_explore.specs.Paths.{HasAsGood};
+ghost use Rattle.irp_explore.specs.Counted.{AddsSteps, AreCounted, HasManyOrders};
 ghost use Rattle.irp_explore.specs.Nodes.{AreApart, IsAhead, IsExpanded, IsFound, IsMatched, IsMatchedOn, HasMoreStates, HasOrderOf, IsReached, AddsSuccessors, states_of, weigh};
 
 use crate::joining::join_equal;
@@ -15,6 +16,9 @@ use crate::path::{Path, longer_paths};
 use crate::refusal::{LayerRefusal, NotExplored};
 use std::alloc::{AllocError, Global};
 
+/// So many nodes aren't joined before their layer is whole.
+const FEW: usize = 1000;
+
 /// Appends a node for each state that the next step of some seat leads to.
 fn add_successors<M: Machine>(
     alloc: Global,
@@ -23,6 +27,8 @@ fn add_successors<M: Machine>(
     nodes: &mut Vec<Node<M::State>>,
 ) -> Result<(), AllocError>
     ensures successors { OnOk result (AddsSuccessors (M.moves machine.now) (M.seats machine.now)
+        node.now nodes.old.items nodes.new.items) }
+    ensures steps { OnOk result (AddsSteps (M.moves machine.now) (M.seats machine.now)
         node.now nodes.old.items nodes.new.items) }
     ensures reached { OnOk result ((start : M.State) (steps : ℕ)
         → let reached = IsReached (M.moves machine.now) (M.seats machine.now)
@@ -87,6 +93,10 @@ fn expand<M: Machine>(
         → IsMatched next.old.items state path → IsMatched next.new.items state path) }
     ensures matched_found { OnOk result ((state : M.State) (path : List ℕ)
         → IsMatched found.old.items state path → IsMatched found.new.items state path) }
+    ensures counted { OnOk result ((start : M.State) (others : List (Node M.State))
+        → let counted = AreCounted (M.moves machine.now) (M.seats machine.now) start in
+        counted (node ∷ (others ++ (found.old.items ++ next.old.items)))
+        → counted (others ++ (found.new.items ++ next.new.items))) }
 {
     let before = next.len();
     add_successors(alloc, machine, &node, next)?;
@@ -97,11 +107,22 @@ fn expand<M: Machine>(
     Ok(())
 }
 
-/// Joins nodes where they are more than twice as many as may stay; else it gives them back as they are.
-fn join_where_many<M: Machine>(
+/// Whether nodes have become more than twice as many as were left when they were last joined, and many.
+fn have_grown(nodes: usize, left: usize) -> bool {
+    nodes / 2 > left && nodes > FEW
+}
+
+/// How many nodes were left when they were last joined: these, where that was now.
+fn last_left(is_joined: bool, nodes: usize, before: usize) -> usize {
+    if is_joined { nodes } else { before }
+}
+
+/// Joins nodes where they have grown; else it gives them back as they are.
+fn join_grown<M: Machine>(
     alloc: Global,
     machine: &M,
     nodes: Vec<Node<M::State>>,
+    has_grown: bool,
     most_states: usize,
 ) -> Result<Vec<Node<M::State>>, LayerRefusal>
     ensures weight { IfOk result (λ joined. (number : M.State → ℕ)
@@ -121,15 +142,22 @@ fn join_where_many<M: Machine>(
         All reached nodes.items
         → HasMoreStates (M.moves machine.now) (M.seats machine.now)
         (M.mark machine.now) start most_states) }
+    ensures counted { IfOk result (λ joined. (start : M.State) (others : List (Node M.State))
+        → let counted = AreCounted (M.moves machine.now) (M.seats machine.now) start in
+        counted (nodes.items ++ others) → counted (joined.items ++ others)) }
+    ensures too_many_orders { IfErr result (λ refusal. refusal ≡ LayerOrders
+        → (start : M.State) (others : List (Node M.State))
+        → AreCounted (M.moves machine.now) (M.seats machine.now) start (nodes.items ++ others)
+        → HasManyOrders (M.moves machine.now) (M.seats machine.now) start) }
 {
-    if nodes.len() / 2 <= most_states {
+    if !has_grown {
         return Ok(nodes);
     }
     join_equal(alloc, machine, nodes, most_states)
 }
 
 /// Makes one more step in each order that leads to a layer: the next layer, and behind what was found the nodes that
-/// have ended. The next layer is joined whenever it has grown beyond twice `most_states`, so it never takes much more.
+/// have ended. The next layer is joined whenever it has grown, so it never takes much more than twice what is left of it.
 fn next_layer<M: Machine>(
     alloc: Global,
     machine: &M,
@@ -171,11 +199,21 @@ fn next_layer<M: Machine>(
         All (reached (Some steps)) layer.items
         → HasMoreStates (M.moves machine.now) (M.seats machine.now)
         (M.mark machine.now) start most_states) }
+    ensures counted { IfOk result (λ next. (start : M.State)
+        → let counted = AreCounted (M.moves machine.now) (M.seats machine.now) start in
+        counted (layer.items ++ found.old.items) → counted (found.new.items ++ next.items)) }
+    ensures too_many_orders { IfErr result (λ refusal. refusal ≡ LayerOrders → (start : M.State)
+        → AreCounted (M.moves machine.now) (M.seats machine.now) start
+        (layer.items ++ found.old.items)
+        → HasManyOrders (M.moves machine.now) (M.seats machine.now) start) }
 {
     let mut next = Vec::new(alloc);
+    let mut left = 0;
     while let Some(node) = layer.pop() {
         expand(alloc, machine, node, &mut next, found)?;
-        next = join_where_many(alloc, machine, next, most_states)?;
+        let has_grown = have_grown(next.len(), left);
+        next = join_grown(alloc, machine, next, has_grown, most_states)?;
+        left = last_left(has_grown, next.len(), left);
     }
     let joined = join_equal(alloc, machine, next, most_states)?;
     Ok(joined)
@@ -194,7 +232,9 @@ fn first_layer<M: Machine>(
         (Some 0)) layer.items) }
     ensures held { IfOk result (λ layer. Contains (states_of layer.items) start) }
     ensures matched { IfOk result (λ layer. IsMatched layer.items start []) }
-    ensures refusal { IfErr result (λ refusal. refusal ≢ LayerStates) }
+    ensures counted { IfOk result (λ layer.
+        AreCounted (M.moves machine.now) (M.seats machine.now) start layer.items) }
+    ensures refusal { IfErr result (λ refusal. refusal ≡ LayerMemory) }
 {
     let mark = machine.mark(&start);
     let mut fewest = Vec::new(alloc);
@@ -216,7 +256,7 @@ fn first_layer<M: Machine>(
 /// # Errors
 ///
 /// `Steps` only where some order has `most_steps` steps or more; `States` only where orders of equally many steps lead
-/// to more than `most_states` states, or where orders end in more; `Orders` where 2^128 orders or more lead to one
+/// to more than `most_states` states, or where orders end in more; `Orders` only where 2^128 orders or more lead to one
 /// state; `Memory` where memory runs out.
 pub fn explore<M: Machine>(
     alloc: Global,
@@ -245,17 +285,23 @@ pub fn explore<M: Machine>(
     ensures orders { IfOk result (λ found. (number : M.State → ℕ)
         → IsSharedOut (M.moves machine.now) (M.seats machine.now) number
         → weigh number found.items ≡ number start) }
+    // As many different orders as are told of it lead to each state that was found.
+    ensures counted { IfOk result (λ found.
+        AreCounted (M.moves machine.now) (M.seats machine.now) start found.items) }
     // No order has more steps than were allowed, and no more states are found.
     ensures steps { IfOk result (λ found. (path : List ℕ) (last : M.State)
         → Leads (M.moves machine.now) (M.seats machine.now) start path last
         → length path < most_steps) }
     ensures few { IfOk result (λ found. length found.items ≤ most_states) }
-    // Some order has as many steps as were allowed, or there are more states, where the answer says so.
+    // Some order has as many steps as were allowed, there are more states, or 2^128 different orders or more lead to
+    // one state, where the answer says so.
     ensures too_long { IfErr result (λ refusal. refusal ≡ Steps
         → HasOrderOf (M.moves machine.now) (M.seats machine.now) start most_steps) }
     ensures too_many { IfErr result (λ refusal. refusal ≡ States
         → HasMoreStates (M.moves machine.now) (M.seats machine.now)
         (M.mark machine.now) start most_states) }
+    ensures too_many_orders { IfErr result (λ refusal. refusal ≡ Orders
+        → HasManyOrders (M.moves machine.now) (M.seats machine.now) start) }
 {
     let mut found = Vec::new(alloc);
     let first = first_layer(alloc, machine, start)?;
@@ -264,7 +310,8 @@ pub fn explore<M: Machine>(
     while left > 0 {
         left -= 1;
         layer = next_layer(alloc, machine, layer, most_states, &mut found)?;
-        found = join_where_many(alloc, machine, found, most_states)?;
+        let has_grown = have_grown(found.len(), most_states);
+        found = join_grown(alloc, machine, found, has_grown, most_states)?;
     }
     if !layer.is_empty() {
         return Err(NotExplored::Steps);

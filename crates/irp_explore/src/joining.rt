@@ -1,9 +1,10 @@
 //! Joining nodes of one state.
 
-ghost use Rattle.std.specs.Prelude.{◌≡◌, ℕ, ◌+◌, ◌*◌, ◌<◌, ◌≤◌, List, Option, All, Contains, length, IfErr, IfOk, IfSome, IfNone, OnOk, ◌≢◌, slice_index_or};
+ghost use Rattle.std.specs.Prelude.{◌≡◌, ℕ, ◌+◌, ◌*◌, ◌<◌, ◌≤◌, ◌++◌, ◌∷◌, List, Option, All, Contains, length, IfErr, IfOk, IfSome, IfNone, OnOk, ◌≢◌, slice_index_or};
 ghost use Rattle.irp_explore.specs.declared.node.Node.{Node};
-ghost use Rattle.irp_explore.specs.declared.refusal.LayerRefusal.TheVariants.{States};
+ghost use Rattle.irp_explore.specs.declared.refusal.LayerRefusal.TheVariants.{Orders, States};
 ghost use Rattle.irp_explore.specs.Paths.{HasAsGood};
+ghost use Rattle.irp_explore.specs.Counted.{AreCounted, HasManyOrders};
 ghost use Rattle.irp_explore.specs.Nodes.{AreApart, AreFalling, HasMoreStates, IsFloor, IsMatched, IsReached, states_of, weigh};
 
 use crate::machine::Machine;
@@ -73,6 +74,14 @@ fn join_one<M: Machine>(
         → IsFloor node.mark joined.old.items → AreFalling joined.new.items) }
     ensures floor { OnOk result ((mark : ℕ) → mark ≤ node.mark → IsFloor mark joined.old.items
         → IsFloor mark joined.new.items) }
+    ensures counted { OnOk result ((start : M.State) (others : List (Node M.State))
+        → let counted = AreCounted (M.moves machine.now) (M.seats machine.now) start in
+        counted (node ∷ (joined.old.items ++ others)) → counted (joined.new.items ++ others)) }
+    ensures too_many_orders { IfErr result (λ refusal. refusal ≡ Orders
+        → (start : M.State) (others : List (Node M.State))
+        → AreCounted (M.moves machine.now) (M.seats machine.now) start
+        (node ∷ (joined.old.items ++ others))
+        → HasManyOrders (M.moves machine.now) (M.seats machine.now) start) }
 {
     let Some(place) = place_of(machine, joined, &node) else {
         joined.push(node)?;
@@ -91,8 +100,8 @@ fn join_one<M: Machine>(
 ///
 /// # Errors
 ///
-/// `States` where more nodes than `most_states` are left; `Orders` where 2^128 orders or more lead to a state; `Memory`
-/// where memory runs out.
+/// `States` only where more nodes than `most_states` are left; `Orders` only where 2^128 orders or more lead to one
+/// state; `Memory` where memory runs out.
 pub(crate) fn join_equal<M: Machine>(
     alloc: Global,
     machine: &M,
@@ -121,6 +130,13 @@ pub(crate) fn join_equal<M: Machine>(
         All reached nodes.items
         → HasMoreStates (M.moves machine.now) (M.seats machine.now)
         (M.mark machine.now) start most_states) }
+    ensures counted { IfOk result (λ joined. (start : M.State) (others : List (Node M.State))
+        → let counted = AreCounted (M.moves machine.now) (M.seats machine.now) start in
+        counted (nodes.items ++ others) → counted (joined.items ++ others)) }
+    ensures too_many_orders { IfErr result (λ refusal. refusal ≡ Orders
+        → (start : M.State) (others : List (Node M.State))
+        → AreCounted (M.moves machine.now) (M.seats machine.now) start (nodes.items ++ others)
+        → HasManyOrders (M.moves machine.now) (M.seats machine.now) start) }
 {
     nodes.sort_by_key(|node: &Node<M::State>| node.mark)?;
     let mut joined = Vec::new(alloc);

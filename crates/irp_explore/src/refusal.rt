@@ -56,9 +56,9 @@ impl<T: Drop> From<AllocFailed<T>> for NotExplored {
 }
 
 impl From<LayerRefusal> for NotExplored {
-    ghost use Rattle.irp_explore.specs.Refusals.{IsPassedOn};
+    ghost use Rattle.irp_explore.specs.Refusals.{passed_on};
 
-    ghost from_gives = { IsPassedOn };
+    ghost from_gives = { λ refusal given. given ≡ passed_on refusal };
 
     fn from(refusal: LayerRefusal) -> NotExplored {
         match refusal {

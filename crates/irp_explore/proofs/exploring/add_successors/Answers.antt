@@ -7,12 +7,14 @@ use Rattle.irp_explore.proofs.Weighing.{added_none, added_yes, added_no}
 use Rattle.irp_explore.proofs.Reaching.{reached_more}
 use Rattle.irp_explore.proofs.Keeping.{some_still}
 use Rattle.irp_explore.proofs.Matching.{matched_more, matched_past, push_still}
+use Rattle.irp_explore.proofs.Counting.{steps_none, steps_yes, steps_no}
 use Rattle.irp_explore.proofs.exploring.add_successors.Goals as goal
 use Rattle.irp_explore.proofs.exploring.add_successors.Goals.{in-Some+in_ok-longer_paths+in_ok-push, in_default}
 
 pub loop-seat-init : goal.loop-seat-init
 loop-seat-init g c = record {
   successors = added_none (g.M.Machine.moves c.args.machine.now) c.args.node.now c.args.nodes.now.items;
+  steps = steps_none (g.M.Machine.moves c.args.machine.now) c.args.node.now c.args.nodes.now.items;
   reached = λ start steps here all. all;
   kept = λ state path held. held;
   matched = λ path seat after good below moved. absurd (omega (arith, below));
@@ -32,6 +34,7 @@ loop-seat-preserved g c =
           let below : c.loop-seat.seat < seats = omega (arith, c.loop-seat-test.true, c.seats-seat-end.ensures) in
           record {
             successors = added_yes moves c.loop-seat.seat c.args.node.now after c.args.nodes.now.items c.loop-seat.nodes.items c.match-branch-2.nodes.items c.loop-seat.invariant.successors moved refl items;
+            steps = steps_yes moves c.loop-seat.seat c.args.node.now after c.args.nodes.now.items c.loop-seat.nodes.items c.match-branch-2.nodes.items c.loop-seat.invariant.steps moved refl items;
             reached = λ start steps here all.
                 All-same (IsReached moves seats mark start (Some (steps + 1))) c.match-branch-2.nodes.items (c.loop-seat.nodes.items ++ after ∷ []) items
                 (All-push (IsReached moves seats mark start (Some (steps + 1))) c.loop-seat.nodes.items after (c.loop-seat.invariant.reached start steps here all)
@@ -53,6 +56,7 @@ loop-seat-preserved g c =
           let items = ap (λ v. v.items) w.nodes-is in
           record {
             successors = added_no moves c.loop-seat.seat c.args.node.now c.args.nodes.now.items c.loop-seat.nodes.items c.match-branch-2.nodes.items c.loop-seat.invariant.successors moved items;
+            steps = steps_no moves c.loop-seat.seat c.args.node.now c.args.nodes.now.items c.loop-seat.nodes.items c.match-branch-2.nodes.items c.loop-seat.invariant.steps items;
             reached = λ start steps here all. All-same (IsReached moves seats mark start (Some (steps + 1))) c.match-branch-2.nodes.items c.loop-seat.nodes.items items (c.loop-seat.invariant.reached start steps here all);
             kept = λ state path held. subst (λ nodes. IsMatched nodes state path) (sym items) (c.loop-seat.invariant.kept state path held);
             matched = λ path seat to good low moved_to.

@@ -1,4 +1,5 @@
 use Rattle.std.proofs.Common.{◌+◌, ◌<◌, ◌++◌, ◌∷◌, [], ℕ, Some, List, All}
+use Rattle.irp_explore.specs.Counted.{AddsSteps}
 use Rattle.irp_explore.specs.Nodes.{IsMatched, IsReached, AddsSuccessors}
 use Rattle.irp_explore.specs.Paths.{HasAsGood}
 use Rattle.irp_explore.proofs.exploring.add_successors.Given as goal
@@ -9,6 +10,7 @@ invariant-loop-seat g l =
     let at = λ (start : g.row.M-State.Denot). IsReached moves (g.M.Machine.seats l.machine) (g.M.Machine.mark l.machine) start in
     record {
       successors : AddsSuccessors moves l.seat l.node l.fn.nodes.items l.nodes.items;
+      steps : AddsSteps moves l.seat l.node l.fn.nodes.items l.nodes.items;
       reached : (start : g.row.M-State.Denot) (steps : ℕ) → at start (Some steps) l.node
           → All (at start (Some (steps + 1))) l.fn.nodes.items → All (at start (Some (steps + 1))) l.nodes.items;
       kept : (state : g.row.M-State.Denot) (path : List ℕ) → IsMatched l.fn.nodes.items state path → IsMatched l.nodes.items state path;

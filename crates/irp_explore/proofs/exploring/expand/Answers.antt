@@ -6,6 +6,7 @@ use Rattle.irp_explore.proofs.Weighing.{pushed_states, expand_weight_done, expan
 use Rattle.irp_explore.proofs.Reaching.{reached_done, ended_from_none, never_both}
 use Rattle.irp_explore.proofs.Ahead.{added_count, expanded_by}
 use Rattle.irp_explore.proofs.Matching.{push_matched, push_still}
+use Rattle.irp_explore.proofs.Counting.{counted_expanded, counted_found}
 use Rattle.irp_explore.proofs.exploring.expand.Goals as goal
 
 pub returns-then-len-before-clause-weight : goal.returns-then-len-before-clause-weight
@@ -94,3 +95,14 @@ returns-then-len-before-clause-matched_on g c = λ path good.
       follow = λ seat after below moved. c.in_ok-add_successors.ensures.matched path seat after good below moved;
       ended = λ ended. absurd (never_both moves settled seats c.args.node.state added.states added.follow ended some);
     }
+
+pub returns-then-len-before-clause-counted : goal.returns-then-len-before-clause-counted
+returns-then-len-before-clause-counted g c = λ start others before.
+    counted_expanded (g.M.Machine.moves c.args.machine.now) (g.M.Machine.seats c.args.machine.now) start c.args.node others c.args.found.now.items c.args.next.now.items c.add_successors.new.nodes.items
+    c.in_ok-add_successors.ensures.steps before
+
+pub returns-clause-counted : goal.returns-clause-counted
+returns-clause-counted g c = λ start others before.
+    let none : length c.add_successors.new.nodes.items ≡ length c.args.next.now.items = omega (arith, c.if-len-before.false, c.len.ensures, c.len-before.ensures) in
+    counted_found (g.M.Machine.moves c.args.machine.now) (g.M.Machine.seats c.args.machine.now) start c.args.node others c.args.found.now.items c.push.new.self.items c.args.next.now.items c.add_successors.new.nodes.items
+    c.in_ok-add_successors.ensures.steps none c.in_ok-push.ensures.items before

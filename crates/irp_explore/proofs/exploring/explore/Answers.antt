@@ -1,12 +1,15 @@
-use Rattle.std.proofs.Common.{arith, ◌≡◌, ◌+◌, ◌-◌, ◌<◌, vec_len, inl, inr, [], length, Some, None, All, Contains, ap, subst}
-use Rattle.std.proofs.lemmas.List.{nil_from_length}
+use Rattle.std.proofs.Common.{arith, ◌≡◌, ◌+◌, ◌-◌, ◌<◌, vec_len, inl, inr, [], ◌++◌, length, Some, None, All, Contains, ap, sym, subst, ◌∙◌}
+use Rattle.std.proofs.lemmas.List.{append-nil, nil_from_length}
 use Rattle.std.proofs.lemmas.List.Elements.{All-nil, All-same}
 use Rattle.std.proofs.lemmas.Bool.Decides.{nat_tests}
 use Rattle.std.proofs.lemmas.Result.{err_from_is_err_and}
+use Rattle.irp_explore.specs.Counted.{AreCounted}
 use Rattle.irp_explore.specs.Nodes.{IsMatched, IsReached, states_of, weigh}
 use Rattle.irp_explore.proofs.Reaching.{found_from_reached, order_from_layer}
 use Rattle.irp_explore.proofs.Ahead.{nothing_contained, reach_step}
 use Rattle.irp_explore.proofs.Matching.{match_first, match_layer, match_found}
+use Rattle.irp_explore.proofs.Counting.{counted_flipped}
+use Rattle.irp_explore.proofs.Passing.{states_from, orders_from}
 use Rattle.irp_explore.proofs.exploring.explore.Goals as goal
 
 pub loop-left-init : goal.loop-left-init
@@ -27,6 +30,7 @@ loop-left-init g c =
       reach = λ path last leads. inr (start, path, c.in_ok-first.ensures.held, leads, omega arith);
       matched = λ path last leads long. match_first moves seats start c.in_ok-first.first.items c.in_ok-first.ensures.matched path last leads (omega (arith, long));
       ended = λ path last leads short ended. absurd (omega (arith, short));
+      counted = rw c.new-found.ensures.items c.in_ok-first.ensures.counted;
     }
 
 pub returns-clause-orders : goal.returns-clause-orders
@@ -34,6 +38,14 @@ returns-clause-orders g c = λ number shared.
     let none : vec_len c.loop-left.layer ≡ 0 = grind (arith, nat_tests, c.is_empty.ensures, c.if-not-is_empty.false) in
     let empty = ap (λ nodes. weigh number nodes) (nil_from_length c.loop-left.layer.items (omega (arith, none))) in
     omega (arith, c.in_ok-joined.ensures.weight number, c.loop-left.invariant.orders number shared, empty)
+
+pub returns-clause-counted : goal.returns-clause-counted
+returns-clause-counted g c =
+    let none : vec_len c.loop-left.layer ≡ 0 = grind (arith, nat_tests, c.is_empty.ensures, c.if-not-is_empty.false) in
+    let empty = nil_from_length c.loop-left.layer.items (omega (arith, none)) in
+    let joined = c.in_ok-joined.joined.items in
+    subst (AreCounted (g.M.Machine.moves c.args.machine.now) (g.M.Machine.seats c.args.machine.now) c.args.start) (ap (λ layer. joined ++ layer) empty ∙ append-nil joined)
+    (c.in_ok-joined.ensures.counted c.args.start c.loop-left.layer.items c.loop-left.invariant.counted)
 
 pub returns-clause-steps : goal.returns-clause-steps
 returns-clause-steps g c = λ path last leads.
@@ -87,6 +99,9 @@ loop-left-preserved g c =
           (match_found moves seats start c.loop-left.layer.items c.in_ok-layer.layer.items c.loop-left.found.items c.next_layer.new.found.items (most - left)
           c.loop-left.invariant.matched c.in_ok-layer.ensures.matched_on c.loop-left.invariant.ended c.in_ok-layer.ensures.matched path last leads
           (omega (arith, short, one_more)) ended);
+      counted =
+          c.in_ok-found.ensures.counted start c.in_ok-layer.layer.items
+          (c.in_ok-layer.ensures.counted start (counted_flipped moves seats start c.loop-left.found.items c.loop-left.layer.items c.loop-left.invariant.counted));
     }
 
 pub returns-clause-sound : goal.returns-clause-sound
@@ -110,15 +125,33 @@ returns-then-not-is_empty-clause-too_long g c = λ same.
 pub returns-in_err-layer-clause-too_many : goal.returns-in_err-layer-clause-too_many
 returns-in_err-layer-clause-too_many g c =
     let p = err_from_is_err_and c.from_residual-in_err-layer.result c.from_residual-in_err-layer.ensures.1 in
-    rw p.1 (λ same. c.in_err-layer.ensures.too_many (p.2.1 same) c.args.start _ c.loop-left.invariant.layer)
+    rw p.1 (λ same. c.in_err-layer.ensures.too_many (states_from _ (sym p.2 ∙ same)) c.args.start _ c.loop-left.invariant.layer)
 
 pub returns-in_err-found-clause-too_many : goal.returns-in_err-found-clause-too_many
 returns-in_err-found-clause-too_many g c =
     let p = err_from_is_err_and c.from_residual-in_err-found.result c.from_residual-in_err-found.ensures.1 in
-    rw p.1 (λ same. c.in_err-found.ensures.too_many (p.2.1 same) c.args.start _
+    rw p.1 (λ same. c.in_err-found.ensures.too_many (states_from _ (sym p.2 ∙ same)) c.args.start _
     (c.in_ok-layer.ensures.found c.args.start _ c.loop-left.invariant.layer c.loop-left.invariant.found))
 
 pub returns-in_err-joined-clause-too_many : goal.returns-in_err-joined-clause-too_many
 returns-in_err-joined-clause-too_many g c =
     let p = err_from_is_err_and c.from_residual-in_err-joined.result c.from_residual-in_err-joined.ensures.1 in
-    rw p.1 (λ same. c.in_err-joined.ensures.too_many (p.2.1 same) c.args.start _ c.loop-left.invariant.found)
+    rw p.1 (λ same. c.in_err-joined.ensures.too_many (states_from _ (sym p.2 ∙ same)) c.args.start _ c.loop-left.invariant.found)
+
+pub returns-in_err-layer-clause-too_many_orders : goal.returns-in_err-layer-clause-too_many_orders
+returns-in_err-layer-clause-too_many_orders g c =
+    let p = err_from_is_err_and c.from_residual-in_err-layer.result c.from_residual-in_err-layer.ensures.1 in
+    rw p.1 (λ same. c.in_err-layer.ensures.too_many_orders (orders_from _ (sym p.2 ∙ same)) c.args.start
+    (counted_flipped (g.M.Machine.moves c.args.machine.now) (g.M.Machine.seats c.args.machine.now) c.args.start c.loop-left.found.items c.loop-left.layer.items c.loop-left.invariant.counted))
+
+pub returns-in_err-found-clause-too_many_orders : goal.returns-in_err-found-clause-too_many_orders
+returns-in_err-found-clause-too_many_orders g c =
+    let p = err_from_is_err_and c.from_residual-in_err-found.result c.from_residual-in_err-found.ensures.1 in
+    rw p.1 (λ same. c.in_err-found.ensures.too_many_orders (orders_from _ (sym p.2 ∙ same)) c.args.start c.in_ok-layer.layer.items
+    (c.in_ok-layer.ensures.counted c.args.start
+    (counted_flipped (g.M.Machine.moves c.args.machine.now) (g.M.Machine.seats c.args.machine.now) c.args.start c.loop-left.found.items c.loop-left.layer.items c.loop-left.invariant.counted)))
+
+pub returns-in_err-joined-clause-too_many_orders : goal.returns-in_err-joined-clause-too_many_orders
+returns-in_err-joined-clause-too_many_orders g c =
+    let p = err_from_is_err_and c.from_residual-in_err-joined.result c.from_residual-in_err-joined.ensures.1 in
+    rw p.1 (λ same. c.in_err-joined.ensures.too_many_orders (orders_from _ (sym p.2 ∙ same)) c.args.start c.loop-left.layer.items c.loop-left.invariant.counted)

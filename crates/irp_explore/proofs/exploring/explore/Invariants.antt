@@ -1,5 +1,6 @@
-use Rattle.std.proofs.Common.{◌≡◌, ℕ, ◌+◌, ◌-◌, ◌<◌, ◌≤◌, ◌⊎◌, Some, None, List, All, Contains, length}
+use Rattle.std.proofs.Common.{◌≡◌, ℕ, ◌+◌, ◌-◌, ◌<◌, ◌≤◌, ◌++◌, ◌⊎◌, Some, None, List, All, Contains, length}
 use Rattle.irp_explore.specs.Orders.{IsSharedOut, Leads, HasEnded}
+use Rattle.irp_explore.specs.Counted.{AreCounted}
 use Rattle.irp_explore.specs.Nodes.{weigh, states_of, IsMatched, IsReached, IsAhead}
 use Rattle.irp_explore.proofs.exploring.explore.Given as goal
 
@@ -21,6 +22,7 @@ invariant-loop-left g l =
           → length path ≡ l.most_steps - l.left → IsMatched l.layer.items last path;
       ended : (path : List ℕ) (last : g.row.M-State.Denot) → Leads moves seats l.fn.start path last
           → length path < l.most_steps - l.left → HasEnded moves seats last → IsMatched l.found.items last path;
+      counted : AreCounted moves seats l.fn.start (l.found.items ++ l.layer.items);
     }
 
 abbrev pub decreases-loop-left : goal.decreases-loop-left

@@ -1,6 +1,7 @@
 use Rattle.std.proofs.Common.{◌≡◌, ◌∷◌, ◌++◌, [], ℕ, List, ap, ◌∙◌, refl}
 use Rattle.irp_explore.specs.declared.node.Node.{Node}
 use Rattle.irp_explore.proofs.First.{first_held, first_matched, first_reached, first_weight}
+use Rattle.irp_explore.proofs.Counting.{counted_first}
 use Rattle.irp_explore.proofs.exploring.first_layer.Goals as goal
 
 pub returns-clause-weight : goal.returns-clause-weight
@@ -31,3 +32,9 @@ returns-clause-matched g c =
     let fewest : c.push.new.self.items ≡ [] ∷ [] =
     c.in_ok-push.ensures.items ∙ ap (λ paths. paths ++ c.new.result ∷ []) c.new-fewest.ensures.items ∙ ap (λ (path : List ℕ). path ∷ []) c.new.ensures in
     first_matched c.args.start c.push-2.new.self.items node is refl fewest
+
+pub returns-clause-counted : goal.returns-clause-counted
+returns-clause-counted g c =
+    let node : Node g.row.M-State.Denot = record { state = c.args.start; mark = c.mark-mark.result; orders = 1; fewest = c.push.new.self } in
+    let is : c.push-2.new.self.items ≡ node ∷ [] = c.in_ok-push-2.ensures.items ∙ ap (λ nodes. nodes ++ node ∷ []) c.new-layer.ensures.items in
+    counted_first (g.M.Machine.moves c.args.machine.now) (g.M.Machine.seats c.args.machine.now) c.args.start c.push-2.new.self.items node is refl refl

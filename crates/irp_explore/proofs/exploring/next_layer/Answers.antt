@@ -1,10 +1,13 @@
-use Rattle.std.proofs.Common.{arith, sym, ◌∙◌, ◌+◌, inl, inr, Some, Contains}
+use Rattle.std.proofs.Common.{arith, sym, ◌∙◌, ◌+◌, ◌++◌, inl, inr, Some, Contains}
+use Rattle.std.proofs.lemmas.List.{nil_from_length}
 use Rattle.std.proofs.lemmas.List.Elements.{All-pop}
 use Rattle.std.proofs.lemmas.Result.{err_from_is_err_and}
 use Rattle.irp_explore.specs.Nodes.{states_of, IsMatchedOn, IsReached, IsExpanded}
 use Rattle.irp_explore.proofs.Weighing.{weigh_push}
 use Rattle.irp_explore.proofs.Ahead.{ahead_step, done_more, layer_expanded, nothing_contained}
 use Rattle.irp_explore.proofs.Matching.{layer_matched, matched_on_more, none_matched}
+use Rattle.irp_explore.proofs.Permuting.{front_third, third_first}
+use Rattle.irp_explore.proofs.Counting.{counted_flipped, counted_permuted, counted_taken}
 use Rattle.irp_explore.proofs.exploring.next_layer.Goals as goal
 
 pub loop-node-preserved : goal.loop-node-preserved
@@ -38,6 +41,15 @@ loop-node-preserved g c =
           (λ state path held. held) c.in_ok-next.ensures.matched (c.in_ok-expand.ensures.matched_on path good))
           (c.loop-node.invariant.matched_on state path held);
       matched = λ state path held. c.in_ok-expand.ensures.matched_found state path (c.loop-node.invariant.matched state path held);
+      counted = λ start before.
+          let rest = c.pop.new.self.items in
+          let found = c.expand.new.found.items in
+          let nexts = c.in_ok-next.next.items in
+          counted_permuted moves seats start (nexts ++ (rest ++ found)) (rest ++ (found ++ nexts)) (front_third rest found nexts)
+          (c.in_ok-next.ensures.counted start (rest ++ found)
+          (counted_permuted moves seats start (rest ++ (found ++ c.expand.new.next.items)) (c.expand.new.next.items ++ (rest ++ found)) (third_first rest found c.expand.new.next.items)
+          (c.in_ok-expand.ensures.counted start rest
+          (counted_taken moves seats start c.loop-node.layer.items rest (c.loop-node.found.items ++ c.loop-node.next.items) node c.in-Some.ensures.items (c.loop-node.invariant.counted start before)))));
     }
 
 pub returns-clause-ahead : goal.returns-clause-ahead
@@ -88,3 +100,35 @@ pub returns-in_err-joined-clause-too_many : goal.returns-in_err-joined-clause-to
 returns-in_err-joined-clause-too_many g c =
     let p = err_from_is_err_and c.from_residual-in_err-joined.result c.from_residual-in_err-joined.ensures.1 in
     rw p.1 (λ same start steps all. c.in_err-joined.ensures.too_many (sym p.2 ∙ same) start (Some (steps + 1)) (c.loop-node.invariant.reached start steps all))
+
+pub returns-clause-counted : goal.returns-clause-counted
+returns-clause-counted g c = λ start before.
+    let moves = g.M.Machine.moves c.args.machine.now in
+    let seats = g.M.Machine.seats c.args.machine.now in
+    let none = nil_from_length c.loop-node.layer.items (omega (arith, c.in_default.ensures.cases.0)) in
+    counted_flipped moves seats start c.in_ok-joined.joined.items c.loop-node.found.items
+    (c.in_ok-joined.ensures.counted start c.loop-node.found.items
+    (counted_flipped moves seats start c.loop-node.found.items c.loop-node.next.items (rw none at (c.loop-node.invariant.counted start before))))
+
+pub returns-in_err-next-clause-too_many_orders : goal.returns-in_err-next-clause-too_many_orders
+returns-in_err-next-clause-too_many_orders g c =
+    let moves = g.M.Machine.moves c.args.machine.now in
+    let seats = g.M.Machine.seats c.args.machine.now in
+    let p = err_from_is_err_and c.from_residual-in_err-next.result c.from_residual-in_err-next.ensures.1 in
+    rw p.1 (λ same start before.
+    let rest = c.pop.new.self.items in
+    let found = c.expand.new.found.items in
+    c.in_err-next.ensures.too_many_orders (sym p.2 ∙ same) start (rest ++ found)
+    (counted_permuted moves seats start (rest ++ (found ++ c.expand.new.next.items)) (c.expand.new.next.items ++ (rest ++ found)) (third_first rest found c.expand.new.next.items)
+    (c.in_ok-expand.ensures.counted start rest
+    (counted_taken moves seats start c.loop-node.layer.items rest (c.loop-node.found.items ++ c.loop-node.next.items) c.in-Some.node c.in-Some.ensures.items (c.loop-node.invariant.counted start before)))))
+
+pub returns-in_err-joined-clause-too_many_orders : goal.returns-in_err-joined-clause-too_many_orders
+returns-in_err-joined-clause-too_many_orders g c =
+    let moves = g.M.Machine.moves c.args.machine.now in
+    let seats = g.M.Machine.seats c.args.machine.now in
+    let none = nil_from_length c.loop-node.layer.items (omega (arith, c.in_default.ensures.cases.0)) in
+    let p = err_from_is_err_and c.from_residual-in_err-joined.result c.from_residual-in_err-joined.ensures.1 in
+    rw p.1 (λ same start before.
+    c.in_err-joined.ensures.too_many_orders (sym p.2 ∙ same) start c.loop-node.found.items
+    (counted_flipped moves seats start c.loop-node.found.items c.loop-node.next.items (rw none at (c.loop-node.invariant.counted start before))))

@@ -1,5 +1,6 @@
-use Rattle.std.proofs.Common.{◌≡◌, ℕ, ◌+◌, ◌⊎◌, Some, None, List, All, Contains, vec_len}
+use Rattle.std.proofs.Common.{◌≡◌, ℕ, ◌+◌, ◌++◌, ◌⊎◌, Some, None, List, All, Contains, vec_len}
 use Rattle.irp_explore.specs.Orders.{IsSharedOut}
+use Rattle.irp_explore.specs.Counted.{AreCounted}
 use Rattle.irp_explore.specs.Nodes.{weigh, states_of, IsMatched, IsMatchedOn, IsReached, IsExpanded}
 use Rattle.irp_explore.proofs.exploring.next_layer.Given as goal
 
@@ -26,6 +27,8 @@ invariant-loop-node g l =
       matched_on : (state : g.row.M-State.Denot) (path : List ℕ) → IsMatched l.fn.layer.items state path
           → IsMatched l.layer.items state path ⊎ IsMatchedOn moves seats l.found.items l.next.items state path;
       matched : (state : g.row.M-State.Denot) (path : List ℕ) → IsMatched l.fn.found.items state path → IsMatched l.found.items state path;
+      counted : (start : g.row.M-State.Denot) → AreCounted moves seats start (l.fn.layer.items ++ l.fn.found.items)
+          → AreCounted moves seats start (l.layer.items ++ (l.found.items ++ l.next.items));
     }
 
 abbrev pub decreases-loop-node : goal.decreases-loop-node

@@ -1,13 +1,17 @@
-use Rattle.std.proofs.Common.{arith, rules, ◌+◌, ◌*◌, ◌⊎◌, inl, inr, [], Some, Contains, ap, subst, ◌∙◌}
+use Rattle.std.proofs.Common.{arith, rules, ◌+◌, ◌*◌, ◌++◌, ◌⊎◌, inl, inr, [], Some, Contains, ap, sym, subst, ◌∙◌}
+use Rattle.std.proofs.lemmas.List.{nil_from_length}
+use Rattle.std.proofs.lemmas.Result.{err_from_is_err_and}
 use Rattle.std.proofs.lemmas.List.Elements.{All-nil, All-pop, All-same, Contains-push_cases}
 use Rattle.std.proofs.lemmas.List.Sums.{sum_by_push}
-use Rattle.std.proofs.lemmas.List.Sorted.{All-permutation, Contains-permutation, IsPermutation-map, sum_by-IsPermutation, IsNonDecreasingBy-from_sort_by_key}
+use Rattle.std.proofs.lemmas.List.Sorted.{All-permutation, Contains-permutation, IsPermutation-append_left, IsPermutation-map, sum_by-IsPermutation, IsNonDecreasingBy-from_sort_by_key}
 use Rattle.irp_explore.specs.declared.node.Node.{Node}
 use Rattle.irp_explore.specs.Nodes.{weigh, states_of, IsReached, IsFloor, IsMatched}
 use Rattle.irp_explore.proofs.Weighing.{pushed_states}
 use Rattle.irp_explore.proofs.Apart.{apart_none, falling_none, rising_rest, rest_below}
 use Rattle.irp_explore.proofs.Ahead.{nothing_contained}
 use Rattle.irp_explore.proofs.Matching.{matched_popped, none_matched}
+use Rattle.irp_explore.proofs.Permuting.{second_first}
+use Rattle.irp_explore.proofs.Counting.{counted_permuted, counted_popped}
 use Rattle.irp_explore.proofs.joining.join_equal.Goals as goal
 
 pub loop-node-init : goal.loop-node-init
@@ -30,6 +34,10 @@ loop-node-init g c =
       floor = λ i d below. rw c.new-joined.ensures.items (All-nil (λ (node : Node g.row.M-State.Denot). _));
       falling = rw c.new-joined.ensures.items falling_none;
       apart = λ start steps all. rw c.new-joined.ensures.items apart_none;
+      counted = λ start others before.
+          rw c.new-joined.ensures.items
+          (counted_permuted moves seats start (c.args.nodes.items ++ others) (c.sort_by_key.new.self.items ++ others)
+          (IsPermutation-append_left others c.args.nodes.items c.sort_by_key.new.self.items c.in_ok-sort_by_key.ensures.permutation) before);
     }
 
 pub loop-node-preserved : goal.loop-node-preserved
@@ -77,6 +85,11 @@ loop-node-preserved g c =
           let before = c.loop-node.invariant.reached start steps all in
           let parts = All-pop (IsReached moves seats mark start steps) c.loop-node.nodes.items c.pop.new.self.items (Some c.in-Some.node) c.in-Some.ensures.items before.0 in
           c.in_ok-join_one.ensures.apart start steps before.1 parts.1 c.loop-node.invariant.falling floors.1 (c.loop-node.invariant.apart start steps all);
+      counted = λ start others before.
+          let rest = c.pop.new.self.items in
+          counted_permuted moves seats start (c.join_one.new.joined.items ++ (rest ++ others)) (rest ++ (c.join_one.new.joined.items ++ others)) (second_first c.join_one.new.joined.items rest others)
+          (c.in_ok-join_one.ensures.counted start (rest ++ others)
+          (counted_popped moves seats start c.loop-node.nodes.items rest c.loop-node.joined.items others c.in-Some.node c.in-Some.ensures.items (c.loop-node.invariant.counted start others before)));
     }
 
 pub returns-clause-kept : goal.returns-clause-kept
@@ -107,3 +120,16 @@ returns-clause-apart g c = λ start steps all. c.loop-node.invariant.apart start
 
 pub returns-clause-reached : goal.returns-clause-reached
 returns-clause-reached g c = λ start steps all. (c.loop-node.invariant.reached start steps all).1
+
+pub returns-clause-counted : goal.returns-clause-counted
+returns-clause-counted g c = λ start others before.
+    let none = nil_from_length c.loop-node.nodes.items (omega (arith, c.in_default.ensures.cases.0)) in
+    rw none at (c.loop-node.invariant.counted start others before)
+
+pub returns-in_err-join_one-clause-too_many_orders : goal.returns-in_err-join_one-clause-too_many_orders
+returns-in_err-join_one-clause-too_many_orders g c =
+    let p = err_from_is_err_and c.from_residual-in_err-join_one.result c.from_residual-in_err-join_one.ensures.1 in
+    rw p.1 (λ same start others before.
+    c.in_err-join_one.ensures.too_many_orders (sym p.2 ∙ same) start (c.pop.new.self.items ++ others)
+    (counted_popped (g.M.Machine.moves c.args.machine.now) (g.M.Machine.seats c.args.machine.now) start c.loop-node.nodes.items c.pop.new.self.items c.loop-node.joined.items others c.in-Some.node c.in-Some.ensures.items
+    (c.loop-node.invariant.counted start others before)))

@@ -1,6 +1,7 @@
-use Rattle.std.proofs.Common.{◌≡◌, ℕ, ◌+◌, ◌⊎◌, Option, List, All, Contains, vec_len}
+use Rattle.std.proofs.Common.{◌≡◌, ℕ, ◌+◌, ◌⊎◌, ◌++◌, Option, List, All, Contains, vec_len}
 use Rattle.std.specs.List.Sorted.{IsNonDecreasingBy}
 use Rattle.irp_explore.specs.declared.node.Node.{Node}
+use Rattle.irp_explore.specs.Counted.{AreCounted}
 use Rattle.irp_explore.specs.Nodes.{weigh, states_of, IsReached, AreApart, AreFalling, IsFloor, IsMatched}
 use Rattle.irp_explore.proofs.joining.join_equal.Given as goal
 
@@ -19,6 +20,8 @@ invariant-loop-node g l =
       floor : All (λ (node : Node g.row.M-State.Denot). IsFloor node.mark l.joined.items) l.nodes.items;
       falling : AreFalling l.joined.items;
       apart : (start : g.row.M-State.Denot) (steps : Option ℕ) → All (IsReached moves seats mark start steps) l.fn.nodes.items → AreApart l.joined.items;
+      counted : (start : g.row.M-State.Denot) (others : List (Node g.row.M-State.Denot)) → AreCounted moves seats start (l.fn.nodes.items ++ others)
+          → AreCounted moves seats start (l.nodes.items ++ (l.joined.items ++ others));
     }
 
 abbrev pub decreases-loop-node : goal.decreases-loop-node

@@ -1,4 +1,4 @@
-use Rattle.std.proofs.Common.{arith, ◌≡◌, ◌≢◌, ◌<◌, ◌≤◌, ◌∷◌, ◌++◌, [], ℕ, List, All, IfSome, length, get_or, Contains, sym, ap, subst, ◌∙◌, refl}
+use Rattle.std.proofs.Common.{arith, ◌≡◌, ◌≢◌, ◌<◌, ◌≤◌, ◌+◌, ◌^◌, ◌∷◌, ◌++◌, [], ℕ, List, All, IfSome, length, get_or, Contains, sym, ap, subst, ◌∙◌, refl}
 use Rattle.std.proofs.lemmas.List.Elements.{All-push, All-same, All-set, All-get_or, Contains-get_or, Contains-append_left}
 use Rattle.std.proofs.lemmas.List.{get_or-map, length-map}
 use Rattle.irp_explore.specs.declared.node.Node.{Node}
@@ -9,6 +9,8 @@ use Rattle.irp_explore.proofs.Apart.{apart_set, apart_push, falling_set, falling
 use Rattle.irp_explore.proofs.Keeping.{some_still}
 use Rattle.irp_explore.proofs.Reaching.{both_kept}
 use Rattle.irp_explore.proofs.Matching.{push_matched, push_still, set_matched, set_still}
+use Rattle.irp_explore.proofs.Permuting.{one_in}
+use Rattle.irp_explore.proofs.Counting.{counted_permuted, counted_set, many_at}
 use Rattle.irp_explore.proofs.joining.join_one.Goals as goal
 
 pub returns-clause-weight : goal.returns-clause-weight
@@ -121,3 +123,32 @@ returns-in_default-clause-falling g c = λ falling floor.
 pub returns-in_default-clause-floor : goal.returns-in_default-clause-floor
 returns-in_default-clause-floor g c = λ mark low floor.
     rw c.in_ok-push.ensures.items (All-push (λ (node : Node _). mark ≤ node.mark) c.args.joined.now.items c.args.node floor low)
+
+pub returns-clause-counted : goal.returns-clause-counted
+returns-clause-counted g c = λ start others before.
+    let items = c.args.joined.now.items in
+    let other = c.index_mut-other.result.now in
+    let there : c.in-Some.place < length items = omega (arith, c.in-Some.ensures.there, ap length c.deref.ensures.value) in
+    let read = c.index_mut-other.ensures.value in
+    let same : other.state ≡ c.args.node.state =
+    ap (λ node. node.state) read ∙ ap (λ nodes. (get_or nodes c.in-Some.place other).state) (sym c.deref.ensures.value) ∙ c.in-Some.ensures.same other in
+    counted_set (g.M.Machine.moves c.args.machine.now) (g.M.Machine.seats c.args.machine.now) start items others c.in-Some.place other c.args.node _ there read same refl
+    (omega (arith, c.in-Some-checked_add.ensures.1)) before
+
+pub returns-in_default-checked_add-clause-too_many_orders : goal.returns-in_default-checked_add-clause-too_many_orders
+returns-in_default-checked_add-clause-too_many_orders g c = λ _ start others before.
+    let items = c.args.joined.now.items in
+    let other = c.index_mut-other.result.now in
+    let there : c.in-Some.place < length items = omega (arith, c.in-Some.ensures.there, ap length c.deref.ensures.value) in
+    let read = c.index_mut-other.ensures.value in
+    let same : other.state ≡ c.args.node.state =
+    ap (λ node. node.state) read ∙ ap (λ nodes. (get_or nodes c.in-Some.place other).state) (sym c.deref.ensures.value) ∙ c.in-Some.ensures.same other in
+    let many : 2 ^ 128 ≤ other.orders + c.args.node.orders = omega (arith, c.in_default-checked_add.ensures) in
+    many_at (g.M.Machine.moves c.args.machine.now) (g.M.Machine.seats c.args.machine.now) start items others c.in-Some.place other c.args.node there read same many before
+
+pub returns-in_default-clause-counted : goal.returns-in_default-clause-counted
+returns-in_default-clause-counted g c = λ start others before.
+    let items = c.args.joined.now.items in
+    rw c.in_ok-push.ensures.items
+    (counted_permuted (g.M.Machine.moves c.args.machine.now) (g.M.Machine.seats c.args.machine.now) start (c.args.node ∷ (items ++ others)) ((items ++ c.args.node ∷ []) ++ others)
+    (one_in c.args.node items others) before)
