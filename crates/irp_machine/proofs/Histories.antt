@@ -11,6 +11,7 @@ use Rattle.irp_transcript.specs.declared.header.Header.{Header}
 use Rattle.irp_manager.specs.Notes.{known_by}
 use Rattle.irp_manager.specs.declared.manager_state.Applied.{Applied}
 use Rattle.irp_manager.proofs.Recording.{leads_none, leads_more, undrained}
+use Rattle.irp_plain.specs.Seats.{SeatValue}
 use Rattle.irp_plain.specs.declared.parts.Change.{Change}
 use Rattle.irp_plain.specs.declared.parts.Learned.{Learned}
 use Rattle.irp_script_reader.specs.declared.script.ScriptParts.{ScriptParts}
@@ -26,10 +27,11 @@ use Rattle.irp_machine.specs.Machine.{RulesValue, Acts, ClosesIf, IsNext, Makes,
 use Rattle.irp_machine.specs.Next.{called, next_of}
 use Rattle.irp_machine.specs.Openings.{MakesAll, Opens, begun, first_standing, rules_of, seats_of}
 use Rattle.irp_machine.specs.Orders.{IsOrder}
-use Rattle.irp_machine.specs.Replays.{IsActed, IsPlayed, IsSetUp, Plays, PlaysIn, Records, OrdersHaveHistories, ReplaysEndSo}
+use Rattle.irp_machine.specs.Replays.{IsActed, IsPlayed, IsSetUp, Plays, PlaysIn, Records, OrdersHaveHistories, ReplaysEndSo, told_end}
 use Rattle.irp_machine.specs.Settled.{steps_settled}
 use Rattle.irp_machine.specs.Standings.{StandingValue, after_change, with_state}
 use Rattle.irp_machine.proofs.OneHeader.{header_once}
+use Rattle.irp_machine.proofs.Untold.{all_untold, end_untold, seats_begun, silent, untold}
 
 -- ---- calls
 
@@ -114,37 +116,53 @@ closed_by : (rules : RulesValue) (standing : StandingValue) (end : End) (ended :
 closed_by rules standing end true closes = same_Some end (end_of standing) closes
 closed_by rules standing end false closes = absurd (none-some end (sym closes))
 
--- an order that was played ends as it is told to end
-played_ends : (header : Header) (script : ScriptParts) (tells : Bool) (start : StandingValue) (path : List ℕ) (end : End)
-    → Opens header script start → IsOrder (rules_of header script script.steps script.steps tells) start path end
-    → (last : StandingValue) (entries : List Entry)
-    → IsPlayed header script tells path last entries → end ≡ end_of last
-played_ends header script tells start path end opens order last entries played =
-    let setting = rules_of header script [] script.setup false in
-    let rules = rules_of header script script.steps script.steps tells in
-    let ended : opens.0 ≡ played.ended =
-    all_settled setting (first_standing header script) (seats_of script.setup) opens.0 played.ended opens.1
-    (all_made setting (first_standing header script) [] played.front (seats_of script.setup) played.ended played.setup) in
-    let began : start ≡ begun header played.ended.state played.ended.labels =
-    opens.2 ∙ ap (λ (ended : StandingValue). begun header ended.state ended.labels) ended in
-    let makes : MakesAll rules start path last =
-    subst (λ (start : StandingValue). MakesAll rules start path last) (sym began)
-    (all_made rules (begun header played.ended.state played.ended.labels) played.front entries path last played.steps) in
-    let same : order.0 ≡ last = all_settled rules start path order.0 last order.1 makes in
-    closed_by rules last end (has_ended rules last)
-    (subst (λ (last : StandingValue). ClosesIf rules last (has_ended rules last) (Some end)) same order.2)
+-- where an order is played it leads to the end that is told
+module _ (header : Header) (script : ScriptParts) (start : StandingValue) (path : List ℕ) (end : End) (opens : Opens header script start)
+    (last : StandingValue) (entries : List Entry) (played : IsPlayed header script true path last entries) where
+  abbrev rules : RulesValue
+  rules = rules_of header script script.steps script.steps true
+
+  began : start ≡ begun header played.ended.state played.ended.labels
+  began =
+      let setting = rules_of header script [] script.setup false in
+      let ended : opens.0 ≡ played.ended =
+      all_settled setting (first_standing header script) (seats_of script.setup) opens.0 played.ended opens.1
+      (all_made setting (first_standing header script) [] played.front (seats_of script.setup) played.ended played.setup) in
+      opens.2 ∙ ap (λ (ended : StandingValue). begun header ended.state ended.labels) ended
+
+  makes : MakesAll rules start path last
+  makes =
+      subst (λ (start : StandingValue). MakesAll rules start path last) (sym began)
+      (all_made rules (begun header played.ended.state played.ended.labels) played.front entries path last played.steps)
+
+  -- nobody was told anything as it began
+  begun_untold : untold start ≡ start
+  begun_untold =
+      subst (λ (start : StandingValue). untold start ≡ start) (sym began)
+      (ap (λ (seats : List SeatValue). record (begun header played.ended.state played.ended.labels) { seats = seats }) (seats_begun header.seats))
+
+  played_ends : (tells : Bool) → IsOrder (rules_of header script script.steps script.steps tells) start path end → end ≡ told_end tells (end_of last)
+  played_ends true order =
+      let same : order.0 ≡ last = all_settled rules start path order.0 last order.1 makes in
+      closed_by rules last end (has_ended rules last)
+      (subst (λ (last : StandingValue). ClosesIf rules last (has_ended rules last) (Some end)) same order.2)
+  played_ends false order =
+      let quiet : MakesAll (silent rules) start path (untold last) =
+      subst (λ (start : StandingValue). MakesAll (silent rules) start path (untold last)) begun_untold (all_untold rules start path last makes) in
+      let same : order.0 ≡ untold last = all_settled (silent rules) start path order.0 (untold last) order.1 quiet in
+      closed_by (silent rules) order.0 end (has_ended (silent rules) order.0) order.2
+      ∙ ap (λ (standing : StandingValue). end_of standing) same ∙ end_untold last
 
 pub replays_end : ReplaysEndSo
-replays_end script outcomes k outcome transcript found at replay =
+replays_end script tells outcomes k outcome transcript found at replay =
     let same = header_once script found.header replay.header found.headed replay.headed found.accepted replay.accepted in
     let within = slice_get_within outcomes k outcome at in
     let given = get_or_from_slice_get outcomes k outcome outcome at in
-    let order : IsOrder (rules_of found.header script script.steps script.steps true) found.start outcome.path.items outcome.end =
-    subst (λ (one : Outcome). IsOrder (rules_of found.header script script.steps script.steps true) found.start one.path.items one.end) given (found.whole.sound k outcome within) in
-    played_ends replay.header script true found.start outcome.path.items outcome.end
-    (subst (λ (header : Header). Opens header script found.start) same found.opens)
-    (subst (λ (header : Header). IsOrder (rules_of header script script.steps script.steps true) found.start outcome.path.items outcome.end) same order)
-    replay.last transcript.entries replay.played
+    let order : IsOrder (rules_of found.header script script.steps script.steps tells) found.start outcome.path.items outcome.end =
+    subst (λ (one : Outcome). IsOrder (rules_of found.header script script.steps script.steps tells) found.start one.path.items one.end) given (found.whole.sound k outcome within) in
+    played_ends replay.header script found.start outcome.path.items outcome.end
+    (subst (λ (header : Header). Opens header script found.start) same found.opens) replay.last transcript.entries replay.played tells
+    (subst (λ (header : Header). IsOrder (rules_of header script script.steps script.steps tells) found.start outcome.path.items outcome.end) same order)
 
 -- ---- the setup, and the steps behind it
 

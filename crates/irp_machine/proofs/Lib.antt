@@ -5,3 +5,4 @@ pub mod OneHeader
 pub mod Outcomes
 pub mod Repeats
 pub mod Sorting
+pub mod Untold

@@ -1,15 +1,18 @@
 -- The states that were found, told as outcomes.
-use Rattle.std.proofs.Common.{◌≡◌, ℕ, ◌+◌, ◌*◌, ◌<◌, ◌≤◌, ◌==◌, All, inl, inr, zero, suc, Bool, true, false, List, [], ◌∷◌, ◌++◌, Option, Some, None, length, get_or, Contains, nat_lt, refl, ap, sym, subst, ◌∙◌, arith}
+use Rattle.std.proofs.Common.{◌≡◌, ℕ, ◌+◌, ◌*◌, ◌<◌, ◌≤◌, ◌==◌, ◌≢◌, All, map, inl, inr, zero, suc, Bool, true, false, List, [], ◌∷◌, ◌++◌, Option, Some, None, length, get_or, Contains, nat_lt, refl, ap, sym, subst, ◌∙◌, arith}
 use Rattle.std.specs.Option.{option_map, option_and_then}
 use Rattle.std.specs.Prelude.{slice_get}
 use Rattle.std.proofs.lemmas.List.Sums.{sum_by-cons}
 use Rattle.std.proofs.lemmas.Bool.{cases_eq, cases_lt, eqb-true, lt-ltb, le-ltb, ltb-false}
-use Rattle.std.proofs.lemmas.List.{append-nil, get_or_default}
-use Rattle.std.proofs.lemmas.List.Elements.{All-contains}
+use Rattle.std.proofs.lemmas.List.{append-nil, get_or_default, get_or-map, length-map}
+use Rattle.std.proofs.lemmas.List.Elements.{All-contains, All-map}
 use Rattle.std.proofs.lemmas.Option.{slice_get_within, same_Some, none-some}
 use Rattle.irp_explore.specs.Orders.{Leads, HasEnded}
+use Rattle.irp_explore.specs.Counted.{AreCounted, AreParted, IsCount}
 use Rattle.irp_explore.specs.Nodes.{AreApart, states_of, weigh}
 use Rattle.irp_explore.specs.Paths.{changes_of, seam, HasAsGood}
+use Rattle.irp_explore.proofs.Counting.{part_differs}
+use Rattle.irp_explore.proofs.Permuting.{pairs_map}
 use Rattle.irp_explore.proofs.Changing.{changes_append, last_in, seam_once}
 use Rattle.irp_explore.specs.declared.node.Node.{Node}
 use Rattle.irp_machine.specs.declared.outcome.End.{End}
@@ -19,7 +22,7 @@ use Rattle.irp_machine.specs.declared.place.Place.{Place}
 use Rattle.irp_machine.specs.declared.place.Place.TheVariants.{Running, Over}
 use Rattle.irp_machine.specs.Machine.{RulesValue, PlaceSteps, RunningSteps, ClosesTo, StepsTo, act_of}
 use Rattle.irp_machine.specs.Openings.{MakesAll}
-use Rattle.irp_machine.specs.Orders.{AreOrders, AreOutcomes, IsOrder, Tells, AllTell, ends_of, weigh_outcomes}
+use Rattle.irp_machine.specs.Orders.{AreOrders, AreOutcomes, IsCounted, IsOrder, Tells, AllTell, ends_of, weigh_outcomes}
 use Rattle.irp_plain.specs.Seats.{SeatValue}
 use Rattle.irp_machine.specs.Standings.{StandingValue}
 
@@ -271,6 +274,88 @@ fewest_of orders opened path closing fewest good =
     let more = closed_changes path closing in
     omega (arith, least, better, one, other, more)
 
+-- ---- counts
+
+-- an order without its last step
+abbrev front_of : List ℕ → List ℕ
+front_of [] = []
+front_of (seat ∷ []) = []
+front_of (seat ∷ next ∷ path) = seat ∷ front_of (next ∷ path)
+
+last_apart : (seat : ℕ) (path : List ℕ) → (closing : ℕ) × (seat ∷ path ≡ front_of (seat ∷ path) ++ closing ∷ [])
+last_apart seat [] = (seat, refl)
+last_apart seat (next ∷ path) =
+    let rest = last_apart next path in
+    (rest.0, ap (λ (path : List ℕ). seat ∷ path) rest.1)
+
+closing_apart : (rules : RulesValue) (start : StandingValue) (order : List ℕ) (end : End)
+    → Leads (PlaceSteps rules) (length rules.acts + 1) (Running start) order (Over end) → (closing : ℕ) × (order ≡ front_of order ++ closing ∷ [])
+closing_apart rules start [] end leads = absurd (never_over start end leads)
+closing_apart rules start (seat ∷ path) end leads = last_apart seat path
+
+-- the last step is the one that closes
+closing_is : (rules : RulesValue) (start : StandingValue) (path : List ℕ) (closing : ℕ) (end : End)
+    → Leads (PlaceSteps rules) (length rules.acts + 1) (Running start) (path ++ closing ∷ []) (Over end) → closing ≡ length rules.acts
+closing_is rules start [] closing end leads =
+    let past = closing_past_by rules start closing end leads.0 (nat_lt closing (length rules.acts)) refl leads.2 leads.3 in
+    let below = leads.1 in
+    omega (arith, past, below)
+closing_is rules start (seat ∷ path) closing end leads =
+    let next = next_step rules start seat path closing end leads.0 (nat_lt seat (length rules.acts)) leads.2 leads.3 in
+    closing_is rules next.0 path closing end next.2
+
+closed_front : (rules : RulesValue) (start : StandingValue) (order : List ℕ) (end : End)
+    → Leads (PlaceSteps rules) (length rules.acts + 1) (Running start) order (Over end) → order ≡ front_of order ++ length rules.acts ∷ []
+closed_front rules start order end leads =
+    let apart = closing_apart rules start order end leads in
+    let led = subst (λ (order : List ℕ). Leads (PlaceSteps rules) (length rules.acts + 1) (Running start) order (Over end)) apart.1 leads in
+    apart.1 ∙ ap (λ closing. front_of order ++ closing ∷ []) (closing_is rules start (front_of order) apart.0 end led)
+
+front_order : (rules : RulesValue) (start : StandingValue) (order : List ℕ) (end : End)
+    → Leads (PlaceSteps rules) (length rules.acts + 1) (Running start) order (Over end) → IsOrder rules start (front_of order) end
+front_order rules start order end leads =
+    order_of rules start (front_of order) (length rules.acts) end
+    (subst (λ (order : List ℕ). Leads (PlaceSteps rules) (length rules.acts + 1) (Running start) order (Over end)) (closed_front rules start order end leads) leads)
+
+-- different orders stay different without it
+fronts_differ : (rules : RulesValue) (start : StandingValue) (one other : List ℕ) (end : End)
+    → Leads (PlaceSteps rules) (length rules.acts + 1) (Running start) one (Over end)
+    → Leads (PlaceSteps rules) (length rules.acts + 1) (Running start) other (Over end) → AreParted one other → front_of one ≢ front_of other
+fronts_differ rules start one other end first second part same =
+    part_differs one other part
+    (closed_front rules start one end first ∙ ap (λ (path : List ℕ). path ++ length rules.acts ∷ []) same ∙ sym (closed_front rules start other end second))
+
+counted_of : (rules : RulesValue) (start : StandingValue) (node : Node Place) (orders : List (List ℕ)) (outcome : Outcome)
+    → IsCount (PlaceSteps rules) (length rules.acts + 1) (Running start) node orders → node.state ≡ Over outcome.end → node.orders ≡ outcome.orders
+    → IsCounted rules start outcome
+counted_of rules start node orders outcome count state many =
+    let lead : All (λ order. Leads (PlaceSteps rules) (length rules.acts + 1) (Running start) order (Over outcome.end)) orders =
+    subst (λ (place : Place). All (λ order. Leads (PlaceSteps rules) (length rules.acts + 1) (Running start) order place) orders) state count.lead in (
+      map front_of orders,
+      length-map orders front_of ∙ count.many ∙ many,
+      All-map (λ (path : List ℕ). IsOrder rules start path outcome.end) front_of orders (λ k d below. front_order rules start (get_or orders k d) outcome.end (lead k d below)),
+      pairs_map (λ (one other : List ℕ). one ≢ other) front_of orders
+          (λ i j d before within.
+          fronts_differ rules start (get_or orders i d) (get_or orders j d) outcome.end (lead i d (omega (arith, before, within))) (lead j d within) (count.part i j d before within)),
+    )
+
+-- what an outcome tells at its place
+counted_at : (rules : RulesValue) (start : StandingValue) (found : List (Node Place)) (outcomes : List Outcome) (k : ℕ) (some : Node Place) (outcome : Outcome)
+    → AreCounted (PlaceSteps rules) (length rules.acts + 1) (Running start) found → AllTell found outcomes → k < length outcomes
+    → IsCounted rules start (get_or outcomes k outcome)
+counted_at rules start found outcomes k some outcome counted tell below =
+    let told = tell_at found outcomes k some outcome tell below in
+    let long = tell_long found outcomes tell in
+    let none : List (List ℕ) = [] in
+    let many = sym (length-map counted.counts (λ (count : Node Place × List (List ℕ)). count.0)) ∙ ap length counted.nodes_are in
+    let within : k < length counted.counts = omega (arith, below, long, many) in
+    let count = get_or counted.counts k (some, none) in
+    let node : count.0 ≡ get_or found k some =
+    sym (get_or-map (λ (count : Node Place × List (List ℕ)). count.0) counted.counts k (some, none) some within)
+    ∙ ap (λ (nodes : List (Node Place)). get_or nodes k some) counted.nodes_are in
+    counted_of rules start count.0 count.1 (get_or outcomes k outcome) (counted.counted k (some, none) within)
+    (ap (λ (node : Node Place). node.state) node ∙ told.state) (ap (λ (node : Node Place). node.orders) node ∙ told.orders)
+
 -- what is found is told by the outcomes
 pub outcomes_hold : (rules : RulesValue) (start : StandingValue) (found : List (Node Place)) (outcomes : List Outcome)
     → AreOrders (PlaceSteps rules) (length rules.acts + 1) (Running start) found → AllTell found outcomes → AreOutcomes rules start outcomes
@@ -306,5 +391,6 @@ outcomes_hold rules start found outcomes orders tell = record {
       let one = tell_at found outcomes i some outcome tell (omega (arith, before, below)) in
       let other = tell_at found outcomes j some outcome tell below in
       λ same. orders.once i j some before (omega (arith, below, long)) (one.state ∙ ap (λ (end : End). Over end) same ∙ sym other.state);
+  counted = λ k outcome below. counted_at rules start found outcomes k (some_node found outcomes k tell below) outcome orders.counted tell below;
   orders = λ number shared. weighed number found outcomes tell ∙ orders.orders number shared;
 }

@@ -12,7 +12,7 @@ use Rattle.irp_machine.specs.declared.outcome.SlotEnd.{SlotEnd}
 use Rattle.irp_plain.specs.declared.parts.Held.{Held}
 use Rattle.irp_plain.specs.declared.parts.Slot.{Slot}
 use Rattle.irp_plain.specs.Lists.{with_more}
-use Rattle.irp_machine.specs.Marks.{told_mark}
+use Rattle.irp_machine.specs.Marks.{with_number, label_mark, told_mark}
 use Rattle.irp_plain.specs.Seats.{SeatValue, new_seat}
 use Rattle.irp_machine.specs.Standings.{StandingValue}
 
@@ -76,9 +76,28 @@ end_of standing = record {
   slots = map slot_end standing.slots;
 }
 
--- a number by which ends are sorted
+-- an end without what the seats were told
+abbrev pub without_replies : End → End
+without_replies end = record end { replies = map (λ (one : Replies). record one { told = [] }) end.replies }
+
+-- ---- marks
+
 abbrev pub replies_mark : ℕ → Replies → ℕ
 replies_mark mark replies = fold told_mark mark replies.told
 
+abbrev pub packet_mark : ℕ → LiveEnd → ℕ
+packet_mark mark live = with_number (with_number (with_number mark live.use_no) live.current) live.status.0
+
+abbrev pub lock_mark : ℕ → LockEnd → ℕ
+lock_mark mark lock = with_number mark lock.word
+
+abbrev pub slot_end_mark : ℕ → SlotEnd → ℕ
+slot_end_mark mark slot = with_number mark slot.content
+
+-- the mark of an end: behind its replies, packets, labels, locks and slots, one after another
 abbrev pub end_mark : End → ℕ
-end_mark end = fold replies_mark 0 end.replies
+end_mark end =
+    let replies : ℕ = fold replies_mark 0 end.replies in
+    let packets : ℕ = fold packet_mark replies end.packets in
+    let labels : ℕ = fold label_mark packets end.labels in
+    fold slot_end_mark (fold lock_mark labels end.locks) end.slots

@@ -15,7 +15,7 @@ use Rattle.irp_machine.specs.declared.parts.Planned.{Planned}
 use Rattle.irp_machine.specs.declared.place.Place.{Place}
 use Rattle.irp_machine.specs.declared.place.Place.TheVariants.{Running, Over}
 use Rattle.irp_plain.specs.Seats.{SeatValue, new_seat, is_drained}
-use Rattle.irp_machine.specs.Standings.{StandingValue, after_change, with_state}
+use Rattle.irp_machine.specs.Standings.{StandingValue, after_change, with_state, standing_mark}
 use Rattle.irp_machine.specs.Next.{next_of, called}
 use Rattle.irp_machine.specs.Calling.{IsCalled}
 use Rattle.irp_machine.specs.declared.outcome.End.{End}
@@ -130,5 +130,5 @@ PlaceSteps rules (Over end) seat after = after ≡ None
 
 -- the mark of a place
 abbrev pub place_mark : Place → ℕ
-place_mark (Running standing) = standing.mark
+place_mark (Running standing) = standing_mark standing
 place_mark (Over end) = end_mark end

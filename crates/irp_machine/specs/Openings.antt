@@ -36,7 +36,6 @@ empty_slot = record { flag = false; content = 0; used = false; stands = false }
 -- nobody has made a step yet; this is the manager's state, and the labels stand for this
 abbrev pub begun : Header → StateValue → List IrpRef → StandingValue
 begun header state labels = record {
-  mark = 0;
   state = state;
   labels = labels;
   words = replicate header.locks 0;

@@ -25,7 +25,7 @@ use Rattle.irp_machine.specs.declared.parts.Planned.{Planned}
 use Rattle.irp_plain.specs.declared.answered.Answered.{Answered}
 use Rattle.irp_plain.specs.declared.answered.Answered.TheVariants.{Reply as Replied, Word}
 use Rattle.irp_plain.specs.declared.answered.Told.{Told}
-use Rattle.irp_machine.specs.Endings.{end_of}
+use Rattle.irp_machine.specs.Endings.{end_of, without_replies}
 use Rattle.irp_machine.specs.Headers.{IsHeaderOf}
 use Rattle.irp_machine.specs.Machine.{RulesValue, Acts, IsCallOf, IsNext, Makes, act_of, seat_at}
 use Rattle.irp_machine.specs.Next.{next_of}
@@ -136,12 +136,18 @@ OrdersHaveHistories =
     → (last : StandingValue) × (entries : List Entry) × IsPlayed header script tells path last entries
     × (end ≡ end_of last)
 
--- a replay of an outcome's path ends as the outcome, where replies are compared
+-- what is told of an end: without the replies, where none is kept
+abbrev pub told_end : Bool → End → End
+told_end true end = end
+told_end false end = without_replies end
+
+-- a replay of an outcome's path ends as the outcome, the replies aside where only ends are compared
 abbrev pub ReplaysEndSo : Type 0
 ReplaysEndSo =
-    (script : ScriptParts) (outcomes : List Outcome) (k : ℕ) (outcome : Outcome) (transcript : TranscriptValue)
-    → AreOutcomesOf script true outcomes → slice_get outcomes k ≡ Some outcome
-    → (replay : IsReplay script outcome.path.items transcript) → outcome.end ≡ end_of replay.last
+    (script : ScriptParts) (tells : Bool) (outcomes : List Outcome) (k : ℕ) (outcome : Outcome)
+    (transcript : TranscriptValue)
+    → AreOutcomesOf script tells outcomes → slice_get outcomes k ≡ Some outcome
+    → (replay : IsReplay script outcome.path.items transcript) → outcome.end ≡ told_end tells (end_of replay.last)
 
 -- ---- as a replay is made
 

@@ -1,5 +1,6 @@
 -- Where a script stands between two atomic steps, and what a change makes of that.
 use Rattle.std.specs.Prelude.{ℕ, ◌≡◌, Bool, List, Option, Some, None, slice_index_or}
+use Rattle.std.specs.List.{fold}
 use Rattle.irp_types.specs.State.{StateValue, Fixed, LivePacket}
 use Rattle.irp_types.specs.Standing.{StandingFacts}
 use Rattle.irp_types.specs.declared.names.IrpRef.{IrpRef}
@@ -14,13 +15,12 @@ use Rattle.irp_plain.specs.declared.parts.NewWord.{NewWord}
 use Rattle.irp_plain.specs.declared.parts.Slot.{Slot}
 use Rattle.irp_plain.specs.Lists.{with_item}
 use Rattle.irp_machine.specs.declared.terms.Terms.{Terms}
-use Rattle.irp_machine.specs.Marks.{mark_after}
+use Rattle.irp_machine.specs.Marks.{with_number, label_mark, slot_mark, seat_mark}
 use Rattle.irp_plain.specs.Seats.{SeatValue, new_seat, after_step, with_held}
 
--- the mark, the manager's state, what each label stands for, the words of the remove locks, the cancel slots, and the
+-- the manager's state, what each label stands for, the words of the remove locks, the cancel slots, and the
 -- seats
 pub record StandingValue : Type 0 where
-  pub mark : ℕ
   pub state : StateValue
   pub labels : List IrpRef
   pub words : List ℕ
@@ -70,10 +70,16 @@ with_state standing state = record standing { state = state }
 -- where the script stands behind an atomic step of a seat that changes this
 abbrev pub after_change : ℕ → Change → ℕ → Bool → StandingValue → StandingValue
 after_change seat change step tells old = record {
-  mark = mark_after old.mark change.after step tells;
   state = old.state;
   labels = with_label change.label old.labels;
   words = with_word change.word old.words;
   slots = with_slot change.slot old.slots;
   seats = with_given change.gives (with_seat_changed seat change step tells old.seats);
 }
+
+-- the mark of a standing: behind its seats, labels, words and slots, one after another
+abbrev pub standing_mark : StandingValue → ℕ
+standing_mark standing =
+    let seats : ℕ = fold seat_mark 0 standing.seats in
+    let labels : ℕ = fold label_mark seats standing.labels in
+    fold slot_mark (fold with_number labels standing.words) standing.slots

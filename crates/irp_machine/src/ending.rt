@@ -1,18 +1,15 @@
 //! How a script has ended.
 
 ghost use Rattle.std.specs.Prelude.{◌≡◌, ◌++◌, IfOk, OnOk, length, map};
-ghost use Rattle.std.specs.List.{fold};
 ghost use Rattle.irp_manager.specs.ManagerStates.{state_of};
 ghost use Rattle.irp_manager.specs.Slots.{live_of};
 ghost use Rattle.irp_machine.specs.Endings as spec;
-ghost use Rattle.irp_machine.specs.Marks as marks;
 
 use crate::live_end::LiveEnd;
-use crate::marks::told_mark;
 use crate::outcome::{End, Holder, LockEnd, Replies, SlotEnd};
 use crate::standing::Standing;
 use irp_manager::ManagerState;
-use irp_plain::{Held, PlainKeep, SeatState, Slot, Told, push_if};
+use irp_plain::{Held, PlainKeep, SeatState, Slot, push_if};
 use irp_types::Row;
 use std::alloc::{AllocError, Global};
 
@@ -131,26 +128,4 @@ pub fn end_of(alloc: Global, standing: &Standing) -> Result<End, AllocError>
         locks: Row::from_vec(locks_of(alloc, words, seats)?),
         slots: Row::from_vec(slots_of(alloc, standing.slots())?),
     })
-}
-
-/// The mark behind what a seat was told.
-fn replies_mark(mark: u64, told: &[Told]) -> u64
-    ensures { result ≡ fold marks.told_mark mark told.now }
-{
-    let mut after = mark;
-    for one in told {
-        after = told_mark(after, *one);
-    }
-    after
-}
-
-/// A number by which ends are sorted.
-pub fn end_mark(end: &End) -> u64
-    ensures { result ≡ spec.end_mark end.now }
-{
-    let mut mark = 0;
-    for replies in end.replies.as_slice() {
-        mark = replies_mark(mark, replies.told.as_slice());
-    }
-    mark
 }

@@ -1,14 +1,17 @@
 //! Every order of a script.
 
-ghost use Rattle.std.specs.Prelude.{◌≡◌, ◌≤◌, ◌+◌, ◌==◌, IfOk, IfSome, length, vec_len};
+ghost use Rattle.std.specs.Prelude.{◌≡◌, ◌≤◌, ◌+◌, ◌==◌, IfErr, IfOk, IfSome, length, vec_len};
+ghost use Rattle.irp_explore.specs.Counted.{HasManyOrders};
+ghost use Rattle.irp_explore.specs.Nodes.{HasMoreStates, HasOrderOf};
 ghost use Rattle.irp_transcript.specs.Headers.{fixed_of};
 ghost use Rattle.irp_machine.specs.Machine.{PlaceSteps, place_mark};
 ghost use Rattle.irp_machine.specs.declared.place.Place.TheVariants.{Running};
 ghost use Rattle.irp_machine.specs.Limits.{tells_replies};
-ghost use Rattle.irp_machine.specs.Orders.{AllTell, AreOrders, AreOutcomesOf, IsOpened, Tells};
+ghost use Rattle.irp_machine.specs.Orders.{AllTell, AreOrders, AreOutcomesOf, HasMoreEnds, IsMet, IsOpened, Tells};
+ghost use Rattle.irp_machine.specs.declared.limits.NotFound.TheVariants.{Orders, Outcomes, States, Steps};
 
 use crate::header::header_of;
-use crate::limits::{Compared, Limits, NotFound};
+use crate::limits::{Compared, Limits, NotFound, NotMade};
 use crate::machine::ScriptMachine;
 use crate::opening::{machine_of, opening};
 use crate::outcome::Outcome;
@@ -29,18 +32,18 @@ fn opened_path(fewest: Vec<Path>) -> Option<Vec<u32>>
 }
 
 /// What a state tells in which an order has ended.
-fn outcome_of(node: Node<Place>) -> Result<Outcome, NotFound>
+fn outcome_of(node: Node<Place>) -> Result<Outcome, NotMade>
     ensures { IfOk result (Tells node) }
 {
     let (state, orders, fewest) = (node.state, node.orders, node.fewest);
     let (Place::Over(end), Some(path)) = (state, opened_path(fewest)) else {
-        return Err(NotFound::Script);
+        return Err(NotMade::Script);
     };
     Ok(Outcome { orders, path, end })
 }
 
 /// The outcomes of what was found, in its order.
-fn outcomes_of(alloc: Global, mut found: Vec<Node<Place>>) -> Result<Vec<Outcome>, NotFound>
+fn outcomes_of(alloc: Global, mut found: Vec<Node<Place>>) -> Result<Vec<Outcome>, NotMade>
     ensures { IfOk result (λ outcomes. AllTell found.items outcomes.items) }
 {
     let mut outcomes = Vec::new(alloc);
@@ -67,6 +70,18 @@ fn explored(
         AreOrders (PlaceSteps machine.now) (length machine.now.acts + 1) (Running standing)
         found.items) }
     ensures few { IfOk result (λ found. vec_len found ≤ limits.outcomes) }
+    ensures too_long { IfErr result (λ refusal. refusal ≡ Steps
+        → HasOrderOf (PlaceSteps machine.now) (length machine.now.acts + 1) (Running standing)
+        limits.steps) }
+    ensures too_many { IfErr result (λ refusal. refusal ≡ States
+        → HasMoreStates (PlaceSteps machine.now) (length machine.now.acts + 1) place_mark
+        (Running standing) limits.states) }
+    ensures too_many_orders { IfErr result (λ refusal. refusal ≡ Orders
+        → HasManyOrders (PlaceSteps machine.now) (length machine.now.acts + 1)
+        (Running standing)) }
+    ensures too_many_ends { IfErr result (λ refusal. refusal ≡ Outcomes
+        → HasMoreEnds (PlaceSteps machine.now) (length machine.now.acts + 1) (Running standing)
+        limits.outcomes) }
 {
     let start = Place::Running(standing);
     let found = explore(alloc, machine, start, limits.steps, limits.states)?;
@@ -81,7 +96,7 @@ fn explored(
 ///
 /// # Errors
 ///
-/// Those of `NotFound`.
+/// Those of `NotFound`: a bound that is told is one that the orders meet.
 pub fn orders(
     alloc: Global,
     script: &Script,
@@ -91,6 +106,18 @@ pub fn orders(
     ensures outcomes { IfOk result (λ outcomes.
         AreOutcomesOf script.now (tells_replies compared) outcomes.items) }
     ensures few { IfOk result (λ outcomes. vec_len outcomes ≤ limits.outcomes) }
+    ensures too_long { IfErr result (λ refusal. refusal ≡ Steps
+        → IsMet script.now (tells_replies compared)
+        (λ moves seats start. HasOrderOf moves seats start limits.steps)) }
+    ensures too_many { IfErr result (λ refusal. refusal ≡ States
+        → IsMet script.now (tells_replies compared)
+        (λ moves seats start. HasMoreStates moves seats place_mark start limits.states)) }
+    ensures too_many_orders { IfErr result (λ refusal. refusal ≡ Orders
+        → IsMet script.now (tells_replies compared)
+        (λ moves seats start. HasManyOrders moves seats start)) }
+    ensures too_many_ends { IfErr result (λ refusal. refusal ≡ Outcomes
+        → IsMet script.now (tells_replies compared)
+        (λ moves seats start. HasMoreEnds moves seats start limits.outcomes)) }
 {
     let script = script.parts();
     let header = header_of(alloc, script)?;

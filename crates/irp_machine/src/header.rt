@@ -6,7 +6,7 @@ ghost use Rattle.irp_script.specs.Behaviours.{cancel_rule_of};
 ghost use Rattle.irp_script_reader.specs.Sound.{with_one, with_all};
 ghost use Rattle.irp_machine.specs.Headers.{AreSorted, IsHeaderOf, form_of};
 
-use crate::limits::NotFound;
+use crate::limits::NotMade;
 use irp_script::cancel_rule;
 use irp_script_reader::{CompletionRoutine, ScriptForm, ScriptParts};
 use irp_transcript::{Form, Header};
@@ -119,12 +119,12 @@ fn form_of(form: ScriptForm) -> Form
 /// # Errors
 ///
 /// `Script` where there are 2^32 routines of a kind or more; `Memory` where memory runs out.
-pub fn header_of(alloc: Global, script: &ScriptParts) -> Result<Header, NotFound>
+pub fn header_of(alloc: Global, script: &ScriptParts) -> Result<Header, NotMade>
     ensures { IfOk result (IsHeaderOf script.now) }
 {
     let cancels = script.cancels.as_slice();
     let Some(known) = known_of(script.completions.as_slice(), cancels.len()) else {
-        return Err(NotFound::Script);
+        return Err(NotMade::Script);
     };
     let dispatches = Vec::from_elem(alloc, known, script.dispatches.as_slice().len())?;
     Ok(Header {

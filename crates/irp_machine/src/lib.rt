@@ -25,7 +25,7 @@ mod terms;
 
 pub use exploring::orders;
 pub use irp_plain::{Answered, Told};
-pub use limits::{Compared, Limits, NotFound};
+pub use limits::{Compared, Limits, NotFound, NotMade};
 pub use live_end::LiveEnd;
 pub use order_laws::{orders_have_histories, replays_end_so};
 pub use outcome::{End, Holder, LockEnd, Outcome, Replies, SlotEnd};

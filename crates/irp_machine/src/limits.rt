@@ -35,7 +35,37 @@ impl Compared {
     }
 }
 
-/// Why an exploration was given up, or an order isn't made again.
+/// Why an order isn't made.
+#[derive(Clone, Copy, PartialEq, Eq, Debug)]
+pub enum NotMade {
+    /// Out of memory.
+    Memory,
+    /// The tables of the script aren't within the limits: none that was read is so. Or a seat has no step left, of the
+    /// setup or of a path that is made again.
+    Script,
+}
+
+impl From<AllocError> for NotMade {
+    ghost use Rattle.irp_machine.specs.declared.limits.NotMade.TheVariants.{Memory};
+
+    ghost from_gives = { λ _ refusal. refusal ≡ Memory };
+
+    fn from(_error: AllocError) -> NotMade {
+        NotMade::Memory
+    }
+}
+
+impl<T: Drop> From<AllocFailed<T>> for NotMade {
+    ghost use Rattle.irp_machine.specs.declared.limits.NotMade.TheVariants.{Memory};
+
+    ghost from_gives = { λ _ refusal. refusal ≡ Memory };
+
+    fn from(_error: AllocFailed<T>) -> NotMade {
+        NotMade::Memory
+    }
+}
+
+/// Why an exploration was given up: which bound was met, or what else.
 #[derive(Clone, Copy, PartialEq, Eq, Debug)]
 pub enum NotFound {
     /// Out of memory.
@@ -46,26 +76,30 @@ pub enum NotFound {
     Outcomes,
     /// Some order has as many atomic steps as were allowed, or more.
     Steps,
-    /// 2^128 orders or more end in one way.
+    /// 2^128 orders or more lead to one state.
     Orders,
-    /// The tables of the script aren't within the limits: none that was read is so. Or a seat of a path that is made
-    /// again has no step left.
+    /// An order can't be made, as `NotMade::Script` tells.
     Script,
 }
 
-impl From<AllocError> for NotFound {
-    fn from(_error: AllocError) -> NotFound {
-        NotFound::Memory
-    }
-}
+impl From<NotMade> for NotFound {
+    ghost use Rattle.irp_machine.specs.Limits.{not_made};
 
-impl<T: Drop> From<AllocFailed<T>> for NotFound {
-    fn from(_error: AllocFailed<T>) -> NotFound {
-        NotFound::Memory
+    ghost from_gives = { λ given refusal. refusal ≡ not_made given };
+
+    fn from(given: NotMade) -> NotFound {
+        match given {
+            NotMade::Memory => NotFound::Memory,
+            NotMade::Script => NotFound::Script,
+        }
     }
 }
 
 impl From<NotExplored> for NotFound {
+    ghost use Rattle.irp_machine.specs.Limits.{not_explored};
+
+    ghost from_gives = { λ given refusal. refusal ≡ not_explored given };
+
     fn from(refusal: NotExplored) -> NotFound {
         match refusal {
             NotExplored::Memory => NotFound::Memory,

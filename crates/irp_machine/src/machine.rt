@@ -11,8 +11,9 @@ ghost use Rattle.irp_machine.specs.Standings.{with_state};
 ghost use Rattle.irp_machine.specs.Settled.{moves_settled};
 
 use crate::asker::ScriptAsker;
-use crate::ending::{end_mark, end_of};
+use crate::ending::end_of;
 use crate::equal::is_end;
+use crate::marks::end_mark;
 use crate::next::{called, next_of};
 use crate::note::SeatNote;
 use crate::outcome::End;

@@ -9,7 +9,7 @@ ghost use Rattle.irp_machine.specs.Openings as spec;
 ghost use Rattle.irp_machine.specs.Openings.{MakesAll, Opens};
 
 use crate::asker::ScriptAsker;
-use crate::limits::NotFound;
+use crate::limits::NotMade;
 use crate::machine::ScriptMachine;
 use crate::next::UNBOUND;
 use crate::planning::acts_of;
@@ -34,7 +34,7 @@ fn new_seats(alloc: Global, seats: u32) -> Result<Vec<SeatState>, AllocError>
 {
     let mut all = Vec::new(alloc);
     for _seat in 0..seats {
-        all.push(SeatState::new(alloc))?;
+        all.push(SeatState::new(alloc)?)?;
     }
     Ok(all)
 }
@@ -51,7 +51,7 @@ pub fn machine_of<'a>(
     rivals: &[Step],
     steps: &[Step],
     tells: bool,
-) -> Result<ScriptMachine<'a>, NotFound>
+) -> Result<ScriptMachine<'a>, NotMade>
     requires { AreTables (fixed_of header.now).tables }
     ensures { IfOk result (λ machine. machine ≡ record {
       fixed = fixed_of header.now;
@@ -62,7 +62,7 @@ pub fn machine_of<'a>(
 {
     let acts = acts_of(alloc, rivals, steps, script.seats)?;
     if acts.len() > 64 {
-        return Err(NotFound::Script);
+        return Err(NotMade::Script);
     }
     let asker = ScriptAsker::new(header, script);
     Ok(ScriptMachine::new(asker, acts, tells))
@@ -77,14 +77,14 @@ pub fn first_standing(
     ensures { IfOk result (λ standing.
         standing ≡ spec.first_standing header.now script.now) }
 {
-    Ok(Standing::new(
+    Standing::new(
         alloc,
         header,
         Vec::from_elem(alloc, UNBOUND, script.labels)?,
         Vec::from_elem(alloc, 0u64, header.locks as usize)?,
         Vec::from_elem(alloc, EMPTY, header.form.slots() as usize)?,
         new_seats(alloc, header.seats)?,
-    ))
+    )
 }
 
 /// Where a script stands whose setup ended so: nobody has made a step.
@@ -110,13 +110,13 @@ pub fn seats_of(alloc: Global, steps: &[Step]) -> Result<Vec<u32>, AllocError>
 }
 
 /// Makes the next steps of these seats, one after another.
-fn make_all(machine: &ScriptMachine, first: Standing, seats: &[u32]) -> Result<Standing, NotFound>
+fn make_all(machine: &ScriptMachine, first: Standing, seats: &[u32]) -> Result<Standing, NotMade>
     ensures { IfOk result (MakesAll machine.now first seats.now) }
 {
     let mut standing = first;
     for seat in seats {
         let Some(next) = machine.step_of(&standing, *seat as usize)? else {
-            return Err(NotFound::Script);
+            return Err(NotMade::Script);
         };
         standing = next;
     }
@@ -124,7 +124,7 @@ fn make_all(machine: &ScriptMachine, first: Standing, seats: &[u32]) -> Result<S
 }
 
 /// Where a script stands behind its setup, which is made in the order of the script.
-pub fn opening(alloc: Global, header: &Header, script: &ScriptParts) -> Result<Standing, NotFound>
+pub fn opening(alloc: Global, header: &Header, script: &ScriptParts) -> Result<Standing, NotMade>
     requires { AreTables (fixed_of header.now).tables }
     ensures { IfOk result (Opens header.now script.now) }
 {

@@ -12,7 +12,7 @@ pub fn orders_have_histories()
     history_goes_on();
 }
 
-/// What `replay` gives of the path of an outcome ends as the outcome, where replies are compared.
+/// What `replay` gives of the path of an outcome ends as the outcome, the replies aside where only ends are compared.
 pub fn replays_end_so()
     ensures { ReplaysEndSo }
 {}

@@ -12,7 +12,7 @@ ghost use Rattle.irp_machine.specs.Replays.{IsActed, IsReplay, IsSetUp, Plays, P
 ghost use Rattle.irp_machine.specs.declared.parts.Next.TheVariants.{Calls};
 
 use crate::header::header_of;
-use crate::limits::NotFound;
+use crate::limits::NotMade;
 use crate::machine::ScriptMachine;
 use crate::next::{called, next_of};
 use crate::opening::{first_standing, machine_of, opened, seats_of};
@@ -96,7 +96,7 @@ fn play(
     entries: &mut Vec<Entry>,
     standing: &mut Standing,
     seat: u32,
-) -> Result<(), NotFound>
+) -> Result<(), NotMade>
     requires { LeadsTo machine.now.fixed entries.old.items standing.old.state }
     ensures plays { OnOk result (PlaysIn machine.now standing.old entries.old.items seat
         (act_of machine.now standing.old seat) standing.new entries.new.items) }
@@ -105,10 +105,10 @@ fn play(
 {
     let place = seat as usize;
     let Some(planned) = machine.act_of(standing, place) else {
-        return Err(NotFound::Script);
+        return Err(NotMade::Script);
     };
     if place >= standing.seats().len() {
-        return Err(NotFound::Script);
+        return Err(NotMade::Script);
     }
     let before = standing.copy()?;
     let change = act_again(machine, entries, standing, &before, seat, planned)?;
@@ -122,7 +122,7 @@ fn play_all(
     entries: &mut Vec<Entry>,
     standing: &mut Standing,
     path: &[u32],
-) -> Result<(), NotFound>
+) -> Result<(), NotMade>
     requires { LeadsTo machine.now.fixed entries.old.items standing.old.state }
     ensures plays { OnOk result (Plays machine.now standing.old entries.old.items path.now
         standing.new entries.new.items) }
@@ -141,7 +141,7 @@ fn play_setup(
     header: &Header,
     script: &ScriptParts,
     entries: &mut Vec<Entry>,
-) -> Result<Standing, NotFound>
+) -> Result<Standing, NotMade>
     requires tables { AreTables (fixed_of header.now).tables }
     requires none { entries.old.items ≡ [] }
     ensures setup { IfOk result (IsSetUp header.now script.now [] entries.new.items) }
@@ -165,7 +165,7 @@ fn play_path(
     entries: &mut Vec<Entry>,
     standing: &mut Standing,
     path: &[u32],
-) -> Result<(), NotFound>
+) -> Result<(), NotMade>
     requires tables { AreTables (fixed_of header.now).tables }
     requires leads { LeadsTo (fixed_of header.now) entries.old.items standing.old.state }
     ensures plays { OnOk result
@@ -249,19 +249,19 @@ fn words_of(
 
 /// The transcript of one order of a script's atomic steps, given by their seats, behind its setup: an entry for each
 /// call, together a legal history, and a word line for each act that a lock or a slot answered. The path of an outcome
-/// ends as `orders` told, where replies were compared (`replays_end_so`).
+/// ends as `orders` told (`replays_end_so`).
 ///
 /// # Errors
 ///
 /// `Memory` where memory runs out, and `Script` where the tables of the script aren't within the limits, or a seat of
 /// the path has no step left.
-pub fn replay(alloc: Global, script: &Script, path: &[u32]) -> Result<Transcript, NotFound>
+pub fn replay(alloc: Global, script: &Script, path: &[u32]) -> Result<Transcript, NotMade>
     ensures replay { IfOk result (IsReplay script.now path.now) }
 {
     let script = script.parts();
     let header = header_of(alloc, script)?;
     if !header.is_accepted() {
-        return Err(NotFound::Script);
+        return Err(NotMade::Script);
     }
     let mut entries = Vec::new(alloc);
     let mut standing = play_setup(alloc, &header, script, &mut entries)?;

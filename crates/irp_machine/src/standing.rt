@@ -7,11 +7,11 @@ ghost use Rattle.irp_transcript.specs.Headers.{fixed_of};
 ghost use Rattle.irp_manager.specs.ManagerStates.{state_of};
 ghost use Rattle.irp_manager.specs.Slots.{live_of};
 ghost use Rattle.irp_machine.specs.Calling.{IsApplied};
-ghost use Rattle.irp_machine.specs.Standings.{after_change, with_state, with_word, with_slot, with_label, with_given, with_seat_changed};
+ghost use Rattle.irp_machine.specs.Standings.{StandsBy, after_change, with_state, with_word, with_slot, with_label, with_given, with_seat_changed, standing_mark, terms_of as told_terms};
 
 use crate::asker::ScriptAsker;
 use crate::calling::{self, new_manager, terms_of};
-use crate::marks::mark_after;
+use crate::marks::mark_behind_all;
 use crate::terms::Terms;
 use irp_manager::{Applied, DrainNote, ManagerState};
 use irp_plain::{
@@ -22,15 +22,17 @@ use irp_transcript::Header;
 use irp_types::{Call, IrpRef};
 use std::alloc::{AllocError, Global};
 use std::marker::Model;
+use std::rc::Rc;
 
-/// Where a script stands between two atomic steps, the manager among it.
+/// Where a script stands between two atomic steps, the manager among it. Copies share the manager until one of them
+/// calls it, and a seat until one of them changes it.
 ///
 /// Contracts see it as the record `StandingValue` of this crate.
 #[derive(Drop)]
 pub struct Standing {
-    mark: u64,
+    alloc: Global,
     terms: Terms,
-    manager: ManagerState<PlainKeep>,
+    manager: Rc<ManagerState<PlainKeep>>,
     labels: Vec<IrpRef>,
     words: Vec<u64>,
     slots: Vec<Slot>,
@@ -49,15 +51,14 @@ impl Model for Standing {
     ghost coded = { Prim.hlevel (codes, fin.code) };
 
     ghost view = { λ own. record {
-      mark = own.mark;
-      state = state_of live_of own.manager;
+      state = state_of live_of own.manager.value;
       labels = own.labels.items;
       words = own.words.items;
       slots = own.slots.items;
       seats = own.seats.items;
     } };
 
-    ghost invariant = { λ own. StandsBy own.terms own.manager };
+    ghost invariant = { λ own. StandsBy own.terms own.manager.value };
 }
 
 /// Changes a lock's word, where one is named.
@@ -118,8 +119,37 @@ fn give(seats: &mut Vec<SeatState>, given: Option<Given>) -> Result<(), AllocErr
     Ok(())
 }
 
+/// Whether these are the terms that an asker's header tells.
+fn are_told(terms: Terms, asker: &ScriptAsker) -> bool
+    ensures { result ≡ true → terms ≡ told_terms (fixed_of asker.now.header.now) }
+{
+    terms == terms_of(asker.header())
+}
+
+/// A copy of a manager behind a call, which is made with what the note knows, and what the call was answered.
+fn called_copy<N: DrainNote>(
+    terms: Terms,
+    manager: &ManagerState<PlainKeep>,
+    asker: &ScriptAsker,
+    call: Call,
+    note: &N,
+) -> Result<(ManagerState<PlainKeep>, Applied), AllocError>
+    requires { StandsBy terms manager.now }
+    ensures applied { IfOk result (λ called.
+        IsApplied (fixed_of asker.now.header.now) asker.now.script.now (N.knows_drained note.now)
+        (state_of live_of manager.now) call called.1 (state_of live_of called.0)) }
+    ensures stands { IfOk result (λ called. StandsBy terms called.0) }
+{
+    if !are_told(terms, asker) {
+        return Err(AllocError);
+    }
+    let mut copy = copy_of_manager(manager)?;
+    let applied = calling::call(asker, &mut copy, call, note)?;
+    Ok((copy, applied))
+}
+
 impl Standing {
-    /// Where a script stands before anything was done. It takes no memory.
+    /// Where a script stands before anything was done.
     pub fn new(
         alloc: Global,
         header: &Header,
@@ -127,31 +157,29 @@ impl Standing {
         words: Vec<u64>,
         slots: Vec<Slot>,
         seats: Vec<SeatState>,
-    ) -> Standing
-        ensures { result ≡ record {
-          mark = 0;
+    ) -> Result<Standing, AllocError>
+        ensures { IfOk result (λ standing. standing ≡ record {
           state = opening_state;
           labels = labels.items;
           words = words.items;
           slots = slots.items;
           seats = seats.items;
-        } }
+        }) }
     {
-        Standing {
-            mark: 0,
+        Ok(Standing {
+            alloc,
             terms: terms_of(header),
-            manager: new_manager(alloc, header),
+            manager: Rc::new(alloc, new_manager(alloc, header))?,
             labels,
             words,
             slots,
             seats,
-        }
+        })
     }
 
     /// Where a script stands with this manager and these labels, and all else anew.
     pub fn begun(self, words: Vec<u64>, slots: Vec<Slot>, seats: Vec<SeatState>) -> Standing
         ensures { result ≡ record {
-          mark = 0;
           state = self.state;
           labels = self.labels;
           words = words.items;
@@ -160,7 +188,7 @@ impl Standing {
         } }
     {
         Standing {
-            mark: 0,
+            alloc: self.alloc,
             terms: self.terms,
             manager: self.manager,
             labels: self.labels,
@@ -174,11 +202,10 @@ impl Standing {
     pub fn copy(&self) -> Result<Standing, AllocError>
         ensures { IfOk result (λ copy. copy ≡ self.now) }
     {
-        let manager = copy_of_manager(&self.manager)?;
         Ok(Standing {
-            mark: self.mark,
+            alloc: self.alloc,
             terms: self.terms,
-            manager,
+            manager: self.manager.clone()?,
             labels: self.labels.clone()?,
             words: self.words.clone()?,
             slots: self.slots.clone()?,
@@ -186,11 +213,15 @@ impl Standing {
         })
     }
 
-    /// A number by which standings are sorted.
+    /// A number by which standings are sorted. It hangs on all but the manager's state, which few seats that are as far
+    /// and were told the same leave different.
     pub fn mark(&self) -> u64
-        ensures { result ≡ self.now.mark }
+        ensures { result ≡ standing_mark self.now }
     {
-        self.mark
+        let seats = mark_behind_all(0, &self.seats);
+        let labels = mark_behind_all(seats, &self.labels);
+        let words = mark_behind_all(labels, &self.words);
+        mark_behind_all(words, &self.slots)
     }
 
     /// The manager.
@@ -245,10 +276,9 @@ impl Standing {
             self.old.state call applied self.new.state) }
         ensures rest { OnOk result (self.new ≡ with_state self.old self.new.state) }
     {
-        if self.terms != terms_of(asker.header()) {
-            return Err(AllocError);
-        }
-        calling::call(asker, &mut self.manager, call, note)
+        let called = called_copy(self.terms, &self.manager, asker, call, note)?;
+        self.manager = Rc::new(self.alloc, called.0)?;
+        Ok(called.1)
     }
 
     /// Makes a change of an atomic step of a seat.
@@ -261,7 +291,6 @@ impl Standing {
     ) -> Result<(), AllocError>
         ensures { OnOk result (self.new ≡ after_change seat change step tells self.old) }
     {
-        self.mark = mark_after(self.mark, change.after, step, tells);
         put_label(&mut self.labels, change.label);
         put_word(&mut self.words, change.word);
         put_slot(&mut self.slots, change.slot);
@@ -274,8 +303,7 @@ impl Standing {
     pub fn is_same(&self, other: &Standing) -> bool
         ensures { (result ≡ true) ↔ (self.now ≡ other.now) }
     {
-        self.mark == other.mark
-            && are_same(&self.seats, &other.seats)
+        are_same(&self.seats, &other.seats)
             && is_same_manager(&self.manager, &other.manager)
             && are_labels(&self.labels, &other.labels)
             && are_same(&self.words, &other.words)

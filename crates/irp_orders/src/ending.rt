@@ -8,7 +8,7 @@ use crate::asked::Unasked;
 use crate::input::StreamFault;
 use irp_condition::{Fault, Unread};
 use irp_listing::Unwritten;
-use irp_machine::NotFound;
+use irp_machine::{NotFound, NotMade};
 use irp_script_reader::{ScriptFault, ScriptRefusal};
 use std::alloc::{AllocError, AllocFailed};
 use std::fmt;
@@ -99,7 +99,7 @@ fn bound_words(met: NotFound) -> &'static str {
         NotFound::Outcomes =>
             "more outcomes than there may be; --outcomes N allows more, --ends has fewer",
         NotFound::Steps => "an order has 1,000,000 steps or more; make the script shorter",
-        NotFound::Orders => "2^128 orders or more end in one way; make the script shorter",
+        NotFound::Orders => "2^128 orders or more lead to one state; make the script shorter",
         NotFound::Script => "the script has too many seats or routines",
     }
 }
@@ -166,6 +166,15 @@ impl From<NotFound> for Ending {
         match given {
             NotFound::Memory => Ending::NoMemory,
             met => Ending::Met(met),
+        }
+    }
+}
+
+impl From<NotMade> for Ending {
+    fn from(given: NotMade) -> Ending {
+        match given {
+            NotMade::Memory => Ending::NoMemory,
+            NotMade::Script => Ending::Met(NotFound::Script),
         }
     }
 }

@@ -20,7 +20,7 @@ the cancel slots.
   --never CONDITION  tells whether no order ends so; where one does, shows one that does
   --ends             joins outcomes that end alike, whatever was replied: for larger scripts
   --groups           joins outcomes that differ in the numbers of uses and slots of packets alone
-  --states N         at most N states side by side; 200,000 without it
+  --states N         at most N states side by side; 500,000 without it
   --outcomes N       at most N outcomes; 20,000 without it
   --help             prints this
 

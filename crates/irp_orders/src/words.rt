@@ -7,7 +7,7 @@ use std::alloc::{AllocError, Global};
 use std::convert::AsStr;
 
 /// How many states there may be where the words don't say.
-const MOST_STATES: usize = 200_000;
+const MOST_STATES: usize = 500_000;
 
 /// How many outcomes there may be where the words don't say.
 const MOST_OUTCOMES: usize = 20_000;

@@ -1,9 +1,9 @@
 //! Changes of lists.
 
-ghost use Rattle.std.specs.Prelude.{◌≡◌, OnOk};
+ghost use Rattle.std.specs.Prelude.{◌≡◌, IfOk, OnOk};
 ghost use Rattle.irp_plain.specs.Lists.{with_more, without, with_item};
 
-use std::alloc::AllocError;
+use std::alloc::{AllocError, Global};
 
 /// Appends an item, if there is one.
 pub fn push_if<T: Copy>(items: &mut Vec<T>, item: Option<T>) -> Result<(), AllocError>
@@ -16,7 +16,7 @@ pub fn push_if<T: Copy>(items: &mut Vec<T>, item: Option<T>) -> Result<(), Alloc
 }
 
 /// Takes the item of a place out, if one is named and is there.
-pub fn remove_if<T: Copy>(items: &mut Vec<T>, place: Option<usize>)
+fn remove_if<T: Copy>(items: &mut Vec<T>, place: Option<usize>)
     ensures { items.new.items ≡ without place items.old.items }
 {
     if let Some(place) = place {
@@ -24,6 +24,24 @@ pub fn remove_if<T: Copy>(items: &mut Vec<T>, place: Option<usize>)
             let _gone = items.remove(place);
         }
     }
+}
+
+/// A copy of items without that of a place, if one is named and is there, and with one more, if there is one. It has no
+/// room to spare.
+pub fn changed<T: Copy>(
+    alloc: Global,
+    items: &[T],
+    gone: Option<usize>,
+    more: Option<T>,
+) -> Result<Vec<T>, AllocError>
+    ensures { IfOk result (λ changed. changed.items ≡ with_more more (without gone items.now)) }
+{
+    let room = items.len().saturating_add(usize::from(more.is_some()));
+    let mut changed = Vec::with_capacity(alloc, room)?;
+    changed.extend_from_slice(items)?;
+    remove_if(&mut changed, gone);
+    push_if(&mut changed, more)?;
+    Ok(changed)
 }
 
 /// Puts an item at a place, if it is there.

@@ -6,16 +6,15 @@ ghost use mathlib.Core.Logic.{◌↔◌};
 ghost use Rattle.irp_plain.specs.Seats.{is_held, is_taken, is_removed, is_drained, after_step, new_seat, told_of, one_more, place_after, with_held};
 
 use crate::answered::{Answered, Told};
-use crate::lists::{push_if, remove_if};
+use crate::lists::changed;
 use crate::parts::{After, Change, Held, Learned, Stage, Taken};
 use std::alloc::{AllocError, Global};
 use std::marker::Model;
+use std::rc::Rc;
 
-/// How far a seat is, what it holds and knows, and what it was told.
-///
-/// Contracts see it as the record `SeatValue` of this crate.
+/// What a seat is made of.
 #[derive(Clone, Drop)]
-pub struct SeatState {
+struct SeatParts {
     made: usize,
     stage: Stage,
     held: Vec<Held>,
@@ -24,7 +23,7 @@ pub struct SeatState {
     told: Vec<Told>,
 }
 
-impl Model for SeatState {
+impl Model for SeatParts {
     ghost use Rattle.irp_plain.specs.Seats.{SeatValue};
 
     ghost Value = { SeatValue };
@@ -39,76 +38,121 @@ impl Model for SeatState {
     } };
 }
 
-impl SeatState {
-    /// A seat that has made nothing. It takes no memory.
-    pub fn new(alloc: Global) -> SeatState
-        ensures { result ≡ new_seat }
+impl SeatParts {
+    /// The parts behind a step of the seat.
+    fn changed(
+        &self,
+        alloc: Global,
+        change: Change,
+        step: u32,
+        tells: bool,
+    ) -> Result<SeatParts, AllocError>
+        ensures { IfOk result (λ parts. parts ≡ after_step change step tells self.now) }
     {
-        SeatState {
+        let told = told_of(change.after, step, tells);
+        let (made, stage) = place_after(self.made, change.after);
+        Ok(SeatParts {
+            made,
+            stage,
+            held: changed(alloc, &self.held, change.drops, change.holds)?,
+            learned: changed(alloc, &self.learned, None, change.learns)?,
+            taken: changed(alloc, &self.taken, change.spends, change.takes)?,
+            told: changed(alloc, &self.told, None, told)?,
+        })
+    }
+
+    /// Gets a reference from another seat.
+    fn take(&mut self, held: Held) -> Result<(), AllocError>
+        ensures { OnOk result (self.new ≡ with_held held self.old) }
+    {
+        self.held.push(held)?;
+        Ok(())
+    }
+}
+
+/// How far a seat is, what it holds and knows, and what it was told. Copies share it until one of them is changed.
+///
+/// Contracts see it as the record `SeatValue` of this crate.
+#[derive(Clone, Drop)]
+pub struct SeatState {
+    parts: Rc<SeatParts>,
+}
+
+impl Model for SeatState {
+    ghost use Rattle.irp_plain.specs.Seats.{SeatValue};
+
+    ghost Value = { SeatValue };
+
+    ghost view = { λ seat. seat.parts.value };
+}
+
+impl SeatState {
+    /// A seat that has made nothing.
+    pub fn new(alloc: Global) -> Result<SeatState, AllocError>
+        ensures { IfOk result (λ seat. seat ≡ new_seat) }
+    {
+        let parts = SeatParts {
             made: 0,
             stage: Stage::Between,
             held: Vec::new(alloc),
             learned: Vec::new(alloc),
             taken: Vec::new(alloc),
             told: Vec::new(alloc),
-        }
+        };
+        Ok(SeatState {
+            parts: Rc::new(alloc, parts)?,
+        })
     }
 
     /// How many of its acts it has made.
     pub fn made(&self) -> usize
         ensures { result ≡ self.now.made }
     {
-        self.made
+        self.parts.made
     }
 
     /// How far it is in its present act.
     pub fn stage(&self) -> Stage
         ensures { result ≡ self.now.stage }
     {
-        self.stage
+        self.parts.stage
     }
 
     /// The references that it holds.
     pub fn held(&self) -> &[Held]
         ensures { result.now ≡ self.now.held }
     {
-        self.held.as_slice()
+        self.parts.held.as_slice()
     }
 
     /// The uses that it took.
     pub fn taken(&self) -> &[Taken]
         ensures { result.now ≡ self.now.taken }
     {
-        self.taken.as_slice()
+        self.parts.taken.as_slice()
     }
 
     /// What it was told.
     pub fn told(&self) -> &[Told]
         ensures { result.now ≡ self.now.told }
     {
-        self.told.as_slice()
+        self.parts.told.as_slice()
     }
 
     /// What it knows of locks.
     pub fn learned(&self) -> &[Learned]
         ensures { result.now ≡ self.now.learned }
     {
-        self.learned.as_slice()
+        self.parts.learned.as_slice()
     }
 
     /// Makes a change of its own.
     pub fn change(&mut self, change: Change, step: u32, tells: bool) -> Result<(), AllocError>
         ensures { OnOk result (self.new ≡ after_step change step tells self.old) }
     {
-        remove_if(&mut self.held, change.drops);
-        push_if(&mut self.held, change.holds)?;
-        push_if(&mut self.learned, change.learns)?;
-        remove_if(&mut self.taken, change.spends);
-        push_if(&mut self.taken, change.takes)?;
-        push_if(&mut self.told, told_of(change.after, step, tells))?;
-        let (made, stage) = place_after(self.made, change.after);
-        self.made = made;
-        self.stage = stage;
+        let alloc = *self.parts.told.allocator();
+        let parts = self.parts.changed(alloc, change, step, tells)?;
+        self.parts = Rc::new(alloc, parts)?;
         Ok(())
     }
 
@@ -116,8 +160,7 @@ impl SeatState {
     pub fn take(&mut self, held: Held) -> Result<(), AllocError>
         ensures { OnOk result (self.new ≡ with_held held self.old) }
     {
-        self.held.push(held)?;
-        Ok(())
+        Rc::make_mut(&mut self.parts)?.take(held)
     }
 }
 

@@ -1,13 +1,44 @@
-use Rattle.std.proofs.Common.{◌≡◌, Bool, List, refl, ap, subst, ◌∙◌, arith}
+use Rattle.std.proofs.Common.{◌≡◌, ◌+◌, ℕ, Bool, List, length, refl, sym, ap, subst, ◌∙◌, arith}
+use Rattle.std.proofs.lemmas.Result.{err_from_is_err_and}
 use Rattle.irp_transcript.specs.Headers.{IsHeader}
+use Rattle.irp_transcript.specs.declared.header.Header.{Header}
+use Rattle.irp_explore.specs.Counted.{HasManyOrders}
+use Rattle.irp_explore.specs.Nodes.{HasMoreStates, HasOrderOf}
+use Rattle.irp_explore.specs.Orders.{Moves}
 use Rattle.irp_script_reader.specs.declared.act.Step.{Step}
 use Rattle.irp_script_reader.specs.declared.script.ScriptParts.{ScriptParts}
+use Rattle.irp_machine.specs.Headers.{IsHeaderOf}
 use Rattle.irp_machine.specs.Limits.{tells_replies}
-use Rattle.irp_machine.specs.Machine.{RulesValue}
-use Rattle.irp_machine.specs.Openings.{rules_of}
-use Rattle.irp_machine.specs.Orders.{AreOutcomes, AreOutcomesOf}
+use Rattle.irp_machine.specs.Machine.{RulesValue, PlaceSteps, place_mark}
+use Rattle.irp_machine.specs.Openings.{Opens, rules_of}
+use Rattle.irp_machine.specs.Orders.{AreOutcomes, AreOutcomesOf, HasMoreEnds, IsMet}
+use Rattle.irp_machine.specs.Standings.{StandingValue}
+use Rattle.irp_machine.specs.declared.place.Place.{Place}
+use Rattle.irp_machine.specs.declared.place.Place.TheVariants.{Running}
 use Rattle.irp_machine.proofs.Outcomes.{outcomes_hold, tell_long}
 use Rattle.irp_machine.proofs.exploring.orders.Goals as goal
+
+-- the rules by which a machine was made
+ruled : (header : Header) (script : ScriptParts) (machine : RulesValue) (steps : List Step) (shown tells : Bool)
+    → machine ≡ rules_of header script steps steps shown → steps ≡ script.steps → shown ≡ tells → machine ≡ rules_of header script script.steps script.steps tells
+ruled header script machine steps shown tells made steps_are shown_is =
+    made ∙ ap (λ (steps : List Step). rules_of header script steps steps shown) steps_are
+    ∙ ap (λ (tells : Bool). rules_of header script script.steps script.steps tells) shown_is
+
+-- a bound that a machine's orders meet is one that the script's orders meet
+met_by : (script own : ScriptParts) (header : Header) (tells : Bool) (machine : RulesValue) (start : StandingValue) (bound : Moves Place → ℕ → Place → Type 0)
+    → script ≡ own → IsHeaderOf script header → IsHeader header → Opens header script start → machine ≡ rules_of header script script.steps script.steps tells
+    → bound (PlaceSteps machine) (length machine.acts + 1) (Running start) → IsMet own tells bound
+met_by script own header tells machine start bound same headed accepted opens ruled met =
+    let made : IsMet script tells bound = record {
+      header = header;
+      headed = headed;
+      accepted = accepted;
+      start = start;
+      opens = opens;
+      met = subst (λ (rules : RulesValue). bound (PlaceSteps rules) (length rules.acts + 1) (Running start)) ruled met;
+    } in
+    subst (λ (script : ScriptParts). IsMet script tells bound) same made
 
 pub returns-clause-outcomes : goal.returns-clause-outcomes
 returns-clause-outcomes c =
@@ -17,10 +48,7 @@ returns-clause-outcomes c =
     let start = c.in_ok-standing.standing in
     let outcomes = c.in_ok-outcomes.outcomes.items in
     let tells = tells_replies c.args.compared in
-    let rules : c.in_ok-machine.machine ≡ rules_of header script script.steps script.steps tells =
-    c.in_ok-machine.ensures
-    ∙ ap (λ (steps : List Step). rules_of header script steps steps c.tells.result) c.as_slice-steps.ensures
-    ∙ ap (λ (tells : Bool). rules_of header script script.steps script.steps tells) c.tells.ensures in
+    let rules = ruled header script c.in_ok-machine.machine c.as_slice-steps.result.now c.tells.result tells c.in_ok-machine.ensures c.as_slice-steps.ensures c.tells.ensures in
     let whole = outcomes_hold c.in_ok-machine.machine start c.in_ok-found.found.items outcomes c.in_ok-found.ensures.orders c.in_ok-outcomes.ensures in
     let made : AreOutcomesOf script tells outcomes = record {
       header = header;
@@ -36,3 +64,51 @@ pub returns-clause-few : goal.returns-clause-few
 returns-clause-few c =
     let long = tell_long c.in_ok-found.found.items c.in_ok-outcomes.outcomes.items c.in_ok-outcomes.ensures in
     omega (arith, long, c.in_ok-found.ensures.few)
+
+pub returns-in_err-found-clause-too_long : goal.returns-in_err-found-clause-too_long
+returns-in_err-found-clause-too_long c =
+    let p = err_from_is_err_and c.from_residual-in_err-found.result c.from_residual-in_err-found.ensures.1 in
+    let header = c.in_ok-header.header in
+    let script = c.parts-script.result.now in
+    let tells = tells_replies c.args.compared in
+    let rules = ruled header script c.in_ok-machine.machine c.as_slice-steps.result.now c.tells.result tells c.in_ok-machine.ensures c.as_slice-steps.ensures c.tells.ensures in
+    rw p.1 (λ same.
+    met_by script c.args.script.now header tells c.in_ok-machine.machine c.in_ok-standing.standing (λ moves seats start. HasOrderOf moves seats start c.args.limits.steps)
+    c.parts-script.ensures.parts c.in_ok-header.ensures (c.if-not-is_accepted.ensures.0 refl) c.in_ok-standing.ensures rules
+    (c.in_err-found.ensures.too_long (sym p.2 ∙ same)))
+
+pub returns-in_err-found-clause-too_many : goal.returns-in_err-found-clause-too_many
+returns-in_err-found-clause-too_many c =
+    let p = err_from_is_err_and c.from_residual-in_err-found.result c.from_residual-in_err-found.ensures.1 in
+    let header = c.in_ok-header.header in
+    let script = c.parts-script.result.now in
+    let tells = tells_replies c.args.compared in
+    let rules = ruled header script c.in_ok-machine.machine c.as_slice-steps.result.now c.tells.result tells c.in_ok-machine.ensures c.as_slice-steps.ensures c.tells.ensures in
+    rw p.1 (λ same.
+    met_by script c.args.script.now header tells c.in_ok-machine.machine c.in_ok-standing.standing (λ moves seats start. HasMoreStates moves seats place_mark start c.args.limits.states)
+    c.parts-script.ensures.parts c.in_ok-header.ensures (c.if-not-is_accepted.ensures.0 refl) c.in_ok-standing.ensures rules
+    (c.in_err-found.ensures.too_many (sym p.2 ∙ same)))
+
+pub returns-in_err-found-clause-too_many_orders : goal.returns-in_err-found-clause-too_many_orders
+returns-in_err-found-clause-too_many_orders c =
+    let p = err_from_is_err_and c.from_residual-in_err-found.result c.from_residual-in_err-found.ensures.1 in
+    let header = c.in_ok-header.header in
+    let script = c.parts-script.result.now in
+    let tells = tells_replies c.args.compared in
+    let rules = ruled header script c.in_ok-machine.machine c.as_slice-steps.result.now c.tells.result tells c.in_ok-machine.ensures c.as_slice-steps.ensures c.tells.ensures in
+    rw p.1 (λ same.
+    met_by script c.args.script.now header tells c.in_ok-machine.machine c.in_ok-standing.standing (λ moves seats start. HasManyOrders moves seats start)
+    c.parts-script.ensures.parts c.in_ok-header.ensures (c.if-not-is_accepted.ensures.0 refl) c.in_ok-standing.ensures rules
+    (c.in_err-found.ensures.too_many_orders (sym p.2 ∙ same)))
+
+pub returns-in_err-found-clause-too_many_ends : goal.returns-in_err-found-clause-too_many_ends
+returns-in_err-found-clause-too_many_ends c =
+    let p = err_from_is_err_and c.from_residual-in_err-found.result c.from_residual-in_err-found.ensures.1 in
+    let header = c.in_ok-header.header in
+    let script = c.parts-script.result.now in
+    let tells = tells_replies c.args.compared in
+    let rules = ruled header script c.in_ok-machine.machine c.as_slice-steps.result.now c.tells.result tells c.in_ok-machine.ensures c.as_slice-steps.ensures c.tells.ensures in
+    rw p.1 (λ same.
+    met_by script c.args.script.now header tells c.in_ok-machine.machine c.in_ok-standing.standing (λ moves seats start. HasMoreEnds moves seats start c.args.limits.outcomes)
+    c.parts-script.ensures.parts c.in_ok-header.ensures (c.if-not-is_accepted.ensures.0 refl) c.in_ok-standing.ensures rules
+    (c.in_err-found.ensures.too_many_ends (sym p.2 ∙ same)))
