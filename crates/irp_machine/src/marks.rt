@@ -1,4 +1,4 @@
-//! Marks: numbers by which places are sorted. A place's mark hangs on all that is told of it here, so few share one.
+//! Marks: numbers by which places are sorted, so that equal ones stand side by side. Few places share one.
 
 ghost use Rattle.std.specs.Prelude.{◌≡◌, ℕ};
 ghost use Rattle.std.specs.List.{fold};

@@ -213,8 +213,7 @@ impl Standing {
         })
     }
 
-    /// A number by which standings are sorted. It hangs on all but the manager's state, which few seats that are as far
-    /// and were told the same leave different.
+    /// The mark. The manager's state isn't in it: it seldom differs where seats are as far and were told the same.
     pub fn mark(&self) -> u64
         ensures { result ≡ standing_mark self.now }
     {

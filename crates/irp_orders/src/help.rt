@@ -17,6 +17,7 @@ most frequent first: how many orders end so, the replies in which outcomes diffe
 the cancel slots.
 
   --show K           prints a transcript that leads to outcome K
+  --write FOLDER     writes the table and a transcript for each outcome there (bin/irp_orders takes this word)
   --never CONDITION  tells whether no order ends so; where one does, shows one that does
   --ends             joins outcomes that end alike, whatever was replied: for larger scripts
   --groups           joins outcomes that differ in the numbers of uses and slots of packets alone
