@@ -24,13 +24,12 @@ use Rattle.irp_plain.specs.declared.parts.Stage.TheVariants as stages
 use Rattle.irp_machine.specs.declared.outcome.Holder.{Holder}
 use Rattle.irp_machine.specs.declared.outcome.LockEnd.{LockEnd}
 use Rattle.irp_machine.specs.declared.outcome.Replies.{Replies}
-use Rattle.irp_machine.specs.declared.parts.Calling.{Calling}
 use Rattle.irp_machine.specs.declared.parts.Next.{Next}
 use Rattle.irp_machine.specs.declared.parts.Next.TheVariants.{Changes, Calls}
 use Rattle.irp_machine.specs.declared.parts.Planned.{Planned}
 use Rattle.irp_machine.specs.Calling.{IsCalled}
 use Rattle.irp_machine.specs.Endings.{end_of, holds_of, holders_below, locks_below, replies_of, without_replies}
-use Rattle.irp_machine.specs.Machine.{RulesValue, IsNext, Makes, StepsTo, act_of, knows_of, seat_at}
+use Rattle.irp_machine.specs.Machine.{RulesValue, Makes, StepsTo, act_of, knows_of, seat_at}
 use Rattle.irp_machine.specs.Next.{is_tokenless, naming_at, next_by, next_of, packet_of, with_packet, with_token}
 use Rattle.irp_machine.specs.Openings.{MakesAll}
 use Rattle.irp_machine.specs.Standings.{StandingValue, after_change, with_given, with_seat_changed}

@@ -18,8 +18,8 @@ use Rattle.irp_machine.specs.Openings.{MakesAll, Opens, rules_of}
 use Rattle.irp_machine.specs.Standings.{StandingValue}
 
 -- each that is found is the end of an order; each order that ends, ends in one that is found, which keeps an order that
--- is as good; none is found twice; as many different orders as are told lead to each; and a number that each state shares out among those that follow, such as how many
--- orders end somewhere, adds up
+-- is as good; none is found twice; as many different orders as are told lead to each; and a number that each state
+-- shares out among those that follow, such as how many orders end somewhere, adds up
 pub record AreOrders {S : Type 0} (moves : Moves S) (seats : ℕ) (start : S) (found : List (Node S)) : Type 0 where
   pub sound : All (IsFound moves seats start) found
   pub once : AreApart found
@@ -58,8 +58,8 @@ abbrev pub weigh_outcomes : (Place → ℕ) → List Outcome → ℕ
 weigh_outcomes number outcomes = sum_by (λ (outcome : Outcome). outcome.orders * number (Over outcome.end)) outcomes
 
 -- each outcome's path is an order that ends so, and no order that ends so changes its seat less often; each order ends
--- in an outcome; no two outcomes end alike; each counts different orders; and a number that each place shares out among those that follow, such as
--- how many orders there are, adds up to the start's
+-- in an outcome; no two outcomes end alike; each counts different orders; and a number that each place shares out among
+-- those that follow, such as how many orders there are, adds up to the start's
 pub record AreOutcomes (rules : RulesValue) (start : StandingValue) (outcomes : List Outcome) : Type 0 where
   pub sound : All (λ outcome. IsOrder rules start outcome.path.items outcome.end) outcomes
   pub fewest :

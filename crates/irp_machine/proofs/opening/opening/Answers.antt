@@ -1,4 +1,4 @@
-use Rattle.std.proofs.Common.{rules, ◌≡◌, [], false, List, ap, ◌∙◌, subst}
+use Rattle.std.proofs.Common.{◌≡◌, [], false, List, ap, ◌∙◌, subst}
 use Rattle.irp_script_reader.specs.declared.act.Step.{Step}
 use Rattle.irp_machine.specs.Machine.{RulesValue}
 use Rattle.irp_machine.specs.Openings.{MakesAll, first_standing, rules_of, seats_of}

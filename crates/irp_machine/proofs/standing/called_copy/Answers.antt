@@ -5,7 +5,7 @@ use Rattle.irp_transcript.specs.Headers.{fixed_of}
 use Rattle.irp_manager.specs.ManagerStates.{state_of}
 use Rattle.irp_manager.specs.Slots.{live_of}
 use Rattle.irp_manager.specs.declared.manager_state.ManagerState.{ManagerState}
-use Rattle.irp_machine.specs.Standings.{StandsBy, terms_of}
+use Rattle.irp_machine.specs.Standings.{terms_of}
 use Rattle.irp_machine.specs.declared.terms.Terms.{Terms}
 use Rattle.irp_machine.proofs.standing.called_copy.Goals as goal
 
