@@ -12,7 +12,8 @@ use Rattle.serde_json.specs.Read.{read}
 use Rattle.irp_forms.specs.Parts as parts
 use Rattle.irp_forms.proofs.Texts.{some_text}
 use Rattle.irp_forms.specs.Values.{cancel_answer_at, handler_at, plan_at}
-use Rattle.irp_types.specs.State.{no_routines}
+use Rattle.irp_types.specs.Rules.{IsWithin}
+use Rattle.irp_types.specs.State.{most_known, no_routines}
 use Rattle.irp_types.specs.declared.{routine.Known.Known, answer.Plan.Plan, routine.Rule.Rule}
 use Rattle.irp_types.specs.declared.routine.Rule.TheVariants.{Watch, Change, Keeper, KeepOnError, Free}
 use Rattle.irp_script_reader.specs.Acts.{step_at}
@@ -97,41 +98,118 @@ pub all_cancel : (counts : Known) (routines : List CompletionRoutine) → (with_
 all_cancel counts [] = refl
 all_cancel counts (first ∷ others) = all_cancel (with_one counts first.rule) others ∙ one_cancel counts first.rule
 
+none_within : IsWithin no_routines most_known
+none_within = record {
+  watch = omega arith;
+  change = omega arith;
+  keeper = omega arith;
+  keep_on_error = omega arith;
+  free = omega arith;
+  cancel = omega arith;
+}
+
+-- one more where there is room is within the limit
+one_within : (count : ℕ) → nat_lt count 256 ≡ true → count + 1 ≤ 256
+one_within count room = (let low = ltb-true count 256 room in omega (arith, low))
+
 more_kept : (holds : Bool) (count : ℕ) (make : ℕ → Known) (P : Known → Type 0)
-    → P (make count) → IfOk (ok_or (parts.◌>>=◌ (if holds then Some count else None) (λ n. Some (make n))) TooMany) P
-more_kept true count make P has = has
+    → (holds ≡ true → P (make count)) → IfOk (ok_or (parts.◌>>=◌ (if holds then Some count else None) (λ n. Some (make n))) TooMany) P
+more_kept true count make P has = has refl
 more_kept false count make P has = tt
 
-counted_kept : (counts : Known) (rule : Rule) (P : Known → Type 0) → P (with_one counts rule) → IfOk (ok_or (counted counts rule) TooMany) P
+-- the counts have one more routine of the rule, and are within the limits
+abbrev IsCounted : Known → Rule → Known → Type 0
+IsCounted counts rule more = (more ≡ with_one counts rule) × IsWithin more most_known
+
+counted_kept : (counts : Known) (rule : Rule) → IsWithin counts most_known → IfOk (ok_or (counted counts rule) TooMany) (IsCounted counts rule)
 unfolding counted
-counted_kept counts Watch P has = more_kept (nat_lt counts.watch 256) (counts.watch + 1) (λ n. record counts { watch = n }) P has
-counted_kept counts Change P has = more_kept (nat_lt counts.change 256) (counts.change + 1) (λ n. record counts { change = n }) P has
-counted_kept counts Keeper P has = more_kept (nat_lt counts.keeper 256) (counts.keeper + 1) (λ n. record counts { keeper = n }) P has
-counted_kept counts KeepOnError P has = more_kept (nat_lt counts.keep_on_error 256) (counts.keep_on_error + 1) (λ n. record counts { keep_on_error = n }) P has
-counted_kept counts Free P has = more_kept (nat_lt counts.free 256) (counts.free + 1) (λ n. record counts { free = n }) P has
+counted_kept counts Watch within =
+    more_kept (nat_lt counts.watch 256) (counts.watch + 1) (λ n. record counts { watch = n }) (IsCounted counts Watch) (λ room. (
+      refl,
+      record {
+        watch = one_within counts.watch room;
+        change = within.change;
+        keeper = within.keeper;
+        keep_on_error = within.keep_on_error;
+        free = within.free;
+        cancel = within.cancel;
+      },
+    ))
+counted_kept counts Change within =
+    more_kept (nat_lt counts.change 256) (counts.change + 1) (λ n. record counts { change = n }) (IsCounted counts Change) (λ room. (
+      refl,
+      record {
+        watch = within.watch;
+        change = one_within counts.change room;
+        keeper = within.keeper;
+        keep_on_error = within.keep_on_error;
+        free = within.free;
+        cancel = within.cancel;
+      },
+    ))
+counted_kept counts Keeper within =
+    more_kept (nat_lt counts.keeper 256) (counts.keeper + 1) (λ n. record counts { keeper = n }) (IsCounted counts Keeper) (λ room. (
+      refl,
+      record {
+        watch = within.watch;
+        change = within.change;
+        keeper = one_within counts.keeper room;
+        keep_on_error = within.keep_on_error;
+        free = within.free;
+        cancel = within.cancel;
+      },
+    ))
+counted_kept counts KeepOnError within =
+    more_kept (nat_lt counts.keep_on_error 256) (counts.keep_on_error + 1) (λ n. record counts { keep_on_error = n }) (IsCounted counts KeepOnError) (λ room. (
+      refl,
+      record {
+        watch = within.watch;
+        change = within.change;
+        keeper = within.keeper;
+        keep_on_error = one_within counts.keep_on_error room;
+        free = within.free;
+        cancel = within.cancel;
+      },
+    ))
+counted_kept counts Free within =
+    more_kept (nat_lt counts.free 256) (counts.free + 1) (λ n. record counts { free = n }) (IsCounted counts Free) (λ room. (
+      refl,
+      record {
+        watch = within.watch;
+        change = within.change;
+        keeper = within.keeper;
+        keep_on_error = within.keep_on_error;
+        free = one_within counts.free room;
+        cancel = within.cancel;
+      },
+    ))
 
 abbrev AreCompletions : Completions → Type 0
-AreCompletions list = (list.counts ≡ with_all no_routines list.routines) × All (λ routine. obeys_its_rule routine ≡ true) list.routines
+AreCompletions list =
+    (list.counts ≡ with_all no_routines list.routines) × IsWithin list.counts most_known
+    × All (λ routine. obeys_its_rule routine ≡ true) list.routines
 
 completion_kept : (list : Completions) (form : Data) → AreCompletions list → IfOk (takes_completion list form) AreCompletions
 unfolding takes_completion
 completion_kept list form has =
     then_any (ok_or (completion_at form) BadField) _ AreCompletions (λ routine read.
     then_if (obeys_its_rule routine) RuleBroken _ AreCompletions (λ obeys.
-    then_from (ok_or (counted list.counts routine.rule) TooMany) _ (λ counts. counts ≡ with_one list.counts routine.rule) AreCompletions
-    (counted_kept list.counts routine.rule (λ counts. counts ≡ with_one list.counts routine.rule) refl)
+    then_from (ok_or (counted list.counts routine.rule) TooMany) _ (IsCounted list.counts routine.rule) AreCompletions
+    (counted_kept list.counts routine.rule has.1)
     (λ counts is. (
-      is ∙ ap (λ given. with_one given routine.rule) has.0 ∙ sym (with_all_more no_routines list.routines routine),
-      All-push (λ given. obeys_its_rule given ≡ true) list.routines routine has.1 obeys,
+      is.0 ∙ ap (λ given. with_one given routine.rule) has.0 ∙ sym (with_all_more no_routines list.routines routine),
+      is.1,
+      All-push (λ given. obeys_its_rule given ≡ true) list.routines routine has.2 obeys,
     ))))
 
 -- ---- cancel routines
 
 abbrev AreCancels : Known → Cancels → Type 0
-AreCancels counts list = list.counts ≡ record counts { cancel = counts.cancel + length list.answers }
+AreCancels counts list =
+    (list.counts ≡ record counts { cancel = counts.cancel + length list.answers }) × IsWithin list.counts most_known
 
-room_kept : (holds : Bool) (count : ℕ) (P : ℕ → Type 0) → P count → IfOk (ok_or (if holds then Some count else None) TooMany) P
-room_kept true count P has = has
+room_kept : (holds : Bool) (count : ℕ) (P : ℕ → Type 0) → (holds ≡ true → P count) → IfOk (ok_or (if holds then Some count else None) TooMany) P
+room_kept true count P has = has refl
 room_kept false count P has = tt
 
 plus_none : (n : ℕ) → n ≡ n + 0
@@ -147,16 +225,33 @@ cancel_kept : (counts : Known) (list : Cancels) (form : Data) → AreCancels cou
 unfolding takes_cancel
 cancel_kept counts list form has =
     then_any (ok_or (cancel_answer_at form) BadField) _ (AreCancels counts) (λ answer read.
-    then_from (ok_or (one_more list.counts.cancel) TooMany) _ (λ count. count ≡ list.counts.cancel + 1) (AreCancels counts)
-    (room_kept (nat_lt list.counts.cancel 256) (list.counts.cancel + 1) (λ count. count ≡ list.counts.cancel + 1) refl)
-    (λ count is.
-    ap (λ (given : Known). record given { cancel = count }) has
-    ∙ ap (λ n. record counts { cancel = n }) (is ∙ ap (λ (given : Known). given.cancel + 1) has ∙ longer list.answers answer counts.cancel)))
+    then_from (ok_or (one_more list.counts.cancel) TooMany) _ (λ count. (count ≡ list.counts.cancel + 1) × (count ≤ 256)) (AreCancels counts)
+    (room_kept (nat_lt list.counts.cancel 256) (list.counts.cancel + 1) (λ count. (count ≡ list.counts.cancel + 1) × (count ≤ 256))
+    (λ room. (refl, one_within list.counts.cancel room)))
+    (λ count is. (
+      ap (λ (given : Known). record given { cancel = count }) has.0
+          ∙ ap (λ n. record counts { cancel = n }) (is.0 ∙ ap (λ (given : Known). given.cancel + 1) has.0 ∙ longer list.answers answer counts.cancel),
+      record {
+        watch = has.1.watch;
+        change = has.1.change;
+        keeper = has.1.keeper;
+        keep_on_error = has.1.keep_on_error;
+        free = has.1.free;
+        cancel = is.1;
+      },
+    )))
 
 -- ---- dispatches
 
 abbrev ArePlans : ScriptForm → Known → Dispatches → Type 0
-ArePlans form known list = (list.form ≡ form) × (list.known ≡ known) × All (IsPlan form known) list.plans
+ArePlans form known list =
+    (list.form ≡ form) × (list.known ≡ known) × (length list.plans ≤ 256) × All (IsPlan form known) list.plans
+
+-- one more where there is room is no more than there may be
+few_more : {T : Type 0} (items : List T) (added : T) (most : ℕ) → nat_lt (length items) most ≡ true → length (items ++ added ∷ []) ≤ most
+few_more items added most room =
+    let low = ltb-true (length items) most room in
+    let more = longer items added 0 in omega (arith, low, more)
 
 dispatch_kept : (form : ScriptForm) (known : Known) (list : Dispatches) (given : Data) → ArePlans form known list
     → IfOk (takes_dispatch list given) (ArePlans form known)
@@ -169,7 +264,8 @@ dispatch_kept form known list given has =
     then_if (nat_lt (length list.plans) 256) TooMany _ (ArePlans form known) (λ room. (
       has.0,
       has.1,
-      All-push (IsPlan form known) list.plans plan has.2 (
+      few_more list.plans plan 256 room,
+      All-push (IsPlan form known) list.plans plan has.3 (
         ap (λ given. may_plan given plan) (sym has.0) ∙ may,
         sound,
         ap (λ given. names_known given plan) (sym has.1) ∙ names,
@@ -179,7 +275,9 @@ dispatch_kept form known list given has =
 -- ---- drivers
 
 abbrev AreDrivers : ℕ → Drivers → Type 0
-AreDrivers dispatches list = (list.dispatches ≡ dispatches) × All (λ handlers. is_driver dispatches handlers ≡ true) list.tables
+AreDrivers dispatches list =
+    (list.dispatches ≡ dispatches) × (length list.tables ≤ 64)
+    × All (λ handlers. is_driver dispatches handlers ≡ true) list.tables
 
 driver_kept : (dispatches : ℕ) (list : Drivers) (form : Data) → AreDrivers dispatches list → IfOk (takes_driver list form) (AreDrivers dispatches)
 unfolding takes_driver
@@ -188,7 +286,8 @@ driver_kept dispatches list form has =
     then_if (is_driver list.dispatches handlers) BadDispatch _ (AreDrivers dispatches) (λ there.
     then_if (nat_lt (length list.tables) 64) TooMany _ (AreDrivers dispatches) (λ room. (
       has.0,
-      All-push (λ given. is_driver dispatches given ≡ true) list.tables handlers has.1
+      few_more list.tables handlers 64 room,
+      All-push (λ given. is_driver dispatches given ≡ true) list.tables handlers has.2
           (ap (λ given. is_driver given handlers) (sym has.0) ∙ there),
     ))))
 
@@ -239,37 +338,45 @@ steps_kept form seats whole =
     (codes "steps") (no_steps form seats false setup.labels) whole (refl, refl, refl, All-nil _))
     (λ steps others. (seated.3, others)))
 
--- ---- cancel slots
+-- ---- seats, locks and cancel slots
 
-few_kept : (part : Section) (given : ℕ) (first second : Bool) → second ≡ nat_le given 64
-    → IfOk (if first && second then Ok given else Err (At BadField part 0)) (λ count. count ≤ 64)
-few_kept part given true true is = leb-true given 64 (sym is)
-few_kept part given true false is = tt
-few_kept part given false second is = tt
+-- from the least number to 64
+abbrev IsCount : ℕ → ℕ → Type 0
+IsCount least count = (least ≤ count) × (count ≤ 64)
 
-count_kept : (part : Section) (least : ℕ) (given : Option ℕ) → IfOk (count_of part least given) (λ count. count ≤ 64)
-count_kept part least None = tt
-count_kept part least (Some given) = few_kept part given (nat_le least given) (nat_le given 64) refl
+few_kept : (part : Section) (least given : ℕ) (first second : Bool) → first ≡ nat_le least given → second ≡ nat_le given 64
+    → IfOk (if first && second then Ok given else Err (At BadField part 0)) (IsCount least)
+few_kept part least given true true low high = (leb-true least given (sym low), leb-true given 64 (sym high))
+few_kept part least given true false low high = tt
+few_kept part least given false second low high = tt
+
+numbered_kept : (part : Section) (least : ℕ) (given : Option ℕ) → IfOk (count_of part least given) (IsCount least)
+numbered_kept part least None = tt
+numbered_kept part least (Some given) = few_kept part least given (nat_le least given) (nat_le given 64) refl refl
+
+count_kept : (part : Section) (least : ℕ) (key : List ℕ) (whole : Data) → IfOk (count_at part least key whole) (IsCount least)
+unfolding count_at
+count_kept part least key whole = numbered_kept part least (option_and_then parts.u32_at (get key whole))
 
 slots_kept : (given : FormKey) (whole : Data) → IfOk (with_slots given whole) (λ form. slots_of form ≤ 64)
-unfolding with_slots count_at
+unfolding with_slots
 slots_kept keys.One whole = omega arith
 slots_kept keys.Two whole =
-    then_from (count_of section.Slots 0 (option_and_then parts.u32_at (get (codes "slots") whole))) _ (λ count. count ≤ 64) (λ form. slots_of form ≤ 64)
-    (count_kept section.Slots 0 (option_and_then parts.u32_at (get (codes "slots") whole)))
-    (λ count few. few)
+    then_from (count_at section.Slots 0 (codes "slots") whole) _ (IsCount 0) (λ form. slots_of form ≤ 64)
+    (count_kept section.Slots 0 (codes "slots") whole) (λ count few. few.1)
 
 -- ---- routines and tables
 
--- the routines keep their rules, and the counts are those of what the script has
+-- the routines keep their rules, and the counts are those of what the script has, within the limits
 abbrev AreRoutines : List CompletionRoutine × Cancels → Type 0
 AreRoutines routines =
     All (λ routine. obeys_its_rule routine ≡ true) routines.0
     × (routines.1.counts ≡ record (with_all no_routines routines.0) { cancel = length routines.1.answers })
+    × IsWithin routines.1.counts most_known
 
 -- the cancel routines are counted beside the completion routines
 counts_are : (routines : List CompletionRoutine) (counts : Known) (cancels : Cancels)
-    → counts ≡ with_all no_routines routines → AreCancels counts cancels
+    → counts ≡ with_all no_routines routines → cancels.counts ≡ record counts { cancel = counts.cancel + length cancels.answers }
     → cancels.counts ≡ record (with_all no_routines routines) { cancel = length cancels.answers }
 counts_are routines counts cancels same counted =
     counted
@@ -283,17 +390,18 @@ routines_kept whole =
     then_from (list_at takes_completion section.Completions (codes "completions") (record { routines = []; counts = no_routines }) whole) _
     AreCompletions AreRoutines
     (list_kept takes_completion section.Completions AreCompletions completion_kept
-    (codes "completions") (record { routines = []; counts = no_routines }) whole (refl, All-nil _))
+    (codes "completions") (record { routines = []; counts = no_routines }) whole (refl, none_within, All-nil _))
     (λ completions obey.
     then_from (list_at takes_cancel section.Cancels (codes "cancels") (record { answers = []; counts = completions.counts }) whole) _
     (AreCancels completions.counts) AreRoutines
     (list_kept takes_cancel section.Cancels (AreCancels completions.counts) (cancel_kept completions.counts)
     (codes "cancels") (record { answers = []; counts = completions.counts }) whole
-    (ap (λ n. record completions.counts { cancel = n }) (plus_none completions.counts.cancel)))
-    (λ cancels counted. (obey.1, counts_are completions.routines completions.counts cancels obey.0 counted)))
+    (ap (λ n. record completions.counts { cancel = n }) (plus_none completions.counts.cancel), obey.1))
+    (λ cancels counted. (obey.2, counts_are completions.routines completions.counts cancels obey.0 counted.0, counted.1)))
 
 abbrev AreTables : ScriptForm → Known → List Plan × Drivers → Type 0
-AreTables form known tables = All (IsPlan form known) tables.0 × AreDrivers (length tables.0) tables.1
+AreTables form known tables =
+    (length tables.0 ≤ 256) × All (IsPlan form known) tables.0 × AreDrivers (length tables.0) tables.1
 
 tables_kept : (form : ScriptForm) (known : Known) (whole : Data) → IfOk (tables_at form known whole) (AreTables form known)
 unfolding tables_at
@@ -301,13 +409,13 @@ tables_kept form known whole =
     then_from (list_at takes_dispatch section.Dispatches (codes "dispatches") (record { form = form; known = known; plans = [] }) whole) _
     (ArePlans form known) (AreTables form known)
     (list_kept takes_dispatch section.Dispatches (ArePlans form known) (dispatch_kept form known)
-    (codes "dispatches") (record { form = form; known = known; plans = [] }) whole (refl, refl, All-nil _))
+    (codes "dispatches") (record { form = form; known = known; plans = [] }) whole (refl, refl, omega arith, All-nil _))
     (λ dispatches plans.
     then_from (list_at takes_driver section.Drivers (codes "drivers") (record { dispatches = length dispatches.plans; tables = [] }) whole) _
     (AreDrivers (length dispatches.plans)) (AreTables form known)
     (list_kept takes_driver section.Drivers (AreDrivers (length dispatches.plans)) (driver_kept (length dispatches.plans))
-    (codes "drivers") (record { dispatches = length dispatches.plans; tables = [] }) whole (refl, All-nil _))
-    (λ drivers tables. (plans.2, tables)))
+    (codes "drivers") (record { dispatches = length dispatches.plans; tables = [] }) whole (refl, omega arith, All-nil _))
+    (λ drivers tables. (plans.2, plans.3, tables)))
 
 -- ---- the whole
 
@@ -316,8 +424,10 @@ unfolding script_at
 script_sound whole =
     then_any (form_at whole) _ IsSound (λ given read.
     then_any (keys_at given whole) _ IsSound (λ its there.
-    then_any (count_at section.Seats 1 (codes "seats") whole) _ IsSound (λ seats first.
-    then_any (count_at section.Locks 1 (codes "locks") whole) _ IsSound (λ locks second.
+    then_from (count_at section.Seats 1 (codes "seats") whole) _ (IsCount 1) IsSound (count_kept section.Seats 1 (codes "seats") whole)
+    (λ seats seated.
+    then_from (count_at section.Locks 1 (codes "locks") whole) _ (IsCount 1) IsSound (count_kept section.Locks 1 (codes "locks") whole)
+    (λ locks locked.
     then_from (with_slots given whole) _ (λ form. slots_of form ≤ 64) IsSound (slots_kept given whole)
     (λ form few.
     then_from (routines_at whole) _ AreRoutines IsSound (routines_kept whole)
@@ -328,13 +438,20 @@ script_sound whole =
     then_from (steps_at form seats whole) _
     (λ steps. All (IsListed form seats true) steps.0 × AreSteps form seats false steps.1) IsSound
     (steps_kept form seats whole)
-    (λ steps seated. record {
-      slots = few;
+    (λ steps listed. record {
+      some_seats = seated.0;
+      few_seats = seated.1;
+      some_locks = locked.0;
+      few_locks = locked.1;
+      few_slots = few;
+      few_routines = subst (λ known. IsWithin known most_known) obey.1 obey.2;
+      few_dispatches = named.0;
+      few_drivers = named.2.1;
       completions = obey.0;
-      dispatches = subst (λ known. All (IsPlan form known) tables.0) obey.1 named.0;
-      drivers = named.1.1;
-      setup = seated.0;
-      steps = λ k step within. (seated.1.3 k step within).0;
+      dispatches = subst (λ known. All (IsPlan form known) tables.0) obey.1 named.1;
+      drivers = named.2.2;
+      setup = listed.0;
+      steps = λ k step within. (listed.1.3 k step within).0;
     }))))))))
 
 pub told_sound : (result : Result ScriptParts ScriptFault) (whole : Data) → Tells result (script_at whole) → IfOk result IsSound

@@ -1,11 +1,12 @@
 -- What is true of every script, list by list.
 use Rattle.std.specs.Prelude.{◌≡◌, ℕ, ◌+◌, ◌<◌, ◌≤◌, List, [], ◌∷◌, length, true}
 use Rattle.std.specs.List.{All}
-use Rattle.irp_types.specs.State.{no_routines}
+use Rattle.irp_types.specs.Limits.{most_dispatches, most_drivers, most_locks, most_seats, most_slots}
+use Rattle.irp_types.specs.Rules.{IsWithin}
+use Rattle.irp_types.specs.State.{most_known, no_routines}
 use Rattle.irp_types.specs.declared.{answer.Plan.Plan, routine.Known.Known, routine.Rule.Rule}
 use Rattle.irp_types.specs.declared.routine.Rule.TheVariants.{Watch, Change, Keeper, KeepOnError, Free}
 use Rattle.irp_script_reader.specs.Forms.{may_do, may_plan, slots_of, suits_setup}
-use Rattle.irp_types.specs.Limits.{most_slots}
 use Rattle.irp_script_reader.specs.Plans.{is_driver, is_plan_sound, names_known}
 use Rattle.irp_script_reader.specs.Routines.{obeys_its_rule}
 use Rattle.irp_script_reader.specs.declared.{act.Step.Step, script.CompletionRoutine.CompletionRoutine}
@@ -36,11 +37,19 @@ IsPlan form known plan = (may_plan form plan ≡ true) × (is_plan_sound plan �
 abbrev pub IsStep : ScriptForm → ℕ → Step → Type 0
 IsStep form seats step = (step.seat < seats) × (may_do form seats step.seat step.act ≡ true)
 
--- There are no more cancel slots than there may be; behaviours are those of their rules; plans are those that the form
--- has, sound, and name only routines that the script has; drivers name only dispatches that it has; each step's seat is
--- there and may do it; and `setup` has no step on a remove lock or on a cancel slot.
+-- A script is within the limits: it has a seat and a remove lock at least, and no more of anything than there may be.
+-- Behaviours are those of their rules; plans are those that the form has, sound, and name only routines that the script
+-- has; drivers name only dispatches that it has; each step's seat is there and may do it; and `setup` has no step on a
+-- remove lock or on a cancel slot.
 pub record IsSound (script : ScriptParts) : Type 0 where
-  pub slots : slots_of script.form ≤ most_slots
+  pub some_seats : 1 ≤ script.seats
+  pub few_seats : script.seats ≤ most_seats
+  pub some_locks : 1 ≤ script.locks
+  pub few_locks : script.locks ≤ most_locks
+  pub few_slots : slots_of script.form ≤ most_slots
+  pub few_routines : IsWithin (known_of script) most_known
+  pub few_dispatches : length script.dispatches ≤ most_dispatches
+  pub few_drivers : length script.drivers ≤ most_drivers
   pub completions : All (λ routine. obeys_its_rule routine ≡ true) script.completions
   pub dispatches : All (IsPlan script.form (known_of script)) script.dispatches
   pub drivers : All (λ handlers. is_driver (length script.dispatches) handlers ≡ true) script.drivers

@@ -38,7 +38,7 @@ pub enum ScriptForm {
     /// The same, with packets in cancel slots and acts on slots, and with references that are handed over. Packets have
     /// 32 locations at most, and stacks 32 devices.
     Two {
-        /// How many cancel slots there are, at most 64 in a script that was read.
+        /// How many cancel slots there are, at most 64 in a `Script`.
         slots: u32,
     },
 }
@@ -60,9 +60,9 @@ impl ScriptForm {
 pub struct ScriptParts {
     /// Which steps it may have.
     pub form: ScriptForm,
-    /// How many seats there are, 1 to 64 in a script that was read.
+    /// How many seats there are, 1 to 64 in a `Script`.
     pub seats: u32,
-    /// How many remove locks there are, 1 to 64 in a script that was read.
+    /// How many remove locks there are, 1 to 64 in a `Script`.
     pub locks: u32,
     /// The completion routines. A routine's number is its place among those of its rule.
     pub completions: Row<CompletionRoutine>,
@@ -81,8 +81,8 @@ pub struct ScriptParts {
     pub labels: usize,
 }
 
-/// A script, which is sound: its closures keep their rules, its drivers name only dispatches that it has, and each
-/// seat may do its steps.
+/// A script, which is sound: it is within the limits, its closures keep their rules, its drivers name only dispatches
+/// that it has, and each seat may do its steps.
 ///
 /// Contracts see it as its parts.
 #[derive(Drop)]
