@@ -80,7 +80,7 @@ module _ (rules : RulesValue) (standing new : StandingValue) (seat : ℕ) (plann
 
 -- ---- steps
 
-step_made : (rules : RulesValue) (standing : StandingValue) (old new : List Entry) (seat : ℕ) (act : Option Planned) (after : StandingValue)
+pub step_made : (rules : RulesValue) (standing : StandingValue) (old new : List Entry) (seat : ℕ) (act : Option Planned) (after : StandingValue)
     → PlaysIn rules standing old seat act after new → StepsTo rules standing seat act (Some after)
 step_made rules standing old new seat None after plays = absurd plays
 step_made rules standing old new seat (Some planned) after plays = (after, refl, plays.0)
@@ -111,6 +111,18 @@ all_settled rules standing (seat ∷ path) one other first second =
     let same = same_option first.0 second.0 (steps_settled rules standing seat (act_of rules standing seat) (Some first.0) (Some second.0) first.1 second.1) in
     all_settled rules first.0 path one other first.2 (subst (λ (middle : StandingValue). MakesAll rules middle path other) (sym same) second.2)
 
+-- a script begins in one standing, in which nobody was told anything
+pub starts_once : (header : Header) (script : ScriptParts) (one other : StandingValue) → Opens header script one → Opens header script other → one ≡ other
+starts_once header script one other first second =
+    let ended =
+    all_settled (rules_of header script [] script.setup false) (first_standing header script) (seats_of script.setup) first.0 second.0 first.1 second.1 in
+    first.2 ∙ ap (λ (ended : StandingValue). begun header ended.state ended.labels) ended ∙ sym second.2
+
+pub start_untold : (header : Header) (script : ScriptParts) (start : StandingValue) → Opens header script start → untold start ≡ start
+start_untold header script start opens =
+    subst (λ (start : StandingValue). untold start ≡ start) (sym opens.2)
+    (ap (λ (seats : List SeatValue). record (begun header opens.0.state opens.0.labels) { seats = seats }) (seats_begun header.seats))
+
 -- how an order closes
 closed_by : (rules : RulesValue) (standing : StandingValue) (end : End) (ended : Bool) → ClosesIf rules standing ended (Some end) → end ≡ end_of standing
 closed_by rules standing end true closes = same_Some end (end_of standing) closes
@@ -135,12 +147,6 @@ module _ (header : Header) (script : ScriptParts) (start : StandingValue) (path 
       subst (λ (start : StandingValue). MakesAll rules start path last) (sym began)
       (all_made rules (begun header played.ended.state played.ended.labels) played.front entries path last played.steps)
 
-  -- nobody was told anything as it began
-  begun_untold : untold start ≡ start
-  begun_untold =
-      subst (λ (start : StandingValue). untold start ≡ start) (sym began)
-      (ap (λ (seats : List SeatValue). record (begun header played.ended.state played.ended.labels) { seats = seats }) (seats_begun header.seats))
-
   played_ends : (tells : Bool) → IsOrder (rules_of header script script.steps script.steps tells) start path end → end ≡ told_end tells (end_of last)
   played_ends true order =
       let same : order.0 ≡ last = all_settled rules start path order.0 last order.1 makes in
@@ -148,14 +154,14 @@ module _ (header : Header) (script : ScriptParts) (start : StandingValue) (path 
       (subst (λ (last : StandingValue). ClosesIf rules last (has_ended rules last) (Some end)) same order.2)
   played_ends false order =
       let quiet : MakesAll (silent rules) start path (untold last) =
-      subst (λ (start : StandingValue). MakesAll (silent rules) start path (untold last)) begun_untold (all_untold rules start path last makes) in
+      subst (λ (start : StandingValue). MakesAll (silent rules) start path (untold last)) (start_untold header script start opens) (all_untold rules start path last makes) in
       let same : order.0 ≡ untold last = all_settled (silent rules) start path order.0 (untold last) order.1 quiet in
       closed_by (silent rules) order.0 end (has_ended (silent rules) order.0) order.2
       ∙ ap (λ (standing : StandingValue). end_of standing) same ∙ end_untold last
 
 pub replays_end : ReplaysEndSo
 replays_end script tells outcomes k outcome transcript found at replay =
-    let same = header_once script found.header replay.header found.headed replay.headed found.accepted replay.accepted in
+    let same = header_once script found.header replay.header found.headed replay.headed in
     let within = slice_get_within outcomes k outcome at in
     let given = get_or_from_slice_get outcomes k outcome outcome at in
     let order : IsOrder (rules_of found.header script script.steps script.steps tells) found.start outcome.path.items outcome.end =
@@ -169,7 +175,7 @@ replays_end script tells outcomes k outcome transcript found at replay =
 pub set_up : (header : Header) (script : ScriptParts) (rules : RulesValue) (first ended start : StandingValue) (path : List ℕ) (old new : List Entry)
     → rules ≡ rules_of header script [] script.setup false → first ≡ first_standing header script → path ≡ seats_of script.setup
     → Plays rules first old path ended new → start ≡ begun header ended.state ended.labels → IsSetUp header script old new start
-set_up header script rules first ended start path old new is_rules is_first is_path plays begun =
+set_up header script given first ended start path old new is_rules is_first is_path plays begun =
     let setting = rules_of header script [] script.setup false in
     let by_rules = subst (λ (rules : RulesValue). Plays rules first old path ended new) is_rules plays in
     let by_first = subst (λ (first : StandingValue). Plays setting first old path ended new) is_first by_rules in
@@ -189,6 +195,11 @@ played_on header script path start last front entries setup plays history = reco
   steps = subst (λ (start : StandingValue). Plays (rules_of header script script.steps script.steps true) start front path last entries) setup.begun plays;
   history = history;
 }
+
+pub opens_of : (header : Header) (script : ScriptParts) (entries : List Entry) (start : StandingValue) → IsSetUp header script [] entries start → Opens header script start
+opens_of header script entries start setup =
+    let setting = rules_of header script [] script.setup false in
+    (setup.ended, all_made setting (first_standing header script) [] entries (seats_of script.setup) setup.ended setup.setup, setup.begun)
 
 -- ---- histories
 

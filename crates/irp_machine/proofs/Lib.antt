@@ -1,8 +1,14 @@
+pub mod Accepted
+pub mod Counts
 pub mod Histories
 pub mod Later
 pub mod Lowest
 pub mod OneHeader
 pub mod Outcomes
+pub mod Plans
+pub mod Remade
 pub mod Repeats
+pub mod Rising
+pub mod Setup
 pub mod Sorting
 pub mod Untold

@@ -1,12 +1,10 @@
--- A script has one header that the formats accept.
+-- A script has one header.
 use Rattle.std.proofs.Common.{◌≡◌, ◌+◌, ◌<◌, zero, suc, List, [], ◌∷◌, Contains, refl, sym, ap, subst, ◌∙◌, ◌⊎◌, inl, inr, arith}
 use Rattle.std.specs.Prelude.{slice_index, IsPermutation}
 use Rattle.std.specs.List.Sorted.{IsStrictlyIncreasing}
-use Rattle.std.specs.List.{AllByRecursion}
 use Rattle.std.proofs.lemmas.List.Sorted.{Contains-permutation, IsPermutation-sym}
-use Rattle.std.proofs.lemmas.List.Elements.{recursion_from_All}
-use Rattle.irp_types.specs.State.{Entrance, IsDriver, Tables}
-use Rattle.irp_transcript.specs.Headers.{IsHeader, fixed_of, majors}
+use Rattle.irp_types.specs.State.{Entrance}
+use Rattle.irp_transcript.specs.Headers.{majors}
 use Rattle.irp_transcript.specs.declared.header.Header.{Header}
 use Rattle.irp_script_reader.specs.declared.script.ScriptParts.{ScriptParts}
 use Rattle.irp_machine.specs.Headers.{AreSorted, IsHeaderOf}
@@ -95,28 +93,23 @@ sorted_once pairs one other first second rising rising_too =
     (λ pair held. Contains-permutation pairs other pair second (Contains-permutation one pairs pair (IsPermutation-sym pairs one first) held))
     (λ pair held. Contains-permutation pairs one pair first (Contains-permutation other pairs pair (IsPermutation-sym pairs other second) held))
 
-drivers_once : (first second : Tables) (drivers ones others : List (List Entrance)) → AreSorted drivers ones → AreSorted drivers others
-    → AllByRecursion (IsDriver first) ones → AllByRecursion (IsDriver second) others → ones ≡ others
-drivers_once first second [] [] [] sorted sorted_too all all_too = refl
-drivers_once first second [] [] (other ∷ others) sorted sorted_too all all_too = absurd sorted_too
-drivers_once first second [] (one ∷ ones) others sorted sorted_too all all_too = absurd sorted
-drivers_once first second (driver ∷ drivers) [] others sorted sorted_too all all_too = absurd sorted
-drivers_once first second (driver ∷ drivers) (one ∷ ones) [] sorted sorted_too all all_too = absurd sorted_too
-drivers_once first second (driver ∷ drivers) (one ∷ ones) (other ∷ others) sorted sorted_too all all_too =
-    let same = sorted_once driver one other sorted.0 sorted_too.0 all.0.rising all_too.0.rising in
-    let rest = drivers_once first second drivers ones others sorted.1 sorted_too.1 all.1 all_too.1 in
+drivers_once : (drivers ones others : List (List Entrance)) → AreSorted drivers ones → AreSorted drivers others → ones ≡ others
+drivers_once [] [] [] sorted sorted_too = refl
+drivers_once [] [] (other ∷ others) sorted sorted_too = absurd sorted_too
+drivers_once [] (one ∷ ones) others sorted sorted_too = absurd sorted
+drivers_once (driver ∷ drivers) [] others sorted sorted_too = absurd sorted
+drivers_once (driver ∷ drivers) (one ∷ ones) [] sorted sorted_too = absurd sorted_too
+drivers_once (driver ∷ drivers) (one ∷ ones) (other ∷ others) sorted sorted_too =
+    let same = sorted_once driver one other sorted.0.pairs sorted_too.0.pairs sorted.0.rising sorted_too.0.rising in
+    let rest = drivers_once drivers ones others sorted.1 sorted_too.1 in
     ap (λ (first : List Entrance). first ∷ ones) same ∙ ap (λ (rest : List (List Entrance)). other ∷ rest) rest
 
-pub header_once : (script : ScriptParts) (one other : Header) → IsHeaderOf script one → IsHeaderOf script other → IsHeader one → IsHeader other → one ≡ other
-header_once script one other is is_too accepted accepted_too =
+pub header_once : (script : ScriptParts) (one other : Header) → IsHeaderOf script one → IsHeaderOf script other → one ≡ other
+header_once script one other is is_too =
     let cancels = is.cancels ∙ sym is_too.cancels in
     let completions = is.completions ∙ sym is_too.completions in
     let dispatches = is.dispatches ∙ sym is_too.dispatches in
-    let first = (fixed_of one).tables in
-    let second = (fixed_of other).tables in
-    let drivers = drivers_once first second script.drivers one.drivers other.drivers is.drivers is_too.drivers
-    (recursion_from_All (IsDriver first) one.drivers accepted.tables.drivers)
-    (recursion_from_All (IsDriver second) other.drivers accepted_too.tables.drivers) in
+    let drivers = drivers_once script.drivers one.drivers other.drivers is.drivers is_too.drivers in
     let form = is.form ∙ sym is_too.form in
     let locks = is.locks ∙ sym is_too.locks in
     let seats = is.seats ∙ sym is_too.seats in λ i. record {

@@ -1,15 +1,16 @@
 -- The states that were found, told as outcomes.
 use Rattle.std.proofs.Common.{◌≡◌, ℕ, ◌+◌, ◌*◌, ◌<◌, ◌≤◌, ◌==◌, ◌≢◌, All, map, inl, inr, zero, suc, Bool, true, false, List, [], ◌∷◌, ◌++◌, Option, Some, None, length, get_or, Contains, nat_lt, refl, ap, sym, subst, ◌∙◌, arith}
 use Rattle.std.specs.Option.{option_map, option_and_then}
-use Rattle.std.specs.Prelude.{slice_get}
+use Rattle.std.specs.Prelude.{is_some, not, slice_get}
 use Rattle.std.proofs.lemmas.List.Sums.{sum_by-cons}
-use Rattle.std.proofs.lemmas.Bool.{cases_eq, cases_lt, eqb-true, lt-ltb, le-ltb, ltb-false}
-use Rattle.std.proofs.lemmas.List.{append-nil, get_or_default, get_or-map, length-map}
+use Rattle.std.proofs.Math.Seq.{get_or-append_seam}
+use Rattle.std.proofs.lemmas.Bool.{and_from, cases_eq, cases_lt, eqb-true, lt-ltb, le-ltb, ltb-false, not_from_false}
+use Rattle.std.proofs.lemmas.List.{append-nil, get_or_default, get_or-map, length-append, length-map}
 use Rattle.std.proofs.lemmas.List.Elements.{All-contains, All-map}
 use Rattle.std.proofs.lemmas.Option.{slice_get_within, same_Some, none-some}
 use Rattle.irp_explore.specs.Orders.{Leads, HasEnded}
 use Rattle.irp_explore.specs.Counted.{AreCounted, AreParted, IsCount}
-use Rattle.irp_explore.specs.Nodes.{AreApart, states_of, weigh}
+use Rattle.irp_explore.specs.Nodes.{AreApart, IsFound, states_of, weigh}
 use Rattle.irp_explore.specs.Paths.{changes_of, seam, HasAsGood}
 use Rattle.irp_explore.proofs.Counting.{part_differs}
 use Rattle.irp_explore.proofs.Permuting.{pairs_map}
@@ -20,9 +21,9 @@ use Rattle.irp_machine.specs.declared.outcome.Outcome.{Outcome}
 use Rattle.irp_machine.specs.declared.parts.Planned.{Planned}
 use Rattle.irp_machine.specs.declared.place.Place.{Place}
 use Rattle.irp_machine.specs.declared.place.Place.TheVariants.{Running, Over}
-use Rattle.irp_machine.specs.Machine.{RulesValue, PlaceSteps, RunningSteps, ClosesTo, StepsTo, act_of}
+use Rattle.irp_machine.specs.Machine.{RulesValue, PlaceSteps, RunningSteps, ClosesIf, ClosesTo, StepsTo, act_of, has_ended, has_ended_below}
 use Rattle.irp_machine.specs.Openings.{MakesAll}
-use Rattle.irp_machine.specs.Orders.{AreOrders, AreOutcomes, IsCounted, IsOrder, Tells, AllTell, ends_of, weigh_outcomes}
+use Rattle.irp_machine.specs.Orders.{AreOrders, AreOutcomes, IsClosed, IsCounted, IsOrder, Tells, AllTell, ends_of, is_over, weigh_outcomes}
 use Rattle.irp_plain.specs.Seats.{SeatValue}
 use Rattle.irp_machine.specs.Standings.{StandingValue}
 
@@ -42,10 +43,6 @@ standing_in (Over end) other = other
 
 same_running : (one other : StandingValue) → Running one ≡ Running other → one ≡ other
 same_running one other same = ap (λ (place : Place). standing_in place one) same
-
-abbrev is_over : Place → Bool
-is_over (Running standing) = false
-is_over (Over end) = true
 
 never_over : (standing : StandingValue) (end : End) → Running standing ≡ Over end → ⊥
 never_over standing end same = let no : false ≡ true = ap is_over same in cc
@@ -204,6 +201,68 @@ same_node found k node d apart below (i, within, is) same =
             (ap (λ (node : Node Place). node.state) (get_or_default found k node d below) ∙ sym same ∙ sym (ap (λ (node : Node Place). node.state) is))
       ])
     ]
+
+-- ---- where no seat has a step left
+
+no_act : (rules : RulesValue) (standing : StandingValue) (seat : ℕ) (act : Option Planned) (next : Option StandingValue) → StepsTo rules standing seat act next
+    → None ≡ option_map (λ (one : StandingValue). Running one) next → is_some act ≡ false
+no_act rules standing seat None next steps is = refl
+no_act rules standing seat (Some planned) None steps is = absurd (none-some steps.0 steps.1)
+no_act rules standing seat (Some planned) (Some new) steps is = absurd (none-some (Running new) is)
+
+seat_ended : (rules : RulesValue) (standing : StandingValue) (seat : ℕ) (below : Bool) → below ≡ true → RunningSteps rules standing seat below None
+    → is_some (act_of rules standing seat) ≡ false
+seat_ended rules standing seat true within steps = no_act rules standing seat (act_of rules standing seat) steps.0 steps.1 steps.2
+seat_ended rules standing seat false within steps = (let bad : ⊥ = cc in absurd bad)
+
+all_ended : (rules : RulesValue) (standing : StandingValue) → ((seat : ℕ) → seat < length rules.acts → is_some (act_of rules standing seat) ≡ false)
+    → (seats : ℕ) → seats ≤ length rules.acts → has_ended_below rules standing seats ≡ true
+all_ended rules standing each zero within = refl
+all_ended rules standing each (suc seat) within =
+    and_from (has_ended_below rules standing seat) (not (is_some (act_of rules standing seat)))
+    (all_ended rules standing each seat (omega (arith, within)))
+    (not_from_false (is_some (act_of rules standing seat)) (each seat (omega (arith, within))))
+
+unclosed : (rules : RulesValue) (standing : StandingValue) (ended : Bool) (end : Option End) → ClosesIf rules standing ended end
+    → None ≡ option_map (λ (one : End). Over one) end → ended ≡ false
+unclosed rules standing true None closes is = absurd (none-some _ closes)
+unclosed rules standing true (Some end) closes is = absurd (none-some (Over end) is)
+unclosed rules standing false end closes is = refl
+
+unclosed_by : (rules : RulesValue) (standing : StandingValue) (seat : ℕ) (below : Bool) → below ≡ false → RunningSteps rules standing seat below None → has_ended rules standing ≡ false
+unclosed_by rules standing seat true within steps = (let bad : ⊥ = cc in absurd bad)
+unclosed_by rules standing seat false within steps = unclosed rules standing (has_ended rules standing) steps.0 steps.1 steps.2
+
+-- the place is over
+ended_over : (rules : RulesValue) (place : Place) → HasEnded (PlaceSteps rules) (length rules.acts + 1) place → is_over place ≡ true
+ended_over rules (Over end) ended = refl
+ended_over rules (Running standing) ended =
+    let seats = length rules.acts in
+    let whole : has_ended rules standing ≡ true =
+    all_ended rules standing
+    (λ seat within. seat_ended rules standing seat (nat_lt seat seats) (lt-ltb seat seats within) (ended seat (omega (arith, within)))) seats (omega arith) in
+    let not_yet = unclosed_by rules standing seats (nat_lt seats seats) (le-ltb seats seats (omega arith)) (ended seats (omega arith)) in
+    let bad : ⊥ = cc in absurd bad
+
+-- each order that leads there has a step
+order_closed : (rules : RulesValue) (start : StandingValue) (place : Place) (path : List ℕ) → is_over place ≡ true
+    → Leads (PlaceSteps rules) (length rules.acts + 1) (Running start) path place → 0 < length path
+order_closed rules start place [] over leads = (let same = ap is_over leads in let bad : ⊥ = cc in absurd bad)
+order_closed rules start place (seat ∷ path) over leads = omega arith
+
+pub closed_of : (rules : RulesValue) (start : StandingValue) (node : Node Place) → IsFound (PlaceSteps rules) (length rules.acts + 1) (Running start) node → IsClosed node
+closed_of rules start node found =
+    let over = ended_over rules node.state found.ended in
+    record {
+      over = over;
+      some = found.some;
+      closed = λ k d low. order_closed rules start node.state (get_or node.fewest.items k d) over (found.fewest k d low);
+    }
+
+pub closed_node : (rest taken : List (Node Place)) (node : Node Place) → All IsClosed (rest ++ node ∷ taken) → IsClosed node
+closed_node rest taken node all =
+    let long = length-append rest (node ∷ taken) in
+    subst IsClosed (get_or-append_seam rest node taken node) (all (length rest) node (omega (arith, long)))
 
 -- ---- outcomes
 

@@ -57,7 +57,7 @@ acts_by : (rules : RulesValue) (seat : ℕ) (own : Option SeatValue)
 acts_by rules seat None = refl
 acts_by rules seat (Some own) = refl
 
-act_untold : (rules : RulesValue) (standing : StandingValue) (seat : ℕ) → act_of (silent rules) (untold standing) seat ≡ act_of rules standing seat
+pub act_untold : (rules : RulesValue) (standing : StandingValue) (seat : ℕ) → act_of (silent rules) (untold standing) seat ≡ act_of rules standing seat
 act_untold rules standing seat =
     ap (λ (own : Option SeatValue). option_and_then (λ (own : SeatValue). option_and_then (λ (acts : List Planned). slice_get acts own.made) (slice_get rules.acts seat)) own)
     (slice_get-map untold_seat standing.seats seat)
@@ -201,7 +201,7 @@ makes_untold rules standing seat planned (Calls calling) new made =
       ap untold made.2 ∙ after_untold seat made.0 planned.step rules.tells (record standing { state = call.after }),
     )
 
-steps_untold : (rules : RulesValue) (standing : StandingValue) (seat : ℕ) (act : Option Planned) (new : StandingValue)
+pub steps_untold : (rules : RulesValue) (standing : StandingValue) (seat : ℕ) (act : Option Planned) (new : StandingValue)
     → StepsTo rules standing seat act (Some new) → StepsTo (silent rules) (untold standing) seat act (Some (untold new))
 steps_untold rules standing seat None new steps = absurd (none-some new (sym steps))
 steps_untold rules standing seat (Some planned) new steps =

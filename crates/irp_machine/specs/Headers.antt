@@ -1,6 +1,9 @@
 -- The header of a script's transcripts.
-use Rattle.std.specs.Prelude.{◌≡◌, List, [], ◌∷◌, length, map, replicate, IsPermutation}
+use Rattle.std.specs.Prelude.{◌≡◌, List, [], ◌∷◌, length, map, replicate, eqb, IsPermutation}
+use Rattle.std.specs.List.{IsDistinct}
+use Rattle.std.specs.List.Sorted.{IsStrictlyIncreasing}
 use Rattle.irp_types.specs.State.{Entrance}
+use Rattle.irp_transcript.specs.Headers.{majors}
 use Rattle.irp_transcript.specs.declared.header.Form.{Form}
 use Rattle.irp_transcript.specs.declared.header.Form.TheVariants as form
 use Rattle.irp_transcript.specs.declared.header.Header.{Header}
@@ -15,10 +18,19 @@ abbrev pub form_of : ScriptForm → Form
 form_of script.One = form.One
 form_of (script.Two slots) = form.Two slots
 
--- each driver has the pairs of the one at its place, in some order
+-- no major function code stands twice
+abbrev pub AreMajorsApart : List Entrance → Type 0
+AreMajorsApart driver = IsDistinct eqb (majors driver)
+
+-- the pairs of a driver, by rising major function code
+pub record IsSorted (driver sorted : List Entrance) : Type 0 where
+  pub pairs : IsPermutation driver sorted
+  pub rising : IsStrictlyIncreasing (majors sorted)
+
+-- each driver has the pairs of the one at its place, sorted
 abbrev pub AreSorted : List (List Entrance) → List (List Entrance) → Type 0
 AreSorted [] [] = Unit {0}
-AreSorted (driver ∷ drivers) (sorted ∷ others) = IsPermutation driver sorted × AreSorted drivers others
+AreSorted (driver ∷ drivers) (sorted ∷ others) = IsSorted driver sorted × AreSorted drivers others
 AreSorted drivers others = ⊥
 
 -- the header tells the routines, rules and drivers of the script, its form, and how many locks and seats it has

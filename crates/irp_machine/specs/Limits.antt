@@ -5,19 +5,12 @@ use Rattle.irp_explore.specs.declared.refusal.NotExplored.TheVariants as explore
 use Rattle.irp_machine.specs.declared.limits.Compared.{Compared}
 use Rattle.irp_machine.specs.declared.limits.Compared.TheVariants.{Replies, Ends}
 use Rattle.irp_machine.specs.declared.limits.NotFound.{NotFound}
-use Rattle.irp_machine.specs.declared.limits.NotFound.TheVariants.{Memory, States, Steps, Orders, Script}
-use Rattle.irp_machine.specs.declared.limits.NotMade.{NotMade}
-use Rattle.irp_machine.specs.declared.limits.NotMade.TheVariants as made
+use Rattle.irp_machine.specs.declared.limits.NotFound.TheVariants.{Memory, States, Steps, Orders}
 
 -- whether replies are kept
 abbrev pub tells_replies : Compared → Bool
 tells_replies Replies = true
 tells_replies Ends = false
-
--- an order wasn't made
-abbrev pub not_made : NotMade → NotFound
-not_made made.Memory = Memory
-not_made made.Script = Script
 
 -- an exploration was given up
 abbrev pub not_explored : NotExplored → NotFound

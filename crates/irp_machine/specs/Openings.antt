@@ -1,5 +1,5 @@
 -- Where a script stands as the steps of its seats begin, and where these lead.
-use Rattle.std.specs.Prelude.{ℕ, ◌≡◌, Bool, false, List, [], ◌∷◌, map, replicate, Some}
+use Rattle.std.specs.Prelude.{ℕ, ◌≡◌, ◌⊎◌, Bool, false, List, [], ◌∷◌, map, replicate, Some, None}
 use Rattle.irp_types.specs.State.{StateValue, opening_state}
 use Rattle.irp_types.specs.declared.names.IrpRef.{IrpRef}
 use Rattle.irp_transcript.specs.Headers.{fixed_of, slots_of}
@@ -28,6 +28,14 @@ MakesAll rules old [] new = old ≡ new
 MakesAll rules old (seat ∷ path) new =
     (middle : StandingValue) × StepsTo rules old seat (act_of rules old seat) (Some middle)
     × MakesAll rules middle path new
+
+-- the next steps of these seats are made, one after another, until one of them has no step left at its turn
+abbrev pub IsStuck : RulesValue → StandingValue → List ℕ → Type 0
+IsStuck rules old [] = ⊥
+IsStuck rules old (seat ∷ path) =
+    (act_of rules old seat ≡ None)
+    ⊎ ((middle : StandingValue) × StepsTo rules old seat (act_of rules old seat) (Some middle)
+    × IsStuck rules middle path)
 
 -- a slot that nobody has touched
 abbrev pub empty_slot : Slot

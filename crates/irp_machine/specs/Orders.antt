@@ -1,5 +1,5 @@
 -- What is found of the orders of a script's atomic steps.
-use Rattle.std.specs.Prelude.{ℕ, ◌≡◌, ◌≢◌, ◌+◌, ◌*◌, ◌<◌, ◌≤◌, Bool, List, ◌∷◌, [], ◌++◌, length, map, sum_by, All, AllPairs, Contains, Some}
+use Rattle.std.specs.Prelude.{ℕ, ◌≡◌, ◌≢◌, ◌+◌, ◌*◌, ◌<◌, ◌≤◌, Bool, true, false, List, ◌∷◌, [], ◌++◌, length, map, sum_by, All, AllPairs, Contains, Some}
 use Rattle.irp_transcript.specs.Headers.{IsHeader}
 use Rattle.irp_transcript.specs.declared.header.Header.{Header}
 use Rattle.irp_explore.specs.Orders.{Moves, Leads, HasEnded, IsSharedOut}
@@ -91,6 +91,17 @@ pub record IsMet (script : ScriptParts) (tells : Bool) (bound : Moves Place → 
   pub met :
       let rules : RulesValue = rules_of header script script.steps script.steps tells in
       bound (PlaceSteps rules) (length rules.acts + 1) (Running start)
+
+-- the script has ended
+abbrev pub is_over : Place → Bool
+is_over (Running standing) = false
+is_over (Over end) = true
+
+-- a node's state is an end; the node keeps an order, and each that it keeps has a step that closes it
+pub record IsClosed (node : Node Place) : Type 0 where
+  pub over : is_over node.state ≡ true
+  pub some : 0 < length node.fewest.items
+  pub closed : All (λ path. 0 < length path) node.fewest.items
 
 -- one of these orders, without its last step, which closes it; none of them changes its seat less often
 pub record IsOpened (orders : List (List ℕ)) (path : List ℕ) : Type 0 where

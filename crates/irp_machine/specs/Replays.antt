@@ -29,7 +29,7 @@ use Rattle.irp_machine.specs.Endings.{end_of, without_replies}
 use Rattle.irp_machine.specs.Headers.{IsHeaderOf}
 use Rattle.irp_machine.specs.Machine.{RulesValue, Acts, IsCallOf, IsNext, Makes, act_of, seat_at}
 use Rattle.irp_machine.specs.Next.{next_of}
-use Rattle.irp_machine.specs.Openings.{Opens, begun, first_standing, rules_of, seats_of}
+use Rattle.irp_machine.specs.Openings.{IsStuck, Opens, begun, first_standing, rules_of, seats_of}
 use Rattle.irp_machine.specs.Orders.{AreOutcomesOf, IsOrder}
 use Rattle.irp_plain.specs.Seats.{SeatValue, new_seat}
 use Rattle.irp_machine.specs.Standings.{StandingValue}
@@ -126,6 +126,14 @@ pub record IsReplay (script : ScriptParts) (path : List ℕ) (transcript : Trans
   pub played : IsPlayed header script true path last transcript.entries
   pub words : transcript.words ≡ words_below script.steps last.seats header.seats
 
+-- by a header of the script, and from where it stands behind its setup, a seat of the path has no step left at its turn
+pub record CantBeMade (script : ScriptParts) (path : List ℕ) : Type 0 where
+  pub header : Header
+  pub headed : IsHeaderOf script header
+  pub start : StandingValue
+  pub opens : Opens header script start
+  pub stuck : IsStuck (rules_of header script script.steps script.steps true) start path
+
 -- ---- laws
 
 -- each order has a legal history, and ends as that history does
@@ -148,6 +156,13 @@ ReplaysEndSo =
     (transcript : TranscriptValue)
     → AreOutcomesOf script tells outcomes → slice_get outcomes k ≡ Some outcome
     → (replay : IsReplay script outcome.path.items transcript) → outcome.end ≡ told_end tells (end_of replay.last)
+
+-- the path of an outcome can be made again
+abbrev pub PathsCanBeMade : Type 0
+PathsCanBeMade =
+    (script : ScriptParts) (tells : Bool) (outcomes : List Outcome) (k : ℕ) (outcome : Outcome)
+    → AreOutcomesOf script tells outcomes → slice_get outcomes k ≡ Some outcome
+    → CantBeMade script outcome.path.items → ⊥
 
 -- ---- as a replay is made
 

@@ -1,54 +1,61 @@
 //! Every order of a script.
 
-ghost use Rattle.std.specs.Prelude.{◌≡◌, ◌≤◌, ◌+◌, ◌==◌, IfErr, IfOk, IfSome, length, vec_len};
+ghost use Rattle.std.specs.Prelude.{◌≡◌, ◌<◌, ◌≤◌, ◌+◌, All, IfErr, IfOk, length, vec_len};
 ghost use Rattle.irp_explore.specs.Counted.{HasManyOrders};
 ghost use Rattle.irp_explore.specs.Nodes.{HasMoreStates, HasOrderOf};
-ghost use Rattle.irp_transcript.specs.Headers.{fixed_of};
 ghost use Rattle.irp_machine.specs.Machine.{PlaceSteps, place_mark};
 ghost use Rattle.irp_machine.specs.declared.place.Place.TheVariants.{Running};
 ghost use Rattle.irp_machine.specs.Limits.{tells_replies};
-ghost use Rattle.irp_machine.specs.Orders.{AllTell, AreOrders, AreOutcomesOf, HasMoreEnds, IsMet, IsOpened, Tells};
+ghost use Rattle.irp_machine.specs.Orders.{AllTell, AreOrders, AreOutcomesOf, HasMoreEnds, IsClosed, IsMet, IsOpened, Tells};
 ghost use Rattle.irp_machine.specs.declared.limits.NotFound.TheVariants.{Orders, Outcomes, States, Steps};
 
 use crate::header::header_of;
-use crate::limits::{Compared, Limits, NotFound, NotMade};
+use crate::limits::{Compared, Limits, NotFound};
 use crate::machine::ScriptMachine;
-use crate::opening::{machine_of, opening};
+use crate::opening::machine_of;
 use crate::outcome::Outcome;
 use crate::place::Place;
+use crate::replaying::opening;
 use crate::standing::Standing;
 use irp_explore::{Node, Path, explore, fewest_changes};
 use irp_script_reader::Script;
-use std::alloc::Global;
+use std::alloc::{AllocError, Global};
 
-/// Of these orders the one that changes its seat least often, without its last step, which closes it; none where there
-/// are no orders, or that one has no step.
-fn opened_path(fewest: Vec<Path>) -> Option<Vec<u32>>
-    ensures { IfSome result (λ path. IsOpened fewest.items path.items) }
+/// Of these orders the one that changes its seat least often, without its last step, which closes it.
+fn opened_path(fewest: Vec<Path>) -> Vec<u32>
+    requires some { 0 < length fewest.items }
+    requires closed { All (λ path. 0 < length path) fewest.items }
+    ensures { IsOpened fewest.items result.items }
 {
-    let mut path = fewest_changes(fewest)?.into_vec();
-    path.pop()?;
-    Some(path)
+    let Some(fewest) = fewest_changes(fewest) else {
+        unreachable!();
+    };
+    let mut path = fewest.into_vec();
+    path.pop();
+    path
 }
 
 /// What a state tells in which an order has ended.
-fn outcome_of(node: Node<Place>) -> Result<Outcome, NotMade>
-    ensures { IfOk result (Tells node) }
+fn outcome_of(node: Node<Place>) -> Outcome
+    requires { IsClosed node }
+    ensures { Tells node result }
 {
     let (state, orders, fewest) = (node.state, node.orders, node.fewest);
-    let (Place::Over(end), Some(path)) = (state, opened_path(fewest)) else {
-        return Err(NotMade::Script);
+    let Place::Over(end) = state else {
+        unreachable!();
     };
-    Ok(Outcome { orders, path, end })
+    let path = opened_path(fewest);
+    Outcome { orders, path, end }
 }
 
 /// The outcomes of what was found, in its order.
-fn outcomes_of(alloc: Global, mut found: Vec<Node<Place>>) -> Result<Vec<Outcome>, NotMade>
+fn outcomes_of(alloc: Global, mut found: Vec<Node<Place>>) -> Result<Vec<Outcome>, AllocError>
+    requires { All IsClosed found.items }
     ensures { IfOk result (λ outcomes. AllTell found.items outcomes.items) }
 {
     let mut outcomes = Vec::new(alloc);
     while let Some(node) = found.pop() {
-        outcomes.push(outcome_of(node)?)?;
+        outcomes.push(outcome_of(node))?;
     }
     outcomes.reverse();
     Ok(outcomes)
@@ -121,9 +128,6 @@ pub fn orders(
 {
     let script = script.parts();
     let header = header_of(alloc, script)?;
-    if !header.is_accepted() {
-        return Err(NotFound::Script);
-    }
     let standing = opening(alloc, &header, script)?;
     let steps = script.steps.as_slice();
     let machine = machine_of(alloc, &header, script, steps, steps, compared.tells())?;

@@ -1,70 +1,61 @@
 //! The header of a script's transcripts.
 
-ghost use Rattle.std.specs.Prelude.{◌≡◌, IfOk, IfSome, IsPermutation, map};
-ghost use Rattle.irp_types.specs.State.{no_routines};
+ghost use Rattle.std.specs.Prelude.{◌≡◌, All, IfOk, map};
+ghost use Rattle.irp_types.specs.Rules.{IsWithin};
+ghost use Rattle.irp_types.specs.State.{most_known, no_routines};
 ghost use Rattle.irp_script.specs.Behaviours.{cancel_rule_of};
-ghost use Rattle.irp_script_reader.specs.Sound.{with_one, with_all};
-ghost use Rattle.irp_machine.specs.Headers.{AreSorted, IsHeaderOf, form_of};
+ghost use Rattle.irp_script_reader.specs.Sound.{IsSound, with_one, with_all};
+ghost use Rattle.irp_machine.specs.Headers.{AreMajorsApart, AreSorted, IsHeaderOf, IsSorted, form_of};
 
-use crate::limits::NotMade;
 use irp_script::cancel_rule;
 use irp_script_reader::{CompletionRoutine, ScriptForm, ScriptParts};
 use irp_transcript::{Form, Header};
 use irp_types::{CancelAnswer, CancelRule, DispatchId, Known, Row, Rule};
 use std::alloc::{AllocError, Global};
 
-/// No routines.
-const NO_ROUTINES: Known = Known {
-    watch: 0,
-    change: 0,
-    keeper: 0,
-    keep_on_error: 0,
-    free: 0,
-    cancel: 0,
-};
-
-/// The counts with one more completion routine of a rule; none where they would be 2^32 or more.
-fn one_more(known: Known, rule: Rule) -> Option<Known>
-    ensures { IfSome result (λ more. more ≡ with_one known rule) }
+/// The counts with one more completion routine of a rule, where they are within the limits.
+fn one_more(known: Known, rule: Rule) -> Known
+    requires { IsWithin (with_one known rule) most_known }
+    ensures { result ≡ with_one known rule }
 {
-    Some(match rule {
+    match rule {
         Rule::Watch => Known {
-            watch: known.watch.checked_add(1)?,
+            watch: known.watch + 1,
             ..known
         },
         Rule::Change => Known {
-            change: known.change.checked_add(1)?,
+            change: known.change + 1,
             ..known
         },
         Rule::Keeper => Known {
-            keeper: known.keeper.checked_add(1)?,
+            keeper: known.keeper + 1,
             ..known
         },
         Rule::KeepOnError => Known {
-            keep_on_error: known.keep_on_error.checked_add(1)?,
+            keep_on_error: known.keep_on_error + 1,
             ..known
         },
         Rule::Free => Known {
-            free: known.free.checked_add(1)?,
+            free: known.free + 1,
             ..known
         },
-    })
+    }
 }
 
-/// How many routines of each kind there are; none where they are 2^32 or more.
-fn known_of(routines: &[CompletionRoutine], cancels: usize) -> Option<Known>
-    ensures { IfSome result (λ known.
-        known ≡ record (with_all no_routines routines.now) { cancel = cancels }) }
+/// How many routines of each kind there are, where they are within the limits.
+fn known_of(routines: &[CompletionRoutine], cancels: usize) -> Known
+    requires { IsWithin (record (with_all no_routines routines.now) { cancel = cancels })
+        most_known }
+    ensures { result ≡ record (with_all no_routines routines.now) { cancel = cancels } }
 {
-    let mut known = NO_ROUTINES;
+    let mut known = Known::NONE;
     for routine in routines {
-        known = one_more(known, routine.rule)?;
+        known = one_more(known, routine.rule);
     }
-    if cancels > u32::MAX as usize {
-        return None;
+    Known {
+        cancel: cancels as u32,
+        ..known
     }
-    let cancel = cancels as u32;
-    Some(Known { cancel, ..known })
 }
 
 /// The rules of cancel routines that answer so.
@@ -83,7 +74,8 @@ fn driver_of(
     alloc: Global,
     driver: &[(u8, DispatchId)],
 ) -> Result<Row<(u8, DispatchId)>, AllocError>
-    ensures { IfOk result (λ sorted. IsPermutation driver.now sorted) }
+    requires { AreMajorsApart driver.now }
+    ensures { IfOk result (IsSorted driver.now) }
 {
     let mut pairs = driver.to_vec(alloc)?;
     pairs.sort_by_key(|pair: &(u8, DispatchId)| pair.0)?;
@@ -95,6 +87,7 @@ fn drivers_of(
     alloc: Global,
     drivers: &[Row<(u8, DispatchId)>],
 ) -> Result<Vec<Row<(u8, DispatchId)>>, AllocError>
+    requires { All AreMajorsApart drivers.now }
     ensures { IfOk result (λ sorted. AreSorted drivers.now sorted.items) }
 {
     let mut sorted = Vec::new(alloc);
@@ -115,17 +108,12 @@ fn form_of(form: ScriptForm) -> Form
 }
 
 /// The header of a script's transcripts.
-///
-/// # Errors
-///
-/// `Script` where there are 2^32 routines of a kind or more; `Memory` where memory runs out.
-pub fn header_of(alloc: Global, script: &ScriptParts) -> Result<Header, NotMade>
+pub fn header_of(alloc: Global, script: &ScriptParts) -> Result<Header, AllocError>
+    requires { IsSound script.now }
     ensures { IfOk result (IsHeaderOf script.now) }
 {
     let cancels = script.cancels.as_slice();
-    let Some(known) = known_of(script.completions.as_slice(), cancels.len()) else {
-        return Err(NotMade::Script);
-    };
+    let known = known_of(script.completions.as_slice(), cancels.len());
     let dispatches = Vec::from_elem(alloc, known, script.dispatches.as_slice().len())?;
     Ok(Header {
         cancels: Row::from_vec(rules_of(alloc, cancels)?),

@@ -40,9 +40,8 @@ impl Compared {
 pub enum NotMade {
     /// Out of memory.
     Memory,
-    /// The tables of the script aren't within the limits: none that was read is so. Or a seat has no step left, of the
-    /// setup or of a path that is made again.
-    Script,
+    /// A seat has no step left at its turn.
+    NoStep,
 }
 
 impl From<AllocError> for NotMade {
@@ -51,16 +50,6 @@ impl From<AllocError> for NotMade {
     ghost from_gives = { λ _ refusal. refusal ≡ Memory };
 
     fn from(_error: AllocError) -> NotMade {
-        NotMade::Memory
-    }
-}
-
-impl<T: Drop> From<AllocFailed<T>> for NotMade {
-    ghost use Rattle.irp_machine.specs.declared.limits.NotMade.TheVariants.{Memory};
-
-    ghost from_gives = { λ _ refusal. refusal ≡ Memory };
-
-    fn from(_error: AllocFailed<T>) -> NotMade {
         NotMade::Memory
     }
 }
@@ -78,20 +67,15 @@ pub enum NotFound {
     Steps,
     /// 2^128 orders or more lead to one state.
     Orders,
-    /// An order can't be made, as `NotMade::Script` tells.
-    Script,
 }
 
-impl From<NotMade> for NotFound {
-    ghost use Rattle.irp_machine.specs.Limits.{not_made};
+impl From<AllocError> for NotFound {
+    ghost use Rattle.irp_machine.specs.declared.limits.NotFound.TheVariants.{Memory};
 
-    ghost from_gives = { λ given refusal. refusal ≡ not_made given };
+    ghost from_gives = { λ _ refusal. refusal ≡ Memory };
 
-    fn from(given: NotMade) -> NotFound {
-        match given {
-            NotMade::Memory => NotFound::Memory,
-            NotMade::Script => NotFound::Script,
-        }
+    fn from(_error: AllocError) -> NotFound {
+        NotFound::Memory
     }
 }
 

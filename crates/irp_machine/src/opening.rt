@@ -1,15 +1,14 @@
 //! Where a script stands before its seats' steps.
 
-ghost use Rattle.std.specs.Prelude.{◌≡◌, IfOk, replicate};
-ghost use Rattle.irp_types.specs.State.{AreTables};
+ghost use Rattle.std.specs.Prelude.{◌≡◌, ◌<◌, ◌^◌, IfOk, OnOk, length, replicate};
 ghost use Rattle.irp_transcript.specs.Headers.{fixed_of};
+ghost use Rattle.irp_script_reader.specs.Sound.{IsSound};
+ghost use Rattle.irp_machine.specs.Headers.{IsHeaderOf};
 ghost use Rattle.irp_machine.specs.Planning.{acts_below};
 ghost use Rattle.irp_plain.specs.Seats.{new_seat};
 ghost use Rattle.irp_machine.specs.Openings as spec;
-ghost use Rattle.irp_machine.specs.Openings.{MakesAll, Opens};
 
 use crate::asker::ScriptAsker;
-use crate::limits::NotMade;
 use crate::machine::ScriptMachine;
 use crate::next::UNBOUND;
 use crate::planning::acts_of;
@@ -40,10 +39,6 @@ fn new_seats(alloc: Global, seats: u32) -> Result<Vec<SeatState>, AllocError>
 }
 
 /// The machine of these steps of a script. Labels that others of the rivals bind are read and bound alone.
-///
-/// # Errors
-///
-/// `Script` where there are more than 64 seats; `Memory` where memory runs out.
 pub fn machine_of<'a>(
     alloc: Global,
     header: &'a Header,
@@ -51,19 +46,18 @@ pub fn machine_of<'a>(
     rivals: &[Step],
     steps: &[Step],
     tells: bool,
-) -> Result<ScriptMachine<'a>, NotMade>
-    requires { AreTables (fixed_of header.now).tables }
-    ensures { IfOk result (λ machine. machine ≡ record {
+) -> Result<ScriptMachine<'a>, AllocError>
+    requires headed { IsHeaderOf script.now header.now }
+    requires sound { IsSound script.now }
+    ensures machine { IfOk result (λ machine. machine ≡ record {
       fixed = fixed_of header.now;
       script = script.now;
       acts = acts_below rivals.now steps.now script.now.seats;
       tells = tells;
     }) }
+    ensures few { OnOk result (length steps.now < 2 ^ 32) }
 {
     let acts = acts_of(alloc, rivals, steps, script.seats)?;
-    if acts.len() > 64 {
-        return Err(NotMade::Script);
-    }
     let asker = ScriptAsker::new(header, script);
     Ok(ScriptMachine::new(asker, acts, tells))
 }
@@ -107,32 +101,4 @@ pub fn seats_of(alloc: Global, steps: &[Step]) -> Result<Vec<u32>, AllocError>
         seats.push(step.seat)?;
     }
     Ok(seats)
-}
-
-/// Makes the next steps of these seats, one after another.
-fn make_all(machine: &ScriptMachine, first: Standing, seats: &[u32]) -> Result<Standing, NotMade>
-    ensures { IfOk result (MakesAll machine.now first seats.now) }
-{
-    let mut standing = first;
-    for seat in seats {
-        let Some(next) = machine.step_of(&standing, *seat as usize)? else {
-            return Err(NotMade::Script);
-        };
-        standing = next;
-    }
-    Ok(standing)
-}
-
-/// Where a script stands behind its setup, which is made in the order of the script.
-pub fn opening(alloc: Global, header: &Header, script: &ScriptParts) -> Result<Standing, NotMade>
-    requires { AreTables (fixed_of header.now).tables }
-    ensures { IfOk result (Opens header.now script.now) }
-{
-    let setup = script.setup.as_slice();
-    let machine = machine_of(alloc, header, script, &[], setup, false)?;
-    let first = first_standing(alloc, header, script)?;
-    let seats = seats_of(alloc, setup)?;
-    let ended = make_all(&machine, first, &seats)?;
-    let opened = opened(alloc, header, ended)?;
-    Ok(opened)
 }

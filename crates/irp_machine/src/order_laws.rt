@@ -1,6 +1,6 @@
 //! Laws of orders. Each is the contract of a function that does nothing.
 
-ghost use Rattle.irp_machine.specs.Replays.{OrdersHaveHistories, ReplaysEndSo};
+ghost use Rattle.irp_machine.specs.Replays.{OrdersHaveHistories, PathsCanBeMade, ReplaysEndSo};
 
 use irp_types::history_goes_on;
 
@@ -15,4 +15,9 @@ pub fn orders_have_histories()
 /// What `replay` gives of the path of an outcome ends as the outcome, the replies aside where only ends are compared.
 pub fn replays_end_so()
     ensures { ReplaysEndSo }
+{}
+
+/// The path of an outcome can be made again: `replay` never answers `NoStep` to it.
+pub fn paths_can_be_made()
+    ensures { PathsCanBeMade }
 {}

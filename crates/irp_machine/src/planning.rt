@@ -1,6 +1,6 @@
 //! The acts of each seat.
 
-ghost use Rattle.std.specs.Prelude.{◌≡◌, IfOk};
+ghost use Rattle.std.specs.Prelude.{◌≡◌, ◌<◌, ◌^◌, IfOk, OnOk, length};
 ghost use Rattle.std.specs.List.{list_any};
 ghost use Rattle.irp_machine.specs.Planning as spec;
 
@@ -66,6 +66,7 @@ fn acts_of_seat(
     steps: &[Step],
     seat: u32,
 ) -> Result<Vec<Planned>, AllocError>
+    requires { length steps.now < 2 ^ 32 }
     ensures { IfOk result (λ acts. acts.items ≡ spec.own_acts rivals.now steps.now 0 seat) }
 {
     let mut acts = Vec::new(alloc);
@@ -74,23 +75,29 @@ fn acts_of_seat(
         if step.seat == seat {
             acts.push(planned(rivals, place, *step))?;
         }
-        if place == u32::MAX {
-            return Err(AllocError);
-        }
         place += 1;
     }
     Ok(acts)
 }
 
 /// The acts of each of so many seats. Labels that others of the rivals bind are read and bound alone.
+///
+/// # Errors
+///
+/// `AllocError` where memory runs out, or there are 2^32 steps or more.
 pub fn acts_of(
     alloc: Global,
     rivals: &[Step],
     steps: &[Step],
     seats: u32,
 ) -> Result<Vec<Row<Planned>>, AllocError>
-    ensures { IfOk result (λ acts. acts.items ≡ spec.acts_below rivals.now steps.now seats) }
+    ensures acts { IfOk result (λ acts.
+        acts.items ≡ spec.acts_below rivals.now steps.now seats) }
+    ensures few { OnOk result (length steps.now < 2 ^ 32) }
 {
+    if steps.len() > u32::MAX as usize {
+        return Err(AllocError);
+    }
     let mut acts = Vec::new(alloc);
     for seat in 0..seats {
         acts.push(Row::from_vec(acts_of_seat(alloc, rivals, steps, seat)?))?;

@@ -1,14 +1,16 @@
 //! One order made again, as a transcript.
 
-ghost use Rattle.std.specs.Prelude.{◌≡◌, ◌<◌, ◌++◌, IfOk, OnOk, [], filter_map, length, true};
+ghost use Rattle.std.specs.Prelude.{◌≡◌, ◌<◌, ◌++◌, IfErr, IfOk, None, OnOk, [], filter_map, length, true};
 ghost use Rattle.irp_types.specs.Histories.{LeadsTo};
-ghost use Rattle.irp_types.specs.State.{AreTables};
 ghost use Rattle.irp_transcript.specs.Headers.{fixed_of};
+ghost use Rattle.irp_script_reader.specs.Sound.{IsSound};
+ghost use Rattle.irp_machine.specs.Headers.{IsHeaderOf};
 ghost use Rattle.irp_machine.specs.Machine.{act_of, seat_at};
 ghost use Rattle.irp_machine.specs.Next.{next_of};
-ghost use Rattle.irp_machine.specs.Openings.{rules_of};
+ghost use Rattle.irp_machine.specs.Openings.{IsStuck, Opens, rules_of};
 ghost use Rattle.irp_machine.specs.Replays as spec;
-ghost use Rattle.irp_machine.specs.Replays.{IsActed, IsReplay, IsSetUp, Plays, PlaysIn};
+ghost use Rattle.irp_machine.specs.Replays.{CantBeMade, IsActed, IsReplay, IsSetUp, Plays, PlaysIn};
+ghost use Rattle.irp_machine.specs.declared.limits.NotMade.TheVariants.{NoStep};
 ghost use Rattle.irp_machine.specs.declared.parts.Next.TheVariants.{Calls};
 
 use crate::header::header_of;
@@ -90,7 +92,7 @@ fn act_again(
 ///
 /// # Errors
 ///
-/// `Script` where the seat isn't there, or has no step left; `Memory` where memory runs out.
+/// `NoStep` where the seat has no step left; `Memory` where memory runs out.
 fn play(
     machine: &ScriptMachine,
     entries: &mut Vec<Entry>,
@@ -102,14 +104,13 @@ fn play(
         (act_of machine.now standing.old seat) standing.new entries.new.items) }
     ensures leads { OnOk result
         (LeadsTo machine.now.fixed entries.new.items standing.new.state) }
+    ensures no_step { IfErr result (λ refusal. refusal ≡ NoStep
+        → act_of machine.now standing.old seat ≡ None) }
 {
     let place = seat as usize;
     let Some(planned) = machine.act_of(standing, place) else {
-        return Err(NotMade::Script);
+        return Err(NotMade::NoStep);
     };
-    if place >= standing.seats().len() {
-        return Err(NotMade::Script);
-    }
     let before = standing.copy()?;
     let change = act_again(machine, entries, standing, &before, seat, planned)?;
     standing.change(place, change, planned.step, machine.tells())?;
@@ -117,6 +118,10 @@ fn play(
 }
 
 /// Makes the steps of these seats, one after another, and records their calls.
+///
+/// # Errors
+///
+/// `NoStep` where a seat has no step left at its turn; `Memory` where memory runs out.
 fn play_all(
     machine: &ScriptMachine,
     entries: &mut Vec<Entry>,
@@ -128,6 +133,8 @@ fn play_all(
         standing.new entries.new.items) }
     ensures leads { OnOk result
         (LeadsTo machine.now.fixed entries.new.items standing.new.state) }
+    ensures no_step { IfErr result (λ refusal. refusal ≡ NoStep
+        → IsStuck machine.now standing.old path.now) }
 {
     for seat in path {
         play(machine, entries, standing, *seat)?;
@@ -141,8 +148,9 @@ fn play_setup(
     header: &Header,
     script: &ScriptParts,
     entries: &mut Vec<Entry>,
-) -> Result<Standing, NotMade>
-    requires tables { AreTables (fixed_of header.now).tables }
+) -> Result<Standing, AllocError>
+    requires headed { IsHeaderOf script.now header.now }
+    requires sound { IsSound script.now }
     requires none { entries.old.items ≡ [] }
     ensures setup { IfOk result (IsSetUp header.now script.now [] entries.new.items) }
     ensures leads { IfOk result (λ start.
@@ -152,12 +160,32 @@ fn play_setup(
     let machine = machine_of(alloc, header, script, &[], setup, false)?;
     let mut standing = first_standing(alloc, header, script)?;
     let seats = seats_of(alloc, setup)?;
-    play_all(&machine, entries, &mut standing, seats.as_slice())?;
-    let opened = opened(alloc, header, standing)?;
-    Ok(opened)
+    match play_all(&machine, entries, &mut standing, seats.as_slice()) {
+        Ok(()) => {
+            let opened = opened(alloc, header, standing)?;
+            Ok(opened)
+        }
+        Err(NotMade::Memory) => Err(AllocError),
+        Err(NotMade::NoStep) => unreachable!(),
+    }
+}
+
+/// Where a script stands behind its setup, which is made in the order of the script.
+pub fn opening(alloc: Global, header: &Header, script: &ScriptParts) -> Result<Standing, AllocError>
+    requires headed { IsHeaderOf script.now header.now }
+    requires sound { IsSound script.now }
+    ensures { IfOk result (Opens header.now script.now) }
+{
+    let mut entries = Vec::new(alloc);
+    let start = play_setup(alloc, header, script, &mut entries)?;
+    Ok(start)
 }
 
 /// Makes the steps of a path, and records their calls.
+///
+/// # Errors
+///
+/// `NoStep` where a seat has no step left at its turn; `Memory` where memory runs out.
 fn play_path(
     alloc: Global,
     header: &Header,
@@ -166,13 +194,17 @@ fn play_path(
     standing: &mut Standing,
     path: &[u32],
 ) -> Result<(), NotMade>
-    requires tables { AreTables (fixed_of header.now).tables }
+    requires headed { IsHeaderOf script.now header.now }
+    requires sound { IsSound script.now }
     requires leads { LeadsTo (fixed_of header.now) entries.old.items standing.old.state }
     ensures plays { OnOk result
         (Plays (rules_of header.now script.now script.now.steps script.now.steps true) standing.old
         entries.old.items path.now standing.new entries.new.items) }
     ensures leads { OnOk result
         (LeadsTo (fixed_of header.now) entries.new.items standing.new.state) }
+    ensures no_step { IfErr result (λ refusal. refusal ≡ NoStep
+        → IsStuck (rules_of header.now script.now script.now.steps script.now.steps true)
+        standing.old path.now) }
 {
     let steps = script.steps.as_slice();
     let machine = machine_of(alloc, header, script, steps, steps, true)?;
@@ -253,16 +285,14 @@ fn words_of(
 ///
 /// # Errors
 ///
-/// `Memory` where memory runs out, and `Script` where the tables of the script aren't within the limits, or a seat of
-/// the path has no step left.
+/// `NoStep` where a seat of the path has no step left at its turn; `Memory` where memory runs out.
 pub fn replay(alloc: Global, script: &Script, path: &[u32]) -> Result<Transcript, NotMade>
     ensures replay { IfOk result (IsReplay script.now path.now) }
+    ensures no_step { IfErr result (λ refusal. refusal ≡ NoStep
+        → CantBeMade script.now path.now) }
 {
     let script = script.parts();
     let header = header_of(alloc, script)?;
-    if !header.is_accepted() {
-        return Err(NotMade::Script);
-    }
     let mut entries = Vec::new(alloc);
     let mut standing = play_setup(alloc, &header, script, &mut entries)?;
     play_path(alloc, &header, script, &mut entries, &mut standing, path)?;

@@ -7,6 +7,7 @@ use Rattle.irp_orders.specs.declared.ending.Ending.TheVariants.{
   Broken,
   NoMemory,
   Met,
+  NoOrder,
   OtherWords,
   RefusedCondition,
   NoOutcome,
@@ -21,6 +22,7 @@ status_of (RefusedScript refusal) = 1
 status_of Broken = 2
 status_of NoMemory = 3
 status_of (Met met) = 3
+status_of NoOrder = 3
 status_of OtherWords = 4
 status_of (RefusedCondition fault) = 4
 status_of (NoOutcome count) = 4

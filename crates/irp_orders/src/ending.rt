@@ -48,6 +48,8 @@ pub enum Ending {
     NoMemory,
     /// A bound was met: status 3.
     Met(NotFound),
+    /// The order of an outcome can't be made again: status 3. It never comes (`paths_can_be_made` of `irp_machine`).
+    NoOrder,
     /// The words are none that the program takes: status 4.
     OtherWords,
     /// The condition isn't one: status 4.
@@ -69,7 +71,7 @@ impl Ending {
             Ending::Done => 0,
             Ending::RefusedScript(_) => 1,
             Ending::Broken => 2,
-            Ending::NoMemory | Ending::Met(_) => 3,
+            Ending::NoMemory | Ending::Met(_) | Ending::NoOrder => 3,
             Ending::OtherWords | Ending::RefusedCondition(_) | Ending::NoOutcome(_) => 4,
             Ending::NoFile { .. } | Ending::Failed => 5,
         }
@@ -100,7 +102,6 @@ fn bound_words(met: NotFound) -> &'static str {
             "more outcomes than there may be; --outcomes N allows more, --ends has fewer",
         NotFound::Steps => "an order has 1,000,000 steps or more; make the script shorter",
         NotFound::Orders => "2^128 orders or more lead to one state; make the script shorter",
-        NotFound::Script => "the script has too many seats or routines",
     }
 }
 
@@ -112,6 +113,7 @@ impl fmt::Display for Ending {
             Ending::RefusedScript(refusal) => write!(f, "irp_orders: script refused: {refusal}"),
             Ending::NoMemory => f.write_str("irp_orders: out of memory"),
             Ending::Met(met) => write!(f, "irp_orders: {}", bound_words(*met)),
+            Ending::NoOrder => f.write_str("irp_orders: an order can't be made again"),
             Ending::OtherWords => f.write_str(
                 "irp_orders: usage: irp_orders [--show K or --never CONDITION] [FILE]; see irp_orders --help",
             ),
@@ -174,7 +176,7 @@ impl From<NotMade> for Ending {
     fn from(given: NotMade) -> Ending {
         match given {
             NotMade::Memory => Ending::NoMemory,
-            NotMade::Script => Ending::Met(NotFound::Script),
+            NotMade::NoStep => Ending::NoOrder,
         }
     }
 }

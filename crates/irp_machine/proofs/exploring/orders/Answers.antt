@@ -1,10 +1,11 @@
-use Rattle.std.proofs.Common.{◌≡◌, ◌+◌, ℕ, Bool, List, length, refl, sym, ap, subst, ◌∙◌, arith}
+use Rattle.std.proofs.Common.{◌≡◌, ◌+◌, ℕ, Bool, List, get_or, length, sym, ap, subst, ◌∙◌, arith}
 use Rattle.std.proofs.lemmas.Result.{err_from_is_err_and}
 use Rattle.irp_transcript.specs.Headers.{IsHeader}
 use Rattle.irp_transcript.specs.declared.header.Header.{Header}
 use Rattle.irp_explore.specs.Counted.{HasManyOrders}
 use Rattle.irp_explore.specs.Nodes.{HasMoreStates, HasOrderOf}
 use Rattle.irp_explore.specs.Orders.{Moves}
+use Rattle.irp_script_reader.specs.Sound.{IsSound}
 use Rattle.irp_script_reader.specs.declared.act.Step.{Step}
 use Rattle.irp_script_reader.specs.declared.script.ScriptParts.{ScriptParts}
 use Rattle.irp_machine.specs.Headers.{IsHeaderOf}
@@ -15,7 +16,8 @@ use Rattle.irp_machine.specs.Orders.{AreOutcomes, AreOutcomesOf, HasMoreEnds, Is
 use Rattle.irp_machine.specs.Standings.{StandingValue}
 use Rattle.irp_machine.specs.declared.place.Place.{Place}
 use Rattle.irp_machine.specs.declared.place.Place.TheVariants.{Running}
-use Rattle.irp_machine.proofs.Outcomes.{outcomes_hold, tell_long}
+use Rattle.irp_machine.proofs.Accepted.{header_accepted}
+use Rattle.irp_machine.proofs.Outcomes.{closed_of, outcomes_hold, tell_long}
 use Rattle.irp_machine.proofs.exploring.orders.Goals as goal
 
 -- the rules by which a machine was made
@@ -40,15 +42,20 @@ met_by script own header tells machine start bound same headed accepted opens ru
     } in
     subst (λ (script : ScriptParts). IsMet script tells bound) same made
 
+pub outcomes_of-requires : goal.outcomes_of-requires
+outcomes_of-requires c = λ k d low.
+    closed_of c.in_ok-machine.machine c.in_ok-standing.standing (get_or c.in_ok-found.found.items k d) (c.in_ok-found.ensures.orders.sound k d low)
+
 pub returns-clause-outcomes : goal.returns-clause-outcomes
 returns-clause-outcomes c =
-    let accepted : IsHeader c.in_ok-header.header = c.if-not-is_accepted.ensures.0 refl in
     let header = c.in_ok-header.header in
     let script = c.parts-script.result.now in
+    let sound = subst (λ (script : ScriptParts). IsSound script) (sym c.parts-script.ensures.parts) c.parts-script.ensures.sound in
+    let accepted : IsHeader header = header_accepted script header sound c.in_ok-header.ensures in
     let start = c.in_ok-standing.standing in
     let outcomes = c.in_ok-outcomes.outcomes.items in
     let tells = tells_replies c.args.compared in
-    let rules = ruled header script c.in_ok-machine.machine c.as_slice-steps.result.now c.tells.result tells c.in_ok-machine.ensures c.as_slice-steps.ensures c.tells.ensures in
+    let rules = ruled header script c.in_ok-machine.machine c.as_slice-steps.result.now c.tells.result tells c.in_ok-machine.ensures.machine c.as_slice-steps.ensures c.tells.ensures in
     let whole = outcomes_hold c.in_ok-machine.machine start c.in_ok-found.found.items outcomes c.in_ok-found.ensures.orders c.in_ok-outcomes.ensures in
     let made : AreOutcomesOf script tells outcomes = record {
       header = header;
@@ -70,11 +77,12 @@ returns-in_err-found-clause-too_long c =
     let p = err_from_is_err_and c.from_residual-in_err-found.result c.from_residual-in_err-found.ensures.1 in
     let header = c.in_ok-header.header in
     let script = c.parts-script.result.now in
+    let sound = subst (λ (script : ScriptParts). IsSound script) (sym c.parts-script.ensures.parts) c.parts-script.ensures.sound in
     let tells = tells_replies c.args.compared in
-    let rules = ruled header script c.in_ok-machine.machine c.as_slice-steps.result.now c.tells.result tells c.in_ok-machine.ensures c.as_slice-steps.ensures c.tells.ensures in
+    let rules = ruled header script c.in_ok-machine.machine c.as_slice-steps.result.now c.tells.result tells c.in_ok-machine.ensures.machine c.as_slice-steps.ensures c.tells.ensures in
     rw p.1 (λ same.
     met_by script c.args.script.now header tells c.in_ok-machine.machine c.in_ok-standing.standing (λ moves seats start. HasOrderOf moves seats start c.args.limits.steps)
-    c.parts-script.ensures.parts c.in_ok-header.ensures (c.if-not-is_accepted.ensures.0 refl) c.in_ok-standing.ensures rules
+    c.parts-script.ensures.parts c.in_ok-header.ensures (header_accepted script header sound c.in_ok-header.ensures) c.in_ok-standing.ensures rules
     (c.in_err-found.ensures.too_long (sym p.2 ∙ same)))
 
 pub returns-in_err-found-clause-too_many : goal.returns-in_err-found-clause-too_many
@@ -82,11 +90,12 @@ returns-in_err-found-clause-too_many c =
     let p = err_from_is_err_and c.from_residual-in_err-found.result c.from_residual-in_err-found.ensures.1 in
     let header = c.in_ok-header.header in
     let script = c.parts-script.result.now in
+    let sound = subst (λ (script : ScriptParts). IsSound script) (sym c.parts-script.ensures.parts) c.parts-script.ensures.sound in
     let tells = tells_replies c.args.compared in
-    let rules = ruled header script c.in_ok-machine.machine c.as_slice-steps.result.now c.tells.result tells c.in_ok-machine.ensures c.as_slice-steps.ensures c.tells.ensures in
+    let rules = ruled header script c.in_ok-machine.machine c.as_slice-steps.result.now c.tells.result tells c.in_ok-machine.ensures.machine c.as_slice-steps.ensures c.tells.ensures in
     rw p.1 (λ same.
     met_by script c.args.script.now header tells c.in_ok-machine.machine c.in_ok-standing.standing (λ moves seats start. HasMoreStates moves seats place_mark start c.args.limits.states)
-    c.parts-script.ensures.parts c.in_ok-header.ensures (c.if-not-is_accepted.ensures.0 refl) c.in_ok-standing.ensures rules
+    c.parts-script.ensures.parts c.in_ok-header.ensures (header_accepted script header sound c.in_ok-header.ensures) c.in_ok-standing.ensures rules
     (c.in_err-found.ensures.too_many (sym p.2 ∙ same)))
 
 pub returns-in_err-found-clause-too_many_orders : goal.returns-in_err-found-clause-too_many_orders
@@ -94,11 +103,12 @@ returns-in_err-found-clause-too_many_orders c =
     let p = err_from_is_err_and c.from_residual-in_err-found.result c.from_residual-in_err-found.ensures.1 in
     let header = c.in_ok-header.header in
     let script = c.parts-script.result.now in
+    let sound = subst (λ (script : ScriptParts). IsSound script) (sym c.parts-script.ensures.parts) c.parts-script.ensures.sound in
     let tells = tells_replies c.args.compared in
-    let rules = ruled header script c.in_ok-machine.machine c.as_slice-steps.result.now c.tells.result tells c.in_ok-machine.ensures c.as_slice-steps.ensures c.tells.ensures in
+    let rules = ruled header script c.in_ok-machine.machine c.as_slice-steps.result.now c.tells.result tells c.in_ok-machine.ensures.machine c.as_slice-steps.ensures c.tells.ensures in
     rw p.1 (λ same.
     met_by script c.args.script.now header tells c.in_ok-machine.machine c.in_ok-standing.standing (λ moves seats start. HasManyOrders moves seats start)
-    c.parts-script.ensures.parts c.in_ok-header.ensures (c.if-not-is_accepted.ensures.0 refl) c.in_ok-standing.ensures rules
+    c.parts-script.ensures.parts c.in_ok-header.ensures (header_accepted script header sound c.in_ok-header.ensures) c.in_ok-standing.ensures rules
     (c.in_err-found.ensures.too_many_orders (sym p.2 ∙ same)))
 
 pub returns-in_err-found-clause-too_many_ends : goal.returns-in_err-found-clause-too_many_ends
@@ -106,9 +116,10 @@ returns-in_err-found-clause-too_many_ends c =
     let p = err_from_is_err_and c.from_residual-in_err-found.result c.from_residual-in_err-found.ensures.1 in
     let header = c.in_ok-header.header in
     let script = c.parts-script.result.now in
+    let sound = subst (λ (script : ScriptParts). IsSound script) (sym c.parts-script.ensures.parts) c.parts-script.ensures.sound in
     let tells = tells_replies c.args.compared in
-    let rules = ruled header script c.in_ok-machine.machine c.as_slice-steps.result.now c.tells.result tells c.in_ok-machine.ensures c.as_slice-steps.ensures c.tells.ensures in
+    let rules = ruled header script c.in_ok-machine.machine c.as_slice-steps.result.now c.tells.result tells c.in_ok-machine.ensures.machine c.as_slice-steps.ensures c.tells.ensures in
     rw p.1 (λ same.
     met_by script c.args.script.now header tells c.in_ok-machine.machine c.in_ok-standing.standing (λ moves seats start. HasMoreEnds moves seats start c.args.limits.outcomes)
-    c.parts-script.ensures.parts c.in_ok-header.ensures (c.if-not-is_accepted.ensures.0 refl) c.in_ok-standing.ensures rules
+    c.parts-script.ensures.parts c.in_ok-header.ensures (header_accepted script header sound c.in_ok-header.ensures) c.in_ok-standing.ensures rules
     (c.in_err-found.ensures.too_many_ends (sym p.2 ∙ same)))

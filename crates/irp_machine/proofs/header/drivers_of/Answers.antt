@@ -1,7 +1,6 @@
 use Rattle.std.proofs.Common.{◌+◌, List, take, sym, subst, arith}
-use Rattle.std.specs.Prelude.{IsPermutation}
 use Rattle.irp_types.specs.State.{Entrance}
-use Rattle.irp_machine.specs.Headers.{AreSorted}
+use Rattle.irp_machine.specs.Headers.{AreSorted, IsSorted}
 use Rattle.irp_machine.proofs.Sorting.{sorted_next}
 use Rattle.irp_machine.proofs.header.drivers_of.Goals as goal
 
@@ -12,4 +11,4 @@ loop-driver-preserved c =
     let one = c.in_ok-driver_of.field-0 in
     subst (λ (sorted : List (List Entrance)). AreSorted (take (place + 1) drivers) sorted) (sym {A = List (List Entrance)} c.in_ok-push.ensures.items)
     (sorted_next drivers c.loop-driver.sorted.items place c.driver-item.result one (omega (arith, c.loop-driver-test.true)) c.driver-item.is c.loop-driver.invariant
-    (subst (λ (driver : List Entrance). IsPermutation driver one) c.as_slice.ensures c.in_ok-driver_of.ensures))
+    (subst (λ (driver : List Entrance). IsSorted driver one) c.as_slice.ensures c.in_ok-driver_of.ensures))
