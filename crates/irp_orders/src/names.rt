@@ -1,7 +1,8 @@
 //! The names of statuses and refusals, for conditions that are read.
 
 use irp_condition::{Named, Value};
-use irp_names::{refusal_name, status_name};
+use irp_forms::HasName;
+use irp_names::status_name;
 use irp_types::{Refusal, Status};
 use std::alloc::{AllocError, Global};
 
@@ -44,39 +45,6 @@ const STATUSES: [Status; 35] = [
     Status(0xC000_0185),
 ];
 
-/// All refusals.
-const REFUSALS: [Refusal; 29] = [
-    Refusal::NoIrp,
-    Refusal::Stale,
-    Refusal::NoDevice,
-    Refusal::DeviceGone,
-    Refusal::NotOwner,
-    Refusal::NoLocation,
-    Refusal::NotPrepared,
-    Refusal::AfterSkip,
-    Refusal::TooShort,
-    Refusal::WrongTarget,
-    Refusal::NoRoutine,
-    Refusal::BadStatus,
-    Refusal::CancelRoutineSet,
-    Refusal::AlreadyCancelled,
-    Refusal::InFlight,
-    Refusal::StillAttached,
-    Refusal::SameStack,
-    Refusal::TooDeep,
-    Refusal::Full,
-    Refusal::NothingAttached,
-    Refusal::NotDrained,
-    Refusal::BadSize,
-    Refusal::BadMajor,
-    Refusal::NoDriver,
-    Refusal::Ended,
-    Refusal::HistoryFull,
-    Refusal::NoLock,
-    Refusal::SlotHeld,
-    Refusal::NotSlotHeld,
-];
-
 /// The names that values have in conditions.
 #[derive(Drop)]
 pub struct Names {
@@ -99,8 +67,8 @@ fn status_names(alloc: Global) -> Result<Vec<Named>, AllocError> {
 /// The names of the refusals.
 fn refusal_names(alloc: Global) -> Result<Vec<Named>, AllocError> {
     let mut names = Vec::new(alloc);
-    for refusal in REFUSALS {
-        let (name, value) = (refusal_name(refusal), Value::Refused(refusal));
+    for refusal in Refusal::all() {
+        let (name, value) = (refusal.name(), Value::Refused(*refusal));
         names.push(Named { name, value })?;
     }
     Ok(names)

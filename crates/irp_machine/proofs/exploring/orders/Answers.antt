@@ -28,19 +28,21 @@ ruled header script machine steps shown tells made steps_are shown_is =
     ∙ ap (λ (tells : Bool). rules_of header script script.steps script.steps tells) shown_is
 
 -- a bound that a machine's orders meet is one that the script's orders meet
-met_by : (script own : ScriptParts) (header : Header) (tells : Bool) (machine : RulesValue) (start : StandingValue) (bound : Moves Place → ℕ → Place → Type 0)
-    → script ≡ own → IsHeaderOf script header → IsHeader header → Opens header script start → machine ≡ rules_of header script script.steps script.steps tells
-    → bound (PlaceSteps machine) (length machine.acts + 1) (Running start) → IsMet own tells bound
-met_by script own header tells machine start bound same headed accepted opens ruled met =
-    let made : IsMet script tells bound = record {
+met_by : (script own : ScriptParts) (header : Header) (machine : RulesValue) (start : StandingValue) (steps : List Step) (shown tells : Bool) (bound : Moves Place → ℕ → Place → Type 0)
+    → script ≡ own → IsSound own → IsHeaderOf script header → Opens header script start → machine ≡ rules_of header script steps steps shown
+    → steps ≡ script.steps → shown ≡ tells → bound (PlaceSteps machine) (length machine.acts + 1) (Running start) → IsMet own tells bound
+met_by script own header machine start steps shown tells bound same sound headed opens made steps_are shown_is met =
+    let whole : IsMet script tells bound = record {
       header = header;
       headed = headed;
-      accepted = accepted;
+      accepted = header_accepted script header (subst (λ (script : ScriptParts). IsSound script) (sym same) sound) headed;
       start = start;
       opens = opens;
-      met = subst (λ (rules : RulesValue). bound (PlaceSteps rules) (length rules.acts + 1) (Running start)) ruled met;
+      met =
+          subst (λ (rules : RulesValue). bound (PlaceSteps rules) (length rules.acts + 1) (Running start))
+          (ruled header script machine steps shown tells made steps_are shown_is) met;
     } in
-    subst (λ (script : ScriptParts). IsMet script tells bound) same made
+    subst (λ (script : ScriptParts). IsMet script tells bound) same whole
 
 pub outcomes_of-requires : goal.outcomes_of-requires
 outcomes_of-requires c = λ k d low.
@@ -75,51 +77,35 @@ returns-clause-few c =
 pub returns-in_err-found-clause-too_long : goal.returns-in_err-found-clause-too_long
 returns-in_err-found-clause-too_long c =
     let p = err_from_is_err_and c.from_residual-in_err-found.result c.from_residual-in_err-found.ensures.1 in
-    let header = c.in_ok-header.header in
-    let script = c.parts-script.result.now in
-    let sound = subst (λ (script : ScriptParts). IsSound script) (sym c.parts-script.ensures.parts) c.parts-script.ensures.sound in
-    let tells = tells_replies c.args.compared in
-    let rules = ruled header script c.in_ok-machine.machine c.as_slice-steps.result.now c.tells.result tells c.in_ok-machine.ensures.machine c.as_slice-steps.ensures c.tells.ensures in
     rw p.1 (λ same.
-    met_by script c.args.script.now header tells c.in_ok-machine.machine c.in_ok-standing.standing (λ moves seats start. HasOrderOf moves seats start c.args.limits.steps)
-    c.parts-script.ensures.parts c.in_ok-header.ensures (header_accepted script header sound c.in_ok-header.ensures) c.in_ok-standing.ensures rules
+    met_by c.parts-script.result.now c.args.script.now c.in_ok-header.header c.in_ok-machine.machine c.in_ok-standing.standing c.as_slice-steps.result.now c.tells.result
+    (tells_replies c.args.compared) (λ moves seats start. HasOrderOf moves seats start c.args.limits.steps)
+    c.parts-script.ensures.parts c.parts-script.ensures.sound c.in_ok-header.ensures c.in_ok-standing.ensures c.in_ok-machine.ensures.machine c.as_slice-steps.ensures c.tells.ensures
     (c.in_err-found.ensures.too_long (sym p.2 ∙ same)))
 
 pub returns-in_err-found-clause-too_many : goal.returns-in_err-found-clause-too_many
 returns-in_err-found-clause-too_many c =
     let p = err_from_is_err_and c.from_residual-in_err-found.result c.from_residual-in_err-found.ensures.1 in
-    let header = c.in_ok-header.header in
-    let script = c.parts-script.result.now in
-    let sound = subst (λ (script : ScriptParts). IsSound script) (sym c.parts-script.ensures.parts) c.parts-script.ensures.sound in
-    let tells = tells_replies c.args.compared in
-    let rules = ruled header script c.in_ok-machine.machine c.as_slice-steps.result.now c.tells.result tells c.in_ok-machine.ensures.machine c.as_slice-steps.ensures c.tells.ensures in
     rw p.1 (λ same.
-    met_by script c.args.script.now header tells c.in_ok-machine.machine c.in_ok-standing.standing (λ moves seats start. HasMoreStates moves seats place_mark start c.args.limits.states)
-    c.parts-script.ensures.parts c.in_ok-header.ensures (header_accepted script header sound c.in_ok-header.ensures) c.in_ok-standing.ensures rules
+    met_by c.parts-script.result.now c.args.script.now c.in_ok-header.header c.in_ok-machine.machine c.in_ok-standing.standing c.as_slice-steps.result.now c.tells.result
+    (tells_replies c.args.compared) (λ moves seats start. HasMoreStates moves seats place_mark start c.args.limits.states)
+    c.parts-script.ensures.parts c.parts-script.ensures.sound c.in_ok-header.ensures c.in_ok-standing.ensures c.in_ok-machine.ensures.machine c.as_slice-steps.ensures c.tells.ensures
     (c.in_err-found.ensures.too_many (sym p.2 ∙ same)))
 
 pub returns-in_err-found-clause-too_many_orders : goal.returns-in_err-found-clause-too_many_orders
 returns-in_err-found-clause-too_many_orders c =
     let p = err_from_is_err_and c.from_residual-in_err-found.result c.from_residual-in_err-found.ensures.1 in
-    let header = c.in_ok-header.header in
-    let script = c.parts-script.result.now in
-    let sound = subst (λ (script : ScriptParts). IsSound script) (sym c.parts-script.ensures.parts) c.parts-script.ensures.sound in
-    let tells = tells_replies c.args.compared in
-    let rules = ruled header script c.in_ok-machine.machine c.as_slice-steps.result.now c.tells.result tells c.in_ok-machine.ensures.machine c.as_slice-steps.ensures c.tells.ensures in
     rw p.1 (λ same.
-    met_by script c.args.script.now header tells c.in_ok-machine.machine c.in_ok-standing.standing (λ moves seats start. HasManyOrders moves seats start)
-    c.parts-script.ensures.parts c.in_ok-header.ensures (header_accepted script header sound c.in_ok-header.ensures) c.in_ok-standing.ensures rules
+    met_by c.parts-script.result.now c.args.script.now c.in_ok-header.header c.in_ok-machine.machine c.in_ok-standing.standing c.as_slice-steps.result.now c.tells.result
+    (tells_replies c.args.compared) (λ moves seats start. HasManyOrders moves seats start)
+    c.parts-script.ensures.parts c.parts-script.ensures.sound c.in_ok-header.ensures c.in_ok-standing.ensures c.in_ok-machine.ensures.machine c.as_slice-steps.ensures c.tells.ensures
     (c.in_err-found.ensures.too_many_orders (sym p.2 ∙ same)))
 
 pub returns-in_err-found-clause-too_many_ends : goal.returns-in_err-found-clause-too_many_ends
 returns-in_err-found-clause-too_many_ends c =
     let p = err_from_is_err_and c.from_residual-in_err-found.result c.from_residual-in_err-found.ensures.1 in
-    let header = c.in_ok-header.header in
-    let script = c.parts-script.result.now in
-    let sound = subst (λ (script : ScriptParts). IsSound script) (sym c.parts-script.ensures.parts) c.parts-script.ensures.sound in
-    let tells = tells_replies c.args.compared in
-    let rules = ruled header script c.in_ok-machine.machine c.as_slice-steps.result.now c.tells.result tells c.in_ok-machine.ensures.machine c.as_slice-steps.ensures c.tells.ensures in
     rw p.1 (λ same.
-    met_by script c.args.script.now header tells c.in_ok-machine.machine c.in_ok-standing.standing (λ moves seats start. HasMoreEnds moves seats start c.args.limits.outcomes)
-    c.parts-script.ensures.parts c.in_ok-header.ensures (header_accepted script header sound c.in_ok-header.ensures) c.in_ok-standing.ensures rules
+    met_by c.parts-script.result.now c.args.script.now c.in_ok-header.header c.in_ok-machine.machine c.in_ok-standing.standing c.as_slice-steps.result.now c.tells.result
+    (tells_replies c.args.compared) (λ moves seats start. HasMoreEnds moves seats start c.args.limits.outcomes)
+    c.parts-script.ensures.parts c.parts-script.ensures.sound c.in_ok-header.ensures c.in_ok-standing.ensures c.in_ok-machine.ensures.machine c.as_slice-steps.ensures c.tells.ensures
     (c.in_err-found.ensures.too_many_ends (sym p.2 ∙ same)))
