@@ -234,8 +234,7 @@ fn gather<'a, L: Session>(
 /// isn't there, one whose call isn't recorded, a hand to a seat that its worker doesn't have, and a publish or a
 /// withdraw in a slot of another seat stops its worker, which says so; in the setup, nothing more is run. The gate is
 /// called before and after each of the script's `steps`, with its seat and its place, outside the session's lock
-/// (tests show it, no clause). A step of the setup on a lock or a slot, which no script that was read has, has no
-/// word line.
+/// (tests show it, no clause). A step of the setup on a lock or a slot, which no `Script` has, has no word line.
 ///
 /// All remove seats were opened with these locks, and all that the seats have at slots with these slots, which are the
 /// conditions of this call.

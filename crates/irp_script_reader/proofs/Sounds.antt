@@ -18,7 +18,7 @@ use Rattle.irp_types.specs.declared.{routine.Known.Known, answer.Plan.Plan, rout
 use Rattle.irp_types.specs.declared.routine.Rule.TheVariants.{Watch, Change, Keeper, KeepOnError, Free}
 use Rattle.irp_script_reader.specs.Acts.{step_at}
 use Rattle.irp_script_reader.specs.Forms.{may_do, may_plan, slots_of, suits_setup}
-use Rattle.irp_script_reader.specs.Labels.{label_at, place_among, with_labels}
+use Rattle.irp_script_reader.specs.Labels.{label_at, place_among, place_of, with_label, with_labels}
 use Rattle.irp_script_reader.specs.Members.{may_have, takes_cancel, takes_completion, takes_dispatch, takes_driver, takes_step}
 use Rattle.irp_script_reader.specs.Plans.{is_driver, is_plan_sound, names_known}
 use Rattle.irp_script_reader.specs.Routines.{completion_at, counted, obeys_its_rule, one_more}
@@ -299,7 +299,20 @@ IsListed form seats in_setup step = IsStep form seats step × (not in_setup || s
 
 abbrev AreSteps : ScriptForm → ℕ → Bool → Steps → Type 0
 AreSteps form seats in_setup list =
-    (list.form ≡ form) × (list.seats ≡ seats) × (list.in_setup ≡ in_setup) × All (IsListed form seats in_setup) list.steps
+    (list.form ≡ form) × (list.seats ≡ seats) × (list.in_setup ≡ in_setup) × (length list.labels ≤ 4096)
+    × All (IsListed form seats in_setup) list.steps
+
+label_by : (labels : List (List ℕ)) (label : List ℕ) (known room : Bool) → room ≡ nat_lt (length labels) 4096 → length labels ≤ 4096
+    → IfOk (if known then Ok labels else (if room then Ok (labels ++ label ∷ []) else Err TooMany)) (λ more. length more ≤ 4096)
+label_by labels label true room is few = few
+label_by labels label false true is few = few_more labels label 4096 (sym is)
+label_by labels label false false is few = tt
+
+labels_kept : (labels : List (List ℕ)) (label : Option (List ℕ)) → length labels ≤ 4096 → IfOk (with_labels labels label) (λ more. length more ≤ 4096)
+unfolding with_label
+labels_kept labels None few = few
+labels_kept labels (Some label) few =
+    label_by labels label (nat_lt (place_of label labels) (length labels)) (nat_lt (length labels) 4096) refl few
 
 may_is : (list : Steps) (step : Step) → may_have list step ≡ true → IsListed list.form list.seats list.in_setup step
 may_is list step may =
@@ -313,11 +326,14 @@ unfolding takes_step
 step_kept form seats in_setup list given has =
     then_any (ok_or (step_at (place_among list.labels (label_at given)) given) BadField) _ (AreSteps form seats in_setup) (λ step read.
     then_if (may_have list step) BadField _ (AreSteps form seats in_setup) (λ may.
-    then_any (with_labels list.labels (label_at given)) _ (AreSteps form seats in_setup) (λ labels named. (
+    then_from (with_labels list.labels (label_at given)) _ (λ more. length more ≤ 4096) (AreSteps form seats in_setup)
+    (labels_kept list.labels (label_at given) has.3)
+    (λ labels few. (
       has.0,
       has.1,
       has.2,
-      All-push (IsListed form seats in_setup) list.steps step has.3
+      few,
+      All-push (IsListed form seats in_setup) list.steps step has.4
           (subst (λ to. IsListed to seats in_setup step) has.0
           (subst (λ to. IsListed list.form to in_setup step) has.1
           (subst (λ to. IsListed list.form list.seats to step) has.2 (may_is list step may)))),
@@ -330,13 +346,13 @@ steps_kept form seats whole =
     then_from (list_at takes_step section.Setup (codes "setup") (no_steps form seats true []) whole) _
     (AreSteps form seats true) _
     (list_kept takes_step section.Setup (AreSteps form seats true) (step_kept form seats true)
-    (codes "setup") (no_steps form seats true []) whole (refl, refl, refl, All-nil _))
+    (codes "setup") (no_steps form seats true []) whole (refl, refl, refl, omega arith, All-nil _))
     (λ setup seated.
     then_from (list_at takes_step section.Steps (codes "steps") (no_steps form seats false setup.labels) whole) _
     (AreSteps form seats false) _
     (list_kept takes_step section.Steps (AreSteps form seats false) (step_kept form seats false)
-    (codes "steps") (no_steps form seats false setup.labels) whole (refl, refl, refl, All-nil _))
-    (λ steps others. (seated.3, others)))
+    (codes "steps") (no_steps form seats false setup.labels) whole (refl, refl, refl, seated.3, All-nil _))
+    (λ steps others. (seated.4, others)))
 
 -- ---- seats, locks and cancel slots
 
@@ -447,11 +463,12 @@ script_sound whole =
       few_routines = subst (λ known. IsWithin known most_known) obey.1 obey.2;
       few_dispatches = named.0;
       few_drivers = named.2.1;
+      few_labels = listed.1.3;
       completions = obey.0;
       dispatches = subst (λ known. All (IsPlan form known) tables.0) obey.1 named.1;
       drivers = named.2.2;
       setup = listed.0;
-      steps = λ k step within. (listed.1.3 k step within).0;
+      steps = λ k step within. (listed.1.4 k step within).0;
     }))))))))
 
 pub told_sound : (result : Result ScriptParts ScriptFault) (whole : Data) → Tells result (script_at whole) → IfOk result IsSound

@@ -7,6 +7,7 @@ use Rattle.irp_types.specs.State.{most_known, no_routines}
 use Rattle.irp_types.specs.declared.{answer.Plan.Plan, routine.Known.Known, routine.Rule.Rule}
 use Rattle.irp_types.specs.declared.routine.Rule.TheVariants.{Watch, Change, Keeper, KeepOnError, Free}
 use Rattle.irp_script_reader.specs.Forms.{may_do, may_plan, slots_of, suits_setup}
+use Rattle.irp_script_reader.specs.Labels.{most_labels}
 use Rattle.irp_script_reader.specs.Plans.{is_driver, is_plan_sound, names_known}
 use Rattle.irp_script_reader.specs.Routines.{obeys_its_rule}
 use Rattle.irp_script_reader.specs.declared.{act.Step.Step, script.CompletionRoutine.CompletionRoutine}
@@ -50,6 +51,7 @@ pub record IsSound (script : ScriptParts) : Type 0 where
   pub few_routines : IsWithin (known_of script) most_known
   pub few_dispatches : length script.dispatches ≤ most_dispatches
   pub few_drivers : length script.drivers ≤ most_drivers
+  pub few_labels : script.labels ≤ most_labels
   pub completions : All (λ routine. obeys_its_rule routine ≡ true) script.completions
   pub dispatches : All (IsPlan script.form (known_of script)) script.dispatches
   pub drivers : All (λ handlers. is_driver (length script.dispatches) handlers ≡ true) script.drivers

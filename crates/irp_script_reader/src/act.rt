@@ -26,7 +26,7 @@ pub enum StepAct {
     /// An act on a remove lock, in the step's own seat alone.
     OnLock(LockAct),
     /// The step's own seat gives one of its references to a remove lock, by lock and tag, to another seat. Only form
-    /// 2 has it. In a script that was read the other seat is there, and isn't the own.
+    /// 2 has it. In a `Script` the other seat is there, and isn't the own.
     Hand(Hand),
     /// Puts the use of a packet into a cancel slot. Only form 2 has it.
     Publish { slot: u32, irp: Named },
@@ -39,7 +39,7 @@ pub enum StepAct {
 /// A step of a script, and the seat that makes it.
 #[derive(Clone, Copy, PartialEq, Eq, Debug)]
 pub struct Step {
-    /// The seat, from 0. In a script that was read it is below the script's `seats`.
+    /// The seat, from 0. In a `Script` it is below the script's `seats`.
     pub seat: u32,
     /// What it does.
     pub act: StepAct,

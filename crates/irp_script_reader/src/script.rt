@@ -77,7 +77,8 @@ pub struct ScriptParts {
     pub setup: Row<Step>,
     /// The steps of the workers.
     pub steps: Row<Step>,
-    /// How many labels the steps name, at most 4,096 in a script that was read, where each label's place is below it.
+    /// How many labels the steps name, at most 4,096 in a `Script`. In one that was read each label's place is below
+    /// it.
     pub labels: usize,
 }
 
