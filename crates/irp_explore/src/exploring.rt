@@ -250,8 +250,8 @@ fn first_layer<M: Machine>(
 }
 
 /// Explores each order of the steps of a machine's seats, from a state on. Returns each state in which an order ends,
-/// with how many orders end there and some of them, among which is one that changes its seat least often, in the order
-/// of their marks (this project's own rule).
+/// with how many orders end there and some of them, among which is one that changes its seat least often. They come in
+/// the order of their marks, which no clause says (this project's own rule).
 ///
 /// # Errors
 ///
@@ -288,13 +288,13 @@ pub fn explore<M: Machine>(
     // As many different orders as are told of it lead to each state that was found.
     ensures counted { IfOk result (λ found.
         AreCounted (M.moves machine.now) (M.seats machine.now) start found.items) }
-    // No order has more steps than were allowed, and no more states are found.
+    // Each order has fewer than `most_steps` steps, and no more states are found than were allowed.
     ensures steps { IfOk result (λ found. (path : List ℕ) (last : M.State)
         → Leads (M.moves machine.now) (M.seats machine.now) start path last
         → length path < most_steps) }
     ensures few { IfOk result (λ found. length found.items ≤ most_states) }
-    // Some order has as many steps as were allowed, there are more states, or 2^128 different orders or more lead to
-    // one state, where the answer says so.
+    // Some order has `most_steps` steps, there are more states than were allowed, or 2^128 different orders or more
+    // lead to one state, where the answer says so.
     ensures too_long { IfErr result (λ refusal. refusal ≡ Steps
         → HasOrderOf (M.moves machine.now) (M.seats machine.now) start most_steps) }
     ensures too_many { IfErr result (λ refusal. refusal ≡ States

@@ -11,4 +11,5 @@ pub mod Repeats
 pub mod Rising
 pub mod Setup
 pub mod Sorting
+pub mod Stuck
 pub mod Untold

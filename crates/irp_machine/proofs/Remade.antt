@@ -14,10 +14,11 @@ use Rattle.irp_machine.specs.Settled.{steps_settled}
 use Rattle.irp_machine.specs.Standings.{StandingValue}
 use Rattle.irp_machine.proofs.Histories.{start_untold, starts_once}
 use Rattle.irp_machine.proofs.OneHeader.{header_once}
+use Rattle.irp_machine.proofs.Stuck.{Stops, stops_of}
 use Rattle.irp_machine.proofs.Untold.{act_untold, silent, steps_untold, untold}
 
 -- a path that was made isn't stuck
-never_both : (rules : RulesValue) (old : StandingValue) (path : List ℕ) (last : StandingValue) → MakesAll rules old path last → IsStuck rules old path → ⊥
+never_both : (rules : RulesValue) (old : StandingValue) (path : List ℕ) (last : StandingValue) → MakesAll rules old path last → Stops rules old path → ⊥
 never_both rules old [] last makes stuck = stuck
 never_both rules old (seat ∷ path) last makes (inl none) =
     none-some makes.0 (sym (subst (λ (act : Option Planned). StepsTo rules old seat act (Some makes.0)) none makes.1))
@@ -26,7 +27,7 @@ never_both rules old (seat ∷ path) last makes (inr (other, steps, stuck)) =
     never_both rules other path last (subst (λ (middle : StandingValue). MakesAll rules middle path last) same makes.2) stuck
 
 -- a path that is stuck is so without what was told
-stuck_untold : (rules : RulesValue) (old : StandingValue) (path : List ℕ) → IsStuck rules old path → IsStuck (silent rules) (untold old) path
+stuck_untold : (rules : RulesValue) (old : StandingValue) (path : List ℕ) → Stops rules old path → Stops (silent rules) (untold old) path
 stuck_untold rules old [] stuck = stuck
 stuck_untold rules old (seat ∷ path) (inl none) = inl (act_untold rules old seat ∙ none)
 stuck_untold rules old (seat ∷ path) (inr (middle, steps, stuck)) =
@@ -38,13 +39,13 @@ stuck_untold rules old (seat ∷ path) (inr (middle, steps, stuck)) =
     )
 
 order_made : (header : Header) (script : ScriptParts) (tells : Bool) (start : StandingValue) (path : List ℕ) (end : End) → Opens header script start
-    → IsOrder (rules_of header script script.steps script.steps tells) start path end → IsStuck (rules_of header script script.steps script.steps true) start path → ⊥
+    → IsOrder (rules_of header script script.steps script.steps tells) start path end → Stops (rules_of header script script.steps script.steps true) start path → ⊥
 order_made header script true start path end opens order stuck =
     never_both (rules_of header script script.steps script.steps true) start path order.0 order.1 stuck
 order_made header script false start path end opens order stuck =
     let rules = rules_of header script script.steps script.steps true in
     never_both (silent rules) start path order.0 order.1
-    (subst (λ (start : StandingValue). IsStuck (silent rules) start path) (start_untold header script start opens) (stuck_untold rules start path stuck))
+    (subst (λ (start : StandingValue). Stops (silent rules) start path) (start_untold header script start opens) (stuck_untold rules start path stuck))
 
 pub paths_made : PathsCanBeMade
 paths_made script tells outcomes k outcome found at given =
@@ -58,4 +59,5 @@ paths_made script tells outcomes k outcome found at given =
     let start = starts_once given.header script found.start given.start opens given.opens in
     order_made given.header script tells found.start path outcome.end opens
     (subst (λ (header : Header). IsOrder (rules_of header script script.steps script.steps tells) found.start path outcome.end) same order)
-    (subst (λ (start : StandingValue). IsStuck (rules_of given.header script script.steps script.steps true) start path) (sym start) given.stuck)
+    (stops_of (rules_of given.header script script.steps script.steps true) found.start path
+    (subst (λ (start : StandingValue). IsStuck (rules_of given.header script script.steps script.steps true) start path) (sym start) given.stuck))

@@ -36,6 +36,7 @@ use Rattle.irp_machine.specs.Next.{after_call, binding, is_tokenless, naming, na
 use Rattle.irp_machine.specs.Openings.{IsStuck, first_standing, rules_of, seats_of}
 use Rattle.irp_machine.specs.Planning.{is_bound_elsewhere, own_acts, planned}
 use Rattle.irp_machine.specs.Standings.{StandingValue, with_given}
+use Rattle.irp_machine.proofs.Stuck.{Stops, stops_of}
 use Rattle.irp_machine.proofs.Plans.{acts_at, left_first, left_rest, left_within, own_few}
 
 -- ---- one step
@@ -228,7 +229,7 @@ module _ (header : Header) (script : ScriptParts) (few : length script.setup < 2
   IsOfSetup step = (step.seat < script.seats) × (suits_setup step.act ≡ true)
 
   never_stuck : (standing : StandingValue) (rest : List Step) (place : ℕ) → AreLeft standing rest place → AllByRecursion IsOfSetup rest
-      → IsStuck setting standing (seats_of rest) → ⊥
+      → Stops setting standing (seats_of rest) → ⊥
   never_stuck standing [] place are all stuck = stuck
   never_stuck standing (step ∷ rest) place are all (inl none) =
       none-some (planned [] place step) (sym none ∙ has_act standing step rest place are all.0.0 all.0.1)
@@ -237,12 +238,12 @@ module _ (header : Header) (script : ScriptParts) (few : length script.setup < 2
       let made = subst (λ (act : Option Planned). StepsTo setting standing step.seat act (Some middle)) act steps in
       let after = left_after standing step rest place are all.0.0 all.0.1 middle made in
       let same : middle ≡ made.0 = same_Some middle made.0 made.1 in
-      never_stuck made.0 rest (place + 1) after all.1 (subst (λ (middle : StandingValue). IsStuck setting middle (seats_of rest)) same stuck)
+      never_stuck made.0 rest (place + 1) after all.1 (subst (λ (middle : StandingValue). Stops setting middle (seats_of rest)) same stuck)
 
   seats_new : (seat : ℕ) → seat < header.seats → get_or (replicate header.seats new_seat) seat new_seat ≡ new_seat
   seats_new seat below = get_or-replicate header.seats seat new_seat new_seat below
 
-  goes_on : header.seats ≡ script.seats → AllByRecursion IsOfSetup script.setup → IsStuck setting (first_standing header script) (seats_of script.setup) → ⊥
+  goes_on : header.seats ≡ script.seats → AllByRecursion IsOfSetup script.setup → Stops setting (first_standing header script) (seats_of script.setup) → ⊥
   goes_on seats all stuck =
       let new : (seat : ℕ) → seat < script.seats → seat_at (first_standing header script) seat ≡ new_seat =
       λ seat below. seats_new seat (omega (arith, below, seats)) in
@@ -260,4 +261,5 @@ module _ (header : Header) (script : ScriptParts) (few : length script.setup < 2
       let all = recursion_from_All IsOfSetup script.setup (λ k d low. (let step = sound.setup k d low in (step.0.0, step.1))) in
       let by_rules = subst (λ (rules : RulesValue). IsStuck rules first path) is_rules stuck in
       let by_first = subst (λ (first : StandingValue). IsStuck setting first path) is_first by_rules in
-      goes_on headed.seats all (subst (λ (path : List ℕ). IsStuck setting (first_standing header script) path) is_path by_first)
+      let by_path = subst (λ (path : List ℕ). IsStuck setting (first_standing header script) path) is_path by_first in
+      goes_on headed.seats all (stops_of setting (first_standing header script) (seats_of script.setup) by_path)

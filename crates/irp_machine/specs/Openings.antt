@@ -1,5 +1,5 @@
 -- Where a script stands as the steps of its seats begin, and where these lead.
-use Rattle.std.specs.Prelude.{ℕ, ◌≡◌, ◌⊎◌, Bool, false, List, [], ◌∷◌, map, replicate, Some, None}
+use Rattle.std.specs.Prelude.{ℕ, ◌≡◌, Bool, false, List, [], ◌∷◌, ◌++◌, map, replicate, Some, None}
 use Rattle.irp_types.specs.State.{StateValue, opening_state}
 use Rattle.irp_types.specs.declared.names.IrpRef.{IrpRef}
 use Rattle.irp_transcript.specs.Headers.{fixed_of, slots_of}
@@ -29,13 +29,16 @@ MakesAll rules old (seat ∷ path) new =
     (middle : StandingValue) × StepsTo rules old seat (act_of rules old seat) (Some middle)
     × MakesAll rules middle path new
 
--- the next steps of these seats are made, one after another, until one of them has no step left at its turn
-abbrev pub IsStuck : RulesValue → StandingValue → List ℕ → Type 0
-IsStuck rules old [] = ⊥
-IsStuck rules old (seat ∷ path) =
-    (act_of rules old seat ≡ None)
-    ⊎ ((middle : StandingValue) × StepsTo rules old seat (act_of rules old seat) (Some middle)
-    × IsStuck rules middle path)
+-- the next steps of the seats in front are made, one after another, and then the next seat isn't there, or has no step
+-- left
+pub record IsStuck (rules : RulesValue) (old : StandingValue) (path : List ℕ) : Type 0 where
+  pub front : List ℕ
+  pub seat : ℕ
+  pub rest : List ℕ
+  pub parts : path ≡ front ++ seat ∷ rest
+  pub middle : StandingValue
+  pub makes : MakesAll rules old front middle
+  pub none : act_of rules middle seat ≡ None
 
 -- a slot that nobody has touched
 abbrev pub empty_slot : Slot

@@ -97,7 +97,7 @@ abbrev pub is_over : Place → Bool
 is_over (Running standing) = false
 is_over (Over end) = true
 
--- a node's state is an end; the node keeps an order, and each that it keeps has a step that closes it
+-- a node's state is an end; the node keeps an order, and each that it keeps has a step
 pub record IsClosed (node : Node Place) : Type 0 where
   pub over : is_over node.state ≡ true
   pub some : 0 < length node.fewest.items

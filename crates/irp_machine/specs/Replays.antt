@@ -126,8 +126,9 @@ pub record IsReplay (script : ScriptParts) (path : List ℕ) (transcript : Trans
   pub played : IsPlayed header script true path last transcript.entries
   pub words : transcript.words ≡ words_below script.steps last.seats header.seats
 
--- by a header of the script, and from where it stands behind its setup, a seat of the path has no step left at its turn
-pub record CantBeMade (script : ScriptParts) (path : List ℕ) : Type 0 where
+-- by a header of the script, and from where it stands behind its setup, a seat of the path isn't there at its turn, or
+-- has no step left
+pub record StopsShort (script : ScriptParts) (path : List ℕ) : Type 0 where
   pub header : Header
   pub headed : IsHeaderOf script header
   pub start : StandingValue
@@ -157,12 +158,12 @@ ReplaysEndSo =
     → AreOutcomesOf script tells outcomes → slice_get outcomes k ≡ Some outcome
     → (replay : IsReplay script outcome.path.items transcript) → outcome.end ≡ told_end tells (end_of replay.last)
 
--- the path of an outcome can be made again
+-- the path of an outcome can be made again: each of its seats has a step left at its turn
 abbrev pub PathsCanBeMade : Type 0
 PathsCanBeMade =
     (script : ScriptParts) (tells : Bool) (outcomes : List Outcome) (k : ℕ) (outcome : Outcome)
     → AreOutcomesOf script tells outcomes → slice_get outcomes k ≡ Some outcome
-    → CantBeMade script outcome.path.items → ⊥
+    → StopsShort script outcome.path.items → ⊥
 
 -- ---- as a replay is made
 

@@ -4,7 +4,7 @@ ghost use Rattle.std.specs.Prelude.{◌≡◌};
 ghost use Rattle.irp_machine.specs.Limits.{tells_replies};
 
 use irp_explore::NotExplored;
-use std::alloc::{AllocError, AllocFailed};
+use std::alloc::AllocError;
 
 /// How much an exploration may take.
 #[derive(Clone, Copy, PartialEq, Eq, Debug)]
@@ -13,7 +13,7 @@ pub struct Limits {
     pub states: usize,
     /// How many outcomes there may be.
     pub outcomes: usize,
-    /// One more than how many atomic steps an order may have.
+    /// Two more than how many atomic steps an order may have, since the step that closes it counts too.
     pub steps: u32,
 }
 
@@ -38,9 +38,9 @@ impl Compared {
 /// Why an order isn't made.
 #[derive(Clone, Copy, PartialEq, Eq, Debug)]
 pub enum NotMade {
-    /// Out of memory.
+    /// Out of memory, or the setup or the steps are 2^32 or more.
     Memory,
-    /// A seat has no step left at its turn.
+    /// A seat isn't there at its turn, or has no step left.
     NoStep,
 }
 
@@ -54,16 +54,16 @@ impl From<AllocError> for NotMade {
     }
 }
 
-/// Why an exploration was given up: which bound was met, or what else.
+/// Why an exploration was given up: out of memory, or which bound was met.
 #[derive(Clone, Copy, PartialEq, Eq, Debug)]
 pub enum NotFound {
-    /// Out of memory.
+    /// Out of memory, or the setup or the steps are 2^32 or more.
     Memory,
     /// More states than were allowed are reached by equally many steps, or are ends.
     States,
     /// More outcomes than were allowed.
     Outcomes,
-    /// Some order has as many atomic steps as were allowed, or more.
+    /// Some order, with the step that closes it, has `Limits::steps` atomic steps or more.
     Steps,
     /// 2^128 orders or more lead to one state.
     Orders,

@@ -172,9 +172,6 @@ impl<'a> ScriptMachine<'a> {
         let Some(planned) = self.act_of(standing, seat) else {
             return Ok(None);
         };
-        if seat >= standing.seats().len() {
-            return Ok(None);
-        }
         let next = self.step_in(standing, seat, planned)?;
         Ok(Some(next))
     }

@@ -39,6 +39,10 @@ fn new_seats(alloc: Global, seats: u32) -> Result<Vec<SeatState>, AllocError>
 }
 
 /// The machine of these steps of a script. Labels that others of the rivals bind are read and bound alone.
+///
+/// # Errors
+///
+/// `AllocError` where memory runs out, or there are 2^32 steps or more.
 pub fn machine_of<'a>(
     alloc: Global,
     header: &'a Header,

@@ -9,7 +9,7 @@ ghost use Rattle.irp_machine.specs.Machine.{act_of, seat_at};
 ghost use Rattle.irp_machine.specs.Next.{next_of};
 ghost use Rattle.irp_machine.specs.Openings.{IsStuck, Opens, rules_of};
 ghost use Rattle.irp_machine.specs.Replays as spec;
-ghost use Rattle.irp_machine.specs.Replays.{CantBeMade, IsActed, IsReplay, IsSetUp, Plays, PlaysIn};
+ghost use Rattle.irp_machine.specs.Replays.{IsActed, IsReplay, IsSetUp, Plays, PlaysIn, StopsShort};
 ghost use Rattle.irp_machine.specs.declared.limits.NotMade.TheVariants.{NoStep};
 ghost use Rattle.irp_machine.specs.declared.parts.Next.TheVariants.{Calls};
 
@@ -92,7 +92,7 @@ fn act_again(
 ///
 /// # Errors
 ///
-/// `NoStep` where the seat has no step left; `Memory` where memory runs out.
+/// `NoStep` where the seat isn't there, or has no step left; `Memory` where memory runs out.
 fn play(
     machine: &ScriptMachine,
     entries: &mut Vec<Entry>,
@@ -121,7 +121,7 @@ fn play(
 ///
 /// # Errors
 ///
-/// `NoStep` where a seat has no step left at its turn; `Memory` where memory runs out.
+/// `NoStep` where a seat isn't there at its turn, or has no step left; `Memory` where memory runs out.
 fn play_all(
     machine: &ScriptMachine,
     entries: &mut Vec<Entry>,
@@ -170,7 +170,8 @@ fn play_setup(
     }
 }
 
-/// Where a script stands behind its setup, which is made in the order of the script.
+/// Where a script stands behind its setup, which is made in the order of the script. The calls are recorded on the way,
+/// and dropped.
 pub fn opening(alloc: Global, header: &Header, script: &ScriptParts) -> Result<Standing, AllocError>
     requires headed { IsHeaderOf script.now header.now }
     requires sound { IsSound script.now }
@@ -185,7 +186,7 @@ pub fn opening(alloc: Global, header: &Header, script: &ScriptParts) -> Result<S
 ///
 /// # Errors
 ///
-/// `NoStep` where a seat has no step left at its turn; `Memory` where memory runs out.
+/// `NoStep` where a seat isn't there at its turn, or has no step left; `Memory` where memory runs out.
 fn play_path(
     alloc: Global,
     header: &Header,
@@ -285,11 +286,12 @@ fn words_of(
 ///
 /// # Errors
 ///
-/// `NoStep` where a seat of the path has no step left at its turn; `Memory` where memory runs out.
+/// `NoStep` where a seat of the path isn't there at its turn, or has no step left; `Memory` where memory runs out, or
+/// the setup or the steps of the script are 2^32 or more.
 pub fn replay(alloc: Global, script: &Script, path: &[u32]) -> Result<Transcript, NotMade>
     ensures replay { IfOk result (IsReplay script.now path.now) }
     ensures no_step { IfErr result (λ refusal. refusal ≡ NoStep
-        → CantBeMade script.now path.now) }
+        → StopsShort script.now path.now) }
 {
     let script = script.parts();
     let header = header_of(alloc, script)?;

@@ -16,6 +16,6 @@ HandsLand acts seats =
     (seat place : ℕ) (planned : Planned) → slice_get (slice_index_or acts seat []) place ≡ Some planned
     → NamesSeat seats planned.act
 
--- the same of steps; in a script that was read it is so
+-- the same of steps; in a `Script` it is so
 abbrev pub AreHandsWithin : ℕ → List Step → Type 0
 AreHandsWithin seats steps = All (λ (step : Step). NamesSeat seats step.act) steps

@@ -19,7 +19,7 @@ pub fn each_lock_step_is_a_table_step()
 
 /// Each order of the steps of a script's seats is one of steps of a table of remove locks, which stands for where the
 /// script stands as the steps begin, between any two of them, and behind the last. It is said of up to 64 remove locks
-/// and up to 63 seats, and of steps whose hands name seats, as those of each script that was read do.
+/// and up to 63 seats, and of steps whose hands name seats, as those of each `Script` do.
 pub fn lock_orders_are_table_orders()
     ensures { LockOrderLaw }
 {}

@@ -48,7 +48,8 @@ pub enum Ending {
     NoMemory,
     /// A bound was met: status 3.
     Met(NotFound),
-    /// The order of an outcome can't be made again: status 3. It never comes (`paths_can_be_made` of `irp_machine`).
+    /// An order can't be made again: status 3. It never comes: the path of an outcome can be made again
+    /// (`paths_can_be_made` of `irp_machine`), and one without steps too.
     NoOrder,
     /// The words are none that the program takes: status 4.
     OtherWords,
@@ -100,7 +101,7 @@ fn bound_words(met: NotFound) -> &'static str {
             "more states than may be side by side; --states N allows more, --ends needs fewer",
         NotFound::Outcomes =>
             "more outcomes than there may be; --outcomes N allows more, --ends has fewer",
-        NotFound::Steps => "an order has 1,000,000 steps or more; make the script shorter",
+        NotFound::Steps => "an order has 999,999 steps or more; make the script shorter",
         NotFound::Orders => "2^128 orders or more lead to one state; make the script shorter",
     }
 }

@@ -22,7 +22,7 @@ use std::io::Read;
 /// One byte more than the text of a script may have.
 const TOO_MANY_BYTES: usize = 1_048_577;
 
-/// No order of a script that was read has so many atomic steps.
+/// No order of a script that was read has so many atomic steps, with the one that closes it.
 const MOST_STEPS: u32 = 1_000_000;
 
 /// There are at most so many devices.

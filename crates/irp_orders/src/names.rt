@@ -2,7 +2,7 @@
 
 use irp_condition::{Named, Value};
 use irp_forms::HasName;
-use irp_names::status_name;
+use irp_names::{refusal_name, status_name};
 use irp_types::{Refusal, Status};
 use std::alloc::{AllocError, Global};
 
@@ -68,7 +68,7 @@ fn status_names(alloc: Global) -> Result<Vec<Named>, AllocError> {
 fn refusal_names(alloc: Global) -> Result<Vec<Named>, AllocError> {
     let mut names = Vec::new(alloc);
     for refusal in Refusal::all() {
-        let (name, value) = (refusal.name(), Value::Refused(*refusal));
+        let (name, value) = (refusal_name(*refusal), Value::Refused(*refusal));
         names.push(Named { name, value })?;
     }
     Ok(names)

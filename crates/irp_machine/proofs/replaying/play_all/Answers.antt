@@ -1,10 +1,10 @@
 use Rattle.std.proofs.Common.{◌≡◌, ◌+◌, ◌∷◌, ℕ, List, drop, get_or, refl, sym, subst, ◌∙◌, inl, inr, arith}
 use Rattle.std.proofs.lemmas.Result.{err_from_is_err_and}
 use Rattle.irp_machine.specs.Machine.{act_of}
-use Rattle.irp_machine.specs.Openings.{IsStuck}
 use Rattle.irp_machine.specs.Replays.{Plays}
 use Rattle.irp_machine.proofs.Histories.{step_made}
 use Rattle.irp_machine.proofs.Later.{drop_here, drop_past}
+use Rattle.irp_machine.proofs.Stuck.{Stops, stuck_of}
 use Rattle.irp_machine.proofs.replaying.play_all.Goals as goal
 
 pub loop-seat-init : goal.loop-seat-init
@@ -26,7 +26,7 @@ loop-seat-preserved c =
           (c.play.new.standing, c.play.new.entries.items, c.in_ok-play.ensures.plays, rest));
       stuck = λ stuck.
           c.loop-seat.invariant.stuck
-          (subst (λ (path : List ℕ). IsStuck machine c.loop-seat.standing path) (sym here) (inr (c.play.new.standing, steps, stuck)));
+          (subst (λ (path : List ℕ). Stops machine c.loop-seat.standing path) (sym here) (inr (c.play.new.standing, steps, stuck)));
       leads = c.in_ok-play.ensures.leads;
     }
 
@@ -46,6 +46,7 @@ returns-in_err-play-clause-no_step c =
     let here : drop place path ≡ get_or path place 0 ∷ drop (place + 1) path = drop_here path place 0 (omega (arith, c.loop-seat-test.true)) in
     let p = err_from_is_err_and c.from_residual.result c.from_residual.ensures.1 in
     rw p.1 (λ same.
-    c.loop-seat.invariant.stuck
-    (subst (λ (path : List ℕ). IsStuck c.args.machine.now c.loop-seat.standing path) (sym here)
-    (inl (c.in_err-play.ensures.no_step (sym p.2 ∙ same)))))
+    stuck_of c.args.machine.now c.args.standing.now c.args.path.now
+    (c.loop-seat.invariant.stuck
+    (subst (λ (path : List ℕ). Stops c.args.machine.now c.loop-seat.standing path) (sym here)
+    (inl (c.in_err-play.ensures.no_step (sym p.2 ∙ same))))))

@@ -5,7 +5,7 @@ use Rattle.irp_script_reader.specs.Sound.{IsSound}
 use Rattle.irp_transcript.specs.Transcripts.{TranscriptValue}
 use Rattle.irp_script_reader.specs.declared.act.Step.{Step}
 use Rattle.irp_script_reader.specs.declared.script.ScriptParts.{ScriptParts}
-use Rattle.irp_machine.specs.Replays.{CantBeMade, IsPlayed, IsReplay, words_below}
+use Rattle.irp_machine.specs.Replays.{IsPlayed, IsReplay, StopsShort, words_below}
 use Rattle.irp_machine.proofs.Accepted.{header_accepted}
 use Rattle.irp_machine.proofs.Histories.{opens_of, played_on}
 use Rattle.irp_machine.proofs.replaying.replay.Goals as goal
@@ -51,7 +51,7 @@ returns-in_err-play_path-clause-no_step c =
     let start = c.in_ok-standing.standing in
     let p = err_from_is_err_and c.from_residual-in_err-play_path.result c.from_residual-in_err-play_path.ensures.1 in
     rw p.1 (λ same.
-    subst (λ (script : ScriptParts). CantBeMade script path) c.parts-script.ensures.parts
+    subst (λ (script : ScriptParts). StopsShort script path) c.parts-script.ensures.parts
     (record {
       header = header;
       headed = c.in_ok-header.ensures;
