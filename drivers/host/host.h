@@ -111,7 +111,7 @@ typedef struct Frame {
     bool forced;             /* its location is marked by the host: it counts as one that pended */
     bool passed, finished;   /* it passed the packet down by a plan; it completed the packet */
     bool completed_unmarked; /* its packet was completed while only the host had marked it */
-    bool signalled;          /* it set an event: whoever waits may write to the packet from now on */
+    bool handed_over;        /* it made a call by which a packet may change hands: another may write to it by now */
     bool waiting;            /* its thread waits */
     PDRIVER_CANCEL cancel;
     Entry *below; /* in_place.c: the rider's send, which returns when the dispatch's own does */
@@ -251,6 +251,8 @@ bool has_test(const char *file);
 int calling_driver(void);
 int start_thread(void *(*run)(void *), void *context);
 void set_event(PKEVENT event);
+void hands_over(void);
+void hands_over_now(void);
 bool is_event(const void *object);
 bool wait_for_host(bool (*done)(const void *), const void *context);
 void finish_work(void);

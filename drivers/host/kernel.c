@@ -44,6 +44,7 @@ VOID WdmKeReleaseSpinLock(PKSPIN_LOCK Lock, KIRQL Irql, WDM_SITE at)
         leave_host();
         return;
     }
+    hands_over_now();
     self.irql = Irql;
     __atomic_store_n(Lock, 0, __ATOMIC_SEQ_CST);
 }
@@ -59,6 +60,7 @@ VOID WdmKeRaiseIrql(KIRQL New, PKIRQL Old)
 
 PLIST_ENTRY ExInterlockedInsertTailList(PLIST_ENTRY Head, PLIST_ENTRY Entry, PKSPIN_LOCK Lock)
 {
+    hands_over_now();
     const KIRQL irql = WdmKeAcquireSpinLock(Lock, WDM_HERE);
     PLIST_ENTRY last = IsListEmpty(Head) ? NULL : Head->Blink;
     InsertTailList(Head, Entry);
@@ -68,6 +70,7 @@ PLIST_ENTRY ExInterlockedInsertTailList(PLIST_ENTRY Head, PLIST_ENTRY Entry, PKS
 
 PLIST_ENTRY ExInterlockedInsertHeadList(PLIST_ENTRY Head, PLIST_ENTRY Entry, PKSPIN_LOCK Lock)
 {
+    hands_over_now();
     const KIRQL irql = WdmKeAcquireSpinLock(Lock, WDM_HERE);
     PLIST_ENTRY first = IsListEmpty(Head) ? NULL : Head->Flink;
     InsertHeadList(Head, Entry);

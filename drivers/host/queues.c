@@ -73,6 +73,7 @@ NTSTATUS WdmIoCsqInsertIrp(PIO_CSQ Csq, PIRP Irp, PIO_CSQ_IRP_CONTEXT Context, P
 {
     KIRQL irql;
     NTSTATUS status = STATUS_SUCCESS;
+    hands_over_now();
     Csq->CsqAcquireLock(Csq, &irql);
     tie(Csq, Irp, Context);
     if (Csq->CsqInsertIrpEx)

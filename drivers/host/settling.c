@@ -20,14 +20,15 @@ void pend_setter(Packet *p, int j, Location below, const char *why)
     pend_for(p, j, why);
 }
 
-/* What a routine answers that keeps: what IoStatus was when it returned, or set an event. */
+/* What a routine answers that keeps: what IoStatus was when it returned, or first made a call by which its packet may
+   have changed hands. */
 void take_kept_answer(Packet *p, Frame *f)
 {
     Asked *a = &f->e->asked[f->i];
     Setting *set = p->at[f->location].set;
     const bool own = pthread_equal(f->thread, pthread_self()); /* else its next owner may have written to it */
-    const ULONG status = f->signalled ? f->status : own ? (ULONG)p->irp->IoStatus.Status : p->status;
-    const uint64_t information = f->signalled ? f->information : own ? p->irp->IoStatus.Information : p->information;
+    const ULONG status = f->handed_over ? f->status : own ? (ULONG)p->irp->IoStatus.Status : p->status;
+    const uint64_t information = f->handed_over ? f->information : own ? p->irp->IoStatus.Information : p->information;
     a->plan = KEEP;
     p->kept_by = f->fn;
     set->kept = true;

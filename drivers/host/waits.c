@@ -54,7 +54,34 @@ VOID KeInitializeSemaphore(PKSEMAPHORE s, LONG count, LONG limit)
     s->Limit = limit;
 }
 
-LONG WdmKeReleaseSemaphore(PKSEMAPHORE s, LONG n) { return change(&s->Header, n, true); }
+/* A call by which a packet may change hands: what its routine leaves in IoStatus is taken before, since the next owner
+   may write to it from now on. Under G. */
+void hands_over(void)
+{
+    Frame *f = self.frames;
+    if (f && f->kind == ROUTINE && !f->settled && !f->handed_over) {
+        f->handed_over = true;
+        f->status = (ULONG)f->p->irp->IoStatus.Status;
+        f->information = f->p->irp->IoStatus.Information;
+    }
+}
+
+/* The same where G isn't held. */
+void hands_over_now(void)
+{
+    if (!self.frames || self.frames->kind != ROUTINE)
+        return;
+    pthread_mutex_lock(&host_lock);
+    hands_over();
+    pthread_mutex_unlock(&host_lock);
+}
+
+LONG WdmKeReleaseSemaphore(PKSEMAPHORE s, LONG n)
+{
+    hands_over_now();
+    return change(&s->Header, n, true);
+}
+
 VOID KeInitializeMutex(PKMUTEX m, ULONG level) { (void)level, make(&m->Header, MUTEX, true, 1), m->Owner = NULL; }
 
 LONG KeReadStateEvent(PKEVENT e)
@@ -68,6 +95,7 @@ LONG KeReadStateEvent(PKEVENT e)
 LONG KeReleaseMutex(PKMUTEX m, BOOLEAN wait)
 {
     (void)wait;
+    hands_over_now();
     return change(&m->Header, 1, true);
 }
 
@@ -75,12 +103,7 @@ LONG WdmKeSetEvent(PKEVENT e, WDM_SITE at)
 {
     Call c;
     enter_host(&c, "KeSetEvent", at);
-    Frame *f = self.frames;
-    if (f && f->kind == ROUTINE && !f->settled && !f->signalled) {
-        f->signalled = true;
-        f->status = (ULONG)f->p->irp->IoStatus.Status;
-        f->information = f->p->irp->IoStatus.Information;
-    }
+    hands_over();
     leave_host();
     return change(&e->Header, 1, false);
 }

@@ -88,6 +88,7 @@ VOID WdmIoQueueWorkItem(PIO_WORKITEM Item, PIO_WORKITEM_ROUTINE Routine, PVOID C
 {
     Call c;
     enter_host(&c, "IoQueueWorkItem", at);
+    hands_over();
     if (Item->queued)
         fault("QueuedTwice", NULL, "the work item is in the queue already");
     else {
@@ -207,6 +208,7 @@ BOOLEAN KeSetTimerEx(PKTIMER Timer, LARGE_INTEGER DueTime, LONG Period, PKDPC Dp
 {
     Call c;
     enter_host(&c, "KeSetTimer", (WDM_SITE){ 0 });
+    hands_over();
     const BOOLEAN was = Timer->Armed;
     if (was)
         take_out(Timer);
@@ -248,6 +250,7 @@ BOOLEAN KeInsertQueueDpc(PKDPC Dpc, PVOID Argument1, PVOID Argument2)
 {
     Call c;
     enter_host(&c, "KeInsertQueueDpc", (WDM_SITE){ 0 });
+    hands_over();
     const BOOLEAN queued = !Dpc->Queued;
     if (queued) {
         Dpc->Argument1 = Argument1;

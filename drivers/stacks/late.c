@@ -44,6 +44,7 @@ int main(void)
     pthread_t t;
     device = WdmLoadDriver("late", DriverEntry)->DeviceObject;
     pthread_create(&t, NULL, send, NULL);
+    pthread_detach(t);
     KeWaitForSingleObject(&completed, Executive, KernelMode, FALSE, NULL);
     Finish(&r);
     return WdmFinish();
