@@ -1,6 +1,7 @@
 //! Exploring, layer by layer: a layer has the states that orders of equally many steps lead to.
 
-ghost use Rattle.std.specs.Prelude.{◌≡◌, ◌≢◌, ℕ, ◌+◌, ◌*◌, ◌<◌, ◌≤◌, ◌++◌, ◌∷◌, [], Option, Some, None, List, All, Contains, length, IfOk, IfErr, OnOk};
+ghost use Rattle.std.specs.Prelude.{◌≡◌, ◌≢◌, ℕ, ◌+◌, ◌*◌, ◌<◌, ◌≤◌, ◌++◌, ◌∷◌, [], Option, Some, None, List, All, Contains, length, IfOk, IfErr, OnOk, true};
+ghost use mathlib.Core.Logic.{◌↔◌};
 ghost use Rattle.irp_explore.specs.declared.node.Node.{Node};
 ghost use Rattle.irp_explore.specs.declared.refusal.NotExplored.TheVariants.{Orders, States, Steps};
 ghost use Rattle.irp_explore.specs.declared.refusal.LayerRefusal.TheVariants.{Memory as LayerMemory, Orders as LayerOrders, States as LayerStates};
@@ -249,6 +250,13 @@ fn first_layer<M: Machine>(
     Ok(layer)
 }
 
+/// Whether a further step may be made, and there are nodes to make it from.
+fn goes_on(steps: u32, nodes: usize) -> bool
+    ensures { (result ≡ true) ↔ ((0 < steps) × (0 < nodes)) }
+{
+    steps > 0 && nodes > 0
+}
+
 /// Explores each order of the steps of a machine's seats, from a state on. Returns each state in which an order ends,
 /// with how many orders end there and some of them, among which is one that changes its seat least often. They come in
 /// the order of their marks, which no clause says (this project's own rule).
@@ -307,7 +315,7 @@ pub fn explore<M: Machine>(
     let first = first_layer(alloc, machine, start)?;
     let mut layer = first;
     let mut left = most_steps;
-    while left > 0 {
+    while goes_on(left, layer.len()) {
         left -= 1;
         layer = next_layer(alloc, machine, layer, most_states, &mut found)?;
         let has_grown = have_grown(found.len(), most_states);

@@ -1,6 +1,7 @@
-use Rattle.std.proofs.Common.{arith, ◌≡◌, ◌+◌, ◌-◌, ◌<◌, vec_len, inl, inr, [], ◌++◌, length, Some, None, All, Contains, ap, sym, subst, ◌∙◌}
+use Rattle.std.proofs.Common.{arith, ◌≡◌, ◌+◌, ◌-◌, ◌<◌, vec_len, inl, inr, true, false, [], ◌++◌, length, Some, None, All, Contains, ap, sym, subst, ◌∙◌}
 use Rattle.std.proofs.lemmas.List.{append-nil, nil_from_length}
 use Rattle.std.proofs.lemmas.List.Elements.{All-nil, All-same}
+use Rattle.std.proofs.lemmas.Bool.{cases_lt}
 use Rattle.std.proofs.lemmas.Bool.Decides.{nat_tests}
 use Rattle.std.proofs.lemmas.Result.{err_from_is_err_and}
 use Rattle.irp_explore.specs.Counted.{AreCounted}
@@ -118,7 +119,11 @@ returns-then-not-is_empty-clause-too_long g c = λ same.
     let seats = g.M.Machine.seats c.args.machine.now in
     let mark = g.M.Machine.mark c.args.machine.now in
     let some : 0 < vec_len c.loop-left.layer = grind (arith, nat_tests, c.is_empty.ensures, c.if-not-is_empty.true) in
-    let all : c.args.most_steps - c.loop-left.left ≡ c.args.most_steps = omega (arith, c.loop-left-test.false) in
+    let none : c.loop-left.left ≡ 0 = elim (cases_lt 0 c.loop-left.left) as (λ _. c.loop-left.left ≡ 0) [
+      | inl more ↦ (let on : true ≡ false = sym (c.goes_on.ensures.1 (more, omega (arith, some, c.len.ensures))) ∙ c.loop-left-test.false in absurd (let never : ⊥ = cc in never))
+      | inr done ↦ omega (arith, done)
+    ] in
+    let all : c.args.most_steps - c.loop-left.left ≡ c.args.most_steps = omega (arith, none) in
     order_from_layer moves seats mark c.args.start c.args.most_steps c.loop-left.layer.items (omega (arith, some))
     (subst (λ steps. All (IsReached moves seats mark c.args.start (Some steps)) c.loop-left.layer.items) all c.loop-left.invariant.layer)
 
