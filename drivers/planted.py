@@ -166,10 +166,11 @@ FAULTS = [
           ["Hang", "WRITE", "D0 (serial) holds", "sent at common.h:"], verdict=None, is_race=True),
     stack("a cancel routine keeps the cancel spin lock", "serial.c",
           [("    IoReleaseCancelSpinLock(Irp->CancelIrql);\n", "")],
-          ["CancelSpinLock", "CancelQueued, cancel routine of D0 (serial)", "keeps"]),
+          ["UnderSpinLock", "CancelQueued, cancel routine of D0 (serial)", "IoCompleteRequest",
+           "the cancel spin lock held since"]),
     stack("a spin lock is released by nobody", "serial.c",
           [("    KeAcquireSpinLockAtDpcLevel(&ext->Lock);\n", "")],
-          ["SpinLock", "serial.c:", "Sent, work of", "KeReleaseSpinLock"]),
+          ["NotAcquired (0xC4/0x1007)", "serial.c:", "Sent, work of", "KeReleaseSpinLock"]),
     stack("a routine gives its packet away and continues", "retry.c",
           [("1, FALSE);\n    return STATUS_MORE_PROCESSING_REQUIRED;", "1, FALSE);\n    IoCompleteRequest(Irp, 0);\n"
             "    return STATUS_SUCCESS;")],

@@ -1,7 +1,7 @@
 /* cancelling.c: cancel routines, IoCancelIrp, the cancel spin lock. */
 #include "host.h"
 
-static pthread_mutex_t cancel_lock = PTHREAD_MUTEX_INITIALIZER;
+static KSPIN_LOCK cancel_lock;
 
 /* A cancel routine that came after the cancel, and that wasn't taken back: now it becomes an entry. */
 void tell_ghost(Packet *p)
@@ -60,33 +60,19 @@ PDRIVER_CANCEL WdmIoSetCancelRoutine(PIRP Irp, PDRIVER_CANCEL Routine, WDM_SITE 
 
 VOID WdmIoAcquireCancelSpinLock(PKIRQL Irql, WDM_SITE at)
 {
-    Call c;
-    enter_host(&c, "IoAcquireCancelSpinLock", at);
-    if (self.has_cancel_lock)
-        give_up("the cancel spin lock is acquired by a thread that holds it");
-    leave_host();
-    pthread_mutex_lock(&cancel_lock);
+    *Irql = take_spin_lock(&cancel_lock, CANCEL_LOCK, "IoAcquireCancelSpinLock", at);
     self.has_cancel_lock = true;
-    *Irql = self.irql;
-    self.irql = DISPATCH_LEVEL;
 }
 
 static void release_cancel_lock(KIRQL irql)
 {
     self.has_cancel_lock = false;
-    self.irql = irql;
-    pthread_mutex_unlock(&cancel_lock);
+    drop_spin_lock(&cancel_lock, CANCEL_LOCK, irql);
 }
 
 VOID WdmIoReleaseCancelSpinLock(KIRQL Irql, WDM_SITE at)
 {
-    Call c;
-    enter_host(&c, "IoReleaseCancelSpinLock", at);
-    if (!self.has_cancel_lock)
-        fault("CancelSpinLock", NULL, "released by a thread that doesn't hold it");
-    else
-        release_cancel_lock(Irql);
-    leave_host();
+    self.has_cancel_lock &= !give_spin_lock(&cancel_lock, CANCEL_LOCK, "IoReleaseCancelSpinLock", Irql, true, at);
 }
 
 /* Enters the host for a cancel, with the cancel spin lock: a packet on its way up is cancelled once it is up. */
@@ -124,7 +110,7 @@ static void run_cancel_routine(Packet *p, Entry *e, KIRQL irql)
     p->routine = p->irp->CancelRoutine = NULL;
     p->irp->CancelIrql = irql;
     Frame f = { .kind = CANCELLING, .p = p, .use = p->use, .fn = (void *)routine, .device = d, .location = p->current,
-                .e = e, .i = ask(e, p, CANCELLING, (void *)routine, d, p->current) };
+                .e = e, .i = ask(e, p, CANCELLING, (void *)routine, d, p->current), .before = irql };
     e->reply = CANCELLED;
     e->answer = 1;
     e->asked[0].cancel = routine;

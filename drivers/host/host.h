@@ -113,6 +113,7 @@ typedef struct Frame {
     bool completed_unmarked; /* its packet was completed while only the host had marked it */
     bool handed_over;        /* it made a call by which a packet may change hands: another may write to it by now */
     bool waiting;            /* its thread waits */
+    KIRQL before, irql;      /* the interrupt level before it, and the one at which it began */
     PDRIVER_CANCEL cancel;
     Entry *below; /* in_place.c: the rider's send, which returns when the dispatch's own does */
     ULONG lower, done, status;
@@ -183,6 +184,7 @@ typedef struct {
     bool is_driver;   /* a thread of a driver, or of the host for drivers: its waits outside of packets are no hang */
     bool has_cancel_lock;
     KIRQL irql;
+    WDM_SITE raised;  /* where its interrupt level was changed last */
     unsigned chance;
     Frame *frames;
     Call *calls;
@@ -301,5 +303,7 @@ void tell_touch(const char *call, PIRP irp);
 void tell_all_touches(void);
 bool lock_knows_drained(int device);
 const char *held_tags(int device);
+
+#include "checks.h"
 
 #endif

@@ -5,57 +5,163 @@
 #include <wchar.h>
 
 /* A spin lock is 0, or one more than the seat of the thread that holds it. */
-VOID KeInitializeSpinLock(PKSPIN_LOCK Lock) { __atomic_store_n(Lock, 0, __ATOMIC_SEQ_CST); }
+VOID WdmKeInitializeSpinLock(PKSPIN_LOCK Lock, WDM_SITE at)
+{
+    Call c;
+    enter_host(&c, "KeInitializeSpinLock", at);
+    forget_locks(Lock, sizeof *Lock, "initialized");
+    leave_host();
+    __atomic_store_n(Lock, 0, __ATOMIC_SEQ_CST);
+}
 
-static int take_seat_of_mine(const char *name, WDM_SITE at)
+/* Spins; where nothing goes on in the host for some seconds, nobody will give the lock back. */
+static void spin(PKSPIN_LOCK lock, ULONG_PTR mine, const char *name, WDM_SITE at)
+{
+    ULONG_PTR expected = 0;
+    unsigned long seen = 0;
+    LONGLONG since = 0;
+    while (!__atomic_compare_exchange_n(lock, &expected, mine, false, __ATOMIC_SEQ_CST, __ATOMIC_SEQ_CST)) {
+        const unsigned long activity = __atomic_load_n(&host_activity, __ATOMIC_SEQ_CST);
+        if (!since || activity != seen)
+            since = now_in_100ns();
+        if (now_in_100ns() - since > 10000000LL * patience()) {
+            Call c;
+            enter_host(&c, name, at);
+            tell_deadlock(lock);
+            give_up("nobody gives the spin lock back");
+        }
+        seen = activity;
+        expected = 0;
+        sched_yield();
+    }
+}
+
+KIRQL take_spin_lock(PKSPIN_LOCK lock, LockKind kind, const char *name, WDM_SITE at)
 {
     Call c;
     enter_host(&c, name, at);
+    const KIRQL old = self.irql;
+    const bool has_it = lock_wanted(lock, kind);
     leave_host();
-    return self.seat;
+    if (!has_it) {
+        spin(lock, (ULONG_PTR)self.seat + 1, name, at);
+        pthread_mutex_lock(&host_lock);
+        lock_taken(lock, kind, at, old);
+        pthread_mutex_unlock(&host_lock);
+    }
+    self.raised = at;
+    self.irql = old < DISPATCH_LEVEL ? DISPATCH_LEVEL : old;
+    return old;
+}
+
+void drop_spin_lock(PKSPIN_LOCK lock, LockKind kind, KIRQL irql)
+{
+    if (lock_given_back(lock, kind)) {
+        self.irql = irql;
+        __atomic_store_n(lock, 0, __ATOMIC_SEQ_CST);
+    }
+}
+
+/* Returns whether it is given back. */
+bool give_spin_lock(PKSPIN_LOCK lock, LockKind kind, const char *name, KIRQL irql, bool lowers, WDM_SITE at)
+{
+    Call c;
+    enter_host(&c, name, at);
+    hands_over();
+    if (lowers)
+        check_release_level(lock, irql);
+    const bool given = lock_given_back(lock, kind);
+    if (given && lowers) {
+        self.irql = irql;
+        self.raised = at;
+    }
+    leave_host();
+    if (given)
+        __atomic_store_n(lock, 0, __ATOMIC_SEQ_CST);
+    return given;
 }
 
 KIRQL WdmKeAcquireSpinLock(PKSPIN_LOCK Lock, WDM_SITE at)
 {
-    const ULONG_PTR mine = (ULONG_PTR)take_seat_of_mine("KeAcquireSpinLock", at) + 1;
-    ULONG_PTR expected = 0;
-    if (__atomic_load_n(Lock, __ATOMIC_SEQ_CST) == mine) {
-        Call c;
-        enter_host(&c, "KeAcquireSpinLock", at);
-        fault("SpinLock", NULL, "acquired by the thread that holds it: Windows would stand still");
-        give_up("a spin lock is acquired twice");
-    }
-    while (!__atomic_compare_exchange_n(Lock, &expected, mine, false, __ATOMIC_SEQ_CST, __ATOMIC_SEQ_CST)) {
-        expected = 0;
-        sched_yield();
-    }
-    const KIRQL old = self.irql;
-    self.irql = DISPATCH_LEVEL;
-    return old;
+    return take_spin_lock(Lock, SPIN_LOCK, "KeAcquireSpinLock", at);
 }
 
 VOID WdmKeReleaseSpinLock(PKSPIN_LOCK Lock, KIRQL Irql, WDM_SITE at)
 {
-    const ULONG_PTR mine = (ULONG_PTR)self.seat + 1;
-    if (__atomic_load_n(Lock, __ATOMIC_SEQ_CST) != mine) {
-        Call c;
-        enter_host(&c, "KeReleaseSpinLock", at);
-        fault("SpinLock", NULL, "released by a thread that doesn't hold it");
-        leave_host();
-        return;
-    }
-    hands_over_now();
-    self.irql = Irql;
-    __atomic_store_n(Lock, 0, __ATOMIC_SEQ_CST);
+    give_spin_lock(Lock, SPIN_LOCK, "KeReleaseSpinLock", Irql, true, at);
+}
+
+VOID WdmKeAcquireSpinLockAtDpcLevel(PKSPIN_LOCK Lock, WDM_SITE at)
+{
+    take_spin_lock(Lock, SPIN_LOCK, "KeAcquireSpinLockAtDpcLevel", at);
+}
+
+VOID WdmKeReleaseSpinLockFromDpcLevel(PKSPIN_LOCK Lock, WDM_SITE at)
+{
+    give_spin_lock(Lock, SPIN_LOCK, "KeReleaseSpinLockFromDpcLevel", 0, false, at);
 }
 
 KIRQL KeGetCurrentIrql(VOID) { return self.irql; }
-VOID KeLowerIrql(KIRQL Irql) { self.irql = Irql; }
 
-VOID WdmKeRaiseIrql(KIRQL New, PKIRQL Old)
+VOID WdmKeRaiseIrql(KIRQL New, PKIRQL Old, WDM_SITE at)
 {
+    Call c;
+    enter_host(&c, "KeRaiseIrql", at);
+    if (New < self.irql)
+        broken("RaiseLower", NULL, "raised to %s, below %s", level_name(New), level_name(self.irql));
     *Old = self.irql;
     self.irql = New;
+    self.raised = at;
+    leave_host();
+}
+
+VOID WdmKeLowerIrql(KIRQL Irql, WDM_SITE at)
+{
+    Call c;
+    enter_host(&c, "KeLowerIrql", at);
+    const Hold *h = held_spin_lock();
+    if (Irql > self.irql || (h && Irql < DISPATCH_LEVEL))
+        broken("RaiseLower", NULL, "lowered to %s, from %s%s%s", level_name(Irql), level_name(self.irql),
+               h ? " with a spin lock held since " : "", h ? place(h->at) : "");
+    self.irql = Irql;
+    self.raised = at;
+    leave_host();
+}
+
+VOID WdmPagedCode(WDM_SITE at) { check_wait("PAGED_CODE", at); }
+
+/* A fast mutex isn't recursive, and whoever holds it is at APC_LEVEL. */
+VOID WdmExAcquireFastMutex(PFAST_MUTEX Mutex, WDM_SITE at)
+{
+    Call c;
+    enter_host(&c, "ExAcquireFastMutex", at);
+    const bool has_it = lock_wanted(Mutex, FAST_LOCK);
+    leave_host();
+    if (has_it)
+        return;
+    PVOID object = &Mutex->Mutex;
+    wait_for_objects(1, &object, WaitAny, NULL, at);
+    pthread_mutex_lock(&host_lock);
+    lock_taken(Mutex, FAST_LOCK, at, self.irql);
+    pthread_mutex_unlock(&host_lock);
+    Mutex->OldIrql = self.irql;
+    if (self.irql < APC_LEVEL)
+        self.irql = APC_LEVEL;
+}
+
+VOID WdmExReleaseFastMutex(PFAST_MUTEX Mutex, WDM_SITE at)
+{
+    Call c;
+    enter_host(&c, "ExReleaseFastMutex", at);
+    hands_over();
+    const KIRQL old = Mutex->OldIrql;
+    const bool given = lock_given_back(Mutex, FAST_LOCK);
+    leave_host();
+    if (!given)
+        return;
+    release_object(&Mutex->Mutex.Header);
+    if (self.irql == APC_LEVEL)
+        self.irql = old;
 }
 
 PLIST_ENTRY ExInterlockedInsertTailList(PLIST_ENTRY Head, PLIST_ENTRY Entry, PKSPIN_LOCK Lock)

@@ -173,6 +173,8 @@ NTSTATUS WdmIoCallDriver(PDEVICE_OBJECT Target, PIRP Irp, WDM_SITE at)
     Packet *p = find(Irp);
     await(p);
     const int by = party(p), d = Target->HostNumber;
+    if (lives(p) && (p->skipped || p->current > 1))
+        check_dispatch_level(p, raw_at(p, p->skipped ? p->current : p->current - 1)->MajorFunction, d);
     Frame *f = dispatching(p);
     NTSTATUS answer;
     if (lives(p) && p->owner != ENDED && (f || p->owner == by))

@@ -117,7 +117,8 @@ static const char *known_name(const char *rule)
     for (size_t i = 0; i < sizeof known_as / sizeof *known_as; i++)
         if (!strcmp(known_as[i].rule, rule))
             return known_as[i].known;
-    return NULL;
+    const Check *c = check_named(rule);
+    return c ? c->code : NULL;
 }
 
 static void tell(const char *rule, const Packet *p, const char *where, const char *text)

@@ -80,6 +80,7 @@ void enter_host(Call *c, const char *name, WDM_SITE at)
         self.frames->last = at;
         self.frames->last_call = name;
     }
+    check_call(c);
 }
 
 void leave_host(void)
@@ -102,12 +103,14 @@ void enter_frame(Frame *f)
     f->up = self.frames;
     f->thread = pthread_self();
     self.frames = f;
+    enter_level(f);
     if (f->device >= 0)
         devices[f->device].running++;
 }
 
 void leave_frame(void)
 {
+    leave_level(self.frames);
     if (self.frames->device >= 0)
         devices[self.frames->device].running--;
     self.frames = self.frames->up;
@@ -185,6 +188,7 @@ static void *run_thread(void *context)
     self.is_driver = true;
     self.thread = t;
     t->start(t->context);
+    check_thread_end();
     set_event(&t->ended);
     return NULL;
 }
@@ -209,6 +213,7 @@ NTSTATUS PsTerminateSystemThread(NTSTATUS Status)
 {
     if (!self.thread || !self.is_driver)
         return STATUS_INVALID_PARAMETER;
+    check_thread_end();
     set_event(&self.thread->ended);
     pthread_exit((void *)(intptr_t)Status);
 }

@@ -92,10 +92,15 @@ LONG KeReadStateEvent(PKEVENT e)
     return state;
 }
 
-LONG KeReleaseMutex(PKMUTEX m, BOOLEAN wait)
+void release_object(DISPATCHER_HEADER *h) { change(h, 1, true); }
+
+LONG WdmKeReleaseMutex(PKMUTEX m, WDM_SITE at)
 {
-    (void)wait;
-    hands_over_now();
+    Call c;
+    enter_host(&c, "KeReleaseMutex", at);
+    hands_over();
+    lock_given_back(m, MUTEX_OBJECT);
+    leave_host();
     return change(&m->Header, 1, true);
 }
 
@@ -169,7 +174,7 @@ static void hang(WDM_SITE at)
     leave_host();
 }
 
-static int patience(void)
+int patience(void)
 {
     const char *seconds = getenv("WDM_PATIENCE");
     const int n = seconds ? atoi(seconds) : 0;
@@ -272,7 +277,7 @@ static void mark_waiting(bool waiting, WDM_SITE at)
     leave_host();
 }
 
-NTSTATUS WdmKeWaitForMultipleObjects(ULONG n, PVOID objects[], WAIT_TYPE type, PLARGE_INTEGER timeout, WDM_SITE at)
+NTSTATUS wait_for_objects(ULONG n, PVOID objects[], WAIT_TYPE type, PLARGE_INTEGER timeout, WDM_SITE at)
 {
     int ready;
     if (self.frames)
@@ -289,13 +294,51 @@ NTSTATUS WdmKeWaitForMultipleObjects(ULONG n, PVOID objects[], WAIT_TYPE type, P
     return ready < 0 ? STATUS_TIMEOUT : (NTSTATUS)ready;
 }
 
-NTSTATUS WdmKeWaitForSingleObject(PVOID object, PLARGE_INTEGER timeout, WDM_SITE at)
+/* Mutexes are locks: before and after a wait for them. */
+static void learn_mutexes(ULONG n, PVOID objects[], bool taken, WDM_SITE at)
 {
-    return WdmKeWaitForMultipleObjects(1, &object, WaitAny, timeout, at);
+    for (ULONG i = 0; i < n; i++)
+        if (((DISPATCHER_HEADER *)objects[i])->Type == MUTEX) {
+            Call c;
+            enter_host(&c, "KeWaitForSingleObject", (WDM_SITE){ 0 });
+            c.at = at;
+            if (taken)
+                lock_taken(objects[i], MUTEX_OBJECT, at, self.irql);
+            else
+                lock_wanted(objects[i], MUTEX_OBJECT);
+            leave_host();
+        }
 }
 
-NTSTATUS WdmKeDelayExecutionThread(PLARGE_INTEGER interval)
+static NTSTATUS checked_wait(const char *name, ULONG n, PVOID objects[], WAIT_TYPE type, PLARGE_INTEGER timeout,
+                             WDM_SITE at)
 {
+    const bool takes_time = !timeout || timeout->QuadPart;
+    if (takes_time)
+        check_wait(name, at);
+    if (takes_time && (n == 1 || type == WaitAll))
+        learn_mutexes(n, objects, false, at);
+    const NTSTATUS status = wait_for_objects(n, objects, type, timeout, at);
+    if (status != STATUS_TIMEOUT && type == WaitAll)
+        learn_mutexes(n, objects, true, at);
+    else if (status != STATUS_TIMEOUT)
+        learn_mutexes(1, objects + status, true, at);
+    return status;
+}
+
+NTSTATUS WdmKeWaitForMultipleObjects(ULONG n, PVOID objects[], WAIT_TYPE type, PLARGE_INTEGER timeout, WDM_SITE at)
+{
+    return checked_wait("KeWaitForMultipleObjects", n, objects, type, timeout, at);
+}
+
+NTSTATUS WdmKeWaitForSingleObject(PVOID object, PLARGE_INTEGER timeout, WDM_SITE at)
+{
+    return checked_wait("KeWaitForSingleObject", 1, &object, WaitAny, timeout, at);
+}
+
+NTSTATUS WdmKeDelayExecutionThread(PLARGE_INTEGER interval, WDM_SITE at)
+{
+    check_wait("KeDelayExecutionThread", at);
     const LONGLONG until = interval->QuadPart < 0 ? now_in_100ns() - interval->QuadPart : interval->QuadPart;
     KEVENT never;
     PVOID object = &never;

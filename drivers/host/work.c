@@ -174,7 +174,8 @@ static void *run_clock(void *context)
             memmove(dpcs, dpcs + 1, (size_t)--n_dpcs * sizeof *dpcs);
             d->Queued = FALSE;
             dpc_runs = true;
-            Frame f = { .kind = WORK, .fn = (void *)routine, .device = NOBODY, .settled = true };
+            Frame f = { .kind = WORK, .fn = (void *)routine, .device = NOBODY, .settled = true,
+                        .irql = DISPATCH_LEVEL };
             run_work(&f, d->HostDriver);
             routine(d, its, one, two);
             work_done();

@@ -65,7 +65,6 @@ typedef const GUID *LPCGUID;
 #define _Acquires_lock_(x)
 #define _Releases_lock_(x)
 #define _Requires_lock_held_(x)
-#define PAGED_CODE() ((void)0)
 #define UNREFERENCED_PARAMETER(x) ((void)(x))
 #define DBG_UNREFERENCED_PARAMETER(x) ((void)(x))
 #define UNREFERENCED_LOCAL_VARIABLE(x) ((void)(x))
@@ -233,5 +232,7 @@ static inline PVOID InterlockedCompareExchangePointer(PVOID volatile *p, PVOID w
 /* Where a call stands in a driver's source: the macros of wdm_io.h, wdm_ke.h and wdm_test.h hand it over. */
 typedef struct { const char *file, *function; int line; } WDM_SITE;
 #define WDM_HERE ((WDM_SITE){ __FILE__, __func__, __LINE__ })
+VOID WdmPagedCode(WDM_SITE at);
+#define PAGED_CODE() WdmPagedCode(WDM_HERE)
 
 #endif

@@ -49,7 +49,8 @@ VOID KeInitializeSemaphore(PKSEMAPHORE Semaphore, LONG Count, LONG Limit);
 LONG WdmKeReleaseSemaphore(PKSEMAPHORE Semaphore, LONG Adjustment);
 #define KeReleaseSemaphore(s, increment, n, wait) ((void)(increment), (void)(wait), WdmKeReleaseSemaphore((s), (n)))
 VOID KeInitializeMutex(PKMUTEX Mutex, ULONG Level);
-LONG KeReleaseMutex(PKMUTEX Mutex, BOOLEAN Wait);
+LONG WdmKeReleaseMutex(PKMUTEX Mutex, WDM_SITE at);
+#define KeReleaseMutex(mutex, wait) ((void)(wait), WdmKeReleaseMutex((mutex), WDM_HERE))
 NTSTATUS WdmKeWaitForSingleObject(PVOID Object, PLARGE_INTEGER Timeout, WDM_SITE at);
 #define KeWaitForSingleObject(object, reason, mode, alertable, timeout) \
     ((void)(reason), (void)(mode), (void)(alertable), WdmKeWaitForSingleObject((object), (timeout), WDM_HERE))
@@ -57,9 +58,9 @@ NTSTATUS WdmKeWaitForMultipleObjects(ULONG Count, PVOID Objects[], WAIT_TYPE Typ
 #define KeWaitForMultipleObjects(count, objects, type, reason, mode, alertable, timeout, blocks) \
     ((void)(reason), (void)(mode), (void)(alertable), (void)(blocks), \
      WdmKeWaitForMultipleObjects((count), (objects), (type), (timeout), WDM_HERE))
-NTSTATUS WdmKeDelayExecutionThread(PLARGE_INTEGER Interval);
+NTSTATUS WdmKeDelayExecutionThread(PLARGE_INTEGER Interval, WDM_SITE at);
 #define KeDelayExecutionThread(mode, alertable, interval) \
-    ((void)(mode), (void)(alertable), WdmKeDelayExecutionThread(interval))
+    ((void)(mode), (void)(alertable), WdmKeDelayExecutionThread((interval), WDM_HERE))
 VOID KeStallExecutionProcessor(ULONG Microseconds);
 VOID KeQuerySystemTime(PLARGE_INTEGER Now);
 VOID KeQueryTickCount(PLARGE_INTEGER Ticks);
@@ -78,31 +79,37 @@ VOID WdmKeInitializeDpc(PKDPC Dpc, PKDEFERRED_ROUTINE Routine, PVOID Context, WD
 BOOLEAN KeInsertQueueDpc(PKDPC Dpc, PVOID Argument1, PVOID Argument2);
 VOID KeFlushQueuedDpcs(VOID);
 
-/* Spin locks. IRQL is kept, and isn't checked. */
+/* Spin locks and interrupt levels, which are checked. */
 typedef ULONG_PTR KSPIN_LOCK, *PKSPIN_LOCK;
 typedef struct _KLOCK_QUEUE_HANDLE { PKSPIN_LOCK Lock; KIRQL OldIrql; } KLOCK_QUEUE_HANDLE, *PKLOCK_QUEUE_HANDLE;
-VOID KeInitializeSpinLock(PKSPIN_LOCK Lock);
+VOID WdmKeInitializeSpinLock(PKSPIN_LOCK Lock, WDM_SITE at);
+#define KeInitializeSpinLock(lock) WdmKeInitializeSpinLock((lock), WDM_HERE)
 KIRQL WdmKeAcquireSpinLock(PKSPIN_LOCK Lock, WDM_SITE at);
 VOID WdmKeReleaseSpinLock(PKSPIN_LOCK Lock, KIRQL Irql, WDM_SITE at);
+VOID WdmKeAcquireSpinLockAtDpcLevel(PKSPIN_LOCK Lock, WDM_SITE at);
+VOID WdmKeReleaseSpinLockFromDpcLevel(PKSPIN_LOCK Lock, WDM_SITE at);
 #define KeAcquireSpinLock(lock, irql) ((void)(*(irql) = WdmKeAcquireSpinLock((lock), WDM_HERE)))
 #define KeReleaseSpinLock(lock, irql) WdmKeReleaseSpinLock((lock), (irql), WDM_HERE)
 #define KeAcquireSpinLockRaiseToDpc(lock) WdmKeAcquireSpinLock((lock), WDM_HERE)
-#define KeAcquireSpinLockAtDpcLevel(lock) ((void)WdmKeAcquireSpinLock((lock), WDM_HERE))
-#define KeReleaseSpinLockFromDpcLevel(lock) WdmKeReleaseSpinLock((lock), DISPATCH_LEVEL, WDM_HERE)
+#define KeAcquireSpinLockAtDpcLevel(lock) WdmKeAcquireSpinLockAtDpcLevel((lock), WDM_HERE)
+#define KeReleaseSpinLockFromDpcLevel(lock) WdmKeReleaseSpinLockFromDpcLevel((lock), WDM_HERE)
 #define KeAcquireInStackQueuedSpinLock(lock, handle) \
     ((handle)->Lock = (lock), (void)((handle)->OldIrql = WdmKeAcquireSpinLock((lock), WDM_HERE)))
 #define KeReleaseInStackQueuedSpinLock(handle) WdmKeReleaseSpinLock((handle)->Lock, (handle)->OldIrql, WDM_HERE)
 KIRQL KeGetCurrentIrql(VOID);
-VOID WdmKeRaiseIrql(KIRQL New, PKIRQL Old);
-VOID KeLowerIrql(KIRQL Irql);
-#define KeRaiseIrql(new, old) WdmKeRaiseIrql((new), (old))
+VOID WdmKeRaiseIrql(KIRQL New, PKIRQL Old, WDM_SITE at);
+VOID WdmKeLowerIrql(KIRQL Irql, WDM_SITE at);
+#define KeRaiseIrql(new, old) WdmKeRaiseIrql((new), (old), WDM_HERE)
+#define KeLowerIrql(irql) WdmKeLowerIrql((irql), WDM_HERE)
 PLIST_ENTRY ExInterlockedInsertTailList(PLIST_ENTRY Head, PLIST_ENTRY Entry, PKSPIN_LOCK Lock);
 PLIST_ENTRY ExInterlockedInsertHeadList(PLIST_ENTRY Head, PLIST_ENTRY Entry, PKSPIN_LOCK Lock);
 PLIST_ENTRY ExInterlockedRemoveHeadList(PLIST_ENTRY Head, PKSPIN_LOCK Lock);
-typedef struct _FAST_MUTEX { KMUTEX Mutex; } FAST_MUTEX, *PFAST_MUTEX;
+typedef struct _FAST_MUTEX { KMUTEX Mutex; KIRQL OldIrql; } FAST_MUTEX, *PFAST_MUTEX;
 #define ExInitializeFastMutex(m) KeInitializeMutex(&(m)->Mutex, 0)
-#define ExAcquireFastMutex(m) ((void)WdmKeWaitForSingleObject(&(m)->Mutex, NULL, WDM_HERE))
-#define ExReleaseFastMutex(m) ((void)KeReleaseMutex(&(m)->Mutex, FALSE))
+VOID WdmExAcquireFastMutex(PFAST_MUTEX Mutex, WDM_SITE at);
+VOID WdmExReleaseFastMutex(PFAST_MUTEX Mutex, WDM_SITE at);
+#define ExAcquireFastMutex(m) WdmExAcquireFastMutex((m), WDM_HERE)
+#define ExReleaseFastMutex(m) WdmExReleaseFastMutex((m), WDM_HERE)
 
 /* Threads. */
 typedef VOID KSTART_ROUTINE(PVOID Context);

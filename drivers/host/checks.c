@@ -1,0 +1,41 @@
+/* checks.c: the rules that Driver Verifier's users know, as data: name, stop code, title of the WDK's page, remedy. */
+#include "host.h"
+
+static const Check checks[] = {
+    { "SelfDeadlock", "0xC4/0x1000", "Deadlock Detection", "release it first, or call a routine that expects it held" },
+    { "LockOrder", "0xC4/0x1001", "Deadlock Detection", "take the two in one order everywhere" },
+    { "WrongThread", "0xC4/0x1004", "Deadlock Detection", "the thread that takes a lock gives it back" },
+    { "LockKept", "0xC4/0x1006", "Deadlock Detection", "give it back on each way out" },
+    { "NotAcquired", "0xC4/0x1007", "Deadlock Detection", "take it before, or don't give it back twice" },
+    { "InitializedHeld", "0xC4/0x1005", "Deadlock Detection", "initialize a lock once, before its first use" },
+    { "UnderSpinLock", "rule SpinLock", "Preventing Errors and Deadlocks While Using Spin Locks",
+      "give the lock back before the call" },
+    { "WrongIrql", "rule SpinLockRelease", "KeReleaseSpinLock function",
+      "hand over the level that this acquire gave" },
+    { "IrqlTooHigh", "0xC4 or 0xA", "Managing Hardware Priorities", "do it in a work item or a thread, or before" },
+    { "IrqlTooLow", "0xC4/0x41", "KeAcquireSpinLockAtDpcLevel function", "call KeAcquireSpinLock" },
+    { "IrqlReturn", "0xC9/0x5", "Managing Hardware Priorities", "put the level back on each way out" },
+    { "RaiseLower", "0xC4/0x30", "KeRaiseIrql function", "raise upwards, and lower to what the raise gave" },
+    { "ForwardedAtBadIrql", "rule ForwardedAtBadIrql", "Dispatch Routines and IRQLs",
+      "send it from a work item or a thread, at PASSIVE_LEVEL" },
+};
+
+const Check *check_named(const char *rule)
+{
+    for (size_t i = 0; i < sizeof checks / sizeof *checks; i++)
+        if (!strcmp(checks[i].rule, rule))
+            return &checks[i];
+    return NULL;
+}
+
+/* Tells a fault by a rule of the table, with its remedy. */
+void broken(const char *rule, const Packet *p, const char *how, ...)
+{
+    char text[380];
+    va_list list;
+    va_start(list, how);
+    vsnprintf(text, sizeof text, how, list);
+    va_end(list);
+    const Check *c = check_named(rule);
+    fault(rule, p, "%s. Remedy: %s (WDK: %s)", text, c->remedy, c->page);
+}

@@ -1,0 +1,42 @@
+/* checks.h: what the checks of Driver Verifier's kind share. Everything here is under G, unless it says otherwise. */
+#ifndef DRIVERS_CHECKS_H
+#define DRIVERS_CHECKS_H
+
+/* checks.c: the rules. VERIFIER.md has the same table for readers. */
+typedef struct { const char *rule, *code, *page, *remedy; } Check;
+const Check *check_named(const char *rule);
+__attribute__((format(printf, 3, 4))) void broken(const char *rule, const Packet *p, const char *how, ...);
+
+/* levels.c: at which interrupt level a call may be made. */
+void check_call(const Call *c);
+void check_wait(const char *name, WDM_SITE at);
+void check_dispatch_level(const Packet *p, UCHAR major, int device);
+void enter_level(Frame *f);
+void leave_level(Frame *f);
+const char *level_name(KIRQL irql);
+
+/* locks.c: who holds which lock, and in which order locks are taken. */
+typedef enum { SPIN_LOCK, CANCEL_LOCK, FAST_LOCK, MUTEX_OBJECT } LockKind;
+typedef struct { const void *lock; LockKind kind; WDM_SITE at; KIRQL before; const Frame *frame; int again; } Hold;
+bool lock_wanted(const void *lock, LockKind kind);
+void lock_taken(const void *lock, LockKind kind, WDM_SITE at, KIRQL before);
+bool lock_given_back(const void *lock, LockKind kind);
+void check_release_level(const void *lock, KIRQL irql);
+const Hold *held_spin_lock(void);
+void tell_locks_kept(const Frame *f);
+void check_thread_end(void); /* takes G and gives it back */
+void forget_locks(const void *from, size_t size, const char *why);
+void tell_deadlock(const void *lock);
+const char *lock_kind(LockKind kind);
+
+/* waits.c: waits that aren't checked, for the host's own. */
+NTSTATUS wait_for_objects(ULONG n, PVOID objects[], WAIT_TYPE type, PLARGE_INTEGER timeout, WDM_SITE at);
+void release_object(DISPATCHER_HEADER *h);
+int patience(void);
+
+/* kernel.c: spin locks, which take G and give it back themselves. */
+KIRQL take_spin_lock(PKSPIN_LOCK lock, LockKind kind, const char *name, WDM_SITE at);
+bool give_spin_lock(PKSPIN_LOCK lock, LockKind kind, const char *name, KIRQL irql, bool lowers, WDM_SITE at);
+void drop_spin_lock(PKSPIN_LOCK lock, LockKind kind, KIRQL irql); /* under G */
+
+#endif

@@ -1,0 +1,146 @@
+/* levels.c: what isn't allowed at a raised interrupt level; levels that aren't put back. */
+#include "rules.h"
+
+/* A wait in a deferred call. With a limit of zero it takes no time, and is right. */
+static VOID Waits(PKDPC Dpc, PVOID Context, PVOID A, PVOID B)
+{
+    PEXTENSION ext = Context;
+    LARGE_INTEGER limit = { .QuadPart = 0 };
+    UNREFERENCED_PARAMETER(Dpc), UNREFERENCED_PARAMETER(A), UNREFERENCED_PARAMETER(B);
+    if (ext->Wrong)
+        limit.QuadPart = -10;
+    KeWaitForSingleObject(&ext->Event, Executive, KernelMode, FALSE, &limit); /* told: IrqlTooHigh */
+}
+
+static NTSTATUS WaitsInDeferredCall(PEXTENSION Ext, PIRP Irp, BOOLEAN Wrong)
+{
+    UNREFERENCED_PARAMETER(Wrong);
+    KeInitializeDpc(&Ext->Dpc, Waits, Ext);
+    KeInsertQueueDpc(&Ext->Dpc, NULL, NULL);
+    KeFlushQueuedDpcs();
+    return Done(Irp);
+}
+
+static NTSTATUS DelaysUnderLock(PEXTENSION Ext, PIRP Irp, BOOLEAN Wrong)
+{
+    KIRQL irql;
+    LARGE_INTEGER moment = { .QuadPart = -10 };
+    KeAcquireSpinLock(&Ext->Lock, &irql);
+    if (Wrong)
+        KeDelayExecutionThread(KernelMode, FALSE, &moment); /* told: UnderSpinLock_Delay */
+    KeReleaseSpinLock(&Ext->Lock, irql);
+    KeDelayExecutionThread(KernelMode, FALSE, &moment);
+    return Done(Irp);
+}
+
+static NTSTATUS MutexAtDispatch(PEXTENSION Ext, PIRP Irp, BOOLEAN Wrong)
+{
+    KIRQL irql;
+    KeRaiseIrql(Wrong ? DISPATCH_LEVEL : APC_LEVEL, &irql);
+    ExAcquireFastMutex(&Ext->Mutex); /* told: IrqlTooHigh_FastMutex */
+    ExReleaseFastMutex(&Ext->Mutex);
+    KeLowerIrql(irql);
+    return Done(Irp);
+}
+
+static VOID Paged(PDEVICE_OBJECT DeviceObject)
+{
+    UNREFERENCED_PARAMETER(DeviceObject);
+    PAGED_CODE(); /* told: IrqlTooHigh_PagedCode */
+}
+
+static NTSTATUS PagedUnderLock(PEXTENSION Ext, PIRP Irp, BOOLEAN Wrong)
+{
+    KIRQL irql;
+    if (!Wrong)
+        Paged(Ext->Self);
+    KeAcquireSpinLock(&Ext->Lock, &irql);
+    if (Wrong)
+        Paged(Ext->Self);
+    KeReleaseSpinLock(&Ext->Lock, irql);
+    return Done(Irp);
+}
+
+/* A completion routine that waits. Windows may call it at DISPATCH_LEVEL, and one of the runs does. */
+static NTSTATUS WaitsInRoutine(PDEVICE_OBJECT DeviceObject, PIRP Irp, PVOID Context)
+{
+    PEXTENSION ext = Context;
+    LARGE_INTEGER moment = { .QuadPart = -10 };
+    UNREFERENCED_PARAMETER(DeviceObject);
+    if (Irp->PendingReturned)
+        IoMarkIrpPending(Irp);
+    if (ext->Wrong)
+        KeDelayExecutionThread(KernelMode, FALSE, &moment); /* told: IrqlTooHigh_Routine */
+    return STATUS_CONTINUE_COMPLETION;
+}
+
+static NTSTATUS RoutineWaits(PEXTENSION Ext, PIRP Irp, BOOLEAN Wrong)
+{
+    UNREFERENCED_PARAMETER(Wrong);
+    IoCopyCurrentIrpStackLocationToNext(Irp);
+    IoSetCompletionRoutine(Irp, WaitsInRoutine, Ext, TRUE, TRUE, TRUE);
+    return IoCallDriver(Ext->Lower, Irp);
+}
+
+static NTSTATUS AtDpcLevel(PEXTENSION Ext, PIRP Irp, BOOLEAN Wrong)
+{
+    KIRQL irql = PASSIVE_LEVEL;
+    if (!Wrong)
+        KeRaiseIrql(DISPATCH_LEVEL, &irql);
+    KeAcquireSpinLockAtDpcLevel(&Ext->Lock); /* told: IrqlTooLow */
+    KeReleaseSpinLock(&Ext->Lock, irql);
+    return Done(Irp);
+}
+
+static NTSTATUS StaysRaised(PEXTENSION Ext, PIRP Irp, BOOLEAN Wrong)
+{
+    KIRQL irql;
+    UNREFERENCED_PARAMETER(Ext);
+    Done(Irp);
+    KeRaiseIrql(DISPATCH_LEVEL, &irql); /* told: IrqlReturn */
+    if (!Wrong)
+        KeLowerIrql(irql);
+    return STATUS_SUCCESS;
+}
+
+static NTSTATUS RaisesDown(PEXTENSION Ext, PIRP Irp, BOOLEAN Wrong)
+{
+    KIRQL irql, again;
+    UNREFERENCED_PARAMETER(Ext);
+    KeRaiseIrql(DISPATCH_LEVEL, &irql);
+    KeRaiseIrql(Wrong ? APC_LEVEL : DISPATCH_LEVEL, &again); /* told: RaiseLower */
+    if (!Wrong)
+        KeLowerIrql(again);
+    KeLowerIrql(irql);
+    return Done(Irp);
+}
+
+static NTSTATUS Ended(PDEVICE_OBJECT DeviceObject, PIRP Irp, PVOID Context)
+{
+    UNREFERENCED_PARAMETER(DeviceObject), UNREFERENCED_PARAMETER(Context);
+    IoFreeIrp(Irp);
+    return STATUS_MORE_PROCESSING_REQUIRED;
+}
+
+static NTSTATUS AsksAtDispatch(PEXTENSION Ext, PIRP Irp, BOOLEAN Wrong)
+{
+    KIRQL irql = PASSIVE_LEVEL;
+    PIRP own = IoAllocateIrp(Ext->Lower->StackSize, FALSE);
+    own->IoStatus.Status = STATUS_NOT_SUPPORTED;
+    IoGetNextIrpStackLocation(own)->MajorFunction = IRP_MJ_PNP;
+    IoGetNextIrpStackLocation(own)->MinorFunction = IRP_MN_QUERY_PNP_DEVICE_STATE;
+    IoSetCompletionRoutine(own, Ended, NULL, TRUE, TRUE, TRUE);
+    if (Wrong)
+        KeRaiseIrql(DISPATCH_LEVEL, &irql);
+    IoCallDriver(Ext->Lower, own); /* told: ForwardedAtBadIrql */
+    if (Wrong)
+        KeLowerIrql(irql);
+    return Done(Irp);
+}
+
+const CASE_ROW LevelCases[] = {
+    { "IrqlTooHigh", WaitsInDeferredCall }, { "UnderSpinLock_Delay", DelaysUnderLock },
+    { "IrqlTooHigh_FastMutex", MutexAtDispatch }, { "IrqlTooHigh_PagedCode", PagedUnderLock },
+    { "IrqlTooHigh_Routine", RoutineWaits }, { "IrqlTooLow", AtDpcLevel }, { "IrqlReturn", StaysRaised },
+    { "RaiseLower", RaisesDown }, { "ForwardedAtBadIrql", AsksAtDispatch }, { NULL, NULL },
+};

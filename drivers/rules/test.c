@@ -1,0 +1,33 @@
+/* test.c CASE wrong|right: runs one case. `names` prints the names of all. */
+#include "rules.h"
+#include "wdm_test.h"
+#include <stdio.h>
+
+DRIVER_INITIALIZE DriverEntry;
+const char *RulesName(ULONG n);
+
+static void run_case(ULONG n, BOOLEAN wrong)
+{
+    PDRIVER_OBJECT driver = WdmLoadDriver("rules", DriverEntry);
+    PDEVICE_OBJECT bottom = WdmCreateBottom(n % 2);
+    driver->DriverExtension->AddDevice(driver, bottom);
+    PDEVICE_OBJECT top = IoGetAttachedDevice(bottom);
+    ((PEXTENSION)top->DeviceExtension)->Wrong = wrong;
+    WdmSend(top, IRP_MJ_PNP, IRP_MN_START_DEVICE, 0);
+    WdmControl(top, n << 2, 16);
+    WdmControl(top, n << 2, 16);
+    WdmSend(top, IRP_MJ_PNP, IRP_MN_REMOVE_DEVICE, 0);
+    IoDeleteDevice(bottom);
+    WdmUnloadDriver(driver);
+}
+
+int main(int argc, char **argv)
+{
+    const char *name;
+    for (ULONG n = 0; (name = RulesName(n)); n++)
+        if (argc > 2 && !strcmp(name, argv[1]))
+            run_case(n, !strcmp(argv[2], "wrong"));
+        else if (argc == 2)
+            puts(name);
+    return argc > 2 ? WdmFinish() : 0;
+}
