@@ -5,7 +5,8 @@ import os
 import re
 
 HERE = os.path.dirname(os.path.abspath(__file__))
-SETTINGS = {"IrqlTooHigh_Routine": {"WDM_ROUTINES_HIGH": "1"}}  # what the run of a case needs beside its name
+# What the run of a case needs, by the end of its name.
+SETTINGS = {"_Routine": {"WDM_ROUTINES_HIGH": "1"}, "_PageEnds": {"WDM_PAGE_ENDS": "1"}}
 NO_COMPLAINT = None
 
 
@@ -39,7 +40,7 @@ def tests(bench, names_of, complaint):
     program = bench.build(folder, [HERE + "/rules"])
     places, names = lines_told(), names_of(program)
     for case in names:
-        settings = SETTINGS.get(case, {})
+        settings = SETTINGS.get("_" + case.partition("_")[2], {})
         wrong = bench.run(folder, program, args=f"{case} wrong", patience=1, settings=settings)
         yield f"rule {case}, broken", wrong_case(case, places.get(case, []), wrong)
         right = bench.run(folder, program, args=f"{case} right", settings=settings)

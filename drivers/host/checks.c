@@ -18,6 +18,18 @@ static const Check checks[] = {
     { "RaiseLower", "0xC4/0x30", "KeRaiseIrql function", "raise upwards, and lower to what the raise gave" },
     { "ForwardedAtBadIrql", "rule ForwardedAtBadIrql", "Dispatch Routines and IRQLs",
       "send it from a work item or a thread, at PASSIVE_LEVEL" },
+    { "PoolLeak", "0xC4/0x62", "Pool Tracking", "free it before DriverUnload returns, or at the device's removal" },
+    { "FreedTwice", "0xC2/0x7", "Bug Check 0xC2: BAD_POOL_CALLER", "free it once; set the pointer to NULL then" },
+    { "WrongTag", "0xC2/0xA", "Bug Check 0xC2: BAD_POOL_CALLER", "free it with the tag of its allocation" },
+    { "NotPool", "0xC4/0x10", "Pool Tracking", "free what a pool call gave, by the same pointer" },
+    { "WrittenAfterFree", "0xC6", "Bug Check 0xC6: DRIVER_CAUGHT_MODIFYING_FREED_POOL",
+      "free it last; run with --page-ends, and the line is told" },
+    { "UsedAfterFree", "0xCC", "Special Pool", "free it last" },
+    { "PoolOverrun", "0xCD", "Special Pool", "check lengths; run with --page-ends, and the line is told" },
+    { "ZeroBytes", "0xC4/0x0", "Pool Tracking", "ask only for memory that is needed" },
+    { "TimerInFreedMemory", "0xC7/0x0", "Bug Check 0xC7: TIMER_OR_DPC_INVALID", "call KeCancelTimer before" },
+    { "DpcInFreedMemory", "0xC7/0x1", "Bug Check 0xC7: TIMER_OR_DPC_INVALID", "call KeFlushQueuedDpcs before" },
+    { "LockInFreedMemory", "0xC4/0x1006", "Deadlock Detection", "give it back before the memory goes" },
 };
 
 const Check *check_named(const char *rule)

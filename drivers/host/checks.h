@@ -34,6 +34,38 @@ NTSTATUS wait_for_objects(ULONG n, PVOID objects[], WAIT_TYPE type, PLARGE_INTEG
 void release_object(DISPATCHER_HEADER *h);
 int patience(void);
 
+/* pool.c, pages.c: blocks of memory. */
+typedef struct Block {
+    struct Block *next, *younger;
+    char *bytes;
+    size_t size, room; /* room: how many bytes lie behind it, as a fence */
+    ULONG tag;
+    int driver;
+    bool paged, freed, in_pages, is_buffer;
+    WDM_SITE allocated, released;
+} Block;
+Block *new_block(size_t size, ULONG tag, bool zero, WDM_SITE at);
+void free_block(Block *b, WDM_SITE at);
+const char *block_text(const Block *b);
+void hand_over_block(const void *bytes);
+void check_pool(void);
+void tell_pool_leaks(int driver, bool is_unloaded);
+bool get_pages(Block *b);
+void close_pages(Block *b);
+bool touched_block(void *address, void *instruction);
+void tell_block_touches(void);
+
+/* gone.c: timers, deferred calls and locks in memory that goes. */
+void check_gone(const void *from, size_t size, const char *what);
+PKTIMER take_timer_in(const void *from, size_t size); /* work.c */
+PKDPC take_dpc_in(const void *from, size_t size);
+
+/* low_memory.c */
+extern int n_allocations;
+bool memory_is_refused(const char *what, WDM_SITE at);
+bool memory_was_refused(void);
+void tell_refused(void);
+
 /* kernel.c: spin locks, which take G and give it back themselves. */
 KIRQL take_spin_lock(PKSPIN_LOCK lock, LockKind kind, const char *name, WDM_SITE at);
 bool give_spin_lock(PKSPIN_LOCK lock, LockKind kind, const char *name, KIRQL irql, bool lowers, WDM_SITE at);

@@ -29,6 +29,7 @@ static void end(Packet *p, Entry *e)
     seal(e, p->cancel);
     pthread_cond_broadcast(&host_settled);
     look(p);
+    hand_over_block((PVOID)p->information);
     if (p->irp->UserIosb)
         *p->irp->UserIosb = p->irp->IoStatus;
     else

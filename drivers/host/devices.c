@@ -9,7 +9,7 @@ NTSTATUS WdmIoCreateDevice(PDRIVER_OBJECT Driver, ULONG Extension, DEVICE_TYPE T
 {
     Call c;
     enter_host(&c, "IoCreateDevice", at);
-    PDEVICE_OBJECT o = n_devices < MAX_DEVICES ? calloc(1, sizeof *o) : NULL;
+    PDEVICE_OBJECT o = n_devices < MAX_DEVICES && !memory_is_refused(c.name, at) ? calloc(1, sizeof *o) : NULL;
     PVOID extension = o ? calloc(1, Extension ? Extension : 1) : NULL;
     if (!extension) {
         free(o);
@@ -96,6 +96,13 @@ static void tell_running(int d, const Frame *mine)
         note("still returning", "%s is deleted while a routine of it is returning on another thread", who(d));
 }
 
+static const char *gone_text(int d)
+{
+    static _Thread_local char text[120];
+    snprintf(text, sizeof text, "extension of %s, which is deleted", who(d));
+    return text;
+}
+
 static void delete_now(int d, const Frame *mine)
 {
     Entry *e = begin(REMOVE, NULL, d);
@@ -114,6 +121,7 @@ static void delete_now(int d, const Frame *mine)
         tell_running(d, mine);
         devices[d].live = false;
         answered(e, DONE, 0);
+        check_gone(devices[d].raw->DeviceExtension, devices[d].raw->HostExtensionSize, gone_text(d));
     }
 }
 

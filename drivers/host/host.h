@@ -152,7 +152,8 @@ struct Packet {
     Setting *mine; /* of a rider: the device's own routine, which runs when it is up */
     PKEVENT up; /* set when a rider is up, where its dispatch waits for that */
     void *kept_by;     /* the routine that kept it last */
-    PVOID buffer;      /* given by WdmBuild, freed with the packet */
+    PVOID buffer;      /* given by WdmBuild, freed with the packet; so are its bytes */
+    struct Block *bytes;
     ULONG room;        /* what was built has room for so many bytes there, to be copied to UserBuffer */
     bool writes_back;
     bool trapped, touch_untold;

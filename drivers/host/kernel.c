@@ -9,7 +9,7 @@ VOID WdmKeInitializeSpinLock(PKSPIN_LOCK Lock, WDM_SITE at)
 {
     Call c;
     enter_host(&c, "KeInitializeSpinLock", at);
-    forget_locks(Lock, sizeof *Lock, "initialized");
+    forget_locks(Lock, sizeof *Lock, NULL);
     leave_host();
     __atomic_store_n(Lock, 0, __ATOMIC_SEQ_CST);
 }

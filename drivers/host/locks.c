@@ -242,7 +242,7 @@ void check_thread_end(void)
     leave_host();
 }
 
-/* Locks in this memory are new ones, or gone. */
+/* Locks in this memory are new ones, or gone with what is named. */
 void forget_locks(const void *from, size_t size, const char *why)
 {
     const char *begin = from, *end = begin + size;
@@ -251,7 +251,10 @@ void forget_locks(const void *from, size_t size, const char *why)
             const Hold h = of_seat[seat].held[i];
             if ((const char *)h.lock < begin || (const char *)h.lock >= end)
                 continue;
-            broken("InitializedHeld", NULL, "a %s that is held since %s is %s", lock_kind(h.kind), place(h.at), why);
+            if (why)
+                broken("LockInFreedMemory", NULL, "a %s is held since %s, in the %s", lock_kind(h.kind), place(h.at), why);
+            else
+                broken("InitializedHeld", NULL, "the %s is held since %s", lock_kind(h.kind), place(h.at));
             take_out(&of_seat[seat], &of_seat[seat].held[i--]);
         }
     for (int i = 0; i < n_orders; i++) {

@@ -151,6 +151,8 @@ PIRP WdmIoAllocateIrp(CCHAR Size, WDM_SITE at)
     Packet *p = NULL;
     if (no)
         refuse(e, no);
+    else if (memory_is_refused(c.name, at))
+        free(e);
     else {
         p = new_packet(Size, NULL);
         unprotect(p);
@@ -169,8 +171,11 @@ static void free_now(Packet *p)
 {
     p->live = false;
     n_live--;
+    if (p->bytes)
+        free_block(p->bytes, self.calls->at);
     free(p->buffer);
     p->buffer = NULL;
+    p->bytes = NULL;
 }
 
 /* The I/O manager's free of a packet that ended. It is put off, so that a late call finds it ended. */

@@ -36,22 +36,29 @@ VOID WdmUnloadDriver(PDRIVER_OBJECT Driver)
 {
     if (Driver->DriverUnload)
         Driver->DriverUnload(Driver);
+    Call c;
+    enter_host(&c, "WdmUnloadDriver", (WDM_SITE){ 0 });
+    if (Driver->DriverUnload)
+        tell_pool_leaks(Driver->HostNumber, true);
+    leave_host();
 }
 
 /* Buffers as the I/O manager gives them: the packet frees them. */
-static void give_buffer(PIRP irp, PDEVICE_OBJECT top, ULONG length)
+static void give_buffer(PIRP irp, PDEVICE_OBJECT top, ULONG length, WDM_SITE at)
 {
-    struct { MDL mdl; char bytes[]; } *b = calloc(1, sizeof *b + length);
-    if (!b || !length) {
-        free(b);
+    if (!length)
         return;
-    }
-    b->mdl = (MDL){ b->bytes, length };
-    irp->AssociatedIrp.SystemBuffer = irp->UserBuffer = b->bytes;
-    irp->MdlAddress = top->Flags & DO_DIRECT_IO ? &b->mdl : NULL;
     Call c;
     enter_host(&c, "WdmBuildIrp", (WDM_SITE){ 0 });
-    find(irp)->buffer = b;
+    Packet *p = find(irp);
+    MDL *mdl = p->buffer = calloc(1, sizeof *mdl);
+    p->bytes = mdl ? new_block(length, 0, true, at) : NULL;
+    if (!p->bytes)
+        give_up("out of memory");
+    p->bytes->is_buffer = true;
+    *mdl = (MDL){ p->bytes->bytes, length };
+    irp->AssociatedIrp.SystemBuffer = irp->UserBuffer = p->bytes->bytes;
+    irp->MdlAddress = top->Flags & DO_DIRECT_IO ? mdl : NULL;
     leave_host();
 }
 
@@ -75,7 +82,7 @@ PIRP WdmBuild(PDEVICE_OBJECT Top, UCHAR Major, UCHAR Minor, ULONG Length, PIO_ST
     if (Major == IRP_MJ_PNP || Major == IRP_MJ_POWER || Major == IRP_MJ_SYSTEM_CONTROL)
         WdmIoReuseIrp(irp, STATUS_NOT_SUPPORTED, at);
     else
-        give_buffer(irp, Top, Length);
+        give_buffer(irp, Top, Length, at);
     PIO_STACK_LOCATION next = WdmIoGetNextIrpStackLocation(irp, at);
     next->MajorFunction = Major;
     next->MinorFunction = Minor;
@@ -115,6 +122,7 @@ static void write_summary(size_t entries)
     if (!f)
         return;
     fprintf(f, "entries %zu\nwanted %zu\nfaults %d\nnotes %d\n", entries, expected_entries(), n_faults, n_notes);
+    fprintf(f, "allocations %d\n", n_allocations);
     tell_expected(f);
     fclose(f);
 }
@@ -129,6 +137,9 @@ static size_t write_out(void)
         _exit(5);
     }
     tell_all_touches();
+    tell_block_touches();
+    check_pool();
+    tell_refused();
     tell_repeats();
     const size_t n = write_transcript(out);
     if (n < n_history)
@@ -180,6 +191,14 @@ static void tell_leftovers(void)
     }
 }
 
+static bool has_no_device(int driver)
+{
+    for (int i = 0; i < n_devices; i++)
+        if (devices[i].live && devices[i].raw->DriverObject->HostNumber == driver)
+            return false;
+    return true;
+}
+
 int WdmFinish(void)
 {
     Call c;
@@ -188,6 +207,9 @@ int WdmFinish(void)
     if (!wait_for_host(sends_are_back, NULL))
         fault("Hang", NULL, "%d sends haven't returned at the end", n_sends);
     tell_leftovers();
+    for (int i = 0; i < n_drivers; i++)
+        if (has_no_device(i))
+            tell_pool_leaks(i, false);
     const size_t n = write_out();
     if (n < expected_entries())
         fprintf(stderr, "host: %zu entries are fewer than the %zu that the test expects\n", n, expected_entries());

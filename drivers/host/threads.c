@@ -80,6 +80,7 @@ void enter_host(Call *c, const char *name, WDM_SITE at)
         self.frames->last = at;
         self.frames->last_call = name;
     }
+    tell_block_touches();
     check_call(c);
 }
 

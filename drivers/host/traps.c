@@ -29,6 +29,8 @@ static void *instruction(void *context)
 static void touched(int signal_number, siginfo_t *info, void *context)
 {
     const size_t i = (size_t)((char *)info->si_addr - arena) / PAGE;
+    if (touched_block(info->si_addr, instruction(context)))
+        return;
     if ((char *)info->si_addr < arena || i >= (size_t)n_packets || packets[i]->trapped) {
         signal(signal_number, SIG_DFL); /* a fault of another kind */
         return;

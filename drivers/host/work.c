@@ -76,9 +76,12 @@ static void *work(void *context)
     return NULL;
 }
 
-PIO_WORKITEM IoAllocateWorkItem(PDEVICE_OBJECT Device)
+PIO_WORKITEM WdmIoAllocateWorkItem(PDEVICE_OBJECT Device, WDM_SITE at)
 {
-    struct _IO_WORKITEM *item = calloc(1, sizeof *item);
+    Call c;
+    enter_host(&c, "IoAllocateWorkItem", at);
+    struct _IO_WORKITEM *item = memory_is_refused(c.name, at) ? NULL : calloc(1, sizeof *item);
+    leave_host();
     if (item)
         item->device = Device;
     return item;
@@ -136,6 +139,35 @@ static void take_out(PKTIMER timer)
         }
     timer->Armed = FALSE;
     n_armed -= timer->Period == 0;
+}
+
+static bool lies_in(const void *it, const void *from, size_t size)
+{
+    return (const char *)it >= (const char *)from && (const char *)it < (const char *)from + size;
+}
+
+/* An armed timer in this memory, or NULL. It is taken out. */
+PKTIMER take_timer_in(const void *from, size_t size)
+{
+    PKTIMER t = timers;
+    while (t && !lies_in(t, from, size))
+        t = t->HostNext;
+    if (t)
+        take_out(t);
+    return t;
+}
+
+/* A deferred call in this memory that is queued, or NULL. It is taken out. */
+PKDPC take_dpc_in(const void *from, size_t size)
+{
+    for (int i = 0; i < n_dpcs; i++)
+        if (lies_in(dpcs[i], from, size)) {
+            PKDPC d = dpcs[i];
+            memmove(dpcs + i, dpcs + i + 1, (size_t)(--n_dpcs - i) * sizeof *dpcs);
+            d->Queued = FALSE;
+            return d;
+        }
+    return NULL;
 }
 
 /* Lets the timers that are due go off. Returns when the next one is, or 0. */
@@ -205,10 +237,10 @@ VOID KeInitializeTimerEx(PKTIMER Timer, TIMER_TYPE Type)
     WdmKeInitializeEvent(e, Type == SynchronizationTimer ? SynchronizationEvent : NotificationEvent, FALSE);
 }
 
-BOOLEAN KeSetTimerEx(PKTIMER Timer, LARGE_INTEGER DueTime, LONG Period, PKDPC Dpc)
+BOOLEAN WdmKeSetTimer(PKTIMER Timer, LARGE_INTEGER DueTime, LONG Period, PKDPC Dpc, WDM_SITE at)
 {
     Call c;
-    enter_host(&c, "KeSetTimer", (WDM_SITE){ 0 });
+    enter_host(&c, "KeSetTimer", at);
     hands_over();
     const BOOLEAN was = Timer->Armed;
     if (was)
@@ -218,6 +250,7 @@ BOOLEAN KeSetTimerEx(PKTIMER Timer, LARGE_INTEGER DueTime, LONG Period, PKDPC Dp
     Timer->Period = Period;
     Timer->Dpc = Dpc;
     Timer->Armed = TRUE;
+    Timer->HostSet = at;
     Timer->HostNext = timers;
     timers = Timer;
     n_armed += Period == 0;
@@ -247,15 +280,16 @@ VOID WdmKeInitializeDpc(PKDPC Dpc, PKDEFERRED_ROUTINE Routine, PVOID Context, WD
     leave_host();
 }
 
-BOOLEAN KeInsertQueueDpc(PKDPC Dpc, PVOID Argument1, PVOID Argument2)
+BOOLEAN WdmKeInsertQueueDpc(PKDPC Dpc, PVOID Argument1, PVOID Argument2, WDM_SITE at)
 {
     Call c;
-    enter_host(&c, "KeInsertQueueDpc", (WDM_SITE){ 0 });
+    enter_host(&c, "KeInsertQueueDpc", at);
     hands_over();
     const BOOLEAN queued = !Dpc->Queued;
     if (queued) {
         Dpc->Argument1 = Argument1;
         Dpc->Argument2 = Argument2;
+        Dpc->HostQueued = at;
         queue_dpc(Dpc);
         start_clock();
     }
@@ -324,7 +358,7 @@ VOID IoStartTimer(PDEVICE_OBJECT Device)
 {
     DeviceTimer *t = timer_of(Device);
     if (t)
-        KeSetTimerEx(&t->timer, (LARGE_INTEGER){ .QuadPart = -10000000 }, 1000, &t->dpc);
+        WdmKeSetTimer(&t->timer, (LARGE_INTEGER){ .QuadPart = -10000000 }, 1000, &t->dpc, (WDM_SITE){ 0 });
 }
 
 VOID IoStopTimer(PDEVICE_OBJECT Device)

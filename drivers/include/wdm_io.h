@@ -259,7 +259,8 @@ typedef IO_WORKITEM_ROUTINE *PIO_WORKITEM_ROUTINE;
 typedef VOID IO_TIMER_ROUTINE(PDEVICE_OBJECT DeviceObject, PVOID Context);
 typedef IO_TIMER_ROUTINE *PIO_TIMER_ROUTINE;
 typedef enum { CriticalWorkQueue, DelayedWorkQueue, HyperCriticalWorkQueue, NormalWorkQueue } WORK_QUEUE_TYPE;
-PIO_WORKITEM IoAllocateWorkItem(PDEVICE_OBJECT Device);
+PIO_WORKITEM WdmIoAllocateWorkItem(PDEVICE_OBJECT Device, WDM_SITE at);
+#define IoAllocateWorkItem(device) WdmIoAllocateWorkItem((device), WDM_HERE)
 VOID WdmIoQueueWorkItem(PIO_WORKITEM Item, PIO_WORKITEM_ROUTINE Routine, PVOID Context, WDM_SITE at);
 #define IoQueueWorkItem(item, routine, queue, context) \
     ((void)(queue), WdmIoQueueWorkItem((item), (routine), (context), WDM_HERE))

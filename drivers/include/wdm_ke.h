@@ -27,6 +27,7 @@ typedef struct _KDPC {
     PVOID Context, Argument1, Argument2;
     BOOLEAN Queued;
     int HostDriver;
+    WDM_SITE HostQueued;
 } KDPC;
 typedef struct _KTIMER {
     DISPATCHER_HEADER Header;
@@ -35,6 +36,7 @@ typedef struct _KTIMER {
     LONG Period;
     PKDPC Dpc;
     struct _KTIMER *HostNext;
+    WDM_SITE HostSet;
 } KTIMER, *PKTIMER;
 typedef struct _KTHREAD *PKTHREAD, *PETHREAD;
 
@@ -70,13 +72,15 @@ LARGE_INTEGER KeQueryPerformanceCounter(PLARGE_INTEGER Frequency);
 /* Timers and deferred calls, run by a thread of the host. Due times are in 100 ns, relative where negative. */
 VOID KeInitializeTimerEx(PKTIMER Timer, TIMER_TYPE Type);
 #define KeInitializeTimer(timer) KeInitializeTimerEx((timer), NotificationTimer)
-BOOLEAN KeSetTimerEx(PKTIMER Timer, LARGE_INTEGER DueTime, LONG Period, PKDPC Dpc);
-#define KeSetTimer(timer, due, dpc) KeSetTimerEx((timer), (due), 0, (dpc))
+BOOLEAN WdmKeSetTimer(PKTIMER Timer, LARGE_INTEGER DueTime, LONG Period, PKDPC Dpc, WDM_SITE at);
+#define KeSetTimerEx(timer, due, period, dpc) WdmKeSetTimer((timer), (due), (period), (dpc), WDM_HERE)
+#define KeSetTimer(timer, due, dpc) WdmKeSetTimer((timer), (due), 0, (dpc), WDM_HERE)
 BOOLEAN KeCancelTimer(PKTIMER Timer);
 BOOLEAN KeReadStateTimer(PKTIMER Timer);
 VOID WdmKeInitializeDpc(PKDPC Dpc, PKDEFERRED_ROUTINE Routine, PVOID Context, WDM_SITE at);
 #define KeInitializeDpc(dpc, routine, context) WdmKeInitializeDpc((dpc), (routine), (context), WDM_HERE)
-BOOLEAN KeInsertQueueDpc(PKDPC Dpc, PVOID Argument1, PVOID Argument2);
+BOOLEAN WdmKeInsertQueueDpc(PKDPC Dpc, PVOID Argument1, PVOID Argument2, WDM_SITE at);
+#define KeInsertQueueDpc(dpc, one, two) WdmKeInsertQueueDpc((dpc), (one), (two), WDM_HERE)
 VOID KeFlushQueuedDpcs(VOID);
 
 /* Spin locks and interrupt levels, which are checked. */
@@ -139,11 +143,18 @@ enum { NonPagedPool = 0, PagedPool = 1, NonPagedPoolNx = 512 };
 #define POOL_FLAG_NON_PAGED 0x40ull
 #define POOL_FLAG_PAGED 0x100ull
 #define POOL_FLAG_UNINITIALIZED 0x2ull
-#define ExAllocatePoolWithTag(type, n, tag) ((void)(type), (void)(tag), malloc(n))
-#define ExAllocatePool(type, n) ((void)(type), malloc(n))
-#define ExAllocatePool2(flags, n, tag) ((void)(flags), (void)(tag), calloc(1, (n)))
-#define ExAllocatePoolZero(type, n, tag) ((void)(type), (void)(tag), calloc(1, (n)))
-#define ExFreePoolWithTag(p, tag) ((void)(tag), free(p))
-#define ExFreePool(p) free(p)
+enum { WDM_POOL_PAGED = 1, WDM_POOL_ZERO = 2 };
+PVOID WdmAllocatePool(ULONG Kind, SIZE_T Bytes, ULONG Tag, WDM_SITE at);
+VOID WdmFreePool(PVOID Memory, ULONG Tag, BOOLEAN HasTag, WDM_SITE at);
+#define WDM_POOL_OF(type) ((type) & PagedPool ? WDM_POOL_PAGED : 0)
+#define WDM_POOL_BY(flags) (((flags) & POOL_FLAG_PAGED ? WDM_POOL_PAGED : 0) | \
+                            ((flags) & POOL_FLAG_UNINITIALIZED ? 0 : WDM_POOL_ZERO))
+#define ExAllocatePoolWithTag(type, n, tag) WdmAllocatePool(WDM_POOL_OF(type), (n), (ULONG)(tag), WDM_HERE)
+#define ExAllocatePool(type, n) WdmAllocatePool(WDM_POOL_OF(type), (n), 0, WDM_HERE)
+#define ExAllocatePool2(flags, n, tag) WdmAllocatePool(WDM_POOL_BY(flags), (n), (ULONG)(tag), WDM_HERE)
+#define ExAllocatePoolZero(type, n, tag) \
+    WdmAllocatePool(WDM_POOL_OF(type) | WDM_POOL_ZERO, (n), (ULONG)(tag), WDM_HERE)
+#define ExFreePoolWithTag(p, tag) WdmFreePool((p), (ULONG)(tag), TRUE, WDM_HERE)
+#define ExFreePool(p) WdmFreePool((p), 0, FALSE, WDM_HERE)
 
 #endif

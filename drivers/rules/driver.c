@@ -2,7 +2,7 @@
    case is to be wrong. */
 #include "rules.h"
 
-static const CASE_ROW *const tables[] = { LockCases, LevelCases };
+static const CASE_ROW *const tables[] = { LockCases, LevelCases, PoolCases };
 
 /* Returns the name of the n-th case, or NULL. */
 const char *RulesName(ULONG n);
@@ -64,10 +64,12 @@ static NTSTATUS Pnp(PDEVICE_OBJECT DeviceObject, PIRP Irp)
     NTSTATUS status = PassDown(ext, Irp);
     if (minor == IRP_MN_REMOVE_DEVICE) {
         IoDetachDevice(ext->Lower);
-        IoDeleteDevice(DeviceObject);
+        IoDeleteDevice(DeviceObject); /* told: TimerInFreedMemory_Device */
     }
     return status;
 }
+
+static VOID Unload(PDRIVER_OBJECT DriverObject) { UNREFERENCED_PARAMETER(DriverObject); }
 
 static NTSTATUS AddDevice(PDRIVER_OBJECT DriverObject, PDEVICE_OBJECT Pdo)
 {
@@ -96,5 +98,6 @@ NTSTATUS DriverEntry(PDRIVER_OBJECT DriverObject, PUNICODE_STRING RegistryPath)
     DriverObject->MajorFunction[IRP_MJ_DEVICE_CONTROL] = Control;
     DriverObject->MajorFunction[IRP_MJ_PNP] = Pnp;
     DriverObject->DriverExtension->AddDevice = AddDevice;
+    DriverObject->DriverUnload = Unload;
     return STATUS_SUCCESS;
 }

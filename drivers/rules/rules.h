@@ -19,7 +19,7 @@ typedef struct {
 /* A case is the dispatch of DEVICE_CONTROL for its packet. */
 typedef NTSTATUS CASE(PEXTENSION Ext, PIRP Irp, BOOLEAN Wrong);
 typedef struct { const char *Name; CASE *Run; } CASE_ROW;
-extern const CASE_ROW LockCases[], LevelCases[];
+extern const CASE_ROW LockCases[], LevelCases[], PoolCases[];
 
 NTSTATUS Done(PIRP Irp);
 NTSTATUS PassDown(PEXTENSION Ext, PIRP Irp);

@@ -1,0 +1,14 @@
+/* gone.c: memory that goes, a pool block or a deleted device's extension, with a timer, deferred call or lock in it. */
+#include "host.h"
+
+void check_gone(const void *from, size_t size, const char *what)
+{
+    PKTIMER timer;
+    PKDPC dpc;
+    while ((timer = take_timer_in(from, size)))
+        broken("TimerInFreedMemory", NULL, "the timer that was set at %s is armed, in the %s", place(timer->HostSet), what);
+    while ((dpc = take_dpc_in(from, size)))
+        broken("DpcInFreedMemory", NULL, "the deferred call %s is queued since %s, in the %s",
+               function_name((void *)dpc->Routine), place(dpc->HostQueued), what);
+    forget_locks(from, size, what);
+}
