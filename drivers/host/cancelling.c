@@ -75,18 +75,28 @@ VOID WdmIoReleaseCancelSpinLock(KIRQL Irql, WDM_SITE at)
     self.has_cancel_lock &= !give_spin_lock(&cancel_lock, CANCEL_LOCK, "IoReleaseCancelSpinLock", Irql, true, at);
 }
 
+/* Whether a cancel may come: to a packet on its way up only from its own completion routine. */
+static bool may_be_cancelled(const void *packet)
+{
+    const Packet *p = packet;
+    return !p->unwinding || (p->asking && is_this_thread(p->asking->thread));
+}
+
 /* Enters the host for a cancel, with the cancel spin lock: a packet on its way up is cancelled once it is up. */
 static KIRQL begin_cancel(Call *c, Packet **p, PIRP irp, WDM_SITE at)
 {
     KIRQL irql;
     for (;;) {
         WdmIoAcquireCancelSpinLock(&irql, at);
-        enter_host(c, "IoCancelIrp", at);
+        enter_quietly(c, "IoCancelIrp", at);
         *p = find(irp);
-        if (!(*p)->unwinding || ((*p)->asking && pthread_equal((*p)->asking->thread, pthread_self())))
+        const Wait w = { .ready = may_be_cancelled, .context = *p, .on = &host_settled, .patience = DEADLOCK,
+                         .what = "IoCancelIrp", .at = at };
+        if (may_be_cancelled(*p))
             return irql;
         release_cancel_lock(irql);
-        pthread_cond_wait(&host_settled, &host_lock);
+        if (wait_for(&w) == STUCK)
+            give_up("a packet on its way up is cancelled, and never comes up");
         leave_host();
     }
 }
@@ -117,7 +127,7 @@ static void run_cancel_routine(Packet *p, Entry *e, KIRQL irql)
     enter_frame(&f);
     p->asking = &f;
     let_driver_run();
-    shake();
+    point("the cancel routine", (WDM_SITE){ 0 });
     routine(devices[d].raw, p->irp);
     driver_came_back();
     leave_frame();

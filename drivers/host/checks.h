@@ -27,12 +27,12 @@ void tell_locks_kept(const Frame *f);
 void check_thread_end(void); /* takes G and gives it back */
 void forget_locks(const void *from, size_t size, const char *why);
 void tell_deadlock(const void *lock);
+const Hold *holder_of(const void *lock, int *seat);
 const char *lock_kind(LockKind kind);
 
 /* waits.c: waits that aren't checked, for the host's own. */
 NTSTATUS wait_for_objects(ULONG n, PVOID objects[], WAIT_TYPE type, PLARGE_INTEGER timeout, WDM_SITE at);
 void release_object(DISPATCHER_HEADER *h);
-int patience(void);
 
 /* pool.c, pages.c: blocks of memory. */
 typedef struct Block {

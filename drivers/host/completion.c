@@ -27,7 +27,7 @@ static void end(Packet *p, Entry *e)
     p->open = NULL;
     p->unwinding = false;
     seal(e, p->cancel);
-    pthread_cond_broadcast(&host_settled);
+    tell_waiters(&host_settled);
     look(p);
     hand_over_block((PVOID)p->information);
     if (p->irp->UserIosb)
@@ -67,7 +67,7 @@ static bool ask_routine(Packet *p, Entry *e, int j, Location l)
     enter_frame(&f);
     p->asking = &f;
     let_driver_run();
-    shake();
+    point("the completion routine", (WDM_SITE){ 0 });
     NTSTATUS answer = l.set->fn(device < 0 ? NULL : devices[device].raw, p->irp, l.set->raw);
     driver_came_back();
     leave_frame();
@@ -227,7 +227,7 @@ VOID WdmIoCompleteRequest(PIRP Irp, WDM_SITE at)
     if (f && f->kind == DISPATCH && p->skipped)
         take_skip_back(p);
     if (f && f->kind == DISPATCH && !f->marked && !f->cancel && good) {
-        n_early += !pthread_equal(f->thread, pthread_self()); /* its dispatch runs on, and will return this status */
+        n_early += !is_this_thread(f->thread); /* its dispatch runs on, and will return this status */
         f->finished = true;
         f->done = status;
         finish_asked(p, f, status, information);

@@ -9,10 +9,11 @@ NTSTATUS WdmIoCreateDevice(PDRIVER_OBJECT Driver, ULONG Extension, DEVICE_TYPE T
 {
     Call c;
     enter_host(&c, "IoCreateDevice", at);
-    PDEVICE_OBJECT o = n_devices < MAX_DEVICES && !memory_is_refused(c.name, at) ? calloc(1, sizeof *o) : NULL;
-    PVOID extension = o ? calloc(1, Extension ? Extension : 1) : NULL;
+    touch(&devices, WRITES);
+    PDEVICE_OBJECT o = n_devices < MAX_DEVICES && !memory_is_refused(c.name, at) ? host_memory(sizeof *o) : NULL;
+    PVOID extension = o ? host_memory(Extension ? Extension : 1) : NULL;
     if (!extension) {
-        free(o);
+        free_host_memory(o);
         leave_host();
         return STATUS_INSUFFICIENT_RESOURCES;
     }
@@ -34,6 +35,7 @@ PDEVICE_OBJECT WdmIoAttachDevice(PDEVICE_OBJECT Device, PDEVICE_OBJECT Target, W
 {
     Call c;
     enter_host(&c, "IoAttachDeviceToDeviceStack", at);
+    touch(&devices, WRITES);
     const int d = Device->HostNumber;
     int top = Target->HostNumber;
     Entry *e = begin(ATTACH, NULL, d);
@@ -120,6 +122,8 @@ static void delete_now(int d, const Frame *mine)
     else {
         tell_running(d, mine);
         devices[d].live = false;
+        let_go_of(devices[d].raw->DeviceExtension, devices[d].raw->HostExtensionSize, "the extension of a device",
+                  self.calls->at);
         answered(e, DONE, 0);
         check_gone(devices[d].raw->DeviceExtension, devices[d].raw->HostExtensionSize, gone_text(d));
     }
@@ -141,6 +145,7 @@ VOID WdmIoDetachDevice(PDEVICE_OBJECT Lower, WDM_SITE at)
 {
     Call c;
     enter_host(&c, "IoDetachDevice", at);
+    touch(&devices, WRITES);
     const int d = Lower->HostNumber, up = devices[d].upper;
     Entry *e = begin(DETACH, NULL, d);
     e->device = d;
@@ -162,6 +167,10 @@ VOID WdmIoDeleteDevice(PDEVICE_OBJECT Device, WDM_SITE at)
 {
     Call c;
     enter_host(&c, "IoDeleteDevice", at);
+    touch(&devices, WRITES);
+    for (int i = 0; i < n_packets; i++) /* whether one is in flight there */
+        if (lives(packets[i]))
+            touch(packets[i]->irp, READS);
     const int d = Device->HostNumber;
     if (devices[d].live && devices[d].upper >= 0 && devices[d].lower < 0) {
         devices[d].leaving = true;

@@ -27,7 +27,7 @@
 
 #include "wdm_io.h"
 #include "wdm_test.h"
-#include <pthread.h>
+#include "threads.h"
 #include <stdio.h>
 #include <time.h>
 
@@ -160,6 +160,8 @@ struct Packet {
     void *touched_at;
     int toucher;
     struct { WDM_SITE allocated, sent, completed, freed, cancel; } sites;
+    uint64_t name; /* by the thread that allocated it, and how many that had allocated before */
+    UCHAR major;   /* what was sent to the first device */
     Location at[MAX_SIZE + 2];
 };
 
@@ -195,7 +197,7 @@ typedef struct {
 
 extern _Thread_local Self self;
 extern pthread_mutex_t host_lock;
-extern pthread_cond_t host_settled;
+extern Condition host_settled; /* under G */
 extern Device devices[MAX_DEVICES];
 extern PDRIVER_OBJECT drivers[MAX_DRIVERS];
 extern Packet *packets[MAX_PACKETS];
@@ -242,25 +244,24 @@ int rules_stack_size(int device);
 
 /* threads.c, waits.c, work.c */
 void enter_host(Call *c, const char *name, WDM_SITE at);
+void enter_quietly(Call *c, const char *name, WDM_SITE at);
 void leave_host(void);
 void let_driver_run(void);
 void driver_came_back(void);
-void shake(void);
 void enter_frame(Frame *f);
 void leave_frame(void);
 void learn_file(const char *file, int driver);
 void learn_test(const char *file);
 bool has_test(const char *file);
 int calling_driver(void);
-int start_thread(void *(*run)(void *), void *context);
 void set_event(PKEVENT event);
 void hands_over(void);
 void hands_over_now(void);
+void clear_event(PKEVENT event);
 bool is_event(const void *object);
 bool wait_for_host(bool (*done)(const void *), const void *context);
 void finish_work(void);
 bool timers_armed(void);
-LONGLONG now_in_100ns(void);
 
 /* packets.c, preparing.c */
 PIO_STACK_LOCATION raw_at(Packet *p, int j);

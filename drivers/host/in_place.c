@@ -137,7 +137,7 @@ static void let_go(Packet *r)
     n_live--;
     p->rider = NULL;
     put_back(p);
-    pthread_cond_broadcast(&host_settled);
+    tell_waiters(&host_settled);
 }
 
 /* The device's own routine runs for a rider that is up, if there is one and its flags are met. Returns whether the

@@ -1,6 +1,5 @@
 /* kernel.c: spin locks, IRQL, interlocked lists, time, strings. */
-#include "host.h"
-#include <sched.h>
+#include "schedule.h"
 #include <unistd.h>
 #include <wchar.h>
 
@@ -14,25 +13,20 @@ VOID WdmKeInitializeSpinLock(PKSPIN_LOCK Lock, WDM_SITE at)
     __atomic_store_n(Lock, 0, __ATOMIC_SEQ_CST);
 }
 
-/* Spins; where nothing goes on in the host for some seconds, nobody will give the lock back. */
+static bool is_free(const void *lock) { return !__atomic_load_n((const ULONG_PTR *)lock, __ATOMIC_SEQ_CST); }
+
 static void spin(PKSPIN_LOCK lock, ULONG_PTR mine, const char *name, WDM_SITE at)
 {
+    const Wait w = { .ready = is_free, .context = lock, .object = lock, .patience = DEADLOCK, .what = name, .at = at };
     ULONG_PTR expected = 0;
-    unsigned long seen = 0;
-    LONGLONG since = 0;
     while (!__atomic_compare_exchange_n(lock, &expected, mine, false, __ATOMIC_SEQ_CST, __ATOMIC_SEQ_CST)) {
-        const unsigned long activity = __atomic_load_n(&host_activity, __ATOMIC_SEQ_CST);
-        if (!since || activity != seen)
-            since = now_in_100ns();
-        if (now_in_100ns() - since > 10000000LL * patience()) {
-            Call c;
-            enter_host(&c, name, at);
-            tell_deadlock(lock);
-            give_up("nobody gives the spin lock back");
-        }
-        seen = activity;
         expected = 0;
-        sched_yield();
+        if (wait_for(&w) != STUCK)
+            continue;
+        Call c;
+        enter_quietly(&c, name, at);
+        tell_deadlock(lock);
+        give_up("nobody gives the spin lock back");
     }
 }
 
@@ -46,6 +40,7 @@ KIRQL take_spin_lock(PKSPIN_LOCK lock, LockKind kind, const char *name, WDM_SITE
     if (!has_it) {
         spin(lock, (ULONG_PTR)self.seat + 1, name, at);
         pthread_mutex_lock(&host_lock);
+        touch(lock, SYNCS);
         lock_taken(lock, kind, at, old);
         pthread_mutex_unlock(&host_lock);
     }
@@ -58,6 +53,7 @@ void drop_spin_lock(PKSPIN_LOCK lock, LockKind kind, KIRQL irql)
 {
     if (lock_given_back(lock, kind)) {
         self.irql = irql;
+        touch(lock, SYNCS);
         __atomic_store_n(lock, 0, __ATOMIC_SEQ_CST);
     }
 }
@@ -75,6 +71,7 @@ bool give_spin_lock(PKSPIN_LOCK lock, LockKind kind, const char *name, KIRQL irq
         self.irql = irql;
         self.raised = at;
     }
+    touch(lock, SYNCS);
     leave_host();
     if (given)
         __atomic_store_n(lock, 0, __ATOMIC_SEQ_CST);
@@ -192,7 +189,14 @@ PLIST_ENTRY ExInterlockedRemoveHeadList(PLIST_ENTRY Head, PKSPIN_LOCK Lock)
     return first;
 }
 
-VOID KeStallExecutionProcessor(ULONG Microseconds) { usleep(Microseconds); }
+VOID KeStallExecutionProcessor(ULONG Microseconds)
+{
+    if (by_schedule)
+        yield_to_others("KeStallExecutionProcessor");
+    else
+        usleep(Microseconds);
+}
+
 VOID KeQuerySystemTime(PLARGE_INTEGER Now) { Now->QuadPart = now_in_100ns(); }
 VOID KeQueryTickCount(PLARGE_INTEGER Ticks) { Ticks->QuadPart = now_in_100ns() / KeQueryTimeIncrement(); }
 ULONG KeQueryTimeIncrement(VOID) { return 156250; }

@@ -225,6 +225,7 @@ void tell_locks_kept(const Frame *f)
                f ? what_runs(f) : "a thread");
         self.calls = c.up;
         take_out(mine, &mine->held[i]);
+        touch(h.lock, SYNCS);
         if (is_spin(&h))
             __atomic_store_n((PKSPIN_LOCK)h.lock, 0, __ATOMIC_SEQ_CST);
         else
@@ -262,6 +263,15 @@ void forget_locks(const void *from, size_t size, const char *why)
         if ((a >= begin && a < end) || (b >= begin && b < end))
             orders[i--] = orders[--n_orders];
     }
+}
+
+/* Who holds the lock, as a hold and a seat; or NULL. */
+const Hold *holder_of(const void *lock, int *seat)
+{
+    for (*seat = 0; *seat < n_seats; ++*seat)
+        if (hold_of(*seat, lock))
+            return hold_of(*seat, lock);
+    return NULL;
 }
 
 /* A spin lock that nobody gives back: who holds it, and what each thread holds. */

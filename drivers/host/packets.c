@@ -1,5 +1,5 @@
 /* packets.c: the shadow of a packet, whose call it is, and what allocates, frees and reuses one. */
-#include "host.h"
+#include "schedule.h"
 
 Packet *packets[MAX_PACKETS];
 int n_packets, n_live, n_early;
@@ -61,18 +61,24 @@ int party_with_location(const Packet *p) { return party_of(p, true); }
 Frame *dispatching(const Packet *p)
 {
     Frame *f = p->asking;
-    return f && f->kind == DISPATCH && pthread_equal(f->thread, pthread_self()) && party(p) == f->device ? f : NULL;
+    return f && f->kind == DISPATCH && is_this_thread(f->thread) && party(p) == f->device ? f : NULL;
+}
+
+static bool is_its_turn(const void *packet)
+{
+    const Packet *p = packet;
+    return !p->asking || is_this_thread(p->asking->thread) || party(p) == p->asking->device;
 }
 
 /* A call by one who isn't asked takes its place behind what another thread has on its way. */
 void await(Packet *p)
 {
-    struct timespec until;
-    clock_gettime(CLOCK_REALTIME, &until);
-    until.tv_sec++;
-    while (p->asking && !pthread_equal(p->asking->thread, pthread_self()) && party(p) != p->asking->device)
-        if (pthread_cond_timedwait(&host_settled, &host_lock, &until))
-            return;
+    const Wait w = { .ready = is_its_turn, .context = p, .on = &host_settled, .patience = GIVES_IN, .seconds = 1,
+                     .what = self.calls->name, .at = self.calls->at };
+    if (is_its_turn(p))
+        return;
+    wait_for(&w);
+    touch(p->irp, WRITES);
 }
 
 void prepare_nothing(Packet *p)
@@ -136,6 +142,7 @@ Packet *new_packet(int size, PIRP irp)
     p->live = true;
     p->irp = irp;
     p->allocator = calling_driver();
+    p->name = next_name();
     packets[n_packets++] = p;
     n_live++;
     return p;
@@ -173,7 +180,7 @@ static void free_now(Packet *p)
     n_live--;
     if (p->bytes)
         free_block(p->bytes, self.calls->at);
-    free(p->buffer);
+    free_host_memory(p->buffer);
     p->buffer = NULL;
     p->bytes = NULL;
 }

@@ -90,7 +90,7 @@ static bool get_memory(Block *b)
     b->room = FENCE;
     if (!IS_PLAIN && get_pages(b))
         return true;
-    char *area = IS_PLAIN ? malloc(b->size ? b->size : 1) : malloc(b->size + 2 * FENCE);
+    char *area = IS_PLAIN ? malloc(b->size ? b->size : 1) : host_memory(b->size + 2 * FENCE);
     b->bytes = area && !IS_PLAIN ? area + FENCE : area;
     return area != NULL;
 }
@@ -136,7 +136,7 @@ static void let_oldest_go(void)
     while (*at != b)
         at = &(*at)->next;
     *at = b->next;
-    free(b->bytes - FENCE);
+    free_host_memory(b->bytes - FENCE);
     free(b);
 }
 
@@ -147,6 +147,7 @@ void free_block(Block *b, WDM_SITE at)
     check_gone(b->bytes, b->size, block_text(b));
     b->freed = true;
     b->released = at;
+    let_go_of(b->bytes, b->size, b->is_buffer ? "a buffer" : "a pool block", at);
     if (b->in_pages) {
         close_pages(b);
         return;

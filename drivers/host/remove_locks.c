@@ -48,6 +48,7 @@ static int lock_of(PIO_REMOVE_LOCK lock)
 {
     if (lock->HostBound != TRUE)
         give_up("a remove lock is used before IoInitializeRemoveLock");
+    touch(&locks[lock->HostNumber], strcmp(self.calls->name, "IoReleaseRemoveLockAndWait") ? MEETS : SYNCS);
     return lock->HostNumber;
 }
 
@@ -87,6 +88,7 @@ static bool give_back(int d, PVOID tag, const char *act)
         record_word("hand", d, tag, "\"ok\"", k->held[found].seat, self.seat);
     record_word(act, d, tag, "\"ok\"", self.seat, -1);
     k->held[found] = k->held[--k->n];
+    tell_waiters(&host_settled);
     return true;
 }
 
@@ -113,6 +115,7 @@ VOID WdmIoReleaseRemoveLockAndWait(PIO_REMOVE_LOCK RemoveLock, PVOID Tag, WDM_SI
         k->removed = true;
     if (k->n)
         wait_for_host(is_drained, k);
+    touch(k, SYNCS);
     if (k->n)
         fault("NotDrained", NULL, "the remove lock of %s isn't drained: %d held%s", who(d), k->n, held_tags(d));
     else if (k->removed) {

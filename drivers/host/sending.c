@@ -59,6 +59,8 @@ NTSTATUS enter_device(Packet *p, int d, Entry *e)
 {
     Location *l = &p->at[--p->current];
     p->sites.completed = (WDM_SITE){ 0 };
+    if (p->current == p->size)
+        p->major = l->major;
     p->kept_by = NULL;
     put_back(p);
     l->device = d;
@@ -107,7 +109,7 @@ void returned_from(Entry *e, NTSTATUS answer)
     e->reply = STATUS;
     e->answer = (ULONG)answer;
     n_sends--;
-    pthread_cond_broadcast(&host_settled);
+    tell_waiters(&host_settled);
 }
 
 /* The dispatch passes the packet down by one plan. Returns what the device below answers. */
@@ -171,6 +173,7 @@ NTSTATUS WdmIoCallDriver(PDEVICE_OBJECT Target, PIRP Irp, WDM_SITE at)
     Call c;
     enter_host(&c, "IoCallDriver", at);
     Packet *p = find(Irp);
+    touch(&devices, READS);
     await(p);
     const int by = party(p), d = Target->HostNumber;
     if (lives(p) && (p->skipped || p->current > 1))

@@ -26,7 +26,7 @@ void take_kept_answer(Packet *p, Frame *f)
 {
     Asked *a = &f->e->asked[f->i];
     Setting *set = p->at[f->location].set;
-    const bool own = pthread_equal(f->thread, pthread_self()); /* else its next owner may have written to it */
+    const bool own = is_this_thread(f->thread); /* else its next owner may have written to it */
     const ULONG status = f->handed_over ? f->status : own ? (ULONG)p->irp->IoStatus.Status : p->status;
     const uint64_t information = f->handed_over ? f->information : own ? p->irp->IoStatus.Information : p->information;
     a->plan = KEEP;
@@ -56,7 +56,7 @@ void routine_kept(Packet *p, Frame *f)
     p->unwinding = false;
     f->settled = true;
     seal(f->e, p->cancel);
-    pthread_cond_broadcast(&host_settled);
+    tell_waiters(&host_settled);
     if (p->owner == ORIGINATOR)
         look(p);
 }
@@ -92,7 +92,7 @@ void settle(Packet *p, bool returned)
     Frame *f = p->asking;
     if (!f)
         return;
-    const bool own = !returned && pthread_equal(f->thread, pthread_self());
+    const bool own = !returned && is_this_thread(f->thread);
     n_early += !returned && !own;
     if (f->kind == ROUTINE) {
         routine_kept(p, f);
@@ -101,7 +101,7 @@ void settle(Packet *p, bool returned)
     p->asking = NULL;
     p->open = NULL;
     f->settled = true;
-    pthread_cond_broadcast(&host_settled);
+    tell_waiters(&host_settled);
     if (f->kind == CANCELLING) {
         f->e->asked[f->i].plan = LEAVE;
         seal(f->e, p->cancel);

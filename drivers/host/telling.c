@@ -1,5 +1,5 @@
 /* telling.c: faults and notes, on standard error. */
-#include "host.h"
+#include "schedule.h"
 #include <unistd.h>
 
 int n_faults, n_notes;
@@ -129,6 +129,9 @@ static void tell(const char *rule, const Packet *p, const char *where, const cha
         snprintf(irp, sizeof irp, "(IRP %u.%lu)", p->slot, (unsigned long)p->use);
     fprintf(stderr, "host: FAULT %s%s%s%s: %s%s: %s [before entry %zu]\n", rule, known ? " (" : "", known ? known : "",
             known ? ")" : "", where, irp, text, n_history);
+    char first[600];
+    snprintf(first, sizeof first, "%s: %s%s: %s", rule, where, irp, text);
+    note_fault(first);
 }
 
 void fault(const char *rule, const Packet *p, const char *how, ...)

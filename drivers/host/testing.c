@@ -1,5 +1,5 @@
 /* testing.c: what wdm_test.h has: loading drivers, building and sending packets, and the end of a run. */
-#include "host.h"
+#include "explore.h"
 #include <unistd.h>
 
 PDRIVER_OBJECT drivers[MAX_DRIVERS];
@@ -51,7 +51,7 @@ static void give_buffer(PIRP irp, PDEVICE_OBJECT top, ULONG length, WDM_SITE at)
     Call c;
     enter_host(&c, "WdmBuildIrp", (WDM_SITE){ 0 });
     Packet *p = find(irp);
-    MDL *mdl = p->buffer = calloc(1, sizeof *mdl);
+    MDL *mdl = p->buffer = host_memory(sizeof *mdl);
     p->bytes = mdl ? new_block(length, 0, true, at) : NULL;
     if (!p->bytes)
         give_up("out of memory");
@@ -131,7 +131,11 @@ static void write_summary(size_t entries)
 static size_t write_out(void)
 {
     const char *path = getenv("WDM_TRANSCRIPT");
-    FILE *out = path ? fopen(path, "w") : stdout;
+    char *text = NULL;
+    size_t length = 0;
+    if (!wants_transcript())
+        return expected_entries();
+    FILE *out = is_exploring ? open_memstream(&text, &length) : path ? fopen(path, "w") : stdout;
     if (!out) {
         perror(path);
         _exit(5);
@@ -145,10 +149,11 @@ static size_t write_out(void)
     if (n < n_history)
         fprintf(stderr, "host: the transcript ends before entry %zu, a send that hasn't returned; %zu entries more "
                 "aren't in it\n", n, n_history - n - 1);
-    if (path)
-        fclose(out);
-    else
+    if (out == stdout)
         fflush(out);
+    else
+        fclose(out);
+    hand_in(text, length, n);
     write_summary(n);
     fprintf(stderr, "host: %zu entries, %d faults, %d notes, %d settled early by another thread\n", n, n_faults,
             n_notes, n_early);
@@ -164,10 +169,17 @@ void give_up(const char *why)
         fprintf(stderr, "host: STOPPED: %s%s%s\n", why, self.calls && self.calls->at.file ? ", at " : "",
                 self.calls ? self.calls->at.file ? place(self.calls->at) : "" : "");
         n_faults++;
+        note_fault(why);
         write_out();
     }
-    fflush(NULL);
-    _exit(3);
+    end_run(3);
+}
+
+ULONG WdmRounds(ULONG Usual)
+{
+    const char *text = getenv("WDM_ROUNDS");
+    const ULONG most = text ? (ULONG)strtoul(text, NULL, 10) : 0;
+    return most && most < Usual ? most : Usual;
 }
 
 static bool sends_are_back(const void *context)

@@ -1,10 +1,8 @@
-/* threads.c: the host's lock, seats, whose code a thread runs, shaking, and threads that drivers make. */
-#include "host.h"
-#include <sched.h>
-#include <unistd.h>
+/* threads.c: the host's lock, seats, whose code a thread runs, and threads that drivers make. */
+#include "schedule.h"
 
 pthread_mutex_t host_lock = PTHREAD_MUTEX_INITIALIZER;
-pthread_cond_t host_settled = PTHREAD_COND_INITIALIZER;
+Condition host_settled = { &host_lock, PTHREAD_COND_INITIALIZER };
 unsigned long host_activity;
 int n_seats;
 _Thread_local Self self = { .seat = -1, .driver = NOBODY, .device = NOBODY };
@@ -20,7 +18,6 @@ struct _KTHREAD {
 static bool seat_taken[MAX_SEATS];
 static pthread_key_t seat_key;
 static pthread_once_t seat_once = PTHREAD_ONCE_INIT;
-static unsigned shake_seed;
 
 static void leave_seat(void *number)
 {
@@ -29,16 +26,11 @@ static void leave_seat(void *number)
     pthread_mutex_unlock(&host_lock);
 }
 
-static void make_seats(void)
-{
-    pthread_key_create(&seat_key, leave_seat);
-    const char *seed = getenv("WDM_SHAKE");
-    shake_seed = seed ? (unsigned)strtoul(seed, NULL, 10) : 0;
-}
+static void make_seats(void) { pthread_key_create(&seat_key, leave_seat); }
 
 static void take_seat(void)
 {
-    int seat = 0;
+    int seat = by_schedule ? current_thread() : 0;
     pthread_once(&seat_once, make_seats);
     while (seat < MAX_SEATS && seat_taken[seat])
         seat++;
@@ -46,30 +38,36 @@ static void take_seat(void)
         give_up("more than 64 threads at once");
     seat_taken[seat] = true;
     self.seat = seat;
-    pthread_setspecific(seat_key, (void *)(intptr_t)(seat + 1));
+    if (!by_schedule)
+        pthread_setspecific(seat_key, (void *)(intptr_t)(seat + 1));
     if (seat >= n_seats)
         n_seats = seat + 1;
 }
 
-/* With a seed a call yields or sleeps for a moment now and then, so that threads mix. */
-void shake(void)
+/* Whether another thread may go on before this call does. Calls that only prepare something have nothing to meet. */
+static bool is_point(const char *name)
 {
-    if (!shake_seed)
-        return;
-    if (!self.chance)
-        self.chance = shake_seed * 2654435761u + (unsigned)self.seat + 1;
-    const unsigned r = (unsigned)rand_r(&self.chance) % 16;
-    if (r < 4)
-        sched_yield();
-    else if (r == 15)
-        usleep((unsigned)rand_r(&self.chance) % 200);
+    static const char *const plain[] = { "IoGetNext", "KeInitialize", "IoAllocateIrp", "IoCreateDevice", "IoAttach",
+                                         "IoInitialize", "WdmLoad", "WdmBuild", "IoBuild", "IoSetCompletionRoutine",
+                                         "IoCopyCurrent", "IoSkipCurrent", "PsCreate", "KeReleaseSpin",
+                                         "IoReleaseCancel", "a work item", "the clock" };
+    for (size_t i = 0; i < sizeof plain / sizeof *plain; i++)
+        if (!strncmp(name, plain[i], strlen(plain[i])))
+            return false;
+    return true;
 }
 
 /* Begins a call of the host on this thread. The call's frame of the driver remembers where it was made. */
 void enter_host(Call *c, const char *name, WDM_SITE at)
 {
-    if (self.seat >= 0)
-        shake();
+    if (!by_schedule || is_point(name))
+        point(name, at);
+    enter_quietly(c, name, at);
+}
+
+/* The same where the thread was at a point already. */
+void enter_quietly(Call *c, const char *name, WDM_SITE at)
+{
     pthread_mutex_lock(&host_lock);
     __atomic_add_fetch(&host_activity, 1, __ATOMIC_SEQ_CST);
     if (self.seat < 0)
@@ -94,7 +92,7 @@ void let_driver_run(void) { pthread_mutex_unlock(&host_lock); }
 
 void driver_came_back(void)
 {
-    shake();
+    point("the return to the host", self.calls ? self.calls->at : (WDM_SITE){ 0 });
     pthread_mutex_lock(&host_lock);
     __atomic_add_fetch(&host_activity, 1, __ATOMIC_SEQ_CST);
 }
@@ -102,18 +100,22 @@ void driver_came_back(void)
 void enter_frame(Frame *f)
 {
     f->up = self.frames;
-    f->thread = pthread_self();
+    f->thread = this_thread();
     self.frames = f;
     enter_level(f);
-    if (f->device >= 0)
+    if (f->device >= 0) {
+        touch(&devices[f->device].running, MEETS);
         devices[f->device].running++;
+    }
 }
 
 void leave_frame(void)
 {
     leave_level(self.frames);
-    if (self.frames->device >= 0)
+    if (self.frames->device >= 0) {
+        touch(&devices[self.frames->device].running, MEETS);
         devices[self.frames->device].running--;
+    }
     self.frames = self.frames->up;
 }
 
@@ -170,9 +172,22 @@ int calling_driver(void)
     return f && f->kind == ROUTINE ? f->p->allocator : self.driver;
 }
 
-int start_thread(void *(*run)(void *), void *context)
+pthread_t this_thread(void) { return by_schedule ? (pthread_t)current_thread() + 1 : pthread_self(); }
+
+void end_thread(void *result)
+{
+    if (by_schedule)
+        end_by_schedule(result);
+    pthread_exit(result);
+}
+
+int start_thread(void *(*run)(void *), void *context, const char *kind, void *fn)
 {
     pthread_t thread;
+    if (by_schedule) {
+        start_by_schedule(run, context, kind, fn);
+        return 0;
+    }
     pthread_attr_t attributes;
     pthread_attr_init(&attributes);
     pthread_attr_setdetachstate(&attributes, PTHREAD_CREATE_DETACHED);
@@ -198,7 +213,7 @@ NTSTATUS WdmPsCreateSystemThread(PHANDLE Handle, PKSTART_ROUTINE Start, PVOID Co
 {
     Call c;
     enter_host(&c, "PsCreateSystemThread", at);
-    struct _KTHREAD *t = calloc(1, sizeof *t);
+    struct _KTHREAD *t = host_memory(sizeof *t);
     if (!t)
         give_up("out of memory");
     WdmKeInitializeEvent(&t->ended, NotificationEvent, FALSE);
@@ -207,7 +222,7 @@ NTSTATUS WdmPsCreateSystemThread(PHANDLE Handle, PKSTART_ROUTINE Start, PVOID Co
     t->driver = calling_driver();
     *Handle = t;
     leave_host();
-    return start_thread(run_thread, t) ? STATUS_INSUFFICIENT_RESOURCES : STATUS_SUCCESS;
+    return start_thread(run_thread, t, "system thread", (void *)Start) ? STATUS_INSUFFICIENT_RESOURCES : STATUS_SUCCESS;
 }
 
 NTSTATUS PsTerminateSystemThread(NTSTATUS Status)
@@ -216,7 +231,7 @@ NTSTATUS PsTerminateSystemThread(NTSTATUS Status)
         return STATUS_INVALID_PARAMETER;
     check_thread_end();
     set_event(&self.thread->ended);
-    pthread_exit((void *)(intptr_t)Status);
+    end_thread((void *)(intptr_t)Status);
 }
 
 PKTHREAD KeGetCurrentThread(VOID)

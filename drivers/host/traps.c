@@ -4,7 +4,7 @@
  * The first touch of an ended packet is remembered by the handler, and told at the thread's next call: a driver that
  * completes twice writes IoStatus first, and then the completion is the cause that is told, not the touch.
  */
-#include "host.h"
+#include "schedule.h"
 #include <signal.h>
 #include <sys/mman.h>
 #include <sys/ucontext.h>
@@ -57,6 +57,13 @@ void open_traps(void)
     sigaction(SIGSEGV, &s, NULL);
 }
 
+/* Calls after which the caller may not touch the packet: each access that isn't ordered with them races. */
+static bool lets_go(const char *call)
+{
+    return !strcmp(call, "IoCompleteRequest") || !strcmp(call, "IoCallDriver") || !strcmp(call, "IoFreeIrp") ||
+        !strcmp(call, "IoReuseIrp");
+}
+
 /* The shadow of a packet; that of a rider, where one stands in its memory. */
 Packet *find(PIRP irp)
 {
@@ -66,9 +73,25 @@ Packet *find(PIRP irp)
     if (self.touched)
         tell_touch(self.calls->name, irp);
     Packet *p = packets[i];
+    touch(p->irp, WRITES);
+    if (footprints && lets_go(self.calls->name))
+        plain_access(p->irp, true, NULL);
     while (p->rider)
         p = p->rider;
     return p;
+}
+
+uint64_t packet_name(const void *address)
+{
+    const size_t i = (size_t)((const char *)address - arena) / PAGE;
+    return i < (size_t)n_packets ? packets[i]->name : 0;
+}
+
+/* The page of the packet that an address lies in, or NULL. */
+const void *packet_page(const void *address)
+{
+    const size_t i = (size_t)((const char *)address - arena) / PAGE;
+    return !arena || (const char *)address < arena || i >= MAX_PACKETS ? NULL : arena + i * PAGE;
 }
 
 void unprotect(Packet *p)

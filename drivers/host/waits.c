@@ -2,23 +2,15 @@
  * waits.c: events, semaphores, mutexes, timers as things to wait for; and waits that never end.
  *
  * All of them change under W, and whoever waits does so on one condition of W, so an object may be gone as soon as its
- * waiter knows. A wait without a limit is a hang where nothing at all went on in the host for some seconds
- * (WDM_PATIENCE, 3) and nobody sleeps for a time. A driver's own thread may wait for ever outside of packets.
+ * waiter knows. A wait without a limit in which no thread can go on is a hang. A driver's own thread may wait for ever
+ * outside of packets.
  */
 #include "host.h"
-#include <errno.h>
 
 enum { EVENT = 1, SEMAPHORE, MUTEX };
 static pthread_mutex_t wait_lock = PTHREAD_MUTEX_INITIALIZER; /* W */
-static pthread_cond_t changed = PTHREAD_COND_INITIALIZER;
-static _Atomic int sleepers; /* waits and delays with a limit that go on */
-
-LONGLONG now_in_100ns(void)
-{
-    struct timespec t;
-    clock_gettime(CLOCK_REALTIME, &t);
-    return (LONGLONG)t.tv_sec * 10000000 + t.tv_nsec / 100 + 116444736000000000;
-}
+static Condition changed = { &wait_lock, PTHREAD_COND_INITIALIZER };
+static const WDM_SITE nowhere;
 
 static void make(DISPATCHER_HEADER *h, UCHAR type, bool synchronizes, LONG state)
 {
@@ -30,10 +22,11 @@ static void make(DISPATCHER_HEADER *h, UCHAR type, bool synchronizes, LONG state
 static LONG change(DISPATCHER_HEADER *h, LONG state, bool add)
 {
     pthread_mutex_lock(&wait_lock);
+    touch(h, SYNCS);
     const LONG was = h->SignalState;
     h->SignalState = add ? was + state : state;
     __atomic_add_fetch(&host_activity, 1, __ATOMIC_SEQ_CST);
-    pthread_cond_broadcast(&changed);
+    tell_waiters(&changed);
     pthread_mutex_unlock(&wait_lock);
     return was;
 }
@@ -45,8 +38,19 @@ VOID WdmKeInitializeEvent(PKEVENT e, EVENT_TYPE type, BOOLEAN state)
 
 bool is_event(const void *object) { return ((const DISPATCHER_HEADER *)object)->Type == EVENT; }
 void set_event(PKEVENT e) { change(&e->Header, 1, false); }
-VOID KeClearEvent(PKEVENT e) { change(&e->Header, 0, false); }
-LONG KeResetEvent(PKEVENT e) { return change(&e->Header, 0, false); }
+void clear_event(PKEVENT e) { change(&e->Header, 0, false); }
+
+LONG KeResetEvent(PKEVENT e)
+{
+    point("KeResetEvent", nowhere);
+    return change(&e->Header, 0, false);
+}
+
+VOID KeClearEvent(PKEVENT e)
+{
+    point("KeClearEvent", nowhere);
+    clear_event(e);
+}
 
 VOID KeInitializeSemaphore(PKSEMAPHORE s, LONG count, LONG limit)
 {
@@ -78,6 +82,7 @@ void hands_over_now(void)
 
 LONG WdmKeReleaseSemaphore(PKSEMAPHORE s, LONG n)
 {
+    point("KeReleaseSemaphore", nowhere);
     hands_over_now();
     return change(&s->Header, n, true);
 }
@@ -86,7 +91,9 @@ VOID KeInitializeMutex(PKMUTEX m, ULONG level) { (void)level, make(&m->Header, M
 
 LONG KeReadStateEvent(PKEVENT e)
 {
+    point("KeReadStateEvent", nowhere);
     pthread_mutex_lock(&wait_lock);
+    touch(&e->Header, SYNCS);
     const LONG state = e->Header.SignalState;
     pthread_mutex_unlock(&wait_lock);
     return state;
@@ -174,68 +181,50 @@ static void hang(WDM_SITE at)
     leave_host();
 }
 
-int patience(void)
+/* What a wait is for, under W. */
+typedef struct { ULONG n; PVOID *objects; WAIT_TYPE type; LONGLONG until; } Objects;
+
+static bool is_owner(const KMUTANT *m) { return m->Owner == (PVOID)this_thread(); }
+
+static bool can_be_taken(DISPATCHER_HEADER *h)
 {
-    const char *seconds = getenv("WDM_PATIENCE");
-    const int n = seconds ? atoi(seconds) : 0;
-    return n > 0 ? n : 3;
+    return h->SignalState > 0 || (h->Type == MUTEX && is_owner((KMUTANT *)h));
 }
 
-/* Under W: whether the object can be taken; it is, where that changes it. */
-static bool is_ready(DISPATCHER_HEADER *h, bool take)
+static void take(DISPATCHER_HEADER *h)
 {
-    KMUTANT *m = h->Type == MUTEX ? (KMUTANT *)h : NULL;
-    const bool again = m && m->Header.SignalState <= 0 && m->Owner == (PVOID)&self;
-    if (h->SignalState <= 0 && !again)
-        return false;
-    if (take && h->Type == EVENT && h->Synchronizes)
+    touch(h, SYNCS);
+    if (h->Type == EVENT && h->Synchronizes)
         h->SignalState = 0;
-    else if (take && h->Type != EVENT)
+    else if (h->Type != EVENT)
         h->SignalState--;
-    if (take && m)
-        m->Owner = (PVOID)&self;
-    return true;
+    if (h->Type == MUTEX)
+        ((KMUTANT *)h)->Owner = (PVOID)this_thread();
 }
 
-/* Under W: which object of them lets the wait end, or -1. */
-static int ready_of(ULONG n, PVOID *objects, WAIT_TYPE type)
+/* The first object that lets the wait end, or -1. For all objects that is the first one. */
+static int first_ready(const Objects *o)
 {
-    if (type == WaitAll) {
-        for (ULONG i = 0; i < n; i++)
-            if (!is_ready(objects[i], false))
-                return -1;
-        for (ULONG i = 0; i < n; i++)
-            is_ready(objects[i], true);
-        return 0;
+    for (ULONG i = 0; i < o->n; i++) {
+        const bool can = can_be_taken(o->objects[i]);
+        if (can == (o->type == WaitAny))
+            return can ? (int)i : -1;
     }
-    for (ULONG i = 0; i < n; i++)
-        if (is_ready(objects[i], true))
-            return (int)i;
-    return -1;
+    return o->type == WaitAll && o->n ? 0 : -1;
 }
 
-static bool pause_for(long milliseconds)
-{
-    struct timespec t;
-    clock_gettime(CLOCK_REALTIME, &t);
-    t.tv_nsec += milliseconds % 1000 * 1000000;
-    t.tv_sec += milliseconds / 1000 + t.tv_nsec / 1000000000;
-    t.tv_nsec %= 1000000000;
-    return pthread_cond_timedwait(&changed, &wait_lock, &t) == ETIMEDOUT;
-}
+static bool is_one_ready(const void *objects) { return first_ready(objects) >= 0; }
+static LONGLONG until_of(const void *objects) { return ((const Objects *)objects)->until; }
 
-/* Waits with a limit; `until` in 100 ns. */
-static int wait_until(ULONG n, PVOID *objects, WAIT_TYPE type, LONGLONG until)
+/* Takes what ended the wait. Returns its number. */
+static int take_ready(const Objects *o)
 {
-    int ready;
-    sleepers++;
-    while ((ready = ready_of(n, objects, type)) < 0) {
-        const LONGLONG left = until - now_in_100ns();
-        if (left <= 0)
-            break;
-        pause_for((long)(left / 10000 > 100 ? 100 : left / 10000 + 1));
-    }
-    sleepers--;
+    const int ready = first_ready(o);
+    for (ULONG i = 0; i < o->n; i++)
+        if (o->type == WaitAll ? ready >= 0 : (int)i == ready)
+            take(o->objects[i]);
+        else
+            touch(o->objects[i], SYNCS);
     return ready;
 }
 
@@ -248,30 +237,32 @@ static bool has_packet(void)
     return false;
 }
 
-static int wait_for_ever(ULONG n, PVOID *objects, WAIT_TYPE type, WDM_SITE at)
+/* Returns which object ended the wait, or -1 where its time is up. A driver's own thread may wait for ever. */
+static int await_objects(const Objects *o, WDM_SITE at)
 {
-    unsigned long seen = 0;
-    int ready, quiet = 0;
-    const bool may_idle = self.is_driver && !has_packet();
-    while ((ready = ready_of(n, objects, type)) < 0) {
-        const unsigned long now = __atomic_load_n(&host_activity, __ATOMIC_SEQ_CST);
-        quiet = now != seen || sleepers || timers_armed() || may_idle ? 0 : quiet;
-        seen = now;
-        quiet += pause_for(100);
-        if (quiet > 10 * patience()) {
-            pthread_mutex_unlock(&wait_lock);
-            hang(at);
-            pthread_mutex_lock(&wait_lock);
-            quiet = 0;
-        }
+    const Wait w = { .ready = is_one_ready, .deadline = until_of, .context = o, .on = &changed,
+                     .object = o->n ? o->objects[0] : NULL, .patience = self.is_driver && !has_packet() && !o->until ? IDLES : HANGS, .at = at,
+                     .what = o->n ? "KeWaitForSingleObject" : "KeDelayExecutionThread" };
+    pthread_mutex_lock(&wait_lock);
+    while (wait_for(&w) == STUCK) {
+        pthread_mutex_unlock(&wait_lock);
+        hang(at);
+        pthread_mutex_lock(&wait_lock);
     }
+    const int ready = take_ready(o);
+    pthread_mutex_unlock(&wait_lock);
     return ready;
+}
+
+static LONGLONG end_of(const LARGE_INTEGER *time)
+{
+    return time->QuadPart <= 0 ? now_in_100ns() - time->QuadPart : time->QuadPart;
 }
 
 static void mark_waiting(bool waiting, WDM_SITE at)
 {
     Call c;
-    enter_host(&c, "KeWaitForSingleObject", at);
+    enter_quietly(&c, "KeWaitForSingleObject", at);
     for (Frame *f = self.frames; f; f = f->up)
         f->waiting = waiting;
     leave_host();
@@ -279,16 +270,11 @@ static void mark_waiting(bool waiting, WDM_SITE at)
 
 NTSTATUS wait_for_objects(ULONG n, PVOID objects[], WAIT_TYPE type, PLARGE_INTEGER timeout, WDM_SITE at)
 {
-    int ready;
+    point("KeWaitForSingleObject", at);
     if (self.frames)
         mark_waiting(true, at);
-    pthread_mutex_lock(&wait_lock);
-    if (timeout)
-        ready = wait_until(n, objects, type,
-                           timeout->QuadPart < 0 ? now_in_100ns() - timeout->QuadPart : timeout->QuadPart);
-    else
-        ready = wait_for_ever(n, objects, type, at);
-    pthread_mutex_unlock(&wait_lock);
+    const Objects o = { n, objects, type, timeout ? end_of(timeout) : 0 };
+    const int ready = await_objects(&o, at);
     if (self.frames)
         mark_waiting(false, at);
     return ready < 0 ? STATUS_TIMEOUT : (NTSTATUS)ready;
@@ -300,7 +286,7 @@ static void learn_mutexes(ULONG n, PVOID objects[], bool taken, WDM_SITE at)
     for (ULONG i = 0; i < n; i++)
         if (((DISPATCHER_HEADER *)objects[i])->Type == MUTEX) {
             Call c;
-            enter_host(&c, "KeWaitForSingleObject", (WDM_SITE){ 0 });
+            enter_quietly(&c, "KeWaitForSingleObject", (WDM_SITE){ 0 });
             c.at = at;
             if (taken)
                 lock_taken(objects[i], MUTEX_OBJECT, at, self.irql);
@@ -339,29 +325,15 @@ NTSTATUS WdmKeWaitForSingleObject(PVOID object, PLARGE_INTEGER timeout, WDM_SITE
 NTSTATUS WdmKeDelayExecutionThread(PLARGE_INTEGER interval, WDM_SITE at)
 {
     check_wait("KeDelayExecutionThread", at);
-    const LONGLONG until = interval->QuadPart < 0 ? now_in_100ns() - interval->QuadPart : interval->QuadPart;
-    KEVENT never;
-    PVOID object = &never;
-    WdmKeInitializeEvent(&never, NotificationEvent, FALSE);
-    pthread_mutex_lock(&wait_lock);
-    wait_until(1, &object, WaitAny, until);
-    pthread_mutex_unlock(&wait_lock);
+    const Objects nothing = { .until = end_of(interval) };
+    await_objects(&nothing, at);
     return STATUS_SUCCESS;
 }
 
 /* Under G, which it gives back meanwhile: waits until `done`, as long as something goes on. Returns whether it is. */
 bool wait_for_host(bool (*done)(const void *), const void *context)
 {
-    unsigned long seen = 0;
-    int quiet = 0;
-    while (!done(context) && quiet < 20 * patience()) {
-        const unsigned long now = __atomic_load_n(&host_activity, __ATOMIC_SEQ_CST);
-        struct timespec pause = { 0, 50000000 };
-        quiet = now == seen && !sleepers && !timers_armed() ? quiet + 1 : 0;
-        seen = now;
-        pthread_mutex_unlock(&host_lock);
-        nanosleep(&pause, NULL);
-        pthread_mutex_lock(&host_lock);
-    }
-    return done(context);
+    const Wait w = { .ready = done, .context = context, .on = &host_settled, .patience = GIVES_IN,
+                     .what = self.calls->name, .at = self.calls->at };
+    return wait_for(&w) == READY;
 }

@@ -10,17 +10,10 @@ struct _IO_WORKITEM {
     bool queued;
     struct _IO_WORKITEM *next;
 };
-typedef struct DeviceTimer {
-    KTIMER timer;
-    KDPC dpc;
-    PDEVICE_OBJECT device;
-    PIO_TIMER_ROUTINE routine;
-    PVOID context;
-    struct DeviceTimer *next;
-} DeviceTimer;
 
 enum { MAX_WORKERS = 8, MAX_DPCS = 256 };
-static pthread_cond_t work_came = PTHREAD_COND_INITIALIZER, clock_changed = PTHREAD_COND_INITIALIZER;
+static Condition work_came = { &host_lock, PTHREAD_COND_INITIALIZER };
+static Condition clock_changed = { &host_lock, PTHREAD_COND_INITIALIZER };
 static PIO_WORKITEM first_item, last_item;
 static int n_workers, n_idle;
 static PKTIMER timers;
@@ -28,7 +21,6 @@ static PKDPC dpcs[MAX_DPCS];
 static int n_dpcs;
 static bool clock_runs, dpc_runs;
 static _Atomic int n_armed; /* timers that will go off once */
-static DeviceTimer *device_timers;
 
 bool timers_armed(void) { return n_armed > 0; }
 
@@ -40,26 +32,54 @@ static void run_work(Frame *f, int driver)
     self.device = f->device;
     enter_frame(f);
     let_driver_run();
-    shake();
+    point("the driver's routine", (WDM_SITE){ 0 });
 }
 
 static void work_done(void)
 {
     driver_came_back();
     leave_frame();
-    pthread_cond_broadcast(&host_settled);
+    tell_waiters(&host_settled);
+}
+
+/* Idle workers are alike: the n-th of them is ready where n items are queued. */
+static bool is_idle[MAX_WORKERS];
+
+static int n_queued(void)
+{
+    int n = 0;
+    for (PIO_WORKITEM i = first_item; i; i = i->next)
+        n++;
+    return n;
+}
+
+static bool has_item(const void *number)
+{
+    int before = 0;
+    for (int i = 0; i < (int)(intptr_t)number; i++)
+        before += is_idle[i];
+    return before < n_queued();
+}
+
+static void await_item(int number)
+{
+    const Wait w = { .ready = has_item, .context = (void *)(intptr_t)number, .on = &work_came, .patience = IDLES,
+                     .what = "the queue of work items" };
+    touch(&first_item, SYNCS);
+    n_idle++;
+    is_idle[number] = true;
+    wait_for(&w);
+    is_idle[number] = false;
+    n_idle--;
+    touch(&first_item, SYNCS);
 }
 
 static void *work(void *context)
 {
     Call c;
-    (void)context;
     enter_host(&c, "a work item", (WDM_SITE){ 0 });
     for (;;) {
-        n_idle++;
-        while (!first_item)
-            pthread_cond_wait(&work_came, &host_lock);
-        n_idle--;
+        await_item((int)(intptr_t)context);
         struct _IO_WORKITEM *item = first_item;
         PIO_WORKITEM_ROUTINE routine = item->routine;
         PDEVICE_OBJECT device = item->device;
@@ -104,9 +124,11 @@ VOID WdmIoQueueWorkItem(PIO_WORKITEM Item, PIO_WORKITEM_ROUTINE Routine, PVOID C
         else
             first_item = Item;
         last_item = Item;
-        if (!n_idle && n_workers < MAX_WORKERS && !start_thread(work, NULL))
+        touch(&first_item, SYNCS);
+        if (n_idle < n_queued() && n_workers < MAX_WORKERS &&
+            !start_thread(work, (void *)(intptr_t)n_workers, "worker", NULL))
             n_workers++;
-        pthread_cond_signal(&work_came);
+        tell_waiters(&work_came);
     }
     leave_host();
 }
@@ -170,11 +192,10 @@ PKDPC take_dpc_in(const void *from, size_t size)
     return NULL;
 }
 
-/* Lets the timers that are due go off. Returns when the next one is, or 0. */
-static LONGLONG ring(void)
+/* Lets the timers that are due go off. */
+static void ring(void)
 {
     const LONGLONG now = now_in_100ns();
-    LONGLONG next = 0;
     for (PKTIMER t = timers, after; t; t = after) {
         after = t->HostNext;
         if (t->Due <= now) {
@@ -186,10 +207,31 @@ static LONGLONG ring(void)
             if (t->Dpc)
                 queue_dpc(t->Dpc);
         }
-        if (t->Armed && (!next || t->Due < next))
-            next = t->Due;
     }
+}
+
+static bool has_dpc(const void *context)
+{
+    (void)context;
+    return n_dpcs > 0;
+}
+
+/* When the next timer is due, or 0. */
+static LONGLONG next_due(const void *context)
+{
+    LONGLONG next = 0;
+    (void)context;
+    for (PKTIMER t = timers; t; t = t->HostNext)
+        if (!next || t->Due < next)
+            next = t->Due;
     return next;
+}
+
+static void await_clock(void)
+{
+    const Wait w = { .ready = has_dpc, .deadline = next_due, .on = &clock_changed, .patience = IDLES,
+                     .what = "the clock" };
+    wait_for(&w);
 }
 
 static void *run_clock(void *context)
@@ -198,7 +240,8 @@ static void *run_clock(void *context)
     (void)context;
     enter_host(&c, "the clock", (WDM_SITE){ 0 });
     for (;;) {
-        const LONGLONG next = ring();
+        touch(&timers, SYNCS);
+        ring();
         if (n_dpcs) {
             PKDPC d = dpcs[0];
             PKDEFERRED_ROUTINE routine = d->Routine;
@@ -212,22 +255,19 @@ static void *run_clock(void *context)
             routine(d, its, one, two);
             work_done();
             dpc_runs = false;
-            pthread_cond_broadcast(&host_settled);
-        } else if (next) {
-            const LONGLONG unix_time = next - 116444736000000000;
-            struct timespec until = { unix_time / 10000000, unix_time % 10000000 * 100 };
-            pthread_cond_timedwait(&clock_changed, &host_lock, &until);
+            tell_waiters(&host_settled);
         } else
-            pthread_cond_wait(&clock_changed, &host_lock);
+            await_clock();
     }
     return NULL;
 }
 
 static void start_clock(void)
 {
+    touch(&timers, SYNCS);
     if (!clock_runs)
-        clock_runs = !start_thread(run_clock, NULL);
-    pthread_cond_signal(&clock_changed);
+        clock_runs = !start_thread(run_clock, NULL, "the clock", NULL);
+    tell_waiters(&clock_changed);
 }
 
 VOID KeInitializeTimerEx(PKTIMER Timer, TIMER_TYPE Type)
@@ -245,7 +285,7 @@ BOOLEAN WdmKeSetTimer(PKTIMER Timer, LARGE_INTEGER DueTime, LONG Period, PKDPC D
     const BOOLEAN was = Timer->Armed;
     if (was)
         take_out(Timer);
-    KeClearEvent((PKEVENT)Timer);
+    clear_event((PKEVENT)Timer);
     Timer->Due = DueTime.QuadPart <= 0 ? now_in_100ns() - DueTime.QuadPart : DueTime.QuadPart;
     Timer->Period = Period;
     Timer->Dpc = Dpc;
@@ -263,6 +303,7 @@ BOOLEAN KeCancelTimer(PKTIMER Timer)
 {
     Call c;
     enter_host(&c, "KeCancelTimer", (WDM_SITE){ 0 });
+    touch(&timers, SYNCS);
     const BOOLEAN was = Timer->Armed;
     if (was)
         take_out(Timer);
@@ -317,53 +358,4 @@ VOID KeFlushQueuedDpcs(VOID)
     enter_host(&c, "KeFlushQueuedDpcs", (WDM_SITE){ 0 });
     wait_for_host(dpcs_are_done, NULL);
     leave_host();
-}
-
-/* A device's own timer goes off each second. */
-static VOID device_timer(PKDPC Dpc, PVOID Context, PVOID A, PVOID B)
-{
-    DeviceTimer *t = Context;
-    (void)Dpc, (void)A, (void)B;
-    t->routine(t->device, t->context);
-}
-
-NTSTATUS IoInitializeTimer(PDEVICE_OBJECT Device, PIO_TIMER_ROUTINE Routine, PVOID Context)
-{
-    DeviceTimer *t = calloc(1, sizeof *t);
-    if (!t)
-        return STATUS_INSUFFICIENT_RESOURCES;
-    t->device = Device;
-    t->routine = Routine;
-    t->context = Context;
-    KeInitializeTimerEx(&t->timer, NotificationTimer);
-    t->dpc = (KDPC){ .Routine = device_timer, .Context = t, .HostDriver = Device->DriverObject->HostNumber };
-    pthread_mutex_lock(&host_lock);
-    t->next = device_timers;
-    device_timers = t;
-    pthread_mutex_unlock(&host_lock);
-    return STATUS_SUCCESS;
-}
-
-static DeviceTimer *timer_of(PDEVICE_OBJECT device)
-{
-    pthread_mutex_lock(&host_lock);
-    DeviceTimer *t = device_timers;
-    while (t && t->device != device)
-        t = t->next;
-    pthread_mutex_unlock(&host_lock);
-    return t;
-}
-
-VOID IoStartTimer(PDEVICE_OBJECT Device)
-{
-    DeviceTimer *t = timer_of(Device);
-    if (t)
-        WdmKeSetTimer(&t->timer, (LARGE_INTEGER){ .QuadPart = -10000000 }, 1000, &t->dpc, (WDM_SITE){ 0 });
-}
-
-VOID IoStopTimer(PDEVICE_OBJECT Device)
-{
-    DeviceTimer *t = timer_of(Device);
-    if (t)
-        KeCancelTimer(&t->timer);
 }

@@ -44,6 +44,10 @@ VOID WdmExpectEntries(ULONG Count);
 /* A completion routine keeps this rule: "watch", "change", "keeper", "keep_on_error", "free". Else it is learned. */
 VOID WdmDeclareRule(PIO_COMPLETION_ROUTINE Routine, const char *Rule);
 
+/* How many rounds a loop of the test makes: Usual, or fewer where WDM_ROUNDS says so. `run --every-order` sets it to 2,
+   since the orders of each round multiply those of the others. */
+ULONG WdmRounds(ULONG Usual);
+
 /*
  * Waits for the sends and the work items that aren't done, writes the transcript, and tells a summary. Returns 0 where
  * the host saw no fault and the run has the entries that were expected, else 2: the exit status for `main`.

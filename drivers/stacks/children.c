@@ -76,7 +76,7 @@ static void use(PDRIVER_OBJECT driver, BOOLEAN late)
     child = AddChild(driver, parent);
     WdmSend(parent, IRP_MJ_PNP, IRP_MN_START_DEVICE, 0);
     WdmSend(child, IRP_MJ_PNP, IRP_MN_START_DEVICE, 0);
-    for (int i = 0; i < 5; i++) {
+    for (ULONG i = 0; i < WdmRounds(5); i++) {
         REQUEST r;
         Start(&r, child, IRP_MJ_READ, 9);
         if (late && i % 2)

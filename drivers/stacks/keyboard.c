@@ -106,7 +106,7 @@ int main(void)
     AddDevice(driver, bottom);
     top = IoGetAttachedDevice(bottom);
     WdmSend(top, IRP_MJ_PNP, IRP_MN_START_DEVICE, 0);
-    for (int i = 0; i < 10; i++) {
+    for (ULONG i = 0; i < WdmRounds(10); i++) {
         REQUEST a, b;
         Start(&a, top, IRP_MJ_READ, 12);
         Start(&b, top, IRP_MJ_READ, 12);

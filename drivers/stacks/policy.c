@@ -109,7 +109,7 @@ static int use(PDRIVER_OBJECT driver, BOOLEAN late)
     AddDevice(driver, bottom);
     top = IoGetAttachedDevice(bottom);
     int wrong = 0;
-    for (int i = 0; i < 3; i++) {
+    for (ULONG i = 0; i < WdmRounds(3); i++) {
         SetSystemPower(top, PowerSystemWorking);
         wrong |= ((PEXTENSION)top->DeviceExtension)->State != PowerDeviceD0;
         wrong |= WdmControl(top, IOCTL_ASK_BELOW, 8) != STATUS_SUCCESS;

@@ -177,7 +177,7 @@ int main(void)
     AddDevice(driver, bottom);
     top = IoGetAttachedDevice(bottom);
     WdmSend(top, IRP_MJ_PNP, IRP_MN_START_DEVICE, 0);
-    for (int i = 0; i < 5; i++) {
+    for (ULONG i = 0; i < WdmRounds(5); i++) {
         REQUEST a, b, c;
         Start(&a, top, IRP_MJ_READ, 4);
         Start(&b, top, IRP_MJ_READ, 4);

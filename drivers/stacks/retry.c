@@ -90,7 +90,7 @@ int main(void)
 {
     PDRIVER_OBJECT flaky = WdmLoadDriver("flaky", FlakyEntry), driver = WdmLoadDriver("retry", DriverEntry);
     AddDevice(driver, flaky->DeviceObject);
-    for (int i = 0; i < 10; i++)
+    for (ULONG i = 0; i < WdmRounds(10); i++)
         WdmSend(IoGetAttachedDevice(flaky->DeviceObject), IRP_MJ_READ, 0, 4);
     return WdmFinish();
 }

@@ -87,11 +87,11 @@ static PDEVICE_OBJECT port;
 
 static void *writer(void *context)
 {
-    for (int i = 0; i < 6; i++) {
+    for (ULONG i = 0; i < WdmRounds(6); i++) {
         REQUEST a, b;
         Start(&a, port, IRP_MJ_WRITE, 4);
         Start(&b, port, IRP_MJ_WRITE, 5);
-        if ((i + (int)(intptr_t)context) % 2)
+        if ((i + (ULONG)(intptr_t)context) % 2)
             IoCancelIrp(b.Irp);
         Finish(&b);
         Finish(&a);
@@ -103,9 +103,10 @@ int main(void)
 {
     pthread_t t[3];
     port = WdmLoadDriver("serial", DriverEntry)->DeviceObject;
-    for (int i = 0; i < 3; i++)
+    const int threads = (int)WdmRounds(3);
+    for (int i = 0; i < threads; i++)
         pthread_create(&t[i], NULL, writer, (void *)(intptr_t)i);
-    for (int i = 0; i < 3; i++)
+    for (int i = 0; i < threads; i++)
         pthread_join(t[i], NULL);
     return WdmFinish();
 }

@@ -81,7 +81,7 @@ int main(void)
     PDEVICE_OBJECT bottom = WdmCreateBottom(TRUE), top;
     AddDevice(driver, bottom);
     top = IoGetAttachedDevice(bottom);
-    for (ULONG i = 0; i < 20; i++) {
+    for (ULONG i = 0; i < WdmRounds(20); i++) {
         REQUEST r;
         Start(&r, top, IRP_MJ_READ, i);
         Finish(&r);

@@ -1,0 +1,305 @@
+/*
+ * explore.c: makes every order within a bound, or one that is given, from before `main` on.
+ *
+ * WDM_EXPLORE is the most preemptions, WDM_SCHEDULE a schedule, WDM_CHANCE a seed. `run` sets them, and reads the report.
+ */
+#include "explore.h"
+#include <fcntl.h>
+#include <sys/mman.h>
+#include <sys/wait.h>
+#include <unistd.h>
+
+enum { MOST_PREEMPTIONS = 16, LEAST_SLOTS = 1 << 16, MOST_SLOTS = 1 << 27 };
+typedef enum { ALL_MADE, FAILED, STOPPED, FULL } Ended;
+Shared *shared;
+static FILE *report;
+static double began, most_seconds;
+static unsigned long expected; /* how many choices cost the whole bound, as the round before saw it */
+static int n_restarts;
+static bool is_child; /* this process goes on into `main` */
+extern char __executable_start;
+
+static double seconds(void)
+{
+    struct timespec t;
+    clock_gettime(CLOCK_MONOTONIC, &t);
+    return (double)t.tv_sec + (double)t.tv_nsec / 1e9;
+}
+
+static void *share(size_t size)
+{
+    void *p = mmap(NULL, size, PROT_READ | PROT_WRITE, MAP_SHARED | MAP_ANONYMOUS | MAP_NORESERVE, -1, 0);
+    if (p == MAP_FAILED) {
+        perror("explore: no memory");
+        _exit(2);
+    }
+    return p;
+}
+
+static long number(const char *name, long otherwise)
+{
+    const char *text = getenv(name);
+    return text && *text ? strtol(text, NULL, 10) : otherwise;
+}
+
+/* Returns whether the hash wasn't in the set. A full set takes nothing more. */
+bool put_in(_Atomic uint64_t *set, uint64_t hash)
+{
+    hash |= 1;
+    for (size_t i = hash >> 20, n = 0; n < MAX_SET; i++, n++) {
+        uint64_t none = 0;
+        if (atomic_compare_exchange_strong(&set[i % MAX_SET], &none, hash))
+            return true;
+        if (none == hash)
+            return false;
+    }
+    return false;
+}
+
+/* A place whose access was seen to race is a point from the next start on. */
+void place_races(uint32_t place)
+{
+    if (!place || shared->is_racy[(uint16_t)place])
+        return;
+    shared->is_point[(uint16_t)place] |= goes_by_chance();
+    if (!is_exploring)
+        return;
+    shared->is_racy[(uint16_t)place] = 1;
+    const int n = shared->n_racy++;
+    if (n >= MAX_RACY)
+        return;
+    shared->racy[n] = place;
+    shared->order = TO_START_OVER;
+}
+
+/* Makes shared memory zeros again. */
+static void empty(void *memory, size_t size)
+{
+    if (madvise(memory, size, MADV_REMOVE))
+        memset(memory, 0, size);
+}
+
+/* The states of a round are its own. Their table has room for some times as many as the round before had. */
+static void empty_states(void)
+{
+    const size_t wanted = shared->n_states * 64;
+    empty((void *)shared->states, shared->n_slots * sizeof *shared->states);
+    while (shared->n_slots < wanted && shared->n_slots < MOST_SLOTS)
+        shared->n_slots *= 2;
+    shared->n_states = 0;
+}
+
+static void begin_round(int bound)
+{
+    empty_states();
+    empty((void *)shared->classes, MAX_SET * sizeof *shared->classes);
+    empty(shared->outcomes, MAX_OUTCOMES * sizeof *shared->outcomes);
+    shared->bound = bound;
+    shared->order = GOES_ON;
+    shared->busy = 1;
+    shared->runs = shared->cut = shared->beyond = shared->begun = shared->n_classes = 0;
+    shared->n_active = shared->n_racy < MAX_RACY ? shared->n_racy : MAX_RACY;
+    memcpy(shared->is_point, shared->is_racy, sizeof shared->is_point);
+}
+
+static void be_silent(void)
+{
+    const int nowhere = open("/dev/null", O_WRONLY);
+    dup2(nowhere, 1);
+    dup2(nowhere, 2);
+}
+
+static void at_exit(int status, void *context)
+{
+    (void)context;
+    end_run(status);
+}
+
+static void go_on_into_main(void)
+{
+    is_child = true;
+    footprints = hooks_present;
+    on_exit(at_exit, NULL);
+    begin_schedule();
+}
+
+static void show_progress(void)
+{
+    static double shown;
+    const double now = seconds();
+    if (!isatty(2) || now - shown < 0.5)
+        return;
+    shown = now;
+    fprintf(stderr, "\r%d preemptions: %lu runs, %lu of about %lu first steps, %.0f s ", shared->bound, shared->runs,
+            shared->begun, expected, now - began);
+}
+
+/* Waits for the first process of a round, and so for all. */
+static void watch(pid_t child)
+{
+    long pause = 200000;
+    int status = 0;
+    while (waitpid(child, &status, WNOHANG) == 0) {
+        const struct timespec t = { 0, pause };
+        nanosleep(&t, NULL);
+        pause = pause < 50000000 ? pause * 2 : pause;
+        show_progress();
+        if (most_seconds > 0 && seconds() - began > most_seconds)
+            shared->order = TO_STOP;
+    }
+    if (WIFSIGNALED(status) && shared->order == GOES_ON) {
+        const Schedule none = { .n = 0 };
+        note_failure(&none, 0, "the run by the usual order crashes");
+    }
+}
+
+static Ended run_round(int bound)
+{
+    begin_round(bound);
+    fflush(NULL);
+    const pid_t child = fork();
+    if (child < 0) {
+        perror("explore: fork");
+        _exit(2);
+    }
+    if (!child) {
+        be_silent();
+        go_on_into_main();
+        begin_exploring();
+        return ALL_MADE;
+    }
+    watch(child);
+    return shared->has_failed ? FAILED : shared->n_states > shared->n_slots / 2 ? FULL :
+        shared->order == TO_STOP ? STOPPED : ALL_MADE;
+}
+
+static void tell_round(const char *how)
+{
+    fprintf(report, "%s %d runs %lu cut %lu classes %lu states %lu beyond %lu begun %lu expected %lu seconds %.2f\n", how,
+            shared->bound, shared->runs, shared->cut, shared->n_classes, shared->n_states, shared->beyond, shared->begun,
+            expected, seconds() - began);
+    fflush(report);
+}
+
+static void tell_places(void)
+{
+    for (int i = 0; i < shared->n_active; i++) {
+        const void *pc = &__executable_start + shared->racy[i];
+        fprintf(report, "racy +0x%lx in %s\n", place_in_program((const char *)pc - 1), function_name(pc));
+    }
+    for (size_t i = 0; i < MAX_SITES; i++) {
+        const Site *s = &shared->sites[i];
+        if (!s->key)
+            continue;
+        fprintf(report, "place %d ", s->preempted);
+        if (s->is_code)
+            fprintf(report, "+0x%lx in %s", place_in_program((const char *)s->key - 1), function_name((void *)s->key));
+        else
+            fprintf(report, "%s", place((WDM_SITE){ .file = (const char *)s->key, .line = (int)s->line }));
+        fprintf(report, ", %s\n", s->what);
+    }
+}
+
+static void tell_outcomes(void)
+{
+    for (size_t i = 0; i < MAX_OUTCOMES; i++)
+        if (shared->outcomes[i].hash)
+            fprintf(report, "outcome %lu %s\n", shared->outcomes[i].classes, shared->outcomes[i].text);
+}
+
+/* The hashes of the classes, for a comparison with another exploration. */
+static void write_classes(const char *path)
+{
+    FILE *out = path ? fopen(path, "w") : NULL;
+    for (size_t i = 0; out && i < MAX_SET; i++)
+        if (shared->classes[i])
+            fprintf(out, "%016lx\n", (unsigned long)shared->classes[i]);
+    if (out)
+        fclose(out);
+}
+
+static void end_exploration(Ended ended)
+{
+    static const char *const words[] = { "done", "failed", "stopped", "full" };
+    static const int statuses[] = { 0, 1, 3, 3 };
+    tell_outcomes();
+    tell_places();
+    write_classes(getenv("WDM_CLASSES"));
+    fprintf(report, "restarts %d\nmost_decisions %lu\nmost_points %lu\n", n_restarts, shared->most_decisions,
+            shared->most_points);
+    if (ended == FAILED)
+        fprintf(report, "cost %d\nschedule %s\nwhy %s\n", shared->cost, schedule_text(&shared->failed), shared->why);
+    fprintf(report, "ended %s\n", words[ended]);
+    fclose(report);
+    if (isatty(2))
+        fputs("\r\033[K", stderr);
+    _exit(statuses[ended]);
+}
+
+/* Returns in the processes that go on into `main`. */
+static void explore_all(int most)
+{
+    for (int bound = 0; bound <= most;) {
+        const Ended ended = run_round(bound);
+        if (is_child)
+            return;
+        if (ended != FAILED && shared->order == TO_START_OVER) {
+            n_restarts++;
+            bound = 0;
+            continue;
+        }
+        tell_round(ended == ALL_MADE ? "round" : "part_of_round");
+        if (ended != ALL_MADE)
+            end_exploration(ended);
+        expected = shared->beyond;
+        bound++;
+    }
+    end_exploration(ALL_MADE);
+}
+
+static void set_up(void)
+{
+    const char *path = getenv("WDM_REPORT");
+    shared = share(sizeof *shared);
+    shared->n_slots = LEAST_SLOTS;
+    shared->states = share(MOST_SLOTS * sizeof *shared->states);
+    shared->classes = share(MAX_SET * sizeof *shared->classes);
+    shared->transcripts = share(MAX_SET * sizeof *shared->transcripts);
+    shared->outcomes = share(MAX_OUTCOMES * sizeof *shared->outcomes);
+    shared->processes = (int)number("WDM_PROCESSES", sysconf(_SC_NPROCESSORS_ONLN));
+    shared->reduces = number("WDM_REDUCE", 1) && hooks_present;
+    shared->part = (int)number("WDM_PART", 0);
+    shared->parts = (int)number("WDM_PARTS", 0);
+    most_seconds = (double)number("WDM_SECONDS", 0);
+    report = path ? fopen(path, "w") : NULL;
+    began = seconds();
+    function_name((const void *)&__executable_start); /* reads the symbols once, for all processes */
+}
+
+static void explore(void)
+{
+    const char *bound = getenv("WDM_EXPLORE"), *text = getenv("WDM_SCHEDULE"), *seed = getenv("WDM_CHANCE");
+    static Schedule s;
+    if (!bound && !text && !seed)
+        return;
+    set_up();
+    if (bound && !report) {
+        perror("explore: WDM_REPORT");
+        _exit(2);
+    }
+    if (bound) {
+        explore_all(atoi(bound) < MOST_PREEMPTIONS ? atoi(bound) : MOST_PREEMPTIONS);
+        return;
+    }
+    if (text && !read_schedule(text, &s)) {
+        fprintf(stderr, "host: STOPPED: this is no schedule: %.100s\n", text);
+        _exit(2);
+    }
+    give_schedule(&s);
+    if (!text)
+        go_by_chance(strtoul(seed, NULL, 10));
+    go_on_into_main();
+}
+
+/* Before `main`, and behind what the hooks set up. */
+__attribute__((section(".init_array"), used)) static void (*const explore_first)(void) = explore;

@@ -1,0 +1,135 @@
+/*
+ * footprint.c: a hash of what came before what, so that runs that differ in nothing else count once.
+ *
+ * Each thread has a hash of its past: of the points that it passed, and of the last writes and reads of each object that
+ * it touched, with what had come before these. The hash of a run's state is that of its threads' pasts. Addresses count
+ * as what they are in each order: a packet by the thread that allocated it and how many that had before.
+ */
+#include "schedule.h"
+#include <sys/mman.h>
+
+bool footprints, hooks_present;
+typedef struct { const void *object; uint64_t written, read; uint32_t clock[MAX_THREADS]; } Object;
+enum { OBJECTS = 1 << 15, PLACES = 1 << 16, ROOM = 4 << 20 };
+static const uint64_t GOLDEN = 0x9E3779B97F4A7C15u;
+/* Dense, since each page that a run touches is a fault. */
+static Object objects[OBJECTS];
+static uint16_t place_of_object[PLACES];
+static int n_objects;
+static uint64_t past[MAX_THREADS], n_named[MAX_THREADS];
+
+static uint64_t mix(uint64_t a, uint64_t b)
+{
+    a ^= b + GOLDEN + (a << 6) + (a >> 2);
+    a ^= a >> 31;
+    a *= 0xBF58476D1CE4E5B9u;
+    return a ^ a >> 27;
+}
+
+static Object *object_of(const void *object)
+{
+    size_t i = ((uintptr_t)object * GOLDEN) >> 48;
+    while (place_of_object[i] && objects[place_of_object[i]].object != object)
+        i = (i + 1) & (PLACES - 1);
+    if (!place_of_object[i]) {
+        if (++n_objects == OBJECTS)
+            give_up("a run touches more than 32,767 objects: make its test smaller");
+        place_of_object[i] = (uint16_t)n_objects;
+        objects[n_objects].object = object;
+    }
+    return &objects[place_of_object[i]];
+}
+
+/* A name for a packet: by the thread that allocates it, and how many that allocated before. */
+uint64_t next_name(void) { return 1ull << 40 | (uint64_t)current_thread() << 20 | n_named[current_thread()]++; }
+
+/* Memory whose address doesn't depend on what other threads do, with its length in front. It is never used again. */
+void *host_memory(size_t size)
+{
+    static char *all;
+    static size_t used[MAX_THREADS];
+    const int t = current_thread();
+    if (!by_schedule)
+        return calloc(1, size);
+    if (!all)
+        all = mmap((void *)0x200000000000, (size_t)MAX_THREADS * ROOM, PROT_READ | PROT_WRITE,
+                   MAP_PRIVATE | MAP_ANONYMOUS | MAP_NORESERVE, -1, 0);
+    if (all == MAP_FAILED)
+        give_up("out of memory");
+    const size_t whole = (size + 31) & ~(size_t)15;
+    if (used[t] + whole > ROOM)
+        return NULL;
+    char *p = all + (size_t)t * ROOM + used[t];
+    used[t] += whole;
+    *(size_t *)p = whole - 16;
+    return p + 16;
+}
+
+void free_host_memory(void *memory)
+{
+    if (!by_schedule)
+        free(memory);
+    else if (memory)
+        let_go_of(memory, ((size_t *)memory)[-2], "memory", self.calls ? self.calls->at : (WDM_SITE){ 0 });
+}
+
+/* Where the main thread's stack lies depends on the environment. */
+static uint64_t normal(const void *object)
+{
+    static uintptr_t main_stack;
+    const uintptr_t a = (uintptr_t)object;
+    if (!main_stack)
+        main_stack = (uintptr_t)__builtin_frame_address(0);
+    if (packet_page(object))
+        return packet_name(object) << 12 | (a & (PAGE - 1));
+    return a < main_stack + (1 << 16) && a > main_stack - (8 << 20) ? main_stack - a : a;
+}
+
+static void step(int thread, Object *o, const void *object, bool writes)
+{
+    uint64_t *mine = &past[thread];
+    *mine = mix(mix(*mine, normal(object) * 2 + writes), o->written);
+    if (writes) {
+        *mine = mix(*mine, o->read);
+        o->written = *mine;
+        o->read = 0;
+    } else
+        o->read += *mine;
+}
+
+void touch(const void *object, Touch how)
+{
+    if (!footprints)
+        return;
+    Object *o = object_of(object);
+    step(current_thread(), o, object, how == WRITES || how == SYNCS);
+    if (how >= ACQUIRES)
+        clocks_meet(o->clock, how);
+}
+
+void time_passed_for(int thread)
+{
+    static const char time;
+    if (footprints)
+        step(thread, object_of(&time), &time, true);
+}
+
+void passed(const char *what, int line)
+{
+    if (footprints)
+        past[current_thread()] = mix(past[current_thread()], (uintptr_t)what ^ (uint64_t)line << 48);
+}
+
+void thread_born(int parent, int child)
+{
+    past[child] = mix(past[parent], 77);
+    clocks_born(parent, child);
+}
+
+uint64_t state_of(int n)
+{
+    uint64_t h = 0;
+    for (int i = 0; i < n; i++)
+        h += mix(past[i], (uint64_t)i + 1);
+    return h;
+}

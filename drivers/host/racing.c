@@ -1,0 +1,121 @@
+/*
+ * racing.c: which plain accesses race, by vector clocks; and memory that was let go.
+ *
+ * A place of the program whose access was seen to race is a scheduling point from the next run on. Accesses to memory
+ * that nothing orders otherwise thus meet in each order, and accesses under locks cost nothing.
+ */
+#include "schedule.h"
+#include "explore.h"
+
+typedef struct {
+    const void *key;
+    int writer, let_go_by;
+    uint32_t written, readers; /* the writer's clock; a bit for each reader */
+    const void *write_pc;
+    const char *let_go;
+    WDM_SITE let_go_at;
+    uint32_t read[MAX_THREADS], read_pc[MAX_THREADS];
+} Cell;
+enum { CELLS = 1 << 15, PLACES = 1 << 16, MOST_LET_GO = 1024 };
+static Cell cells[CELLS];
+static uint16_t place_of_cell[PLACES];
+static int n_cells;
+static uint32_t clocks[MAX_THREADS][MAX_THREADS];
+extern char __executable_start;
+
+static const void *cell_at(uintptr_t address) { return (const void *)(address >> 2 << 2 | 1); }
+
+void clocks_born(int parent, int child)
+{
+    memcpy(clocks[child], clocks[parent], sizeof clocks[child]);
+    clocks[child][child] = 1;
+    clocks[parent][parent]++;
+}
+
+void clocks_meet(uint32_t *of_object, Touch how)
+{
+    uint32_t *mine = clocks[current_thread()];
+    for (int i = 0; i < MAX_THREADS; i++) {
+        if (of_object[i] > mine[i])
+            mine[i] = of_object[i];
+        if (how != ACQUIRES)
+            of_object[i] = mine[i];
+    }
+    if (how != ACQUIRES)
+        mine[current_thread()]++;
+}
+
+static Cell *cell_of(const void *key)
+{
+    size_t i = ((uintptr_t)key * 0x9E3779B97F4A7C15u) >> 48;
+    while (place_of_cell[i] && cells[place_of_cell[i]].key != key)
+        i = (i + 1) & (PLACES - 1);
+    if (!place_of_cell[i]) {
+        if (++n_cells == CELLS)
+            give_up("a run touches more than 32,767 words of memory: make its test smaller");
+        place_of_cell[i] = (uint16_t)n_cells;
+        cells[n_cells] = (Cell){ .key = key, .writer = NOBODY };
+    }
+    return &cells[place_of_cell[i]];
+}
+
+static uint32_t place_of(const void *pc) { return pc ? (uint32_t)((const char *)pc - &__executable_start) : 0; }
+
+static void tell_let_go(Cell *c, bool writes, const void *pc)
+{
+    const char *what = c->let_go;
+    char where[200];
+    c->let_go = NULL;
+    snprintf(where, sizeof where, "+0x%lx in %s", place_in_program((const char *)pc - 1), function_name(pc));
+    Call here = { .name = where }, *const calls = self.calls;
+    self.calls = &here;
+    broken("UsedAfterFree", NULL, "%s %s, which %s let go%s%s", writes ? "writes" : "reads", what,
+           thread_name(c->let_go_by), c->let_go_at.file ? " at " : "", c->let_go_at.file ? place(c->let_go_at) : "");
+    self.calls = calls;
+}
+
+void let_go_of(const void *from, size_t size, const char *what, WDM_SITE at)
+{
+    const uintptr_t first = (uintptr_t)from;
+    if (!footprints)
+        return;
+    for (uintptr_t a = first, n = 0; a < first + size && n < MOST_LET_GO; a += 4, n++) {
+        Cell *c = cell_of(cell_at(a));
+        c->let_go = what;
+        c->let_go_at = at;
+        c->let_go_by = current_thread();
+        touch(c->key, WRITES);
+    }
+}
+
+static void note_race(uint32_t here, uint32_t there)
+{
+    place_races(here);
+    place_races(there);
+}
+
+/* An access to a cell, or with no `pc` something that counts as one. */
+void plain_access(const void *key, bool writes, const void *pc)
+{
+    Cell *c = cell_of(key);
+    const int me = current_thread();
+    const uint32_t *mine = clocks[me];
+    if (c->let_go && pc)
+        tell_let_go(c, writes, pc);
+    if (c->writer != NOBODY && c->writer != me && c->written > mine[c->writer])
+        note_race(place_of(pc), place_of(c->write_pc));
+    for (uint32_t r = writes ? c->readers & ~(1u << me) : 0; r; r &= r - 1) {
+        const int t = __builtin_ctz(r);
+        if (c->read[t] > mine[t])
+            note_race(place_of(pc), c->read_pc[t]);
+    }
+    if (writes) {
+        c->writer = me;
+        c->written = mine[me];
+        c->write_pc = pc;
+    } else {
+        c->readers |= 1u << me;
+        c->read[me] = mine[me];
+        c->read_pc[me] = place_of(pc);
+    }
+}

@@ -1,0 +1,282 @@
+/* schedule.c: threads as coroutines on one thread of the system, and time that passes only where it is chosen. */
+#include "schedule.h"
+#include <sys/mman.h>
+#include <ucontext.h>
+
+enum { STACK = 256 * 1024, MOST_STUCK = 50 };
+typedef struct {
+    ucontext_t context;
+    Self self;
+    Wait wait;
+    bool waits, ended;
+    Woken woken;
+    Place place;
+    void *(*run)(void *);
+    void *argument, *result;
+    char name[80];
+} Thread;
+
+bool by_schedule;
+static Thread threads[MAX_THREADS];
+static int n_threads = 1, running, n_points, n_stuck;
+static LONGLONG clock_now = 133000000000000000;
+static bool is_deciding;
+
+int current_thread(void) { return running; }
+int points_of_run(void) { return n_points; }
+const char *thread_name(int t) { return threads[t].name; }
+
+LONGLONG virtual_now(void)
+{
+    touch(&clock_now, READS);
+    return clock_now;
+}
+
+bool has_ended(int t, void **result)
+{
+    if (result && threads[t].ended)
+        *result = threads[t].result;
+    return threads[t].ended;
+}
+
+void after_end_of(int t) { touch(&threads[t], SYNCS); }
+
+/* A waiter's own question, asked in its name. */
+static bool is_over(const Thread *t)
+{
+    const Self mine = self;
+    if (t != &threads[running])
+        self = t->self;
+    const bool over = t->wait.ready(t->wait.context);
+    self = mine;
+    return over;
+}
+
+static LONGLONG deadline_of(const Thread *t)
+{
+    return t->waits && !t->ended && t->wait.deadline ? t->wait.deadline(t->wait.context) : 0;
+}
+
+static bool can_go_on(const Thread *t)
+{
+    const LONGLONG end = deadline_of(t);
+    return !t->ended && (!t->waits || (end && end <= clock_now) || is_over(t));
+}
+
+static uint32_t all_ready(void)
+{
+    uint32_t ready = 0;
+    for (int i = 0; i < n_threads; i++)
+        ready |= (uint32_t)can_go_on(&threads[i]) << i;
+    return ready;
+}
+
+/* Who goes on first where time passes, or NOBODY. */
+static int first_by_time(uint32_t ready)
+{
+    int first = NOBODY;
+    LONGLONG least = 0;
+    for (int i = 0; i < n_threads; i++) {
+        const LONGLONG end = ready >> i & 1 ? 0 : deadline_of(&threads[i]);
+        if (end && (first == NOBODY || end < least)) {
+            first = i;
+            least = end;
+        }
+    }
+    return first;
+}
+
+/* No thread can go on. Names each one that isn't idle, and what it waits for. */
+static void tell_stuck(void)
+{
+    char text[1500] = "";
+    size_t n = 0;
+    for (int i = 0; i < n_threads && n < sizeof text; i++) {
+        const Thread *t = &threads[i];
+        if (t->ended || !t->waits || t->wait.patience == IDLES)
+            continue;
+        n += (size_t)snprintf(text + n, sizeof text - n, "%s%s waits in %s%s%s", n ? "; " : "", t->name, t->wait.what,
+                              t->wait.at.file ? " at " : "", t->wait.at.file ? place(t->wait.at) : "");
+        int seat;
+        const Hold *h = t->wait.patience == DEADLOCK ? holder_of(t->wait.object, &seat) : NULL;
+        if (h && n < sizeof text)
+            n += (size_t)snprintf(text + n, sizeof text - n, " for a %s that %s has held since %s", lock_kind(h->kind),
+                                  threads[seat].name, place(h->at));
+    }
+    Call here = { .name = "every thread waits" }, *const calls = self.calls;
+    self.calls = &here;
+    fault("Stuck", NULL, "%s", text);
+    self.calls = calls;
+}
+
+/* Ends the wait of whoever gives in first. */
+static int choose_stuck(void)
+{
+    int best = NOBODY;
+    for (int i = 0; i < n_threads; i++)
+        if (threads[i].waits && !threads[i].ended && threads[i].wait.patience != IDLES &&
+            (best == NOBODY || threads[i].wait.patience < threads[best].wait.patience))
+            best = i;
+    if (best == NOBODY || n_stuck++ == MOST_STUCK)
+        give_up("no thread can go on");
+    if (threads[best].wait.patience == DEADLOCK)
+        tell_stuck();
+    threads[best].woken = STUCK;
+    return best;
+}
+
+/* The next thread in turn that can go on. */
+static int next_in_turn(uint32_t others)
+{
+    int t = running;
+    do
+        t = (t + 1) % n_threads;
+    while (!(others >> t & 1));
+    return t;
+}
+
+static Choices choices_at(Stop stop)
+{
+    const uint32_t ready = all_ready(), others = ready & ~(1u << running);
+    Choices c = { .stop = stop, .current = running, .by_time = first_by_time(ready), .ready = ready,
+                  .place = &threads[running].place };
+    if (stop == AT_YIELD && (others || c.by_time != NOBODY))
+        c.ready = others;
+    c.may_stay = stop == AT_POINT;
+    if (c.may_stay || (stop == AT_YIELD && !others && c.by_time == NOBODY))
+        c.usual = running;
+    else if (others)
+        c.usual = stop == AT_YIELD ? next_in_turn(others) : __builtin_ctz(others);
+    else
+        c.usual = c.by_time != NOBODY ? c.by_time : choose_stuck();
+    return c;
+}
+
+static void let_time_pass(int t)
+{
+    const LONGLONG end = deadline_of(&threads[t]);
+    if (end > clock_now)
+        clock_now = end;
+    time_passed_for(t);
+}
+
+static void go_to(int t)
+{
+    Thread *was = &threads[running];
+    if (t == running)
+        return;
+    was->self = self;
+    running = t;
+    self = threads[t].self;
+    swapcontext(&was->context, &threads[t].context);
+}
+
+uint64_t state_of_run(void) { return state_of(n_threads); }
+
+/* The one place where it is decided who goes on. */
+static void choose(Stop stop)
+{
+    if (n_points++ == MAX_POINTS)
+        give_up("the run has 300,000 scheduling points: it may never end");
+    is_deciding = true;
+    const Choices c = choices_at(stop);
+    const int n = __builtin_popcount(c.ready) + (c.by_time != NOBODY && c.ready);
+    const int chosen = n > 1 ? decide(&c) : c.usual;
+    const bool by_time = is_early(&c, chosen);
+    Thread *t = &threads[chosen];
+    if (by_time)
+        let_time_pass(chosen);
+    if (t->waits && t->woken != STUCK)
+        t->woken = is_over(t) ? READY : TIME_UP;
+    t->waits = false;
+    if (chosen != running || by_time)
+        remember_switch(&c, chosen, &t->place);
+    is_deciding = false;
+    go_to(chosen);
+}
+
+static void stop_at(Stop stop, Place place)
+{
+    threads[running].place = place;
+    choose(stop);
+    passed(place.what, place.pc ? (int)(uintptr_t)place.pc : place.at.line);
+}
+
+void point_by_schedule(const char *what, WDM_SITE at, const void *pc)
+{
+    if (!is_deciding)
+        stop_at(AT_POINT, (Place){ what, at, pc });
+}
+
+void yield_by_schedule(const char *what) { stop_at(AT_YIELD, (Place){ .what = what }); }
+
+Woken wait_by_schedule(const Wait *w)
+{
+    Thread *t = &threads[running];
+    t->wait = *w;
+    t->woken = READY;
+    if (w->ready(w->context))
+        return READY;
+    t->waits = true;
+    t->place = (Place){ .what = w->what, .at = w->at };
+    if (can_go_on(t)) {
+        t->waits = false;
+        return TIME_UP;
+    }
+    choose(AT_WAIT);
+    const Woken woken = t->woken;
+    passed(w->what, (int)woken);
+    return woken;
+}
+
+static void begin_thread(void)
+{
+    Thread *t = &threads[running];
+    passed("its start", 1);
+    end_by_schedule(t->run(t->argument));
+}
+
+static void name_thread(int n, const char *kind, void *fn)
+{
+    snprintf(threads[n].name, sizeof threads[n].name, "T%d, %s%s%s", n, kind, fn ? " " : "", fn ? function_name(fn) : "");
+}
+
+int start_by_schedule(void *(*run)(void *), void *context, const char *kind, void *fn)
+{
+    if (n_threads == MAX_THREADS)
+        give_up("more than 32 threads under a schedule");
+    const int n = n_threads++;
+    Thread *t = &threads[n];
+    char *stack = mmap(NULL, STACK, PROT_READ | PROT_WRITE, MAP_PRIVATE | MAP_ANONYMOUS | MAP_NORESERVE, -1, 0);
+    if (stack == MAP_FAILED || mprotect(stack, PAGE, PROT_NONE))
+        give_up("out of memory");
+    getcontext(&t->context);
+    t->context.uc_stack.ss_sp = stack;
+    t->context.uc_stack.ss_size = STACK;
+    t->run = run;
+    t->argument = context;
+    t->place = (Place){ .what = "its start" };
+    t->self = (Self){ .seat = -1, .driver = NOBODY, .device = NOBODY };
+    makecontext(&t->context, begin_thread, 0);
+    name_thread(n, kind, fn);
+    touch(&n_threads, SYNCS);
+    thread_born(running, n);
+    return n;
+}
+
+void end_by_schedule(void *result)
+{
+    Thread *t = &threads[running];
+    t->result = result;
+    t->ended = true;
+    t->place = (Place){ .what = "its end" };
+    touch(t, SYNCS);
+    choose(AT_END);
+    abort();
+}
+
+void begin_schedule(void)
+{
+    by_schedule = true;
+    name_thread(0, "main", NULL);
+}

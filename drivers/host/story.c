@@ -1,0 +1,109 @@
+/* story.c: a run's schedule as text, and as who gave way to whom and where. */
+#include "explore.h"
+
+typedef struct {
+    uint8_t from, to;
+    bool preempts, early, waits, ends, is_decision;
+    Place at, next;
+} Switch;
+static Switch switches[MAX_SWITCHES];
+static int n_switches, first_chosen = -1;
+extern char __executable_start;
+
+void remember_switch(const Choices *c, int to, const Place *next)
+{
+    if (n_switches == MAX_SWITCHES)
+        return;
+    const bool chosen = to != c->usual;
+    if (chosen && first_chosen < 0)
+        first_chosen = n_switches;
+    switches[n_switches++] = (Switch){
+        .from = (uint8_t)c->current, .to = (uint8_t)to, .preempts = c->may_stay && to != c->current,
+        .early = is_early(c, to) && chosen, .waits = c->stop == AT_WAIT, .ends = c->stop == AT_END,
+        .is_decision = chosen, .at = *c->place, .next = *next };
+}
+
+static void put_place(FILE *out, const Place *p)
+{
+    if (p->pc)
+        fprintf(out, "+0x%lx in %s (%s)", place_in_program((const char *)p->pc - 1), function_name(p->pc), p->what);
+    else
+        fprintf(out, "%s%s%s", p->at.file ? place(p->at) : "", p->at.file ? ", " : "", p->what);
+}
+
+static void put_switch(FILE *out, const Switch *s)
+{
+    const char *how = s->preempts ? "preempted before " : s->ends ? "" : s->waits ? "waits in " : "yields in ";
+    fprintf(out, "schedule: %-30s %s", thread_name(s->from), how);
+    put_place(out, &s->at);
+    fprintf(out, "%s\n", s->early ? "; time passes early" : "");
+}
+
+/* From the first switch that isn't usual to the last that isn't, and who goes on then. */
+void tell_story(FILE *out)
+{
+    int last = 0, early = 0;
+    for (int i = 0; i < n_switches; i++) {
+        last = switches[i].is_decision ? i : last;
+        early += switches[i].preempts || switches[i].early;
+    }
+    fprintf(out, "schedule: %d switches, %d of them preemptions or early timers\n", n_switches, early);
+    if (first_chosen < 0)
+        return;
+    if (first_chosen)
+        fprintf(out, "schedule: .. %d switches as usual\n", first_chosen);
+    for (int i = first_chosen; i <= last && i < first_chosen + 40; i++)
+        put_switch(out, &switches[i]);
+    fprintf(out, "schedule: %-30s goes on from ", thread_name(switches[last].to));
+    put_place(out, &switches[last].next);
+    fputs("\n", out);
+}
+
+/* `p3830.3be6,8=1`: the racy places that are points, then at which decision which thread goes on. */
+const char *schedule_text(const Schedule *s)
+{
+    static char text[1 << 17];
+    size_t n = 0;
+    const char *between = "";
+    text[0] = 0;
+    for (int i = 0; i < shared->n_active && n < sizeof text - 40; i++) {
+        n += (size_t)snprintf(text + n, sizeof text - n, "%s%x", i ? "." : "p", shared->racy[i]);
+        between = ",";
+    }
+    for (int i = 0; i < s->n && n < sizeof text - 40; i++, between = ",")
+        n += (size_t)snprintf(text + n, sizeof text - n, "%s%u=%u", between, s->at[i].step, s->at[i].choice);
+    return n ? text : "usual";
+}
+
+static const char *read_places(const char *text)
+{
+    do {
+        char *end;
+        const unsigned long at = strtoul(text + 1, &end, 16);
+        if (end == text + 1 || shared->n_active == MAX_RACY)
+            return NULL;
+        shared->racy[shared->n_active++] = (uint32_t)at;
+        shared->is_point[(uint16_t)at] = 1;
+        text = end;
+    } while (*text == '.');
+    return *text == ',' ? text + 1 : *text ? NULL : text;
+}
+
+/* Returns whether the text is a schedule. */
+bool read_schedule(const char *text, Schedule *s)
+{
+    int read = 0;
+    unsigned step, choice;
+    *s = (Schedule){ 0 };
+    if (!strcmp(text, "usual"))
+        return true;
+    if (*text == 'p' && !(text = read_places(text)))
+        return false;
+    while (*text && s->n < MAX_DEVIATIONS && sscanf(text, "%u=%u%n", &step, &choice, &read) == 2 &&
+           choice < MAX_THREADS) {
+        s->at[s->n++] = (Deviation){ step, (uint8_t)choice };
+        text += read;
+        text += *text == ',';
+    }
+    return !*text;
+}

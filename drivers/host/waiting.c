@@ -1,0 +1,130 @@
+/* waiting.c: waits of real threads, and the clock. Under a schedule schedule.c takes over. */
+#include "schedule.h"
+#include <errno.h>
+#include <sched.h>
+#include <unistd.h>
+
+enum { LOOK_AGAIN = 100 }; /* milliseconds after which a waiter looks whether anything goes on */
+static const LONGLONG UNIX_EPOCH = 116444736000000000; /* in 100 ns from 1601 */
+static _Atomic int sleepers; /* waits with a limit that go on */
+static unsigned shake_seed;
+
+LONGLONG now_in_100ns(void)
+{
+    struct timespec t;
+    if (by_schedule)
+        return virtual_now();
+    clock_gettime(CLOCK_REALTIME, &t);
+    return (LONGLONG)t.tv_sec * 10000000 + t.tv_nsec / 100 + UNIX_EPOCH;
+}
+
+void tell_waiters(Condition *c) { pthread_cond_broadcast(&c->told); }
+
+static pthread_once_t settings_once = PTHREAD_ONCE_INIT;
+static int patience = 3;
+
+static void read_settings(void)
+{
+    const char *seed = getenv("WDM_SHAKE"), *seconds = getenv("WDM_PATIENCE");
+    shake_seed = seed ? (unsigned)strtoul(seed, NULL, 10) : 0;
+    if (seconds && atoi(seconds) > 0)
+        patience = atoi(seconds);
+}
+
+/* Since when nothing goes on in the host, as this waiter saw it. */
+typedef struct { unsigned long seen; LONGLONG since; } Quiet;
+
+static bool is_stuck(const Wait *w, bool has_limit, Quiet *q)
+{
+    const unsigned long now = __atomic_load_n(&host_activity, __ATOMIC_SEQ_CST);
+    const LONGLONG time = now_in_100ns();
+    if (w->patience == IDLES || has_limit)
+        return false;
+    if (!q->since || ((now != q->seen || sleepers || timers_armed()) && !w->seconds)) {
+        q->since = time;
+        q->seen = now;
+    }
+    return time - q->since > (LONGLONG)(w->seconds ? w->seconds : patience) * 10000000;
+}
+
+/* Waits for a moment, or until it is told. */
+static void pause_for(const Wait *w, LONGLONG until)
+{
+    const LONGLONG again = now_in_100ns() + LOOK_AGAIN * 10000, first = until && until < again ? until : again;
+    const struct timespec t = { (first - UNIX_EPOCH) / 10000000, (first - UNIX_EPOCH) % 10000000 * 100 };
+    if (!w->on)
+        sched_yield();
+    else if (w->patience == IDLES && !until)
+        pthread_cond_wait(&w->on->told, w->on->lock);
+    else
+        pthread_cond_timedwait(&w->on->told, w->on->lock, &t);
+}
+
+static Woken wait_really(const Wait *w)
+{
+    Quiet quiet = { 0 };
+    Woken woken = READY;
+    bool counts = false;
+    pthread_once(&settings_once, read_settings);
+    while (!w->ready(w->context)) {
+        const LONGLONG until = w->deadline ? w->deadline(w->context) : 0;
+        if (until && until <= now_in_100ns()) {
+            woken = TIME_UP;
+            break;
+        }
+        if (until && w->patience != IDLES && !counts) {
+            counts = true;
+            sleepers++;
+        }
+        if (is_stuck(w, until != 0, &quiet)) {
+            woken = STUCK;
+            break;
+        }
+        pause_for(w, until);
+    }
+    sleepers -= counts;
+    return woken;
+}
+
+Woken wait_for(const Wait *w)
+{
+    if (!by_schedule)
+        return wait_really(w);
+    if (w->on)
+        pthread_mutex_unlock(w->on->lock);
+    const Woken woken = wait_by_schedule(w);
+    if (w->on)
+        pthread_mutex_lock(w->on->lock);
+    return woken;
+}
+
+/* With a seed a real thread yields or sleeps for a moment now and then, so that threads mix. */
+static void shake(void)
+{
+    pthread_once(&settings_once, read_settings);
+    if (!shake_seed || self.seat < 0)
+        return;
+    if (!self.chance)
+        self.chance = shake_seed * 2654435761u + (unsigned)self.seat + 1;
+    const unsigned r = (unsigned)rand_r(&self.chance) % 16;
+    if (r < 4)
+        sched_yield();
+    else if (r == 15)
+        usleep((unsigned)rand_r(&self.chance) % 200);
+}
+
+void point(const char *what, WDM_SITE at)
+{
+    if (by_schedule)
+        point_by_schedule(what, at, NULL);
+    else
+        shake();
+}
+
+void yield_to_others(const char *what)
+{
+    if (by_schedule)
+        yield_by_schedule(what);
+    else
+        sched_yield();
+}

@@ -1,0 +1,168 @@
+"""What `run --every-order` does: it has every order of the threads' steps made, and tells what was covered and what failed.
+
+The program explores itself (host/explore.c), and leaves a report of lines with a key and values. Here the failing schedule
+is made shorter and run again, distinct transcripts are judged, and all is told."""
+
+import os
+import re
+import shutil
+import subprocess
+import sys
+
+RENAMED = ["pthread_create", "pthread_join", "pthread_detach", "pthread_self", "pthread_exit", "pthread_mutex_lock",
+           "pthread_mutex_unlock", "pthread_cond_wait", "pthread_cond_signal", "pthread_cond_broadcast", "sched_yield",
+           "usleep", "memcpy", "memset", "memmove", "malloc", "calloc", "free"]
+# The sanitizer's compiler pass, and hooks of the host's in place of its library.
+FLAGS = ["-fsanitize=thread", *(f"-D{it}=wdm_{it}" for it in RENAMED)]
+MANY = 200  # decisions of a run, from which on a test is told to be made smaller
+
+
+def fixed(words):
+    """Returns the command with addresses that are the same in each run."""
+    return ["setarch", "-R", *words] if shutil.which("setarch") else words
+
+
+class Report:
+    """What an exploration left."""
+
+    def __init__(self, path):
+        self.rounds, self.outcomes, self.places, self.racy, self.facts = [], [], [], [], {}
+        with open(path, encoding="utf-8", errors="replace") as it:
+            for line in it.read().splitlines():
+                self.take(*line.partition(" ")[::2])
+
+    def take(self, key, rest):
+        if key in ("round", "part_of_round"):
+            words = rest.split()
+            self.rounds.append({"bound": int(words[0]), "all": key == "round",
+                                **{words[i]: float(words[i + 1]) for i in range(1, len(words) - 1, 2)}})
+        elif key == "outcome":
+            classes, _, text = rest.partition(" ")
+            self.outcomes.append((int(classes), text.rstrip("; ")))
+        elif key == "place":
+            self.places.append((rest[0] == "1", rest[2:]))
+        elif key == "racy":
+            self.racy.append(rest)
+        else:
+            self.facts[key] = rest
+
+    def finished(self):
+        """Returns the rounds that count: those behind the last start."""
+        last = max((at for at, it in enumerate(self.rounds) if it["bound"] == 0), default=0)
+        return self.rounds[last:]
+
+
+def settings_of(options, seed=None):
+    """Returns what the environment of a run by a schedule says besides."""
+    made = {"WDM_ROUNDS": str(options.rounds)} if options.every_order or options.schedule else {}
+    if options.schedule:
+        made["WDM_SCHEDULE"] = options.schedule
+    elif seed is not None:
+        made["WDM_CHANCE"] = str(seed)
+    return made
+
+
+def explore(options, program, folder, settings):
+    """Has the orders made. Returns the report."""
+    orders, path = folder + "/orders", folder + "/report"
+    shutil.rmtree(orders, ignore_errors=True)
+    os.makedirs(orders)
+    setting = dict(os.environ, **settings, WDM_EXPLORE=str(options.preemptions), WDM_REPORT=path,
+                   WDM_ORDERS=orders, WDM_SECONDS=str(int(options.minutes * 60)))
+    if options.processes:
+        setting["WDM_PROCESSES"] = str(options.processes)
+    if options.part:
+        part, _, parts = options.part.partition("/")
+        setting.update(WDM_PART=str(int(part) - 1), WDM_PARTS=parts)
+    subprocess.run(fixed([program, *options.args.split()]), env=setting, stdout=subprocess.DEVNULL, check=False)
+    return Report(path)
+
+
+def plural(count, word):
+    return f"{count:,.0f} {word}{'' if count == 1 else 'es' if word.endswith('s') else 's'}"
+
+
+def bound_words(bound):
+    return "the usual order, and each choice where a thread waits" if not bound else \
+        f"every order with at most {plural(bound, 'preemption')} or early timer{'s' if bound > 1 else ''}"
+
+
+def tell_rounds(report, part):
+    """What was covered, and never more."""
+    for it in report.finished():
+        seconds = f"{it['seconds']:.1f} s"
+        if it["all"]:
+            print(f"{bound_words(it['bound'])}{f', part {part}' if part else ''}: "
+                  f"{plural(it['runs'], 'run')}, {plural(it['classes'], 'class')} of orders, {seconds}")
+        elif report.facts.get("ended") == "failed":
+            print(f"stopped at a failure: {plural(it['runs'], 'run')} with at most {plural(it['bound'], 'preemption')}, {seconds}")
+        else:
+            share = 100 * it["begun"] / it["expected"] if it["expected"] else 0
+            why = "the table of states is full" if report.facts.get("ended") == "full" else "time is up"
+            print(f"stopped, since {why}: {plural(it['runs'], 'run')} with at most {plural(it['bound'], 'preemption')}, "
+                  f"about {min(share, 99):.0f} % of those (estimated), {seconds}")
+
+
+def tell_small(report):
+    decisions = int(report.facts.get("most_decisions", 0))
+    if decisions > MANY and report.facts.get("ended") in ("stopped", "full"):
+        print(f"a run has up to {decisions} decisions: make its test smaller (WdmRounds, fewer threads, --rounds 1)")
+
+
+def tell_places(report, with_lines):
+    if report.racy:
+        print("accesses that race: " + "; ".join(with_lines(it) for it in report.racy))
+    never = sorted({with_lines(text) for was, text in report.places if not was} -
+                   {with_lines(text) for was, text in report.places if was})
+    if never:
+        print(f"never preempted before {len(never)} of {len(set(it[1] for it in report.places))} places: "
+              + "; ".join(never[:8]) + ("; .." if len(never) > 8 else ""))
+
+
+def tell_outcomes(report):
+    for classes, text in sorted(report.outcomes, reverse=True)[:20]:
+        print(f"outcome     {text} ({plural(classes, 'class')} of orders)")
+    if len(report.outcomes) > 20:
+        print(f"            and {len(report.outcomes) - 20} outcomes more")
+
+
+def first_fault(run):
+    found = re.search(r"^host: (?:FAULT|STOPPED).*?(?= \[before entry|$)", run.said, re.M)
+    return found[0] if found else "; ".join(run.complaints())
+
+
+def shorter(schedule, try_it):
+    """Leaves out deviations, the last first, as long as the run fails in the same way. Returns the schedule."""
+    places, _, rest = schedule.partition(",") if schedule.startswith("p") else ("", "", schedule)
+    whole, deviations = try_it(schedule), [it for it in rest.split(",") if "=" in it]
+    for at in reversed(range(len(deviations))):
+        fewer = deviations[:at] + deviations[at + 1:]
+        text = ",".join(([places] if places else []) + fewer) or "usual"
+        if try_it(text) == whole:
+            deviations = fewer
+    return ",".join(([places] if places else []) + deviations) or "usual"
+
+
+def judge(options, irpx, folder):
+    """Has distinct transcripts judged. Returns the first that isn't legal, with its verdict, or None."""
+    orders = folder + "/orders"
+    names = sorted((it for it in os.listdir(orders) if it.isdigit()), key=int)
+    step = max(1, -(-len(names) // options.judge)) if options.judge else len(names) + 1
+    chosen = names[::step]
+    for name in chosen:
+        with open(f"{orders}/{name}", encoding="utf-8") as it:
+            made = subprocess.run([irpx, "check"], stdin=it, capture_output=True, text=True, check=False)
+        said = made.stdout.strip() or made.stderr.strip()
+        if not said.startswith("legal "):
+            with open(f"{orders}/{name}.schedule", encoding="utf-8") as it:
+                return it.read(), said
+    print(f"judged      {len(chosen)} of {plural(len(names), 'distinct transcript')}: "
+          f"{'legal' if chosen else 'none'}")
+    return None
+
+
+def tell(report, with_lines):
+    tell_small(report)
+    tell_places(report, with_lines)
+    tell_outcomes(report)
+    sys.stdout.flush()
