@@ -233,3 +233,27 @@ WRONG_HOSTS = [
     ("a kept packet's status is written down wrong, in all places",
      [("settling.c", "a->new_status = p->status = status;", "a->new_status = p->status = 1;")]),
 ]
+
+# The drivers of hostile/: what is told of each, beside the transcript. Each ends within its bound, and none is clean.
+STOPPED = "STOPPED: "
+HOSTILE = {
+    "touches_null": [STOPPED + "it touches what is no memory at address 0x10",
+                     "at touches_null.c:6 in Helper, called at touches_null.c:10 in Read"],
+    "calls_no_function": [STOPPED + "there is no function at address 0x10", "at calls_no_function.c:8 in Read"],
+    "has_a_bad_dispatch": [STOPPED + "there is no function at address 0x1234",
+                           "0x1234, which is no function), dispatch for WRITE of D0 (has_a_bad_dispatch)"],
+    "recurses_without_end": [STOPPED + "it touches", "recurses_without_end.c:12 in Deeper, called at",
+                             "Read, dispatch for READ of D0"],
+    "aborts": [STOPPED + "abort, at aborts.c:7 in Read"],
+    "divides_by_zero": [STOPPED + "a division by zero, at divides_by_zero.c:8 in Read"],
+    "loops_without_end": [STOPPED + "its time is over, at loops_without_end.c:8 in Read"],
+    "calls_exit": [STOPPED + "the program ends before WdmFinish, at calls_exit.c:7 in Read"],
+    "ends_its_thread": [STOPPED + "a thread ends in a dispatch", "at ends_its_thread.c:8 in Read"],
+    "closes_standard_error": ["CompletedTwice", "called at closes_standard_error.c:10 in Read"],
+    "crashes_in_a_thread": [STOPPED + "it touches", "at crashes_in_a_thread.c:10 in Thread",
+                            "thread 0 is in Read, dispatch for READ"],
+    "crashes_in_a_dpc": [STOPPED + "it touches", "at crashes_in_a_dpc.c:9 in Deferred"],
+    "spoils_the_heap": [STOPPED + "abort, at spoils_the_heap.c:8 in Read"],
+    "prints_without_end": [STOPPED + "its time is over, at prints_without_end.c:7 in Read", "bytes are left out"],
+    "uses_no_packet": [STOPPED + "a pointer that is no packet", "at uses_no_packet.c:7"],
+}

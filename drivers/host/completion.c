@@ -195,8 +195,7 @@ void complete(Packet *p, int by, ULONG status, uint64_t information)
             p->routine = p->irp->CancelRoutine = NULL;
         } else
             return;
-        fprintf(stderr, "host: IRP %u.%lu is completed in its place, so that the run goes on\n", p->slot,
-                (unsigned long)p->use);
+        say("IRP %u.%lu is completed in its place, so that the run goes on", p->slot, (unsigned long)p->use);
     }
 }
 

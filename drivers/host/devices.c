@@ -105,6 +105,15 @@ static const char *gone_text(int d)
     return text;
 }
 
+static void take_off_list(PDEVICE_OBJECT device)
+{
+    PDEVICE_OBJECT *at = &device->DriverObject->DeviceObject;
+    while (*at && *at != device)
+        at = &(*at)->NextDevice;
+    if (*at)
+        *at = device->NextDevice;
+}
+
 static void delete_now(int d, const Frame *mine)
 {
     Entry *e = begin(REMOVE, NULL, d);
@@ -122,6 +131,7 @@ static void delete_now(int d, const Frame *mine)
     else {
         tell_running(d, mine);
         devices[d].live = false;
+        take_off_list(devices[d].raw);
         let_go_of(devices[d].raw->DeviceExtension, devices[d].raw->HostExtensionSize, "the extension of a device",
                   self.calls->at);
         answered(e, DONE, 0);

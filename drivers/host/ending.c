@@ -159,7 +159,7 @@ void end_run(int status)
         wait_for_processes();
     } else {
         if (schedule_misfits())
-            fprintf(stderr, "host: STOPPED: the schedule doesn't fit this program\n");
+            say("STOPPED: the schedule doesn't fit this program");
         tell_story(stderr);
         fflush(NULL);
     }

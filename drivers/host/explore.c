@@ -292,7 +292,7 @@ static void explore(void)
         return;
     }
     if (text && !read_schedule(text, &s)) {
-        fprintf(stderr, "host: STOPPED: this is no schedule: %.100s\n", text);
+        say("STOPPED: this is no schedule: %.100s", text);
         _exit(2);
     }
     give_schedule(&s);

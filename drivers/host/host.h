@@ -28,6 +28,7 @@
 #include "wdm_io.h"
 #include "wdm_test.h"
 #include "threads.h"
+#include <signal.h>
 #include <stdio.h>
 #include <time.h>
 
@@ -157,7 +158,7 @@ struct Packet {
     ULONG room;        /* what was built has room for so many bytes there, to be copied to UserBuffer */
     bool writes_back;
     bool trapped, touch_untold;
-    void *touched_at;
+    const void *touched_at;
     int toucher;
     struct { WDM_SITE allocated, sent, completed, freed, cancel; } sites;
     uint64_t name; /* by the thread that allocated it, and how many that had allocated before */
@@ -178,6 +179,7 @@ typedef struct Call {
     struct Call *up;
     const char *name;
     WDM_SITE at;
+    bool is_entered; /* it stands where the driver made it: its callers are above it on the stack */
 } Call;
 
 typedef struct {
@@ -193,6 +195,10 @@ typedef struct {
     Call *calls;
     Packet *touched;
     struct _KTHREAD *thread;
+    pthread_t id;
+    void *other_stack; /* for handlers */
+    WDM_SITE last;
+    const char *last_call;
 } Self;
 
 extern _Thread_local Self self;
@@ -211,18 +217,38 @@ extern unsigned long host_activity; /* grows with each call, so that a wait sees
 const char *who(int device);
 const char *what_runs(const Frame *f);
 const char *place(WDM_SITE at);
+FILE *open_high(const char *path);
+void write_error(const char *text, size_t n);
+__attribute__((format(printf, 1, 2))) void say(const char *how, ...);
 __attribute__((format(printf, 3, 4))) void fault(const char *rule, const Packet *p, const char *how, ...);
 __attribute__((format(printf, 4, 5))) void fault_of(const char *rule, const Packet *p, const Frame *f, const char *how,
                                                     ...);
 __attribute__((format(printf, 2, 3))) void note(const char *key, const char *how, ...);
 __attribute__((noreturn)) void give_up(const char *why);
+__attribute__((noreturn)) void stop_run(const char *why);
 void tell_repeats(void);
 bool is_expected_refusal(const char *name);
 size_t expected_entries(void);
 void tell_expected(FILE *out);
 const char *function_name(const void *address);
+bool is_in_program(const void *address);
 unsigned long place_in_program(const void *address);
 const char *major_name(int major);
+
+/* callers.c, last_words.c, hangs.c */
+const char *callers_of(const Call *c);
+int where_is(bool in_handler, const void **at, int most);
+const void *instruction_of(const void *context);
+void crashed(int number, siginfo_t *info, void *context);
+void watch_for_the_end(void);
+void watch_thread(void);
+void thread_is_gone(int seat);
+void begin_last_words(void);
+void run_is_finished(void);
+void tell_others(void);
+void tell_packets(void);
+__attribute__((noreturn)) void end_process(int status);
+void hang(WDM_SITE at);
 
 /* recording.c, writing.c */
 Entry *begin(Op op, Packet *p, int by);

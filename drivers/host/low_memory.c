@@ -45,7 +45,6 @@ bool memory_was_refused(void) { return n_refused > 0; }
 void tell_refused(void)
 {
     if (n_refused)
-        fprintf(stderr, "host: memory was refused %d time%s, first to %s at %s in %s\n", n_refused,
-                n_refused == 1 ? "" : "s", what_refused, place(first_refused),
-                first_refused.function ? first_refused.function : "?");
+        say("memory was refused %d time%s, first to %s at %s in %s", n_refused, n_refused == 1 ? "" : "s", what_refused,
+            place(first_refused), first_refused.function ? first_refused.function : "?");
 }

@@ -53,6 +53,8 @@ const char *function_name(const void *address)
     return "?";
 }
 
+bool is_in_program(const void *address) { return *function_name(address) != '?'; }
+
 /* Where the address lies in the program's file: what `addr2line` takes. */
 unsigned long place_in_program(const void *address)
 {

@@ -3,7 +3,6 @@
 #include "host.h"
 
 #include <stdio.h>
-#include <unistd.h>
 
 /* One print has at most so many bytes, as in Windows. */
 enum { MOST_BYTES = 512 };
@@ -177,7 +176,7 @@ ULONG vDbgPrintEx(ULONG Component, ULONG Level, PCSTR Format, va_list List)
         put_argument(&line, &how, *at, &list);
     }
     va_end(list);
-    if (write(STDERR_FILENO, line.bytes, line.count) < 0) return (ULONG)STATUS_UNSUCCESSFUL;
+    write_error(line.bytes, line.count);
     return STATUS_SUCCESS;
 }
 

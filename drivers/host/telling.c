@@ -1,8 +1,58 @@
-/* telling.c: faults and notes, on standard error. */
+/* telling.c: faults and notes, on what standard error was at the start: a driver may close it, or open another file as
+   descriptor 2. */
 #include "schedule.h"
+#include <fcntl.h>
 #include <unistd.h>
 
+enum { HIGH = 700 }; /* the host's own descriptors are above what a driver that closes them all in a loop reaches */
 int n_faults, n_notes;
+static int error_file = STDERR_FILENO;
+
+__attribute__((constructor)) static void keep_standard_error(void)
+{
+    const int high = fcntl(STDERR_FILENO, F_DUPFD_CLOEXEC, HIGH);
+    error_file = high < 0 ? STDERR_FILENO : high;
+}
+
+/* Opens a file to write, with a high descriptor. Returns NULL, with errno, where it can't be opened. */
+FILE *open_high(const char *path)
+{
+    const int low = open(path, O_WRONLY | O_CREAT | O_TRUNC | O_CLOEXEC, 0666);
+    if (low < 0)
+        return NULL;
+    const int high = fcntl(low, F_DUPFD_CLOEXEC, HIGH);
+    if (high < 0)
+        return fdopen(low, "w");
+    close(low);
+    return fdopen(high, "w");
+}
+
+/* Writes all of it, as far as it goes. */
+void write_error(const char *text, size_t n)
+{
+    while (n) {
+        const ssize_t written = write(error_file, text, n);
+        if (written <= 0)
+            return;
+        text += written;
+        n -= (size_t)written;
+    }
+}
+
+/* One line of the host. */
+void say(const char *how, ...)
+{
+    char text[2000];
+    va_list list;
+    va_start(list, how);
+    int n = snprintf(text, sizeof text, "host: ");
+    n += vsnprintf(text + n, sizeof text - 1 - (size_t)n, how, list);
+    va_end(list);
+    if (n > (int)sizeof text - 2)
+        n = (int)sizeof text - 2;
+    text[n++] = '\n';
+    write_error(text, (size_t)n);
+}
 
 static const struct { const char *rule, *known; } known_as[] = {
     { "CompletedTwice", "0x44" }, { "Ended", "its use was completed" }, { "TooShort", "0x35" },
@@ -75,8 +125,8 @@ const char *place(WDM_SITE at)
 /* The dispatch or routine that runs: its function, its device, what it was asked. */
 const char *what_runs(const Frame *f)
 {
-    char *text = passing_text();
-    const char *name = function_name(f->fn);
+    char *text = passing_text(), *name = passing_text();
+    snprintf(name, 100, is_in_program(f->fn) ? "%s" : "%s (%p, which is no function)", function_name(f->fn), f->fn);
     if (f->kind == DISPATCH)
         snprintf(text, 200, "%s, dispatch for %s of %s", name, major_name(f->major), who(f->device));
     else
@@ -108,8 +158,8 @@ void tell_repeats(void)
 {
     for (int i = 0; i < n_told; i++)
         if (told[i].times > 1)
-            fprintf(stderr, "host: FAULT %s %d times at the same place (%s)\n", told[i].rule, told[i].times,
-                    told[i].file ? place((WDM_SITE){ told[i].file, NULL, told[i].line }) : function_name(told[i].fn));
+            say("FAULT %s %d times at the same place (%s)", told[i].rule, told[i].times,
+                told[i].file ? place((WDM_SITE){ told[i].file, NULL, told[i].line }) : function_name(told[i].fn));
 }
 
 static const char *known_name(const char *rule)
@@ -127,16 +177,16 @@ static void tell(const char *rule, const Packet *p, const char *where, const cha
     char irp[64] = "";
     if (p)
         snprintf(irp, sizeof irp, "(IRP %u.%lu)", p->slot, (unsigned long)p->use);
-    fprintf(stderr, "host: FAULT %s%s%s%s: %s%s: %s [before entry %zu]\n", rule, known ? " (" : "", known ? known : "",
-            known ? ")" : "", where, irp, text, n_history);
-    char first[600];
+    say("FAULT %s%s%s%s: %s%s: %s [before entry %zu]", rule, known ? " (" : "", known ? known : "", known ? ")" : "",
+        where, irp, text, n_history);
+    char first[1600];
     snprintf(first, sizeof first, "%s: %s%s: %s", rule, where, irp, text);
     note_fault(first);
 }
 
 void fault(const char *rule, const Packet *p, const char *how, ...)
 {
-    char text[500], where[400];
+    char text[500], where[1000];
     va_list list;
     va_start(list, how);
     vsnprintf(text, sizeof text, how, list);
@@ -149,9 +199,10 @@ void fault(const char *rule, const Packet *p, const char *how, ...)
     if (!c || !c->at.file)
         snprintf(where, sizeof where, "%s", f ? what_runs(f) : c ? c->name : "the host");
     else if (f)
-        snprintf(where, sizeof where, "%s in %s (under %s): %s", place(c->at), c->at.function, what_runs(f), c->name);
+        snprintf(where, sizeof where, "%s in %s%s (under %s): %s", place(c->at), c->at.function, callers_of(c),
+                 what_runs(f), c->name);
     else
-        snprintf(where, sizeof where, "%s in %s: %s", place(c->at), c->at.function, c->name);
+        snprintf(where, sizeof where, "%s in %s%s: %s", place(c->at), c->at.function, callers_of(c), c->name);
     tell(rule, p, where, text);
 }
 
@@ -189,5 +240,5 @@ void note(const char *key, const char *how, ...)
             return;
     if (n < 64)
         told_notes[n++] = strdup(text);
-    fprintf(stderr, "host: note, %s: %s\n", key, text);
+    say("note, %s: %s", key, text);
 }

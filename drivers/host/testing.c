@@ -1,10 +1,11 @@
 /* testing.c: what wdm_test.h has: loading drivers, building and sending packets, and the end of a run. */
 #include "explore.h"
-#include <unistd.h>
+#include <errno.h>
 
 PDRIVER_OBJECT drivers[MAX_DRIVERS];
 int n_drivers;
 static FILE_OBJECT files[MAX_DEVICES];
+static const char *stopped_by; /* why the run couldn't go on */
 
 PDRIVER_OBJECT WdmLoad(const char *Name, PDRIVER_INITIALIZE Entry, WDM_SITE at)
 {
@@ -28,7 +29,7 @@ PDRIVER_OBJECT WdmLoad(const char *Name, PDRIVER_INITIALIZE Entry, WDM_SITE at)
     const NTSTATUS status = Entry(d, &path);
     self.driver = before;
     if (!NT_SUCCESS(status))
-        fprintf(stderr, "host: DriverEntry of %s returned %#x\n", Name, (unsigned)status);
+        say("DriverEntry of %s returned %#x", Name, (unsigned)status);
     return NT_SUCCESS(status) ? d : NULL;
 }
 
@@ -118,10 +119,12 @@ NTSTATUS WdmSendAndWait(PDEVICE_OBJECT Top, UCHAR Major, UCHAR Minor, ULONG Leng
 static void write_summary(size_t entries)
 {
     const char *path = getenv("WDM_SUMMARY");
-    FILE *f = path ? fopen(path, "w") : NULL;
+    FILE *f = path ? open_high(path) : NULL;
     if (!f)
         return;
     fprintf(f, "entries %zu\nwanted %zu\nfaults %d\nnotes %d\n", entries, expected_entries(), n_faults, n_notes);
+    if (stopped_by)
+        fprintf(f, "stopped %s\n", stopped_by);
     fprintf(f, "allocations %d\n", n_allocations);
     tell_expected(f);
     fclose(f);
@@ -135,10 +138,10 @@ static size_t write_out(void)
     size_t length = 0;
     if (!wants_transcript())
         return expected_entries();
-    FILE *out = is_exploring ? open_memstream(&text, &length) : path ? fopen(path, "w") : stdout;
+    FILE *out = is_exploring ? open_memstream(&text, &length) : path ? open_high(path) : stdout;
     if (!out) {
-        perror(path);
-        _exit(5);
+        say("%s: %s", path, strerror(errno));
+        end_process(5);
     }
     tell_all_touches();
     tell_block_touches();
@@ -147,32 +150,39 @@ static size_t write_out(void)
     tell_repeats();
     const size_t n = write_transcript(out);
     if (n < n_history)
-        fprintf(stderr, "host: the transcript ends before entry %zu, a send that hasn't returned; %zu entries more "
-                "aren't in it\n", n, n_history - n - 1);
+        say("the transcript ends before entry %zu, a send that hasn't returned; %zu entries more aren't in it", n,
+            n_history - n - 1);
     if (out == stdout)
         fflush(out);
     else
         fclose(out);
     hand_in(text, length, n);
     write_summary(n);
-    fprintf(stderr, "host: %zu entries, %d faults, %d notes, %d settled early by another thread\n", n, n_faults,
-            n_notes, n_early);
+    say("%zu entries, %d faults, %d notes, %d settled early by another thread", n, n_faults, n_notes, n_early);
     return n;
 }
 
-/* Nothing goes on: what was recorded is written, and the process ends. Under G, which is never given back. */
+/* The run can't go on: what the threads are in and which packets are in flight is told, what was recorded is written,
+   and the process ends. Under G, which is never given back. */
+void stop_run(const char *why)
+{
+    stopped_by = why;
+    note_fault(why);
+    tell_others();
+    tell_packets();
+    write_out();
+    end_run(3);
+}
+
+/* The host gives up, at this call. */
 void give_up(const char *why)
 {
-    static bool once;
-    if (!once) {
-        once = true;
-        fprintf(stderr, "host: STOPPED: %s%s%s\n", why, self.calls && self.calls->at.file ? ", at " : "",
-                self.calls ? self.calls->at.file ? place(self.calls->at) : "" : "");
-        n_faults++;
-        note_fault(why);
-        write_out();
-    }
-    end_run(3);
+    const bool has_place = self.calls && self.calls->at.file;
+    begin_last_words();
+    n_faults++;
+    say("STOPPED: %s%s%s%s", why, has_place ? ", at " : "", has_place ? place(self.calls->at) : "",
+        has_place ? callers_of(self.calls) : "");
+    stop_run(why);
 }
 
 ULONG WdmRounds(ULONG Usual)
@@ -224,8 +234,9 @@ int WdmFinish(void)
             tell_pool_leaks(i, false);
     const size_t n = write_out();
     if (n < expected_entries())
-        fprintf(stderr, "host: %zu entries are fewer than the %zu that the test expects\n", n, expected_entries());
+        say("%zu entries are fewer than the %zu that the test expects", n, expected_entries());
     const int faults = n_faults;
+    run_is_finished();
     leave_host();
     return faults || n < expected_entries() ? 2 : 0;
 }

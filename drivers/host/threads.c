@@ -22,6 +22,7 @@ static pthread_once_t seat_once = PTHREAD_ONCE_INIT;
 static void leave_seat(void *number)
 {
     pthread_mutex_lock(&host_lock);
+    thread_is_gone((int)(intptr_t)number - 1);
     seat_taken[(intptr_t)number - 1] = false;
     pthread_mutex_unlock(&host_lock);
 }
@@ -42,6 +43,7 @@ static void take_seat(void)
         pthread_setspecific(seat_key, (void *)(intptr_t)(seat + 1));
     if (seat >= n_seats)
         n_seats = seat + 1;
+    watch_thread();
 }
 
 /* Whether another thread may go on before this call does. Calls that only prepare something have nothing to meet. */
@@ -72,8 +74,10 @@ void enter_quietly(Call *c, const char *name, WDM_SITE at)
     __atomic_add_fetch(&host_activity, 1, __ATOMIC_SEQ_CST);
     if (self.seat < 0)
         take_seat();
-    *c = (Call){ .up = self.calls, .name = name, .at = at };
+    *c = (Call){ .up = self.calls, .name = name, .at = at, .is_entered = true };
     self.calls = c;
+    self.last = at;
+    self.last_call = name;
     if (self.frames && at.file) {
         self.frames->last = at;
         self.frames->last_call = name;
@@ -200,6 +204,9 @@ int start_thread(void *(*run)(void *), void *context, const char *kind, void *fn
 static void *run_thread(void *context)
 {
     struct _KTHREAD *t = context;
+    Call c;
+    enter_host(&c, "a thread of a driver", (WDM_SITE){ 0 });
+    leave_host();
     self.driver = t->driver;
     self.is_driver = true;
     self.thread = t;

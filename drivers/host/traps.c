@@ -5,40 +5,24 @@
  * completes twice writes IoStatus first, and then the completion is the cause that is told, not the touch.
  */
 #include "schedule.h"
-#include <signal.h>
 #include <sys/mman.h>
-#include <sys/ucontext.h>
-#include <unistd.h>
 
 static char *arena;
 static bool is_on;
 
-static void *instruction(void *context)
-{
-    const ucontext_t *u = context;
-#if defined(__x86_64__)
-    return (void *)u->uc_mcontext.gregs[REG_RIP];
-#elif defined(__aarch64__)
-    return (void *)u->uc_mcontext.pc;
-#else
-    (void)u;
-    return NULL;
-#endif
-}
-
 static void touched(int signal_number, siginfo_t *info, void *context)
 {
     const size_t i = (size_t)((char *)info->si_addr - arena) / PAGE;
-    if (touched_block(info->si_addr, instruction(context)))
+    if (touched_block(info->si_addr, (void *)(uintptr_t)instruction_of(context)))
         return;
     if ((char *)info->si_addr < arena || i >= (size_t)n_packets || packets[i]->trapped) {
-        signal(signal_number, SIG_DFL); /* a fault of another kind */
+        crashed(signal_number, info, context);
         return;
     }
     Packet *p = packets[i];
     p->trapped = true;
     p->touch_untold = true;
-    p->touched_at = instruction(context);
+    p->touched_at = instruction_of(context);
     p->toucher = self.frames ? self.frames->device : NOBODY;
     self.touched = p;
     mprotect(arena + i * PAGE, PAGE, PROT_READ | PROT_WRITE);
@@ -53,8 +37,9 @@ void open_traps(void)
     if (arena == MAP_FAILED)
         give_up("no memory for packets");
     is_on = !getenv("WDM_NO_TRAP");
-    struct sigaction s = { .sa_sigaction = touched, .sa_flags = SA_SIGINFO };
+    struct sigaction s = { .sa_sigaction = touched, .sa_flags = SA_SIGINFO | SA_ONSTACK };
     sigaction(SIGSEGV, &s, NULL);
+    watch_for_the_end();
 }
 
 /* Calls after which the caller may not touch the packet: each access that isn't ordered with them races. */

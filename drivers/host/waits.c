@@ -120,67 +120,6 @@ LONG WdmKeSetEvent(PKEVENT e, WDM_SITE at)
     return change(&e->Header, 1, false);
 }
 
-/* Names what is in flight, for a wait that never ends: under G. */
-static void tell_in_flight(char *text, size_t size)
-{
-    size_t n = 0;
-    for (int i = 0; i < n_packets && n + 1 < size; i++) {
-        const Packet *p = packets[i];
-        if (!lives(p) || (p->owner == ORIGINATOR && !p->asking))
-            continue;
-        const Location *l = &p->at[p->current <= p->size ? p->current : p->size];
-        n += (size_t)snprintf(text + n, size - n, "%sIRP %u.%lu (%s), which %s %s%s%s%s, sent at %s", n ? "; " : "",
-                              p->slot, (unsigned long)p->use, major_name(l->major),
-                              p->asking ? "is in" : who(p->owner), p->asking ? what_runs(p->asking) : "holds",
-                              p->routine ? " with a cancel routine" : "", p->kept_by ? ", kept by " : "",
-                              p->kept_by ? function_name(p->kept_by) : "", place(p->sites.sent));
-    }
-    if (!n)
-        snprintf(text, size, "no packet is in flight");
-}
-
-/* Packets whose dispatch returned without a word for them, completed in its place. Returns whether there was one. */
-static bool complete_lost(void)
-{
-    for (int i = 0; i < n_packets; i++) {
-        Packet *p = packets[i];
-        if (lives(p) && p->lost && p->owner >= 0 && !p->asking) {
-            p->lost = false;
-            fprintf(stderr, "host: IRP %u.%lu is completed in place of %s, so that the run goes on\n", p->slot,
-                    (unsigned long)p->use, who(p->owner));
-            if (p->routine) {
-                Entry *e = begin(SET_CANCEL, p, p->owner);
-                e->reply = PREVIOUS;
-                e->seen.routine = p->routine;
-                seal(e, false);
-                p->routine = p->irp->CancelRoutine = NULL;
-            }
-            p->irp->IoStatus.Status = STATUS_UNSUCCESSFUL;
-            complete(p, p->owner, (ULONG)STATUS_UNSUCCESSFUL, 0);
-            return true;
-        }
-    }
-    return false;
-}
-
-/* A wait hangs: told, once. The run goes on where a lost packet can be completed; else it ends. */
-static void hang(WDM_SITE at)
-{
-    static bool told;
-    char text[400];
-    Call c;
-    enter_host(&c, "KeWaitForSingleObject", at);
-    if (!told) {
-        told = true;
-        tell_in_flight(text, sizeof text);
-        fault("Hang", NULL, "waits for what nobody does; %s", text);
-    }
-    const bool goes_on = complete_lost();
-    if (!goes_on)
-        give_up("nothing goes on any more");
-    leave_host();
-}
-
 /* What a wait is for, under W. */
 typedef struct { ULONG n; PVOID *objects; WAIT_TYPE type; LONGLONG until; } Objects;
 

@@ -1,0 +1,79 @@
+/* callers.c: which code of the program led to where a thread is. Addresses stand for lines: `run` puts these in. */
+#include "host.h"
+#include <unwind.h>
+
+enum { MOST = 8 };
+
+/* A walk up a stack: what lies above `from` of it, or above the handler of a signal, as far as `until`, and at most up
+   to the function `last`. */
+typedef struct {
+    uintptr_t from, until;
+    bool in_handler;
+    const void *last;
+    const void *at[MOST];
+    int n;
+    bool is_over;
+} Walk;
+
+static _Unwind_Reason_Code step(struct _Unwind_Context *context, void *given)
+{
+    Walk *w = given;
+    int is_exact = 0;
+    const uintptr_t ip = _Unwind_GetIPInfo(context, &is_exact), stack = _Unwind_GetCFA(context);
+    const void *at = (const void *)(is_exact ? ip : ip - 1);
+    if (is_exact)
+        w->in_handler = false;
+    if (stack <= w->from || w->in_handler)
+        return _URC_NO_REASON;
+    if (w->is_over || w->n == MOST || stack >= w->until)
+        return _URC_END_OF_STACK;
+    if (is_in_program(at))
+        w->at[w->n++] = at;
+    w->is_over = w->last && _Unwind_FindEnclosingFunction((void *)(uintptr_t)at) == w->last;
+    return _URC_NO_REASON;
+}
+
+/* As text: "called at +0x12 in F, called at +0x34 in G". With a caret: without the innermost of what is inlined there. */
+static const char *tell_walk(const Walk *w, int first, bool is_inlined)
+{
+    static _Thread_local char text[MOST * 80];
+    size_t n = 0;
+    *text = 0;
+    for (int i = first; i < w->n && n < sizeof text; i++)
+        n += (size_t)snprintf(text + n, sizeof text - n, ", called at %s+0x%lx in %s", i == 0 && is_inlined ? "^" : "",
+                              place_in_program(w->at[i]), function_name(w->at[i]));
+    return text;
+}
+
+/* A compiler gives parts of a function names of their own, behind a dot. */
+static bool is_named(const void *at, const char *function)
+{
+    const char *name = function_name(at);
+    const size_t n = strlen(function);
+    return !strncmp(name, function, n) && (!name[n] || name[n] == '.');
+}
+
+/* Who called the function of the driver that makes this call, up to the dispatch or routine that runs; else "". */
+const char *callers_of(const Call *c)
+{
+    const Frame *f = self.frames;
+    Walk w = { .from = (uintptr_t)c, .until = f ? (uintptr_t)f : UINTPTR_MAX, .last = f ? f->fn : NULL };
+    if (!c->is_entered || !c->at.function)
+        return "";
+    _Unwind_Backtrace(step, &w);
+    const bool is_inlined = w.n && !is_named(w.at[0], c->at.function);
+    return tell_walk(&w, is_inlined ? 0 : 1, is_inlined);
+}
+
+/* Where this thread is, or was where a handler interrupted it: into `at`, as far as its dispatch or routine. Returns how
+   many places. */
+int where_is(bool in_handler, const void **at, int most)
+{
+    const Frame *f = self.frames;
+    Walk w = { .from = in_handler ? 0 : (uintptr_t)__builtin_frame_address(0), .in_handler = in_handler,
+               .until = f ? (uintptr_t)f : UINTPTR_MAX, .last = f ? f->fn : NULL };
+    _Unwind_Backtrace(step, &w);
+    const int n = w.n < most ? w.n : most;
+    memcpy(at, w.at, (size_t)n * sizeof *at);
+    return n;
+}

@@ -1,0 +1,85 @@
+/* hangs.c: a wait that never ends, and what is in flight then. */
+#include "host.h"
+
+enum { MOST_TOLD = 30 };
+
+static bool is_in_flight(const Packet *p) { return lives(p) && (p->owner != ORIGINATOR || p->asking); }
+
+/* Who has the packet. Returns how long the text is. */
+static size_t tell_packet(const Packet *p, char *text, size_t size)
+{
+    const Location *l = &p->at[p->current <= p->size ? p->current : p->size];
+    const int n = snprintf(text, size, "IRP %u.%lu (%s), which %s %s%s%s%s, sent at %s", p->slot, (unsigned long)p->use,
+                           major_name(l->major), p->asking ? "is in" : who(p->owner),
+                           p->asking ? what_runs(p->asking) : "holds", p->routine ? " with a cancel routine" : "",
+                           p->kept_by ? ", kept by " : "", p->kept_by ? function_name(p->kept_by) : "",
+                           place(p->sites.sent));
+    return n < 0 ? 0 : (size_t)n < size ? (size_t)n : size - 1;
+}
+
+/* Names what is in flight, for a wait that never ends: under G. */
+static void tell_in_flight(char *text, size_t size)
+{
+    size_t n = 0;
+    for (int i = 0; i < n_packets && n + 3 < size; i++)
+        if (is_in_flight(packets[i])) {
+            n += (size_t)snprintf(text + n, size - n, n ? "; " : "");
+            n += tell_packet(packets[i], text + n, size - n);
+        }
+    if (!n)
+        snprintf(text, size, "no packet is in flight");
+}
+
+/* One line for each packet in flight. */
+void tell_packets(void)
+{
+    char text[400];
+    for (int i = 0, n = 0; i < n_packets && n < MOST_TOLD; i++)
+        if (is_in_flight(packets[i])) {
+            tell_packet(packets[i], text, sizeof text);
+            say("  %s", text);
+            n++;
+        }
+}
+
+/* Packets whose dispatch returned without a word for them, completed in its place. Returns whether there was one. */
+static bool complete_lost(void)
+{
+    for (int i = 0; i < n_packets; i++) {
+        Packet *p = packets[i];
+        if (lives(p) && p->lost && p->owner >= 0 && !p->asking) {
+            p->lost = false;
+            say("IRP %u.%lu is completed in place of %s, so that the run goes on", p->slot, (unsigned long)p->use,
+                who(p->owner));
+            if (p->routine) {
+                Entry *e = begin(SET_CANCEL, p, p->owner);
+                e->reply = PREVIOUS;
+                e->seen.routine = p->routine;
+                seal(e, false);
+                p->routine = p->irp->CancelRoutine = NULL;
+            }
+            p->irp->IoStatus.Status = STATUS_UNSUCCESSFUL;
+            complete(p, p->owner, (ULONG)STATUS_UNSUCCESSFUL, 0);
+            return true;
+        }
+    }
+    return false;
+}
+
+/* A wait hangs: told, once. The run goes on where a lost packet can be completed; else it ends. */
+void hang(WDM_SITE at)
+{
+    static bool told;
+    char text[400];
+    Call c;
+    enter_host(&c, "KeWaitForSingleObject", at);
+    if (!told) {
+        told = true;
+        tell_in_flight(text, sizeof text);
+        fault("Hang", NULL, "waits for what nobody does; %s", text);
+    }
+    const bool goes_on = complete_lost();
+    if (!goes_on)
+        give_up("nothing goes on any more");
+    leave_host();
+}

@@ -1,0 +1,245 @@
+/*
+ * last_words.c: a program that can't go on: a crash, a loop without an end that `run` stops, `exit`, a thread that ends
+ * in a dispatch. Where it is and what each thread is in is told, and what was recorded is written.
+ *
+ * A handler may find the host's lock or the allocator's taken. So it tells the place first, takes the lock for a short
+ * time only, and ends the process where the rest takes too long.
+ */
+#include "host.h"
+#include <dlfcn.h>
+#include <signal.h>
+#include <sys/mman.h>
+#include <sys/syscall.h>
+#include <sys/ucontext.h>
+#include <unistd.h>
+
+enum { STACK = 1 << 18, MOST_PLACES = 8, SECONDS_FOR_IT = 10, ASK = SIGURG };
+static Self *selves[MAX_SEATS];
+static struct { const void *at[MOST_PLACES]; _Atomic int n; } places[MAX_SEATS];
+static bool is_finished;
+
+void end_process(int status)
+{
+    extern void __gcov_dump(void) __attribute__((weak));
+    if (__gcov_dump)
+        __gcov_dump();
+    syscall(SYS_exit_group, status);
+    __builtin_unreachable();
+}
+
+const void *instruction_of(const void *context)
+{
+    const ucontext_t *u = context;
+#if defined(__x86_64__)
+    return (const void *)u->uc_mcontext.gregs[REG_RIP];
+#elif defined(__aarch64__)
+    return (const void *)u->uc_mcontext.pc;
+#else
+    (void)u;
+    return NULL;
+#endif
+}
+
+/* Where a function ends that has no code: what it would return to. */
+static const void *return_of(const void *context)
+{
+    const ucontext_t *u = context;
+#if defined(__x86_64__)
+    return (const char *)*(void **)u->uc_mcontext.gregs[REG_RSP] - 1;
+#elif defined(__aarch64__)
+    return (const char *)u->uc_mcontext.regs[30] - 1;
+#else
+    (void)u;
+    return NULL;
+#endif
+}
+
+static void put_places(char *text, size_t size, const void *const *at, int n)
+{
+    size_t used = 0;
+    *text = 0;
+    for (int i = 0; i < n && used < size; i++)
+        used += (size_t)snprintf(text + used, size - used, "%s+0x%lx in %s", i ? ", called at " : "",
+                                 place_in_program(at[i]), function_name(at[i]));
+}
+
+/* What the thread is in: the routine that runs innermost, with its last call. */
+static void tell_thread(const Self *t, const char *where)
+{
+    const Frame *f = t->frames;
+    char packet[48] = "";
+    if (!f && !t->last_call)
+        return;
+    if (f && f->p)
+        snprintf(packet, sizeof packet, ", IRP %u.%lu", f->p->slot, (unsigned long)f->use);
+    const WDM_SITE at = f ? f->last : t->last;
+    const char *call = f ? f->last_call : t->last_call;
+    say("  thread %d%s%s%s%s%s%s%s%s%s%s", t->seat, f ? " is in " : "", f ? what_runs(f) : "", packet,
+        call ? f ? "; its last call: " : ": its last call: " : "", call ? call : "", call && at.file ? " at " : "",
+        call && at.file ? place(at) : "", f && f->waiting ? ", in which it waits" : "", *where ? "; now at " : "", where);
+}
+
+/* All threads that run something, but this one. */
+void tell_others(void)
+{
+    char where[600];
+    for (int s = 0; s < n_seats; s++)
+        if (selves[s] && selves[s] != &self) {
+            put_places(where, sizeof where, places[s].at, places[s].n);
+            tell_thread(selves[s], where);
+        }
+}
+
+static void too_late(int number)
+{
+    (void)number;
+    say("it couldn't be written what was recorded");
+    end_process(4);
+}
+
+/* The first thread that comes writes; another one waits for the end that follows. */
+void begin_last_words(void)
+{
+    static _Atomic pthread_t writer;
+    pthread_t nobody = 0;
+    if (!__atomic_compare_exchange_n(&writer, &nobody, pthread_self(), false, __ATOMIC_SEQ_CST, __ATOMIC_SEQ_CST)) {
+        if (pthread_equal(nobody, pthread_self()))
+            end_process(4);
+        for (;;)
+            pause();
+    }
+    signal(SIGALRM, too_late);
+    alarm(SECONDS_FOR_IT);
+}
+
+static void take_lock_for_a_while(void)
+{
+    struct timespec until;
+    clock_gettime(CLOCK_REALTIME, &until);
+    until.tv_sec += 2;
+    pthread_mutex_timedlock(&host_lock, &until); /* where this very thread has it, the rest goes on without */
+}
+
+static const char *name_of(int number)
+{
+    return number == SIGSEGV || number == SIGBUS ? "it touches what is no memory" :
+        number == SIGFPE ? "a division by zero" : number == SIGABRT ? "abort" : number == SIGTERM ? "its time is over" :
+        "no instruction";
+}
+
+/* Tells why and where the run ends, and ends it. */
+__attribute__((noreturn)) static void stop_here(const char *why, const void *const *at, int n)
+{
+    char where[600];
+    put_places(where, sizeof where, at, n);
+    n_faults++;
+    say("STOPPED: %s%s%s%s%s", why, n ? ", at " : "", where, self.frames ? "; in " : "",
+        self.frames ? what_runs(self.frames) : "");
+    take_lock_for_a_while();
+    tell_thread(&self, "");
+    stop_run(why);
+}
+
+/* Each other thread writes down where it is. */
+static void ask_places(void)
+{
+    const struct timespec moment = { 0, 100000000 };
+    for (int s = 0; s < MAX_SEATS; s++)
+        if (selves[s] && selves[s] != &self)
+            pthread_kill(selves[s]->id, ASK);
+    nanosleep(&moment, NULL);
+}
+
+static void place_asked(int number, siginfo_t *info, void *context)
+{
+    (void)number, (void)info, (void)context;
+    if (self.seat >= 0 && selves[self.seat] == &self)
+        places[self.seat].n = where_is(true, places[self.seat].at, MOST_PLACES);
+}
+
+static void stopped(int number, siginfo_t *info, void *context)
+{
+    const void *at[MOST_PLACES] = { NULL };
+    const bool is_memory = number == SIGSEGV || number == SIGBUS;
+    const bool has_no_code = is_memory && info->si_addr == instruction_of(context);
+    char why[100];
+    int n = 1;
+    begin_last_words();
+    snprintf(why, sizeof why, is_memory ? "%s at address %#lx" : "%s", has_no_code ? "there is no function" : name_of(number),
+             (unsigned long)info->si_addr);
+    if (has_no_code)
+        at[0] = return_of(context);
+    else
+        n = where_is(true, at, MOST_PLACES);
+    if (number == SIGTERM)
+        ask_places();
+    stop_here(why, at, n);
+}
+
+void crashed(int number, siginfo_t *info, void *context) { stopped(number, info, context); }
+
+/* The run ends here, without a signal. */
+__attribute__((noreturn)) static void end_at(const char *why)
+{
+    const void *at[MOST_PLACES];
+    begin_last_words();
+    stop_here(why, at, where_is(false, at, MOST_PLACES));
+}
+
+/* The end of the process that isn't the run's: the test's main has returned, or somebody called exit. */
+static void ended_early(void)
+{
+    if (!is_finished)
+        end_at("the program ends before WdmFinish");
+}
+
+void run_is_finished(void) { is_finished = true; }
+
+/* Once, before the first driver is loaded. */
+void watch_for_the_end(void)
+{
+    static const int numbers[] = { SIGBUS, SIGFPE, SIGILL, SIGABRT, SIGTERM };
+    struct sigaction s = { .sa_sigaction = stopped, .sa_flags = SA_SIGINFO | SA_ONSTACK };
+    for (size_t i = 0; i < sizeof numbers / sizeof *numbers; i++)
+        sigaction(numbers[i], &s, NULL);
+    s.sa_sigaction = place_asked;
+    s.sa_flags |= SA_RESTART;
+    sigaction(ASK, &s, NULL);
+    atexit(ended_early);
+}
+
+/* A thread gets its seat: it is known here, and has a stack for a handler, whatever becomes of its own. */
+void watch_thread(void)
+{
+    stack_t other;
+    selves[self.seat] = &self;
+    self.id = pthread_self();
+    if (sigaltstack(NULL, &other) || !(other.ss_flags & SS_DISABLE))
+        return;
+    void *memory = mmap(NULL, STACK, PROT_READ | PROT_WRITE, MAP_PRIVATE | MAP_ANONYMOUS, -1, 0);
+    if (memory == MAP_FAILED)
+        return;
+    self.other_stack = memory;
+    sigaltstack(&(stack_t){ .ss_sp = memory, .ss_size = STACK }, NULL);
+}
+
+void thread_is_gone(int seat)
+{
+    selves[seat] = NULL;
+    if (!self.other_stack)
+        return;
+    sigaltstack(&(stack_t){ .ss_flags = SS_DISABLE }, NULL);
+    munmap(self.other_stack, STACK);
+    self.other_stack = NULL;
+}
+
+/* A thread that ends in a dispatch or a routine leaves it without an answer. */
+void pthread_exit(void *result)
+{
+    void (*real)(void *);
+    *(void **)&real = dlsym(RTLD_NEXT, "pthread_exit");
+    if (self.frames)
+        end_at("a thread ends in a dispatch or a routine");
+    real(result);
+    __builtin_unreachable();
+}
