@@ -7,7 +7,7 @@ import subprocess
 
 HOST = os.path.dirname(os.path.abspath(__file__)) + "/host/"
 MOST_CALLS = 3  # so many of a chain are told
-ADDRESS = r"\^?\+0x[0-9a-f]+ in [^\s,;:]+"
+ADDRESS = r"\+0x[0-9a-f]+ in [^\s,;:]+"
 
 
 def read_lines(program, addresses):
@@ -27,17 +27,22 @@ def read_lines(program, addresses):
 
 
 def with_lines(said, program):
-    """Returns what the host said, with file and line in place of each address of the program (`+0x12ab in F`), and
-    without the calls of the host itself. Where a caret stands before an address, its innermost call is left out."""
+    """Returns what the host said, with file and line in place of each address of the program (`+0x12ab in F`), without
+    the calls of the host itself. Of who called a function, what that function is inlined into is left out."""
     known = read_lines(program, sorted(set(re.findall(r"\+0x([0-9a-f]+) in ", said))))
 
     def tell_chain(it):
         found, theirs = [], []
-        for caret, address in re.findall(r"(\^?)\+0x([0-9a-f]+)", it["chain"]):
-            for function, line in known.get(int(address, 16), [])[1 if caret else 0:]:
-                (found if line.startswith(HOST) else theirs).append(f"{os.path.basename(line)} in {function}")
-        calls = (theirs or ([] if it["lead"].startswith(", called") else found))[:MOST_CALLS]
-        return it["lead"] + ", called at ".join(calls) if calls else "" if known else it[0]
+        for address in re.findall(r"\+0x([0-9a-f]+)", it["chain"]):
+            for function, line in known.get(int(address, 16), []):
+                (found if line.startswith(HOST) else theirs).append((os.path.basename(line), function))
+        functions = [function for _, function in theirs]
+        if it["own"] in functions:
+            theirs = theirs[functions.index(it["own"]) + 1:]
+        if not it["lead"].startswith(", called"):
+            theirs = theirs or found
+        calls = [f"{line} in {function}" for line, function in theirs[:MOST_CALLS]]
+        return (it["own"] or "") + (it["lead"] + ", called at ".join(calls) if calls else "" if known else it[0])
 
-    return re.sub(rf"(?P<lead>(?:, called at |, at |; now at )?)(?P<chain>{ADDRESS}(?:, called at {ADDRESS})*)", tell_chain,
-                  said)
+    chain = rf"(?P<chain>{ADDRESS}(?:, called at {ADDRESS})*)"
+    return re.sub(rf"(?P<own>(?<= in )\w+)?(?P<lead>, called at |, at |; now at |){chain}", tell_chain, said)

@@ -33,15 +33,15 @@ static _Unwind_Reason_Code step(struct _Unwind_Context *context, void *given)
     return _URC_NO_REASON;
 }
 
-/* As text: "called at +0x12 in F, called at +0x34 in G". With a caret: without the innermost of what is inlined there. */
-static const char *tell_walk(const Walk *w, int first, bool is_inlined)
+/* As text: ", called at +0x12 in F, called at +0x34 in G". */
+static const char *tell_walk(const Walk *w, int first)
 {
     static _Thread_local char text[MOST * 80];
     size_t n = 0;
     *text = 0;
     for (int i = first; i < w->n && n < sizeof text; i++)
-        n += (size_t)snprintf(text + n, sizeof text - n, ", called at %s+0x%lx in %s", i == 0 && is_inlined ? "^" : "",
-                              place_in_program(w->at[i]), function_name(w->at[i]));
+        n += (size_t)snprintf(text + n, sizeof text - n, ", called at +0x%lx in %s", place_in_program(w->at[i]),
+                              function_name(w->at[i]));
     return text;
 }
 
@@ -53,7 +53,8 @@ static bool is_named(const void *at, const char *function)
     return !strncmp(name, function, n) && (!name[n] || name[n] == '.');
 }
 
-/* Who called the function of the driver that makes this call, up to the dispatch or routine that runs; else "". */
+/* Who called the function that makes this call, up to the dispatch or routine that runs. Where that function is inlined
+   its own place comes first, and `run`, which can tell, leaves it out. */
 const char *callers_of(const Call *c)
 {
     const Frame *f = self.frames;
@@ -61,8 +62,10 @@ const char *callers_of(const Call *c)
     if (!c->is_entered || !c->at.function)
         return "";
     _Unwind_Backtrace(step, &w);
-    const bool is_inlined = w.n && !is_named(w.at[0], c->at.function);
-    return tell_walk(&w, is_inlined ? 0 : 1, is_inlined);
+    int own = 0;
+    while (own < w.n && !is_named(w.at[own], c->at.function))
+        own++;
+    return tell_walk(&w, own < w.n ? own + 1 : 0);
 }
 
 /* Where this thread is, or was where a handler interrupted it: into `at`, as far as its dispatch or routine. Returns how
