@@ -66,7 +66,8 @@ static NTSTATUS TwoOrdersOfCancelLock(PEXTENSION Ext, PIRP Irp, BOOLEAN Wrong)
 static VOID GiveBack(PVOID Context)
 {
     PEXTENSION ext = Context;
-    InterlockedExchange(&ext->Step, 1);
+    while (!InterlockedAdd(&ext->Step, 0))
+        KeStallExecutionProcessor(10);
     if (ext->Wrong)
         KeReleaseSpinLockFromDpcLevel(&ext->Lock); /* told: WrongThread */
     InterlockedExchange(&ext->Step, 2);
@@ -81,6 +82,7 @@ static NTSTATUS OtherThread(PEXTENSION Ext, PIRP Irp, BOOLEAN Wrong)
     Ext->Step = 0;
     PsCreateSystemThread(&thread, THREAD_ALL_ACCESS, NULL, NULL, NULL, GiveBack, Ext);
     KeAcquireSpinLock(&Ext->Lock, &irql);
+    InterlockedExchange(&Ext->Step, 1);
     while (InterlockedAdd(&Ext->Step, 0) < 2)
         KeStallExecutionProcessor(10);
     KeReleaseSpinLock(&Ext->Lock, irql);
