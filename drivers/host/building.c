@@ -30,6 +30,7 @@ PIRP WdmBuildControl(ULONG Code, PDEVICE_OBJECT Device, PVOID In, ULONG InLength
     if (!irp)
         return NULL;
     PIO_STACK_LOCATION next = WdmIoGetNextIrpStackLocation(irp, at);
+    next->FileObject = irp->Tail.Overlay.OriginalFileObject = NULL; /* as Windows has it: nobody opened a file */
     next->Parameters.DeviceIoControl.IoControlCode = Code;
     next->Parameters.DeviceIoControl.InputBufferLength = InLength;
     next->Parameters.DeviceIoControl.OutputBufferLength = OutLength;
@@ -47,11 +48,22 @@ PIRP WdmBuildFsd(ULONG Major, PDEVICE_OBJECT Device, PVOID Buffer, ULONG Length,
     PIRP irp = WdmBuild(Device, (UCHAR)Major, 0, Length, Iosb, Event, at);
     if (!irp)
         return NULL;
+    WdmIoGetNextIrpStackLocation(irp, at)->FileObject = irp->Tail.Overlay.OriginalFileObject = NULL;
     if (Offset)
         WdmIoGetNextIrpStackLocation(irp, at)->Parameters.Read.ByteOffset = *Offset;
     if (Buffer && Major == IRP_MJ_WRITE && irp->AssociatedIrp.SystemBuffer)
         memcpy(irp->AssociatedIrp.SystemBuffer, Buffer, Length);
     write_back(irp, Buffer, Major == IRP_MJ_READ ? Length : 0);
+    return irp;
+}
+
+/* No event: its builder's own routine keeps it and frees it, with IoFreeIrp. */
+PIRP WdmBuildAsynchronousFsd(ULONG Major, PDEVICE_OBJECT Device, PVOID Buffer, ULONG Length, PLARGE_INTEGER Offset,
+                             PIO_STATUS_BLOCK Iosb, WDM_SITE at)
+{
+    PIRP irp = WdmBuildFsd(Major, Device, Buffer, Length, Offset, NULL, Iosb, at);
+    if (irp)
+        irp->Tail.Overlay.Thread = NULL;
     return irp;
 }
 

@@ -30,7 +30,9 @@ static void end(Packet *p, Entry *e)
     tell_waiters(&host_settled);
     look(p);
     hand_over_block((PVOID)p->information);
-    if (p->irp->UserIosb)
+    if (is_associated(p))
+        associated_ended(p);
+    else if (p->irp->UserIosb)
         *p->irp->UserIosb = p->irp->IoStatus;
     else
         fault("NotKept", p, "has ended, and no routine kept it for whoever allocated it at %s",

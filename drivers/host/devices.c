@@ -18,9 +18,10 @@ NTSTATUS WdmIoCreateDevice(PDRIVER_OBJECT Driver, ULONG Extension, DEVICE_TYPE T
         return STATUS_INSUFFICIENT_RESOURCES;
     }
     learn_file(at.file, Driver->HostNumber);
-    *o = (DEVICE_OBJECT){ .DriverObject = Driver, .NextDevice = Driver->DeviceObject, .DeviceExtension = extension,
+    *o = (DEVICE_OBJECT){ .Type = IO_TYPE_DEVICE, .Size = sizeof *o, .DriverObject = Driver, .NextDevice = Driver->DeviceObject, .DeviceExtension = extension,
                           .DeviceType = Type, .Characteristics = Characteristics, .StackSize = 1,
                           .HostNumber = n_devices, .HostExtensionSize = Extension, .Flags = DO_DEVICE_INITIALIZING };
+    InitializeListHead(&o->DeviceQueue.DeviceListHead);
     Driver->DeviceObject = o;
     devices[n_devices] = (Device){ .raw = o, .lower = NOBODY, .upper = NOBODY, .live = true };
     Entry *e = begin(CREATE, NULL, ORIGINATOR);
@@ -71,8 +72,6 @@ PDEVICE_OBJECT IoGetAttachedDevice(PDEVICE_OBJECT Device)
     pthread_mutex_unlock(&host_lock);
     return Device;
 }
-
-PDEVICE_OBJECT IoGetAttachedDeviceReference(PDEVICE_OBJECT Device) { return IoGetAttachedDevice(Device); }
 
 /* What of the device's is on its way: a packet that another thread has in an entry which isn't settled. */
 static bool is_in_open_entry(int d)
@@ -134,6 +133,7 @@ static void delete_now(int d, const Frame *mine)
         take_off_list(devices[d].raw);
         let_go_of(devices[d].raw->DeviceExtension, devices[d].raw->HostExtensionSize, "the extension of a device",
                   self.calls->at);
+        forget_names(devices[d].raw);
         answered(e, DONE, 0);
         check_gone(devices[d].raw->DeviceExtension, devices[d].raw->HostExtensionSize, gone_text(d));
     }
@@ -188,28 +188,6 @@ VOID WdmIoDeleteDevice(PDEVICE_OBJECT Device, WDM_SITE at)
     } else
         delete_now(d, self.frames);
     leave_host();
-}
-
-/* Names and interfaces: taken, and without effect. */
-NTSTATUS IoCreateSymbolicLink(PUNICODE_STRING Link, PUNICODE_STRING Device)
-{
-    return Link && Device ? STATUS_SUCCESS : STATUS_INVALID_PARAMETER;
-}
-
-NTSTATUS IoDeleteSymbolicLink(PUNICODE_STRING Link) { return Link ? STATUS_SUCCESS : STATUS_INVALID_PARAMETER; }
-
-NTSTATUS IoRegisterDeviceInterface(PDEVICE_OBJECT Device, const GUID *Class, PUNICODE_STRING Reference,
-                                   PUNICODE_STRING Link)
-{
-    (void)Device, (void)Class, (void)Reference;
-    *Link = (UNICODE_STRING){ 0 };
-    return STATUS_SUCCESS;
-}
-
-NTSTATUS IoSetDeviceInterfaceState(PUNICODE_STRING Link, BOOLEAN Enable)
-{
-    (void)Link, (void)Enable;
-    return STATUS_SUCCESS;
 }
 
 VOID IoInvalidateDeviceRelations(PDEVICE_OBJECT Device, DEVICE_RELATION_TYPE Type) { (void)Device, (void)Type; }

@@ -26,6 +26,9 @@
 #define DRIVERS_HOST_H
 
 #include "wdm_io.h"
+#include "wdm_hw.h"
+#include "wdm_trace.h"
+#include "wdm_guid.h"
 #include "wdm_test.h"
 #include "threads.h"
 #include <signal.h>
@@ -155,6 +158,9 @@ struct Packet {
     void *kept_by;     /* the routine that kept it last */
     PVOID buffer;      /* given by WdmBuild, freed with the packet; so are its bytes */
     struct Block *bytes;
+    PMDL direct;          /* room for the MDL of a control of METHOD_IN_DIRECT or METHOD_OUT_DIRECT */
+    struct Block *direct_bytes; /* and what it describes, where nobody gave a buffer */
+    bool scratch;      /* its topmost location is its allocator's own (IoSetNextIrpStackLocation) */
     ULONG room;        /* what was built has room for so many bytes there, to be copied to UserBuffer */
     bool writes_back;
     bool trapped, touch_untold;
@@ -195,6 +201,8 @@ typedef struct {
     Call *calls;
     Packet *touched;
     struct _KTHREAD *thread;
+    PFILE_OBJECT file; /* whose packets it builds (WdmUseFile), or NULL */
+    int regions;       /* critical ones that it is in */
     pthread_t id;
     void *other_stack; /* for handlers */
     WDM_SITE last;
@@ -250,6 +258,11 @@ void tell_packets(void);
 __attribute__((noreturn)) void end_process(int status);
 void hang(WDM_SITE at);
 
+/* printing.c, text.c */
+size_t print_wide(char *to, size_t room, const WCHAR *format, va_list list);
+bool copy_text(PUNICODE_STRING to, PCUNICODE_STRING from);
+size_t to_wide(WCHAR *to, size_t room, const char *from, size_t count);
+
 /* recording.c, writing.c */
 Entry *begin(Op op, Packet *p, int by);
 void seal(Entry *e, bool cancel);
@@ -289,6 +302,17 @@ bool wait_for_host(bool (*done)(const void *), const void *context);
 void finish_work(void);
 bool timers_armed(void);
 
+/* objects.c, mdl.c, start_io.c: what wdm_ob.h, wdm_mm.h and wdm_hw.h have */
+HANDLE new_handle(POBJECT_TYPE type, PVOID object);
+PVOID handle_object(HANDLE handle, POBJECT_TYPE type);
+void tell_references(void);
+void forget_names(PDEVICE_OBJECT device);
+void reinitialize(PDRIVER_OBJECT driver);
+void tell_files_dereferenced(PVOID object);
+PFILE_OBJECT file_for(PDEVICE_OBJECT top, UCHAR major);
+void give_mdl(Packet *p);
+void tell_locked_mdls(void);
+
 /* packets.c, preparing.c */
 PIO_STACK_LOCATION raw_at(Packet *p, int j);
 Packet *find(PIRP irp);
@@ -306,6 +330,10 @@ void set_pending_bit(Packet *p, int j, bool real);
 void free_ended(Packet *p);
 void flush_next(Packet *p, int by);
 void tell_ghost(Packet *p);
+
+/* associated.c */
+bool is_associated(const Packet *p);
+void associated_ended(Packet *p);
 
 /* settling.c, sending.c, completion.c, in_place.c */
 void settle(Packet *p, bool returned);

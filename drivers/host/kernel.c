@@ -1,7 +1,6 @@
-/* kernel.c: spin locks, IRQL, interlocked lists, time, strings. */
+/* kernel.c: spin locks, IRQL, interlocked lists, time. */
 #include "schedule.h"
 #include <unistd.h>
-#include <wchar.h>
 
 /* A spin lock is 0, or one more than the seat of the thread that holds it. */
 VOID WdmKeInitializeSpinLock(PKSPIN_LOCK Lock, WDM_SITE at)
@@ -161,6 +160,13 @@ VOID WdmExReleaseFastMutex(PFAST_MUTEX Mutex, WDM_SITE at)
         self.irql = old;
 }
 
+KIRQL KeRaiseIrqlToDpcLevel(VOID)
+{
+    KIRQL old;
+    WdmKeRaiseIrql(DISPATCH_LEVEL, &old, (WDM_SITE){ 0 });
+    return old;
+}
+
 PLIST_ENTRY ExInterlockedInsertTailList(PLIST_ENTRY Head, PLIST_ENTRY Entry, PKSPIN_LOCK Lock)
 {
     hands_over_now();
@@ -189,6 +195,8 @@ PLIST_ENTRY ExInterlockedRemoveHeadList(PLIST_ENTRY Head, PKSPIN_LOCK Lock)
     return first;
 }
 
+LONG KeReadStateSemaphore(PKSEMAPHORE Semaphore) { return KeReadStateEvent((PKEVENT)Semaphore); }
+LONG KeReadStateMutex(PKMUTEX Mutex) { return KeReadStateEvent((PKEVENT)Mutex); }
 VOID KeStallExecutionProcessor(ULONG Microseconds)
 {
     if (by_schedule)
@@ -198,6 +206,7 @@ VOID KeStallExecutionProcessor(ULONG Microseconds)
 }
 
 VOID KeQuerySystemTime(PLARGE_INTEGER Now) { Now->QuadPart = now_in_100ns(); }
+ULONGLONG KeQueryInterruptTime(VOID) { return (ULONGLONG)now_in_100ns(); }
 VOID KeQueryTickCount(PLARGE_INTEGER Ticks) { Ticks->QuadPart = now_in_100ns() / KeQueryTimeIncrement(); }
 ULONG KeQueryTimeIncrement(VOID) { return 156250; }
 
@@ -207,59 +216,3 @@ LARGE_INTEGER KeQueryPerformanceCounter(PLARGE_INTEGER Frequency)
         Frequency->QuadPart = 10000000;
     return (LARGE_INTEGER){ .QuadPart = now_in_100ns() };
 }
-
-static size_t length_of(PCWSTR text)
-{
-    size_t n = 0;
-    while (text && text[n])
-        n++;
-    return n;
-}
-
-VOID RtlInitUnicodeString(PUNICODE_STRING Target, PCWSTR Source)
-{
-    const USHORT length = (USHORT)(length_of(Source) * sizeof(WCHAR));
-    *Target = (UNICODE_STRING){ length, Source ? (USHORT)(length + sizeof(WCHAR)) : 0, (PWSTR)Source };
-}
-
-VOID RtlCopyUnicodeString(PUNICODE_STRING Target, PCUNICODE_STRING Source)
-{
-    Target->Length = 0;
-    if (Source)
-        RtlAppendUnicodeStringToString(Target, Source);
-}
-
-static WCHAR folded(WCHAR c, BOOLEAN ignore_case) { return ignore_case && c >= 'a' && c <= 'z' ? (WCHAR)(c - 32) : c; }
-
-LONG RtlCompareUnicodeString(PCUNICODE_STRING A, PCUNICODE_STRING B, BOOLEAN IgnoreCase)
-{
-    for (USHORT i = 0; i < A->Length / sizeof(WCHAR) && i < B->Length / sizeof(WCHAR); i++) {
-        const LONG difference = (LONG)folded(A->Buffer[i], IgnoreCase) - (LONG)folded(B->Buffer[i], IgnoreCase);
-        if (difference)
-            return difference;
-    }
-    return (LONG)A->Length - (LONG)B->Length;
-}
-
-BOOLEAN RtlEqualUnicodeString(PCUNICODE_STRING A, PCUNICODE_STRING B, BOOLEAN IgnoreCase)
-{
-    return A->Length == B->Length && RtlCompareUnicodeString(A, B, IgnoreCase) == 0;
-}
-
-NTSTATUS RtlAppendUnicodeStringToString(PUNICODE_STRING Target, PCUNICODE_STRING Source)
-{
-    const USHORT room = (USHORT)(Target->MaximumLength - Target->Length);
-    const USHORT n = Source->Length < room ? Source->Length : room;
-    memcpy((char *)Target->Buffer + Target->Length, Source->Buffer, n);
-    Target->Length = (USHORT)(Target->Length + n);
-    return n < Source->Length ? STATUS_BUFFER_TOO_SMALL : STATUS_SUCCESS;
-}
-
-NTSTATUS RtlAppendUnicodeToString(PUNICODE_STRING Target, PCWSTR Source)
-{
-    UNICODE_STRING text;
-    RtlInitUnicodeString(&text, Source);
-    return RtlAppendUnicodeStringToString(Target, &text);
-}
-
-VOID RtlFreeUnicodeString(PUNICODE_STRING Text) { *Text = (UNICODE_STRING){ 0 }; }

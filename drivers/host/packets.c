@@ -119,6 +119,7 @@ static void begin_use(Packet *p, NTSTATUS status)
     p->irp->IoStatus.Status = status;
     p->current = p->size + 1;
     put_back(p);
+    p->irp->AllocationFlags = IRP_ALLOCATED_FIXED_SIZE;
     p->owner = p->last = ORIGINATOR;
     p->status = (ULONG)status;
     p->information = 0;
@@ -180,9 +181,12 @@ static void free_now(Packet *p)
     n_live--;
     if (p->bytes)
         free_block(p->bytes, self.calls->at);
+    if (p->direct_bytes)
+        free_block(p->direct_bytes, self.calls->at);
     free_host_memory(p->buffer);
     p->buffer = NULL;
-    p->bytes = NULL;
+    p->bytes = p->direct_bytes = NULL;
+    p->direct = NULL;
 }
 
 /* The I/O manager's free of a packet that ended. It is put off, so that a late call finds it ended. */

@@ -4,10 +4,10 @@
 
 #include <stdio.h>
 
-/* One print has at most so many bytes, as in Windows. */
-enum { MOST_BYTES = 512 };
+/* One print has at most so many bytes, as in Windows; what is printed to memory may have more. */
+enum { MOST_PRINTED = 512, MOST_BYTES = 4096 };
 
-typedef struct { char bytes[MOST_BYTES]; size_t count; } Line;
+typedef struct { char bytes[MOST_BYTES]; size_t count; bool is_wide; } Line;
 
 /* One conversion: what stands between % and its letter. */
 typedef struct { char flags[8]; int width, precision; bool is_wide, is_long, is_short; } Conversion;
@@ -72,7 +72,7 @@ static void put_string(Line *line, const Conversion *how, char letter, const voi
     } else if (letter == 'Z') {
         const UNICODE_STRING *counted = text;
         put_wide(line, how, counted->Buffer, counted->Buffer ? counted->Length / sizeof(WCHAR) : 0);
-    } else if (how->is_wide || letter == 'S') {
+    } else if (!how->is_short && (how->is_wide || line->is_wide != (letter == 'S'))) {
         put_wide(line, how, text, wide_count(text, how->precision));
     } else {
         put_text(line, how, text, narrow_count(text, how->precision));
@@ -159,24 +159,44 @@ static void put_argument(Line *line, Conversion *how, char letter, va_list *list
     }
 }
 
-ULONG vDbgPrintEx(ULONG Component, ULONG Level, PCSTR Format, va_list List)
+static void print(Line *line, PCSTR format, va_list given)
 {
-    (void)Component, (void)Level;
-    Line line = { .count = 0 };
     va_list list;
-    va_copy(list, List);
-    for (const char *at = Format; *at; at++) {
+    va_copy(list, given);
+    for (const char *at = format; *at; at++) {
         if (*at != '%') {
-            put(&line, *at);
+            put(line, *at);
             continue;
         }
         at++;
         Conversion how = read_conversion(&at, &list);
         if (!*at) break;
-        put_argument(&line, &how, *at, &list);
+        put_argument(line, &how, *at, &list);
     }
     va_end(list);
-    write_error(line.bytes, line.count);
+}
+
+/* Prints by a format of 16-bit characters, in which %s stands for text of such characters. Returns how many bytes of
+   UTF-8 were made; at most `room` of them are in `to`. */
+size_t print_wide(char *to, size_t room, const WCHAR *format, va_list list)
+{
+    static const Conversion plainly = { .width = -1, .precision = -1 };
+    Line made = { .count = 0 }, line = { .is_wide = true };
+    put_wide(&made, &plainly, format, wide_count(format, -1));
+    put(&made, 0);
+    made.bytes[MOST_BYTES - 1] = 0;
+    print(&line, made.bytes, list);
+    memcpy(to, line.bytes, line.count < room ? line.count : room);
+    return line.count;
+}
+
+ULONG vDbgPrintEx(ULONG Component, ULONG Level, PCSTR Format, va_list List)
+{
+    (void)Component, (void)Level;
+    Line line = { .count = 0 };
+    print(&line, Format, List);
+    const size_t count = line.count < MOST_PRINTED ? line.count : MOST_PRINTED;
+    write_error(line.bytes, count);
     return STATUS_SUCCESS;
 }
 

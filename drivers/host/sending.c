@@ -180,6 +180,8 @@ NTSTATUS WdmIoCallDriver(PDEVICE_OBJECT Target, PIRP Irp, WDM_SITE at)
         check_dispatch_level(p, raw_at(p, p->skipped ? p->current : p->current - 1)->MajorFunction, d);
     Frame *f = dispatching(p);
     NTSTATUS answer;
+    if (lives(p) && p->owner == ORIGINATOR)
+        give_mdl(p);
     if (lives(p) && p->owner != ENDED && (f || p->owner == by))
         p->sites.sent = at;
     if (f && devices[by].lower == d && !f->cancel && (p->skipped ? !f->marked : is_same_below(p))) {

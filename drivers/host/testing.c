@@ -4,14 +4,16 @@
 
 PDRIVER_OBJECT drivers[MAX_DRIVERS];
 int n_drivers;
-static FILE_OBJECT files[MAX_DEVICES];
 static const char *stopped_by; /* why the run couldn't go on */
 
 PDRIVER_OBJECT WdmLoad(const char *Name, PDRIVER_INITIALIZE Entry, WDM_SITE at)
 {
     Call c;
-    UNICODE_STRING path = { 0 };
+    WCHAR text[160];
+    UNICODE_STRING path;
     learn_test(at.file);
+    WdmSwprintf(text, ARRAYSIZE(text), L"\\Registry\\Machine\\System\\CurrentControlSet\\Services\\%S", Name);
+    RtlInitUnicodeString(&path, text);
     enter_host(&c, "WdmLoadDriver", (WDM_SITE){ 0 });
     open_traps();
     PDRIVER_OBJECT d = calloc(1, sizeof *d);
@@ -27,6 +29,8 @@ PDRIVER_OBJECT WdmLoad(const char *Name, PDRIVER_INITIALIZE Entry, WDM_SITE at)
     self.driver = d->HostNumber;
     leave_host();
     const NTSTATUS status = Entry(d, &path);
+    if (NT_SUCCESS(status))
+        reinitialize(d);
     self.driver = before;
     if (!NT_SUCCESS(status))
         say("DriverEntry of %s returned %#x", Name, (unsigned)status);
@@ -52,25 +56,18 @@ static void give_buffer(PIRP irp, PDEVICE_OBJECT top, ULONG length, WDM_SITE at)
     Call c;
     enter_host(&c, "WdmBuildIrp", (WDM_SITE){ 0 });
     Packet *p = find(irp);
-    MDL *mdl = p->buffer = host_memory(sizeof *mdl);
+    MDL *mdl = p->buffer = host_memory(2 * sizeof *mdl);
     p->bytes = mdl ? new_block(length, 0, true, at) : NULL;
     if (!p->bytes)
         give_up("out of memory");
     p->bytes->is_buffer = true;
-    *mdl = (MDL){ p->bytes->bytes, length };
+    MmInitializeMdl(mdl, p->bytes->bytes, length);
+    mdl->MdlFlags |= MDL_SOURCE_IS_NONPAGED_POOL | MDL_MAPPED_TO_SYSTEM_VA;
+    mdl->MappedSystemVa = p->bytes->bytes;
     irp->AssociatedIrp.SystemBuffer = irp->UserBuffer = p->bytes->bytes;
     irp->MdlAddress = top->Flags & DO_DIRECT_IO ? mdl : NULL;
+    p->direct = mdl + 1;
     leave_host();
-}
-
-/* One file is open on each device. */
-static PFILE_OBJECT file_of(PDEVICE_OBJECT top)
-{
-    PFILE_OBJECT file = &files[top->HostNumber];
-    pthread_mutex_lock(&host_lock);
-    file->DeviceObject = top;
-    pthread_mutex_unlock(&host_lock);
-    return file;
 }
 
 PIRP WdmBuild(PDEVICE_OBJECT Top, UCHAR Major, UCHAR Minor, ULONG Length, PIO_STATUS_BLOCK Iosb, PKEVENT Event,
@@ -92,9 +89,9 @@ PIRP WdmBuild(PDEVICE_OBJECT Top, UCHAR Major, UCHAR Minor, ULONG Length, PIO_ST
             next->Parameters.DeviceIoControl.OutputBufferLength = Length;
     else
         next->Parameters.Read.Length = Length;
-    if (Major != IRP_MJ_PNP && Major != IRP_MJ_POWER && Major != IRP_MJ_SYSTEM_CONTROL) {
-        next->FileObject = file_of(Top);
-    }
+    if (Major != IRP_MJ_PNP && Major != IRP_MJ_POWER && Major != IRP_MJ_SYSTEM_CONTROL)
+        next->FileObject = irp->Tail.Overlay.OriginalFileObject = file_for(Top, Major);
+    irp->Tail.Overlay.Thread = KeGetCurrentThread();
     irp->UserIosb = Iosb;
     irp->UserEvent = Event;
     return irp;
@@ -232,6 +229,8 @@ int WdmFinish(void)
     for (int i = 0; i < n_drivers; i++)
         if (has_no_device(i))
             tell_pool_leaks(i, false);
+    tell_references();
+    tell_locked_mdls();
     const size_t n = write_out();
     if (n < expected_entries())
         say("%zu entries are fewer than the %zu that the test expects", n, expected_entries());

@@ -200,7 +200,7 @@ int start_thread(void *(*run)(void *), void *context, const char *kind, void *fn
     return failed;
 }
 
-/* Threads of drivers. A handle is the thread object itself; objects stay until the end of the run. */
+/* Threads of drivers: their objects stay until the end of the run. */
 static void *run_thread(void *context)
 {
     struct _KTHREAD *t = context;
@@ -227,8 +227,10 @@ NTSTATUS WdmPsCreateSystemThread(PHANDLE Handle, PKSTART_ROUTINE Start, PVOID Co
     t->start = Start;
     t->context = Context;
     t->driver = calling_driver();
-    *Handle = t;
     leave_host();
+    *Handle = new_handle(*PsThreadType, t);
+    if (!*Handle)
+        return STATUS_INSUFFICIENT_RESOURCES;
     return start_thread(run_thread, t, "system thread", (void *)Start) ? STATUS_INSUFFICIENT_RESOURCES : STATUS_SUCCESS;
 }
 
@@ -256,13 +258,3 @@ KPRIORITY KeSetPriorityThread(PKTHREAD Thread, KPRIORITY Priority)
     (void)Thread, (void)Priority;
     return 8;
 }
-
-NTSTATUS WdmObReferenceObjectByHandle(HANDLE Handle, PVOID *Object)
-{
-    *Object = Handle;
-    return Handle ? STATUS_SUCCESS : STATUS_INVALID_HANDLE;
-}
-
-VOID ObDereferenceObject(PVOID Object) { (void)Object; }
-VOID ObReferenceObject(PVOID Object) { (void)Object; }
-NTSTATUS ZwClose(HANDLE Handle) { return Handle ? STATUS_SUCCESS : STATUS_INVALID_HANDLE; }

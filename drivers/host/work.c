@@ -321,6 +321,21 @@ VOID WdmKeInitializeDpc(PKDPC Dpc, PKDEFERRED_ROUTINE Routine, PVOID Context, WD
     leave_host();
 }
 
+BOOLEAN KeRemoveQueueDpc(PKDPC Dpc)
+{
+    Call c;
+    enter_host(&c, "KeRemoveQueueDpc", (WDM_SITE){ 0 });
+    const BOOLEAN was = Dpc->Queued;
+    for (int i = 0; was && i < n_dpcs; i++)
+        if (dpcs[i] == Dpc) {
+            memmove(dpcs + i, dpcs + i + 1, (size_t)(--n_dpcs - i) * sizeof *dpcs);
+            break;
+        }
+    Dpc->Queued = FALSE;
+    leave_host();
+    return was;
+}
+
 BOOLEAN WdmKeInsertQueueDpc(PKDPC Dpc, PVOID Argument1, PVOID Argument2, WDM_SITE at)
 {
     Call c;

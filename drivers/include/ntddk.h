@@ -1,7 +1,7 @@
-/* ntddk.h: so that `#include <ntddk.h>` of a driver finds the part of the driver interface that the host has. */
+/* ntddk.h: what `#include <ntddk.h>` finds: as wdm.h. */
 #ifndef NTDDK_H
 #define NTDDK_H
 
-#include "wdm_io.h"
+#include "wdm.h"
 
 #endif

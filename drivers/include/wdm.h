@@ -3,5 +3,8 @@
 #define WDM_H
 
 #include "wdm_io.h"
+#include "wdm_hw.h"
+#include "wdm_trace.h"
+#include "wdm_guid.h"
 
 #endif

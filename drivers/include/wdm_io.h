@@ -1,122 +1,17 @@
-/* wdm_io.h: devices, packets, cancelling, remove locks, cancel-safe queues, work items: what drivers call. */
+/* wdm_io.h: devices, packets, cancelling, remove locks, cancel-safe queues, work items. */
 #ifndef WDM_IO_H
 #define WDM_IO_H
 
-#include "wdm_codes.h"
-#include "wdm_ke.h"
-
-typedef struct _DEVICE_OBJECT DEVICE_OBJECT, *PDEVICE_OBJECT;
-typedef struct _DRIVER_OBJECT DRIVER_OBJECT, *PDRIVER_OBJECT;
-typedef struct _IRP IRP, *PIRP;
-typedef NTSTATUS DRIVER_INITIALIZE(PDRIVER_OBJECT DriverObject, PUNICODE_STRING RegistryPath);
-typedef NTSTATUS DRIVER_ADD_DEVICE(PDRIVER_OBJECT DriverObject, PDEVICE_OBJECT PhysicalDeviceObject);
-typedef VOID DRIVER_UNLOAD(PDRIVER_OBJECT DriverObject);
-typedef NTSTATUS DRIVER_DISPATCH(PDEVICE_OBJECT DeviceObject, PIRP Irp);
-typedef VOID DRIVER_CANCEL(PDEVICE_OBJECT DeviceObject, PIRP Irp);
-typedef NTSTATUS IO_COMPLETION_ROUTINE(PDEVICE_OBJECT DeviceObject, PIRP Irp, PVOID Context);
-typedef DRIVER_INITIALIZE *PDRIVER_INITIALIZE;
-typedef DRIVER_ADD_DEVICE *PDRIVER_ADD_DEVICE;
-typedef DRIVER_UNLOAD *PDRIVER_UNLOAD;
-typedef DRIVER_DISPATCH *PDRIVER_DISPATCH;
-typedef DRIVER_CANCEL *PDRIVER_CANCEL;
-typedef IO_COMPLETION_ROUTINE *PIO_COMPLETION_ROUTINE;
-
-typedef struct _DRIVER_EXTENSION {
-    PDRIVER_OBJECT DriverObject;
-    PDRIVER_ADD_DEVICE AddDevice;
-} DRIVER_EXTENSION, *PDRIVER_EXTENSION;
-struct _DRIVER_OBJECT {
-    PDEVICE_OBJECT DeviceObject;
-    ULONG Flags;
-    PDRIVER_EXTENSION DriverExtension;
-    UNICODE_STRING DriverName;
-    PVOID FastIoDispatch;
-    PVOID DriverStartIo; /* never called */
-    PDRIVER_UNLOAD DriverUnload;
-    PDRIVER_DISPATCH MajorFunction[IRP_MJ_MAXIMUM_FUNCTION + 1];
-    const char *HostName;
-    int HostNumber;
-};
-struct _DEVICE_OBJECT {
-    PDRIVER_OBJECT DriverObject;
-    PDEVICE_OBJECT NextDevice, AttachedDevice;
-    ULONG Flags, Characteristics, AlignmentRequirement;
-    PVOID DeviceExtension;
-    DEVICE_TYPE DeviceType;
-    CCHAR StackSize;
-    USHORT SectorSize;
-    int HostNumber;
-    ULONG HostExtensionSize;
-};
-typedef struct _FILE_OBJECT {
-    PDEVICE_OBJECT DeviceObject;
-    PVOID FsContext, FsContext2;
-    UNICODE_STRING FileName;
-} FILE_OBJECT, *PFILE_OBJECT;
-typedef struct _MDL { PVOID MappedSystemVa; ULONG ByteCount; } MDL, *PMDL;
-#define MmGetSystemAddressForMdlSafe(mdl, priority) ((void)(priority), (mdl)->MappedSystemVa)
-#define MmGetMdlVirtualAddress(mdl) ((mdl)->MappedSystemVa)
-#define MmGetMdlByteCount(mdl) ((mdl)->ByteCount)
-enum { LowPagePriority = 0, NormalPagePriority = 16, HighPagePriority = 32 };
-
-typedef struct _IO_STATUS_BLOCK {
-    union { NTSTATUS Status; PVOID Pointer; };
-    ULONG_PTR Information;
-} IO_STATUS_BLOCK, *PIO_STATUS_BLOCK;
-typedef struct _IO_STACK_LOCATION {
-    UCHAR MajorFunction, MinorFunction, Flags, Control;
-    union {
-        struct { PVOID SecurityContext; ULONG Options; USHORT FileAttributes, ShareAccess; ULONG EaLength; } Create;
-        struct { ULONG Length, Key; LARGE_INTEGER ByteOffset; } Read, Write;
-        struct { ULONG OutputBufferLength, InputBufferLength, IoControlCode; PVOID Type3InputBuffer; } DeviceIoControl;
-        struct { DEVICE_RELATION_TYPE Type; } QueryDeviceRelations;
-        struct { BUS_QUERY_ID_TYPE IdType; } QueryId;
-        struct { PDEVICE_CAPABILITIES Capabilities; } DeviceCapabilities;
-        struct { PVOID AllocatedResources, AllocatedResourcesTranslated; } StartDevice;
-        struct { BOOLEAN InPath; BOOLEAN Reserved[3]; DEVICE_USAGE_NOTIFICATION_TYPE Type; } UsageNotification;
-        struct { ULONG SystemContext; POWER_STATE_TYPE Type; POWER_STATE State; POWER_ACTION ShutdownType; } Power;
-        struct { ULONG_PTR ProviderId; PVOID DataPath; ULONG BufferSize; PVOID Buffer; } WMI;
-        struct { PVOID Argument1, Argument2, Argument3, Argument4; } Others;
-    } Parameters;
-    PDEVICE_OBJECT DeviceObject;
-    PFILE_OBJECT FileObject;
-    PIO_COMPLETION_ROUTINE CompletionRoutine;
-    PVOID Context;
-} IO_STACK_LOCATION, *PIO_STACK_LOCATION;
-struct _IRP {
-    CSHORT Type;
-    USHORT Size;
-    PMDL MdlAddress;
-    ULONG Flags;
-    union { PVOID SystemBuffer; LONG IrpCount; } AssociatedIrp;
-    LIST_ENTRY ThreadListEntry;
-    IO_STATUS_BLOCK IoStatus;
-    KPROCESSOR_MODE RequestorMode;
-    BOOLEAN PendingReturned;
-    CHAR StackCount, CurrentLocation;
-    _Atomic BOOLEAN Cancel; /* drivers look at it while another thread cancels */
-    KIRQL CancelIrql;
-    PIO_STATUS_BLOCK UserIosb;
-    PKEVENT UserEvent;
-    PDRIVER_CANCEL CancelRoutine;
-    PVOID UserBuffer;
-    union {
-        struct {
-            PVOID DriverContext[4];
-            PETHREAD Thread;
-            LIST_ENTRY ListEntry;
-            PIO_STACK_LOCATION CurrentStackLocation;
-            PFILE_OBJECT OriginalFileObject;
-        } Overlay;
-    } Tail;
-};
+#include "wdm_structures.h"
 
 /* Devices. */
 NTSTATUS WdmIoCreateDevice(PDRIVER_OBJECT Driver, ULONG Extension, DEVICE_TYPE Type, ULONG Characteristics,
                            PDEVICE_OBJECT *Device, WDM_SITE at);
+NTSTATUS WdmIoCreateNamedDevice(PDRIVER_OBJECT Driver, ULONG Extension, PUNICODE_STRING Name, DEVICE_TYPE Type,
+                                ULONG Characteristics, PDEVICE_OBJECT *Device, WDM_SITE at);
 #define IoCreateDevice(driver, extension, name, type, characteristics, exclusive, device) \
-    ((void)(name), (void)(exclusive), \
-     WdmIoCreateDevice((driver), (extension), (type), (characteristics), (device), WDM_HERE))
+    ((void)(exclusive), WdmIoCreateNamedDevice((driver), (extension), (PUNICODE_STRING)(name), (type), \
+                                               (characteristics), (device), WDM_HERE))
 #define IoCreateDeviceSecure(driver, extension, name, type, characteristics, exclusive, sddl, guid, device) \
     ((void)(sddl), (void)(guid), IoCreateDevice(driver, extension, name, type, characteristics, exclusive, device))
 PDEVICE_OBJECT WdmIoAttachDevice(PDEVICE_OBJECT Device, PDEVICE_OBJECT Target, WDM_SITE at);
@@ -124,19 +19,70 @@ NTSTATUS WdmIoAttachDeviceSafe(PDEVICE_OBJECT Device, PDEVICE_OBJECT Target, PDE
 VOID WdmIoDetachDevice(PDEVICE_OBJECT Lower, WDM_SITE at);
 VOID WdmIoDeleteDevice(PDEVICE_OBJECT Device, WDM_SITE at);
 PDEVICE_OBJECT IoGetAttachedDevice(PDEVICE_OBJECT Device);
-PDEVICE_OBJECT IoGetAttachedDeviceReference(PDEVICE_OBJECT Device);
 #define IoAttachDeviceToDeviceStack(device, target) WdmIoAttachDevice((device), (target), WDM_HERE)
 #define IoAttachDeviceToDeviceStackSafe(device, target, lower) \
     WdmIoAttachDeviceSafe((device), (target), (lower), WDM_HERE)
 #define IoDetachDevice(lower) WdmIoDetachDevice((lower), WDM_HERE)
 #define IoDeleteDevice(device) WdmIoDeleteDevice((device), WDM_HERE)
+PDEVICE_OBJECT WdmIoGetAttachedDeviceReference(PDEVICE_OBJECT Device, WDM_SITE at);
+#define IoGetAttachedDeviceReference(device) WdmIoGetAttachedDeviceReference((device), WDM_HERE)
+PDEVICE_OBJECT WdmIoGetLowerDeviceObject(PDEVICE_OBJECT Device, WDM_SITE at);
+#define IoGetLowerDeviceObject(device) WdmIoGetLowerDeviceObject((device), WDM_HERE)
+#define IoAttachDevice(device, name, lower) WdmIoAttachDeviceByName((device), (name), (lower), WDM_HERE)
+NTSTATUS WdmIoAttachDeviceByName(PDEVICE_OBJECT Device, PUNICODE_STRING Name, PDEVICE_OBJECT *Lower, WDM_SITE at);
+#define IoIsWdmVersionAvailable(major, minor) ((BOOLEAN)((major) < 6 || ((major) == 6 && (minor) <= 0x10)))
+#define WDM_MAJORVERSION 0x06
+#define WDM_MINORVERSION 0x10
+NTSTATUS WdmIoAllocateDriverObjectExtension(PDRIVER_OBJECT Driver, PVOID Id, ULONG Bytes, PVOID *Extension);
+#define IoAllocateDriverObjectExtension(driver, id, bytes, extension) \
+    WdmIoAllocateDriverObjectExtension((driver), (PVOID)(id), (bytes), (PVOID *)(extension))
+PVOID IoGetDriverObjectExtension(PDRIVER_OBJECT Driver, PVOID Id);
+VOID IoRegisterDriverReinitialization(PDRIVER_OBJECT Driver, PDRIVER_REINITIALIZE Routine, PVOID Context);
+#define IoRegisterBootDriverReinitialization IoRegisterDriverReinitialization
+#define IoRegisterShutdownNotification(device) ((void)(device), STATUS_SUCCESS)
+#define IoRegisterLastChanceShutdownNotification(device) ((void)(device), STATUS_SUCCESS)
+#define IoUnregisterShutdownNotification(device) ((void)(device))
+#define IoGetInitialStack() ((PVOID)0)
+#define IoGetStackLimits(low, high) ((void)(*(low) = 0, *(high) = UINTPTR_MAX))
+#define IoGetRemainingStackSize() ((ULONG_PTR)0x4000)
+
+/* Names, links, interfaces, properties: what Plug and Play keeps of devices. */
 NTSTATUS IoCreateSymbolicLink(PUNICODE_STRING Link, PUNICODE_STRING Device);
+#define IoCreateUnprotectedSymbolicLink IoCreateSymbolicLink
 NTSTATUS IoDeleteSymbolicLink(PUNICODE_STRING Link);
-NTSTATUS IoRegisterDeviceInterface(PDEVICE_OBJECT Device, const GUID *Class, PUNICODE_STRING Reference,
-                                   PUNICODE_STRING Link);
+NTSTATUS WdmIoRegisterDeviceInterface(PDEVICE_OBJECT Device, const GUID *Class, PUNICODE_STRING Reference,
+                                      PUNICODE_STRING Link, WDM_SITE at);
+#define IoRegisterDeviceInterface(device, class, reference, link) \
+    WdmIoRegisterDeviceInterface((device), (class), (reference), (link), WDM_HERE)
 NTSTATUS IoSetDeviceInterfaceState(PUNICODE_STRING Link, BOOLEAN Enable);
+NTSTATUS WdmIoGetDeviceInterfaces(const GUID *Class, PDEVICE_OBJECT Device, ULONG Flags, PWSTR *Links, WDM_SITE at);
+#define IoGetDeviceInterfaces(class, device, flags, links) \
+    WdmIoGetDeviceInterfaces((class), (device), (flags), (links), WDM_HERE)
+NTSTATUS WdmIoGetDeviceObjectPointer(PUNICODE_STRING Name, PFILE_OBJECT *File, PDEVICE_OBJECT *Device, WDM_SITE at);
+#define IoGetDeviceObjectPointer(name, access, file, device) \
+    ((void)(access), WdmIoGetDeviceObjectPointer((name), (file), (device), WDM_HERE))
+NTSTATUS IoGetDeviceProperty(PDEVICE_OBJECT Device, DEVICE_REGISTRY_PROPERTY Property, ULONG Length, PVOID Buffer,
+                             PULONG Needed);
+NTSTATUS IoSetDevicePropertyData(PDEVICE_OBJECT Device, const DEVPROPKEY *Key, LCID Locale, ULONG Flags,
+                                 DEVPROPTYPE Type, ULONG Size, PVOID Data);
+NTSTATUS IoGetDevicePropertyData(PDEVICE_OBJECT Device, const DEVPROPKEY *Key, LCID Locale, ULONG Flags, ULONG Size,
+                                 PVOID Data, PULONG Needed, PDEVPROPTYPE Type);
+NTSTATUS IoOpenDeviceRegistryKey(PDEVICE_OBJECT Device, ULONG Which, ACCESS_MASK Access, PHANDLE Key);
+NTSTATUS IoOpenDeviceInterfaceRegistryKey(PUNICODE_STRING Link, ACCESS_MASK Access, PHANDLE Key);
+NTSTATUS IoRegisterPlugPlayNotification(IO_NOTIFICATION_EVENT_CATEGORY Category, ULONG Flags, PVOID Data,
+                                        PDRIVER_OBJECT Driver, PDRIVER_NOTIFICATION_CALLBACK_ROUTINE Routine,
+                                        PVOID Context, PVOID *Entry);
+NTSTATUS IoUnregisterPlugPlayNotification(PVOID Entry);
+#define IoUnregisterPlugPlayNotificationEx IoUnregisterPlugPlayNotification
+typedef VOID DEVICE_CHANGE_COMPLETE_CALLBACK(PVOID Context);
+typedef DEVICE_CHANGE_COMPLETE_CALLBACK *PDEVICE_CHANGE_COMPLETE_CALLBACK;
+NTSTATUS IoReportTargetDeviceChange(PDEVICE_OBJECT Device, PVOID Notification);
+NTSTATUS IoReportTargetDeviceChangeAsynchronous(PDEVICE_OBJECT Device, PVOID Notification,
+                                                PDEVICE_CHANGE_COMPLETE_CALLBACK Callback, PVOID Context);
 VOID IoInvalidateDeviceRelations(PDEVICE_OBJECT Device, DEVICE_RELATION_TYPE Type);
 VOID IoInvalidateDeviceState(PDEVICE_OBJECT Device);
+#define IoRequestDeviceEject(device) ((void)(device))
+#define IoAdjustPagingPathCount(count, more) ((void)((more) ? InterlockedIncrement(count) : InterlockedDecrement(count)))
 
 /* Packets. */
 PIRP WdmIoAllocateIrp(CCHAR Size, WDM_SITE at);
@@ -153,6 +99,22 @@ BOOLEAN WdmIoForwardIrpSynchronously(PDEVICE_OBJECT Target, PIRP Irp, WDM_SITE a
 #define IoAllocateIrp(size, quota) ((void)(quota), WdmIoAllocateIrp((size), WDM_HERE))
 #define IoFreeIrp(irp) WdmIoFreeIrp((irp), WDM_HERE)
 #define IoReuseIrp(irp, status) WdmIoReuseIrp((irp), (status), WDM_HERE)
+PIRP WdmIoMakeAssociatedIrp(PIRP Master, CCHAR Size, WDM_SITE at);
+VOID WdmIoSetNextIrpStackLocation(PIRP Irp, WDM_SITE at);
+#define IoAllocateIrpEx(device, size, quota) ((void)(device), IoAllocateIrp(size, quota))
+#define IoInitializeIrp(irp, bytes, size) ((void)(bytes), (void)(size), WdmIoReuseIrp((irp), STATUS_SUCCESS, WDM_HERE))
+#define IoMakeAssociatedIrp(master, size) WdmIoMakeAssociatedIrp((master), (size), WDM_HERE)
+#define IoSetNextIrpStackLocation(irp) WdmIoSetNextIrpStackLocation((irp), WDM_HERE)
+#define IoGetFunctionCodeFromCtlCode(code) (((code) >> 2) & 0xfff)
+#define IoGetRequestorProcess(irp) ((void)(irp), PsGetCurrentProcess())
+#define IoGetRequestorProcessId(irp) ((void)(irp), 4u)
+#define IoGetTopLevelIrp() ((PIRP)NULL)
+#define IoIs32bitProcess(irp) ((void)(irp), FALSE)
+#define IoIsOperationSynchronous(irp) ((BOOLEAN)(((irp)->Flags & IRP_SYNCHRONOUS_API) != 0))
+#define IoIsErrorUserInduced(status) \
+    ((status) == STATUS_DEVICE_NOT_READY || (status) == STATUS_IO_TIMEOUT || (status) == STATUS_MEDIA_WRITE_PROTECTED || \
+     (status) == STATUS_NO_MEDIA_IN_DEVICE || (status) == STATUS_VERIFY_REQUIRED || \
+     (status) == STATUS_UNRECOGNIZED_MEDIA || (status) == STATUS_WRONG_VOLUME)
 #define IoGetCurrentIrpStackLocation(irp) ((irp)->Tail.Overlay.CurrentStackLocation)
 #define IoGetNextIrpStackLocation(irp) WdmIoGetNextIrpStackLocation((irp), WDM_HERE)
 #define IoCopyCurrentIrpStackLocationToNext(irp) WdmIoCopyToNext((irp), WDM_HERE)
@@ -161,6 +123,8 @@ BOOLEAN WdmIoForwardIrpSynchronously(PDEVICE_OBJECT Target, PIRP Irp, WDM_SITE a
     WdmIoSetCompletionRoutine((irp), (routine), (context), \
         (UCHAR)(((success) ? SL_INVOKE_ON_SUCCESS : 0) | ((error) ? SL_INVOKE_ON_ERROR : 0) | \
                 ((cancel) ? SL_INVOKE_ON_CANCEL : 0)), WDM_HERE)
+#define IoSetCompletionRoutineEx(device, irp, routine, context, success, error, cancel) \
+    ((void)(device), IoSetCompletionRoutine(irp, routine, context, success, error, cancel), STATUS_SUCCESS)
 #define IoMarkIrpPending(irp) WdmIoMarkIrpPending((irp), WDM_HERE)
 #define IoCallDriver(target, irp) WdmIoCallDriver((target), (irp), WDM_HERE)
 #define IofCallDriver IoCallDriver
@@ -178,6 +142,10 @@ NTSTATUS WdmPoRequestPowerIrp(PDEVICE_OBJECT Device, UCHAR Minor, POWER_STATE St
 #define PoRequestPowerIrp(device, minor, state, complete, context, irp) \
     WdmPoRequestPowerIrp((device), (minor), (state), (complete), (context), (irp), WDM_HERE)
 POWER_STATE PoSetPowerState(PDEVICE_OBJECT Device, POWER_STATE_TYPE Type, POWER_STATE State);
+#define PoSetSystemState(flags) ((void)(flags))
+#define PoRegisterDeviceForIdleDetection(device, slow, fast, state) \
+    ((void)(device), (void)(slow), (void)(fast), (void)(state), (PULONG)NULL)
+#define PoSetDeviceBusy(idle) ((void)(idle))
 
 /* Packets that the I/O manager builds: at their end their status goes to Iosb, Event is set, and they are freed. */
 PIRP WdmBuildControl(ULONG Code, PDEVICE_OBJECT Device, PVOID In, ULONG InLength, PVOID Out, ULONG OutLength,
@@ -188,6 +156,20 @@ PIRP WdmBuildFsd(ULONG Major, PDEVICE_OBJECT Device, PVOID Buffer, ULONG Length,
     WdmBuildControl((code), (device), (in), (in_length), (out), (out_length), (internal), (event), (iosb), WDM_HERE)
 #define IoBuildSynchronousFsdRequest(major, device, buffer, length, offset, event, iosb) \
     WdmBuildFsd((major), (device), (buffer), (length), (offset), (event), (iosb), WDM_HERE)
+PIRP WdmBuildAsynchronousFsd(ULONG Major, PDEVICE_OBJECT Device, PVOID Buffer, ULONG Length, PLARGE_INTEGER Offset,
+                             PIO_STATUS_BLOCK Iosb, WDM_SITE at);
+#define IoBuildAsynchronousFsdRequest(major, device, buffer, length, offset, iosb) \
+    WdmBuildAsynchronousFsd((major), (device), (buffer), (length), (offset), (iosb), WDM_HERE)
+
+/* MDLs: wdm_mm.h has the rest. */
+PMDL WdmIoAllocateMdl(PVOID Address, ULONG Length, BOOLEAN Secondary, PIRP Irp, WDM_SITE at);
+VOID WdmIoFreeMdl(PMDL Mdl, WDM_SITE at);
+VOID WdmIoBuildPartialMdl(PMDL Source, PMDL Target, PVOID Address, ULONG Length, WDM_SITE at);
+#define IoAllocateMdl(address, length, secondary, quota, irp) \
+    ((void)(quota), WdmIoAllocateMdl((PVOID)(address), (length), (BOOLEAN)(secondary), (irp), WDM_HERE))
+#define IoFreeMdl(mdl) WdmIoFreeMdl((mdl), WDM_HERE)
+#define IoBuildPartialMdl(source, target, address, length) \
+    WdmIoBuildPartialMdl((source), (target), (address), (length), WDM_HERE)
 
 /* Cancelling. */
 PDRIVER_CANCEL WdmIoSetCancelRoutine(PIRP Irp, PDRIVER_CANCEL Routine, WDM_SITE at);
@@ -251,6 +233,12 @@ VOID WdmIoReleaseRemoveLockAndWait(PIO_REMOVE_LOCK Lock, PVOID Tag, WDM_SITE at)
 #define IoAcquireRemoveLock(lock, tag) WdmIoAcquireRemoveLock((lock), (tag), WDM_HERE)
 #define IoReleaseRemoveLock(lock, tag) WdmIoReleaseRemoveLock((lock), (tag), WDM_HERE)
 #define IoReleaseRemoveLockAndWait(lock, tag) WdmIoReleaseRemoveLockAndWait((lock), (tag), WDM_HERE)
+#define IoInitializeRemoveLockEx(lock, tag, minutes, high, size) \
+    ((void)(size), IoInitializeRemoveLock((lock), (tag), (minutes), (high)))
+#define IoAcquireRemoveLockEx(lock, tag, file, line, size) \
+    ((void)(file), (void)(line), (void)(size), IoAcquireRemoveLock((lock), (tag)))
+#define IoReleaseRemoveLockEx(lock, tag, size) ((void)(size), IoReleaseRemoveLock((lock), (tag)))
+#define IoReleaseRemoveLockAndWaitEx(lock, tag, size) ((void)(size), IoReleaseRemoveLockAndWait((lock), (tag)))
 
 /* Work items and a device's timer, run by threads of the host. */
 typedef struct _IO_WORKITEM *PIO_WORKITEM;

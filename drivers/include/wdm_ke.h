@@ -5,14 +5,18 @@
 #include "wdm_base.h"
 
 enum { PASSIVE_LEVEL = 0, APC_LEVEL = 1, DISPATCH_LEVEL = 2 };
-enum { EVENT_INCREMENT = 1, IO_NO_INCREMENT = 0, IO_KEYBOARD_INCREMENT = 6, IO_SERIAL_INCREMENT = 2,
-       LOW_REALTIME_PRIORITY = 16 };
-typedef enum { NotificationEvent, SynchronizationEvent } EVENT_TYPE;
-typedef enum { NotificationTimer, SynchronizationTimer } TIMER_TYPE;
+enum { CMCI_LEVEL = 5, CLOCK_LEVEL = 13, IPI_LEVEL = 14, POWER_LEVEL = 14, PROFILE_LEVEL = 15, HIGH_LEVEL = 15 };
+enum { EVENT_INCREMENT = 1, SEMAPHORE_INCREMENT = 1, MUTANT_INCREMENT = 1, IO_NO_INCREMENT = 0,
+       IO_CD_ROM_INCREMENT = 1, IO_DISK_INCREMENT = 1, IO_KEYBOARD_INCREMENT = 6, IO_MAILSLOT_INCREMENT = 2,
+       IO_MOUSE_INCREMENT = 6, IO_NAMED_PIPE_INCREMENT = 2, IO_NETWORK_INCREMENT = 2, IO_PARALLEL_INCREMENT = 1,
+       IO_SERIAL_INCREMENT = 2, IO_SOUND_INCREMENT = 8, IO_VIDEO_INCREMENT = 1, LOW_PRIORITY = 0,
+       LOW_REALTIME_PRIORITY = 16, HIGH_PRIORITY = 31 };
 typedef enum { Executive, FreePage, PageIn, PoolAllocation, DelayExecution, Suspended, UserRequest } KWAIT_REASON;
-typedef enum { KernelMode, UserMode } MODE;
+typedef enum _MODE { KernelMode, UserMode, MaximumMode } MODE;
 typedef CCHAR KPROCESSOR_MODE;
-typedef enum { WaitAll, WaitAny } WAIT_TYPE;
+typedef struct _KWAIT_BLOCK { PVOID Object; } KWAIT_BLOCK, *PKWAIT_BLOCK;
+#define THREAD_WAIT_OBJECTS 3
+#define MAXIMUM_WAIT_OBJECTS 64
 
 /* What can be waited for. Their contents are the host's. */
 typedef struct _DISPATCHER_HEADER { UCHAR Type; UCHAR Synchronizes; LONG SignalState; } DISPATCHER_HEADER;
@@ -118,25 +122,10 @@ VOID WdmExReleaseFastMutex(PFAST_MUTEX Mutex, WDM_SITE at);
 /* Threads. */
 typedef VOID KSTART_ROUTINE(PVOID Context);
 typedef KSTART_ROUTINE *PKSTART_ROUTINE;
-typedef struct _OBJECT_ATTRIBUTES { ULONG Attributes; } OBJECT_ATTRIBUTES, *POBJECT_ATTRIBUTES;
-#define OBJ_KERNEL_HANDLE 0x200
-#define THREAD_ALL_ACCESS 0x1fffff
-#define InitializeObjectAttributes(o, name, attributes, root, security) \
-    ((void)(name), (void)(root), (void)(security), (void)((o)->Attributes = (attributes)))
-NTSTATUS WdmPsCreateSystemThread(PHANDLE Handle, PKSTART_ROUTINE Start, PVOID Context, WDM_SITE at);
-#define PsCreateSystemThread(handle, access, attributes, process, client, start, context) \
-    ((void)(access), (void)(attributes), (void)(process), (void)(client), \
-     WdmPsCreateSystemThread((handle), (start), (context), WDM_HERE))
 NTSTATUS PsTerminateSystemThread(NTSTATUS Status);
 PKTHREAD KeGetCurrentThread(VOID);
 #define PsGetCurrentThread() KeGetCurrentThread()
 KPRIORITY KeSetPriorityThread(PKTHREAD Thread, KPRIORITY Priority);
-NTSTATUS WdmObReferenceObjectByHandle(HANDLE Handle, PVOID *Object);
-#define ObReferenceObjectByHandle(handle, access, type, mode, object, information) \
-    ((void)(access), (void)(mode), (void)(information), WdmObReferenceObjectByHandle((handle), (PVOID *)(object)))
-VOID ObDereferenceObject(PVOID Object);
-VOID ObReferenceObject(PVOID Object);
-NTSTATUS ZwClose(HANDLE Handle);
 
 /* Pool. */
 enum { NonPagedPool = 0, PagedPool = 1, NonPagedPoolNx = 512 };

@@ -7,6 +7,7 @@
 #define WDM_TEST_H
 
 #include "wdm_io.h"
+#include "wdm_hw.h"
 
 /* Calls DriverEntry of a driver. Returns its object, or NULL where DriverEntry fails. The name is for messages. */
 PDRIVER_OBJECT WdmLoad(const char *Name, PDRIVER_INITIALIZE Entry, WDM_SITE at);
@@ -36,6 +37,29 @@ PIRP WdmBuild(PDEVICE_OBJECT Top, UCHAR Major, UCHAR Minor, ULONG Length, PIO_ST
 NTSTATUS WdmSendAndWait(PDEVICE_OBJECT Top, UCHAR Major, UCHAR Minor, ULONG Length, ULONG Code, WDM_SITE at);
 #define WdmSend(top, major, minor, length) WdmSendAndWait((top), (major), (minor), (length), 0, WDM_HERE)
 #define WdmControl(top, code, length) WdmSendAndWait((top), IRP_MJ_DEVICE_CONTROL, 0, (length), (code), WDM_HERE)
+
+/*
+ * Each CREATE that is built has a FILE_OBJECT of its own, and the packets after it have that of their device's last
+ * CREATE, until its CLOSE. WdmOpen sends CREATE and returns its file, or NULL where it fails; WdmClose sends CLEANUP and
+ * CLOSE. WdmUseFile: packets that this thread builds from now on have this file; NULL ends that.
+ */
+PFILE_OBJECT WdmOpen(PDEVICE_OBJECT Top, WDM_SITE at);
+#define WdmOpenFile(top) WdmOpen((top), WDM_HERE)
+VOID WdmClose(PFILE_OBJECT File, WDM_SITE at);
+#define WdmCloseFile(file) WdmClose((file), WDM_HERE)
+VOID WdmUseFile(PFILE_OBJECT File);
+
+/* Runs the service routines that drivers connected to this vector, until one takes the interrupt. Returns whether one
+   did. */
+BOOLEAN WdmRaiseInterrupt(ULONG Vector, WDM_SITE at);
+#define WdmInterrupt(vector) WdmRaiseInterrupt((vector), WDM_HERE)
+
+/* A value of the registry, by the whole path of its key (\Registry\Machine\..). A driver's own key, whose path
+   DriverEntry gets, is \Registry\Machine\System\CurrentControlSet\Services\NAME. */
+VOID WdmSetRegistry(PCWSTR Path, PCWSTR Name, ULONG Type, const VOID *Data, ULONG Size);
+
+/* What IoGetDeviceProperty answers for a device. */
+VOID WdmSetDeviceProperty(PDEVICE_OBJECT Device, DEVICE_REGISTRY_PROPERTY Which, const VOID *Data, ULONG Size);
 
 /* What the test says beforehand. A refusal that it expects, by its name in docs/RULES.md, is a note and no fault. */
 VOID WdmExpectRefusal(const char *Name);

@@ -1,0 +1,180 @@
+/*
+ * mdl.c: memory descriptor lists. Memory is mapped at its own address. What is told: an MDL used before its pages are
+ * locked or it was built, locked or unlocked twice, freed while its pages are locked, and locked at the end.
+ */
+#include "host.h"
+
+enum { MAX_LOCKED = 256 };
+static struct { PMDL mdl; WDM_SITE at; } locked[MAX_LOCKED];
+static int n_locked;
+
+static void forget_lock(PMDL mdl)
+{
+    for (int i = 0; i < n_locked; i++)
+        if (locked[i].mdl == mdl)
+            locked[i--] = locked[--n_locked];
+}
+
+static WDM_SITE lock_of(PMDL mdl)
+{
+    for (int i = 0; i < n_locked; i++)
+        if (locked[i].mdl == mdl)
+            return locked[i].at;
+    return (WDM_SITE){ 0 };
+}
+
+PMDL WdmIoAllocateMdl(PVOID Address, ULONG Length, BOOLEAN Secondary, PIRP Irp, WDM_SITE at)
+{
+    Call c;
+    enter_host(&c, "IoAllocateMdl", at);
+    PMDL mdl = host_memory(MmSizeOfMdl(Address, Length));
+    if (mdl)
+        MmInitializeMdl(mdl, Address, Length);
+    if (mdl && Irp && Secondary) {
+        PMDL *end = &Irp->MdlAddress;
+        while (*end)
+            end = &(*end)->Next;
+        *end = mdl;
+    } else if (mdl && Irp)
+        Irp->MdlAddress = mdl;
+    leave_host();
+    return mdl;
+}
+
+VOID WdmIoFreeMdl(PMDL Mdl, WDM_SITE at)
+{
+    Call c;
+    enter_host(&c, "IoFreeMdl", at);
+    if (Mdl->MdlFlags & MDL_PAGES_LOCKED)
+        fault("MdlLocked", NULL, "an MDL is freed whose pages are locked since %s: call MmUnlockPages before",
+              place(lock_of(Mdl)));
+    forget_lock(Mdl);
+    free_host_memory(Mdl);
+    leave_host();
+}
+
+VOID WdmMmBuildMdlForNonPagedPool(PMDL Mdl, WDM_SITE at)
+{
+    Call c;
+    enter_host(&c, "MmBuildMdlForNonPagedPool", at);
+    if (Mdl->MdlFlags & MDL_PAGES_LOCKED)
+        fault("MdlLocked", NULL, "an MDL is built whose pages are locked since %s", place(lock_of(Mdl)));
+    Mdl->MdlFlags |= MDL_SOURCE_IS_NONPAGED_POOL | MDL_MAPPED_TO_SYSTEM_VA;
+    Mdl->MappedSystemVa = MmGetMdlVirtualAddress(Mdl);
+    leave_host();
+}
+
+VOID WdmMmProbeAndLockPages(PMDL Mdl, LOCK_OPERATION Operation, WDM_SITE at)
+{
+    Call c;
+    enter_host(&c, "MmProbeAndLockPages", at);
+    if (Mdl->MdlFlags & (MDL_PAGES_LOCKED | MDL_SOURCE_IS_NONPAGED_POOL | MDL_PARTIAL))
+        fault("MdlLocked", NULL, "the pages of an MDL are locked that was %s",
+              Mdl->MdlFlags & MDL_PAGES_LOCKED ? "locked before" : "built for memory that needs no lock");
+    Mdl->MdlFlags |= MDL_PAGES_LOCKED | (Operation == IoReadAccess ? 0 : MDL_WRITE_OPERATION);
+    forget_lock(Mdl);
+    if (n_locked < MAX_LOCKED) {
+        locked[n_locked].mdl = Mdl;
+        locked[n_locked++].at = at;
+    }
+    leave_host();
+}
+
+VOID WdmMmUnlockPages(PMDL Mdl, WDM_SITE at)
+{
+    Call c;
+    enter_host(&c, "MmUnlockPages", at);
+    if (!(Mdl->MdlFlags & MDL_PAGES_LOCKED))
+        fault("MdlNotLocked", NULL, "the pages of an MDL are unlocked that aren't locked");
+    Mdl->MdlFlags &= (CSHORT)~(MDL_PAGES_LOCKED | MDL_MAPPED_TO_SYSTEM_VA | MDL_WRITE_OPERATION);
+    Mdl->MappedSystemVa = NULL;
+    forget_lock(Mdl);
+    leave_host();
+}
+
+PVOID WdmMmMapMdl(PMDL Mdl, WDM_SITE at)
+{
+    Call c;
+    enter_host(&c, "MmGetSystemAddressForMdlSafe", at);
+    if (!(Mdl->MdlFlags & (MDL_PAGES_LOCKED | MDL_SOURCE_IS_NONPAGED_POOL | MDL_PARTIAL)))
+        fault("MdlNotLocked", NULL, "an MDL is mapped that was neither locked nor built");
+    Mdl->MdlFlags |= MDL_MAPPED_TO_SYSTEM_VA;
+    Mdl->MappedSystemVa = MmGetMdlVirtualAddress(Mdl);
+    leave_host();
+    return Mdl->MappedSystemVa;
+}
+
+VOID WdmMmUnmapLockedPages(PVOID Base, PMDL Mdl, WDM_SITE at)
+{
+    Call c;
+    enter_host(&c, "MmUnmapLockedPages", at);
+    if (!(Mdl->MdlFlags & MDL_MAPPED_TO_SYSTEM_VA) || Base != Mdl->MappedSystemVa)
+        fault("MdlNotLocked", NULL, "an MDL is unmapped that isn't mapped there");
+    Mdl->MdlFlags &= (CSHORT)~MDL_MAPPED_TO_SYSTEM_VA;
+    leave_host();
+}
+
+VOID WdmIoBuildPartialMdl(PMDL Source, PMDL Target, PVOID Address, ULONG Length, WDM_SITE at)
+{
+    Call c;
+    enter_host(&c, "IoBuildPartialMdl", at);
+    const PUCHAR begin = MmGetMdlVirtualAddress(Source), end = begin + Source->ByteCount;
+    const ULONG length = Length ? Length : (ULONG)(end - (PUCHAR)Address);
+    if (!(Source->MdlFlags & (MDL_PAGES_LOCKED | MDL_SOURCE_IS_NONPAGED_POOL | MDL_PARTIAL)))
+        fault("MdlNotLocked", NULL, "a partial MDL is built of one that was neither locked nor built");
+    if ((PUCHAR)Address < begin || (PUCHAR)Address + length > end)
+        fault("MdlRange", NULL, "a partial MDL of %u bytes reaches beyond its source of %u", length, Source->ByteCount);
+    Target->StartVa = PAGE_ALIGN(Address);
+    Target->ByteOffset = BYTE_OFFSET(Address);
+    Target->ByteCount = length;
+    Target->MappedSystemVa = Address;
+    Target->MdlFlags = (CSHORT)(MDL_PARTIAL | MDL_MAPPED_TO_SYSTEM_VA | (Target->MdlFlags & MDL_ALLOCATED_FIXED_SIZE));
+    leave_host();
+}
+
+/* A control of METHOD_IN_DIRECT or METHOD_OUT_DIRECT that is built has an MDL of its output buffer: given at its first
+   send, when its code is known. Under G. */
+void give_mdl(Packet *p)
+{
+    if (!p->direct || p->irp->MdlAddress || p->current < 2)
+        return;
+    const PIO_STACK_LOCATION next = raw_at(p, p->current - 1);
+    const ULONG method = METHOD_FROM_CTL_CODE(next->Parameters.DeviceIoControl.IoControlCode);
+    const bool is_control =
+        next->MajorFunction == IRP_MJ_DEVICE_CONTROL || next->MajorFunction == IRP_MJ_INTERNAL_DEVICE_CONTROL;
+    if (!is_control || (method != METHOD_IN_DIRECT && method != METHOD_OUT_DIRECT))
+        return;
+    const ULONG length = next->Parameters.DeviceIoControl.OutputBufferLength;
+    if (!p->writes_back && length && (p->direct_bytes = new_block(length, 0, true, p->sites.allocated)))
+        p->direct_bytes->is_buffer = true;
+    PVOID out = p->writes_back ? p->irp->UserBuffer : p->direct_bytes ? p->direct_bytes->bytes : NULL;
+    if (!out || !length)
+        return;
+    MmInitializeMdl(p->direct, out, length);
+    p->direct->MdlFlags |= MDL_SOURCE_IS_NONPAGED_POOL | MDL_MAPPED_TO_SYSTEM_VA;
+    p->direct->MappedSystemVa = out;
+    p->irp->MdlAddress = p->direct;
+    p->writes_back = false; /* what is written there is in the caller's buffer already */
+}
+
+/* At the end: under G. */
+void tell_locked_mdls(void)
+{
+    for (int i = 0; i < n_locked; i++)
+        note("at the end", "the pages of an MDL that were locked at %s are still locked", place(locked[i].at));
+}
+
+VOID ProbeForRead(const VOID *Address, SIZE_T Length, ULONG Alignment)
+{
+    (void)Address, (void)Length, (void)Alignment;
+}
+
+VOID ProbeForWrite(PVOID Address, SIZE_T Length, ULONG Alignment) { ProbeForRead(Address, Length, Alignment); }
+
+PVOID MmAllocateContiguousMemory(SIZE_T Bytes, PHYSICAL_ADDRESS Highest)
+{
+    (void)Highest;
+    return aligned_alloc(PAGE_SIZE, ROUND_TO_PAGES(Bytes ? Bytes : 1));
+}
+
+VOID MmFreeContiguousMemory(PVOID Base) { free(Base); }

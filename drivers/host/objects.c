@@ -1,0 +1,322 @@
+/* objects.c: references to objects, handles, events by handle; files, sections and directories are refused. */
+#include "host.h"
+
+struct _OBJECT_TYPE { const char *name; };
+static struct _OBJECT_TYPE event_type = { "event" }, file_type = { "file" }, thread_type = { "thread" },
+                           process_type = { "process" }, driver_type = { "driver" }, device_type = { "device" };
+static POBJECT_TYPE events = &event_type, files = &file_type, threads = &thread_type, processes = &process_type,
+                    driver_objects = &driver_type, device_objects = &device_type;
+POBJECT_TYPE *ExEventObjectType = &events, *IoFileObjectType = &files, *PsThreadType = &threads,
+             *PsProcessType = &processes, *IoDriverObjectType = &driver_objects, *IoDeviceObjectType = &device_objects;
+
+enum { MAX_REFERENCES = 1024, MAX_HANDLES = 1024 };
+static struct { PVOID object; LONG count; WDM_SITE taken; } references[MAX_REFERENCES];
+static int n_references;
+static struct { POBJECT_TYPE type; PVOID object; } handles[MAX_HANDLES];
+
+/* Names an object for a message: a device by its driver. Under G. */
+static const char *object_name(PVOID object)
+{
+    for (int d = 0; d < n_devices; d++)
+        if (devices[d].raw == object)
+            return who(d);
+    return "an object";
+}
+
+/* Counts a reference, or takes one off. Returns how many there are then, or -1 where there was none. Under G. */
+static LONG count_reference(PVOID object, LONG more, WDM_SITE at)
+{
+    int i = 0;
+    while (i < n_references && references[i].object != object)
+        i++;
+    if (i == n_references) {
+        if (more < 0 || n_references == MAX_REFERENCES)
+            return -1;
+        references[n_references].count = 0;
+        references[n_references++].object = object;
+    }
+    if (references[i].count + more < 0)
+        return -1;
+    if (more > 0)
+        references[i].taken = at;
+    references[i].count += more;
+    return references[i].count;
+}
+
+LONG_PTR WdmObReferenceObject(PVOID Object, WDM_SITE at)
+{
+    Call c;
+    enter_host(&c, "ObReferenceObject", at);
+    const LONG count = count_reference(Object, 1, at);
+    leave_host();
+    return count + 1;
+}
+
+LONG_PTR WdmObDereferenceObject(PVOID Object, WDM_SITE at)
+{
+    Call c;
+    enter_host(&c, "ObDereferenceObject", at);
+    const LONG count = count_reference(Object, -1, at);
+    if (count < 0)
+        fault("NotReferenced", NULL, "%s is dereferenced, and no reference to it is left: it may be gone already",
+              object_name(Object));
+    leave_host();
+    if (!count)
+        tell_files_dereferenced(Object);
+    return count + 1;
+}
+
+PDEVICE_OBJECT WdmIoGetAttachedDeviceReference(PDEVICE_OBJECT Device, WDM_SITE at)
+{
+    PDEVICE_OBJECT top = IoGetAttachedDevice(Device);
+    WdmObReferenceObject(top, at);
+    return top;
+}
+
+PDEVICE_OBJECT WdmIoGetLowerDeviceObject(PDEVICE_OBJECT Device, WDM_SITE at)
+{
+    pthread_mutex_lock(&host_lock);
+    const int lower = devices[Device->HostNumber].lower;
+    pthread_mutex_unlock(&host_lock);
+    if (lower < 0)
+        return NULL;
+    WdmObReferenceObject(devices[lower].raw, at);
+    return devices[lower].raw;
+}
+
+/* At the end: references to devices that were never given back. Under G. */
+void tell_references(void)
+{
+    for (int i = 0; i < n_references; i++)
+        for (int d = 0; references[i].count > 0 && d < n_devices; d++)
+            if (devices[d].raw == references[i].object)
+                note("at the end", "a reference to %s, taken at %s, was never given back", who(d),
+                     place(references[i].taken));
+}
+
+/* Handles. */
+HANDLE new_handle(POBJECT_TYPE type, PVOID object)
+{
+    int i = 0;
+    pthread_mutex_lock(&host_lock);
+    while (i < MAX_HANDLES && handles[i].object)
+        i++;
+    if (i < MAX_HANDLES) {
+        handles[i].type = type;
+        handles[i].object = object;
+    }
+    pthread_mutex_unlock(&host_lock);
+    return i < MAX_HANDLES ? (HANDLE)(ULONG_PTR)(4 * (i + 1)) : NULL;
+}
+
+PVOID handle_object(HANDLE handle, POBJECT_TYPE type)
+{
+    const ULONG_PTR i = (ULONG_PTR)handle / 4 - 1;
+    pthread_mutex_lock(&host_lock);
+    const bool is_good = i < MAX_HANDLES && (!type || !handles[i].type || handles[i].type == type);
+    PVOID object = is_good ? handles[i].object : NULL;
+    pthread_mutex_unlock(&host_lock);
+    return object;
+}
+
+NTSTATUS WdmZwClose(HANDLE Handle, WDM_SITE at)
+{
+    Call c;
+    enter_host(&c, "ZwClose", at);
+    const ULONG_PTR i = (ULONG_PTR)Handle / 4 - 1;
+    const bool is_open = i < MAX_HANDLES && handles[i].object;
+    if (is_open)
+        handles[i].object = NULL;
+    else
+        fault("NotOpen", NULL, "a handle is closed that isn't open");
+    leave_host();
+    return is_open ? STATUS_SUCCESS : STATUS_INVALID_HANDLE;
+}
+
+NTSTATUS WdmObReferenceObjectByHandle(HANDLE Handle, POBJECT_TYPE Type, PVOID *Object, WDM_SITE at)
+{
+    *Object = handle_object(Handle, Type);
+    if (!*Object)
+        return handle_object(Handle, NULL) ? STATUS_OBJECT_TYPE_MISMATCH : STATUS_INVALID_HANDLE;
+    WdmObReferenceObject(*Object, at);
+    return STATUS_SUCCESS;
+}
+
+NTSTATUS ZwMakeTemporaryObject(HANDLE Handle) { return handle_object(Handle, NULL) ? STATUS_SUCCESS : STATUS_INVALID_HANDLE; }
+
+PEPROCESS PsGetCurrentProcess(VOID)
+{
+    static int process;
+    return (PEPROCESS)&process;
+}
+
+HANDLE PsGetThreadId(PETHREAD Thread) { return (HANDLE)Thread; }
+HANDLE PsGetCurrentThreadId(VOID) { return (HANDLE)KeGetCurrentThread(); }
+
+/* Events: those with a name are found again by it. */
+static struct { UNICODE_STRING name; PKEVENT event; } named[64];
+static int n_named;
+
+static PKEVENT find_event(PUNICODE_STRING name)
+{
+    for (int i = 0; i < n_named; i++)
+        if (RtlEqualUnicodeString(&named[i].name, name, TRUE))
+            return named[i].event;
+    return NULL;
+}
+
+static PKEVENT make_event(PUNICODE_STRING name, EVENT_TYPE type, BOOLEAN state)
+{
+    PKEVENT event = name ? find_event(name) : NULL;
+    if (event || !(event = host_memory(sizeof *event)))
+        return event;
+    WdmKeInitializeEvent(event, type, state);
+    if (name && n_named < 64 && copy_text(&named[n_named].name, name))
+        named[n_named++].event = event;
+    return event;
+}
+
+NTSTATUS ZwCreateEvent(PHANDLE Handle, ACCESS_MASK Access, POBJECT_ATTRIBUTES Attributes, EVENT_TYPE Type,
+                       BOOLEAN State)
+{
+    (void)Access;
+    PKEVENT event = make_event(Attributes ? Attributes->ObjectName : NULL, Type, State);
+    *Handle = event ? new_handle(&event_type, event) : NULL;
+    return *Handle ? STATUS_SUCCESS : STATUS_INSUFFICIENT_RESOURCES;
+}
+
+NTSTATUS ZwOpenEvent(PHANDLE Handle, ACCESS_MASK Access, POBJECT_ATTRIBUTES Attributes)
+{
+    (void)Access;
+    PKEVENT event = Attributes && Attributes->ObjectName ? find_event(Attributes->ObjectName) : NULL;
+    *Handle = event ? new_handle(&event_type, event) : NULL;
+    return event ? STATUS_SUCCESS : STATUS_OBJECT_NAME_NOT_FOUND;
+}
+
+PKEVENT IoCreateNotificationEvent(PUNICODE_STRING Name, PHANDLE Handle)
+{
+    PKEVENT event = make_event(Name, NotificationEvent, TRUE);
+    *Handle = event ? new_handle(&event_type, event) : NULL;
+    return event;
+}
+
+PKEVENT IoCreateSynchronizationEvent(PUNICODE_STRING Name, PHANDLE Handle)
+{
+    PKEVENT event = make_event(Name, SynchronizationEvent, TRUE);
+    *Handle = event ? new_handle(&event_type, event) : NULL;
+    return event;
+}
+
+NTSTATUS WdmZwSetEvent(HANDLE Handle, PLONG Before, WDM_SITE at)
+{
+    PKEVENT event = handle_object(Handle, &event_type);
+    if (!event)
+        return STATUS_INVALID_HANDLE;
+    const LONG before = WdmKeSetEvent(event, at);
+    if (Before)
+        *Before = before;
+    return STATUS_SUCCESS;
+}
+
+NTSTATUS ZwResetEvent(HANDLE Handle, PLONG Before)
+{
+    PKEVENT event = handle_object(Handle, &event_type);
+    const LONG before = event ? KeResetEvent(event) : 0;
+    if (Before)
+        *Before = before;
+    return event ? STATUS_SUCCESS : STATUS_INVALID_HANDLE;
+}
+
+NTSTATUS ZwClearEvent(HANDLE Handle) { return ZwResetEvent(Handle, NULL); }
+
+NTSTATUS WdmZwWaitForSingleObject(HANDLE Handle, PLARGE_INTEGER Timeout, WDM_SITE at)
+{
+    PVOID object = handle_object(Handle, NULL);
+    return object ? WdmKeWaitForSingleObject(object, Timeout, at) : STATUS_INVALID_HANDLE;
+}
+
+/* What is refused. */
+static NTSTATUS refused(const char *call)
+{
+    pthread_mutex_lock(&host_lock);
+    note("not there", "%s: there are no files and no sections; it returns STATUS_NOT_SUPPORTED", call);
+    pthread_mutex_unlock(&host_lock);
+    return STATUS_NOT_SUPPORTED;
+}
+
+NTSTATUS ZwCreateFile(PHANDLE File, ACCESS_MASK Access, POBJECT_ATTRIBUTES Attributes, PIO_STATUS_BLOCK Iosb,
+                      PLARGE_INTEGER Size, ULONG FileAttributes, ULONG Share, ULONG Disposition, ULONG Options,
+                      PVOID Ea, ULONG EaLength)
+{
+    (void)File, (void)Access, (void)Attributes, (void)Iosb, (void)Size, (void)FileAttributes, (void)Share;
+    (void)Disposition, (void)Options, (void)Ea, (void)EaLength;
+    return refused("ZwCreateFile");
+}
+
+NTSTATUS ZwOpenFile(PHANDLE File, ACCESS_MASK Access, POBJECT_ATTRIBUTES Attributes, PIO_STATUS_BLOCK Iosb, ULONG Share,
+                    ULONG Options)
+{
+    (void)File, (void)Access, (void)Attributes, (void)Iosb, (void)Share, (void)Options;
+    return refused("ZwOpenFile");
+}
+
+NTSTATUS ZwReadFile(HANDLE File, HANDLE Event, PIO_APC_ROUTINE Apc, PVOID Context, PIO_STATUS_BLOCK Iosb, PVOID Buffer,
+                    ULONG Length, PLARGE_INTEGER Offset, PULONG Key)
+{
+    (void)File, (void)Event, (void)Apc, (void)Context, (void)Iosb, (void)Buffer, (void)Length, (void)Offset, (void)Key;
+    return refused("ZwReadFile");
+}
+
+NTSTATUS ZwWriteFile(HANDLE File, HANDLE Event, PIO_APC_ROUTINE Apc, PVOID Context, PIO_STATUS_BLOCK Iosb, PVOID Buffer,
+                     ULONG Length, PLARGE_INTEGER Offset, PULONG Key)
+{
+    (void)File, (void)Event, (void)Apc, (void)Context, (void)Iosb, (void)Buffer, (void)Length, (void)Offset, (void)Key;
+    return refused("ZwWriteFile");
+}
+
+NTSTATUS ZwQueryInformationFile(HANDLE File, PIO_STATUS_BLOCK Iosb, PVOID Information, ULONG Length, ULONG Class)
+{
+    (void)File, (void)Iosb, (void)Information, (void)Length, (void)Class;
+    return refused("ZwQueryInformationFile");
+}
+
+NTSTATUS ZwSetInformationFile(HANDLE File, PIO_STATUS_BLOCK Iosb, PVOID Information, ULONG Length, ULONG Class)
+{
+    (void)File, (void)Iosb, (void)Information, (void)Length, (void)Class;
+    return refused("ZwSetInformationFile");
+}
+
+NTSTATUS ZwCreateSection(PHANDLE Section, ACCESS_MASK Access, POBJECT_ATTRIBUTES Attributes, PLARGE_INTEGER Size,
+                         ULONG Protection, ULONG Allocation, HANDLE File)
+{
+    (void)Section, (void)Access, (void)Attributes, (void)Size, (void)Protection, (void)Allocation, (void)File;
+    return refused("ZwCreateSection");
+}
+
+NTSTATUS ZwOpenSection(PHANDLE Section, ACCESS_MASK Access, POBJECT_ATTRIBUTES Attributes)
+{
+    (void)Section, (void)Access, (void)Attributes;
+    return refused("ZwOpenSection");
+}
+
+NTSTATUS ZwMapViewOfSection(HANDLE Section, HANDLE Process, PVOID *Base, ULONG_PTR ZeroBits, SIZE_T Commit,
+                            PLARGE_INTEGER Offset, PSIZE_T Size, SECTION_INHERIT Inherit, ULONG Allocation,
+                            ULONG Protection)
+{
+    (void)Section, (void)Process, (void)Base, (void)ZeroBits, (void)Commit, (void)Offset, (void)Size, (void)Inherit;
+    (void)Allocation, (void)Protection;
+    return refused("ZwMapViewOfSection");
+}
+
+NTSTATUS ZwUnmapViewOfSection(HANDLE Process, PVOID Base)
+{
+    (void)Process, (void)Base;
+    return refused("ZwUnmapViewOfSection");
+}
+
+NTSTATUS ZwCreateDirectoryObject(PHANDLE Directory, ACCESS_MASK Access, POBJECT_ATTRIBUTES Attributes)
+{
+    (void)Access, (void)Attributes;
+    *Directory = new_handle(NULL, &event_type);
+    return *Directory ? STATUS_SUCCESS : STATUS_INSUFFICIENT_RESOURCES;
+}

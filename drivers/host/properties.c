@@ -1,0 +1,316 @@
+/* properties.c: names of devices, links, interfaces, properties, notifications: what Plug and Play keeps of devices. */
+#include "host.h"
+
+enum { MAX_NAMES = 256 };
+typedef struct { UNICODE_STRING name, target; PDEVICE_OBJECT device; const GUID *class; bool is_enabled; } Name;
+typedef struct { PDEVICE_OBJECT device; DEVPROPKEY key; DEVICE_REGISTRY_PROPERTY property; DEVPROPTYPE type; ULONG size;
+                 PVOID data; bool is_keyed; } Property;
+typedef struct { IO_NOTIFICATION_EVENT_CATEGORY category; GUID class; PFILE_OBJECT file;
+                 PDRIVER_NOTIFICATION_CALLBACK_ROUTINE routine; PVOID context; } Registration;
+static Name names[MAX_NAMES];
+static Property properties[MAX_NAMES];
+static Registration registrations[64];
+static int n_names, n_properties;
+
+/* The place of a name, or -1. Under G. */
+static int find_name(PCUNICODE_STRING name)
+{
+    for (int i = 0; i < n_names; i++)
+        if (names[i].name.Buffer && RtlEqualUnicodeString(&names[i].name, name, TRUE))
+            return i;
+    return -1;
+}
+
+static NTSTATUS add_name(PCUNICODE_STRING name, PCUNICODE_STRING target, PDEVICE_OBJECT device)
+{
+    NTSTATUS status = STATUS_OBJECT_NAME_COLLISION;
+    pthread_mutex_lock(&host_lock);
+    if (find_name(name) < 0 && n_names < MAX_NAMES) {
+        Name *n = &names[n_names++];
+        *n = (Name){ .device = device };
+        status = copy_text(&n->name, name) ? STATUS_SUCCESS : STATUS_INSUFFICIENT_RESOURCES;
+        if (target)
+            copy_text(&n->target, target);
+    }
+    pthread_mutex_unlock(&host_lock);
+    return status;
+}
+
+NTSTATUS WdmIoCreateNamedDevice(PDRIVER_OBJECT Driver, ULONG Extension, PUNICODE_STRING Name, DEVICE_TYPE Type,
+                                ULONG Characteristics, PDEVICE_OBJECT *Device, WDM_SITE at)
+{
+    if (Name && Name->Length) {
+        pthread_mutex_lock(&host_lock);
+        const int i = find_name(Name);
+        pthread_mutex_unlock(&host_lock);
+        if (i >= 0)
+            return STATUS_OBJECT_NAME_COLLISION;
+    }
+    const NTSTATUS status = WdmIoCreateDevice(Driver, Extension, Type, Characteristics, Device, at);
+    if (NT_SUCCESS(status) && Name && Name->Length) {
+        (*Device)->Flags |= DO_DEVICE_HAS_NAME;
+        add_name(Name, NULL, *Device);
+    }
+    return status;
+}
+
+/* The device is gone: so is its name. Under G. */
+void forget_names(PDEVICE_OBJECT device)
+{
+    for (int i = 0; i < n_names; i++)
+        if (names[i].device == device && !names[i].class)
+            names[i].name.Buffer = NULL;
+}
+
+NTSTATUS IoCreateSymbolicLink(PUNICODE_STRING Link, PUNICODE_STRING Device)
+{
+    return Link && Device && Link->Length ? add_name(Link, Device, NULL) : STATUS_INVALID_PARAMETER;
+}
+
+NTSTATUS IoDeleteSymbolicLink(PUNICODE_STRING Link)
+{
+    if (!Link || !Link->Length)
+        return STATUS_INVALID_PARAMETER;
+    pthread_mutex_lock(&host_lock);
+    const int i = find_name(Link);
+    if (i >= 0)
+        names[i].name.Buffer = NULL;
+    pthread_mutex_unlock(&host_lock);
+    return i < 0 ? STATUS_OBJECT_NAME_NOT_FOUND : STATUS_SUCCESS;
+}
+
+/* The device that a name leads to, by links too. */
+static PDEVICE_OBJECT device_named(PCUNICODE_STRING name)
+{
+    PDEVICE_OBJECT device = NULL;
+    pthread_mutex_lock(&host_lock);
+    int i = find_name(name);
+    for (int hops = 0; i >= 0 && !names[i].device && names[i].target.Buffer && hops < 8; hops++)
+        i = find_name(&names[i].target);
+    if (i >= 0)
+        device = names[i].device;
+    pthread_mutex_unlock(&host_lock);
+    return device;
+}
+
+NTSTATUS WdmIoGetDeviceObjectPointer(PUNICODE_STRING Name, PFILE_OBJECT *File, PDEVICE_OBJECT *Device, WDM_SITE at)
+{
+    PDEVICE_OBJECT device = device_named(Name);
+    if (!device)
+        return STATUS_OBJECT_NAME_NOT_FOUND;
+    *Device = IoGetAttachedDevice(device);
+    *File = WdmOpen(*Device, at);
+    if (!*File)
+        return STATUS_INSUFFICIENT_RESOURCES;
+    (*File)->HostCloses = TRUE;
+    WdmObReferenceObject(*File, at);
+    return STATUS_SUCCESS;
+}
+
+NTSTATUS WdmIoAttachDeviceByName(PDEVICE_OBJECT Device, PUNICODE_STRING Name, PDEVICE_OBJECT *Lower, WDM_SITE at)
+{
+    PDEVICE_OBJECT target = device_named(Name);
+    *Lower = target ? WdmIoAttachDevice(Device, target, at) : NULL;
+    return *Lower ? STATUS_SUCCESS : target ? STATUS_NO_SUCH_DEVICE : STATUS_OBJECT_NAME_NOT_FOUND;
+}
+
+/* Interfaces. */
+NTSTATUS WdmIoRegisterDeviceInterface(PDEVICE_OBJECT Device, const GUID *Class, PUNICODE_STRING Reference,
+                                      PUNICODE_STRING Link, WDM_SITE at)
+{
+    WCHAR text[120];
+    UNICODE_STRING class, name;
+    RtlStringFromGUID(Class, &class);
+    WdmSwprintf(text, ARRAYSIZE(text), L"\\??\\WDM#%d#%wZ%s%wZ", Device->HostNumber, &class,
+                Reference && Reference->Length ? L"\\" : L"", Reference ? Reference : &(UNICODE_STRING){ 0 });
+    RtlFreeUnicodeString(&class);
+    RtlInitUnicodeString(&name, text);
+    add_name(&name, NULL, Device);
+    pthread_mutex_lock(&host_lock);
+    const int i = find_name(&name);
+    if (i >= 0)
+        names[i].class = Class;
+    pthread_mutex_unlock(&host_lock);
+    return WdmRtlDuplicate(&name, Link, at);
+}
+
+/* Calls whoever wants to know of a device's interface. */
+static void tell_interface(const GUID *class, PUNICODE_STRING link, const GUID *event)
+{
+    DEVICE_INTERFACE_CHANGE_NOTIFICATION change = { 1, sizeof change, *event, *class, link };
+    for (int i = 0; i < 64; i++) {
+        pthread_mutex_lock(&host_lock);
+        const Registration r = registrations[i];
+        pthread_mutex_unlock(&host_lock);
+        if (r.routine && r.category == EventCategoryDeviceInterfaceChange && !memcmp(&r.class, class, sizeof *class))
+            r.routine(&change, r.context);
+    }
+}
+
+NTSTATUS IoSetDeviceInterfaceState(PUNICODE_STRING Link, BOOLEAN Enable)
+{
+    if (!Link || !Link->Buffer)
+        return STATUS_INVALID_PARAMETER;
+    pthread_mutex_lock(&host_lock);
+    const int i = find_name(Link);
+    const bool changes = i >= 0 && names[i].class && names[i].is_enabled != (Enable != 0);
+    if (changes)
+        names[i].is_enabled = Enable != 0;
+    pthread_mutex_unlock(&host_lock);
+    if (changes)
+        tell_interface(names[i].class, Link, Enable ? &GUID_DEVICE_INTERFACE_ARRIVAL : &GUID_DEVICE_INTERFACE_REMOVAL);
+    return i < 0 || !names[i].class ? STATUS_OBJECT_NAME_NOT_FOUND
+        : changes || Enable         ? STATUS_SUCCESS
+                                    : STATUS_OBJECT_NAME_NOT_FOUND;
+}
+
+NTSTATUS WdmIoGetDeviceInterfaces(const GUID *Class, PDEVICE_OBJECT Device, ULONG Flags, PWSTR *Links, WDM_SITE at)
+{
+    size_t used = 0;
+    (void)Flags;
+    PWSTR text = WdmAllocatePool(WDM_POOL_ZERO, (MAX_NAMES * 120 + 1) * sizeof(WCHAR), 0, at);
+    pthread_mutex_lock(&host_lock);
+    for (int i = 0; text && i < n_names; i++)
+        if (names[i].name.Buffer && names[i].class && names[i].is_enabled && (!Device || names[i].device == Device) &&
+            !memcmp(names[i].class, Class, sizeof *Class)) {
+            memcpy(text + used, names[i].name.Buffer, names[i].name.Length);
+            used += names[i].name.Length / sizeof(WCHAR) + 1;
+        }
+    pthread_mutex_unlock(&host_lock);
+    *Links = text;
+    return text ? STATUS_SUCCESS : STATUS_INSUFFICIENT_RESOURCES;
+}
+
+NTSTATUS IoRegisterPlugPlayNotification(IO_NOTIFICATION_EVENT_CATEGORY Category, ULONG Flags, PVOID Data,
+                                        PDRIVER_OBJECT Driver, PDRIVER_NOTIFICATION_CALLBACK_ROUTINE Routine,
+                                        PVOID Context, PVOID *Entry)
+{
+    int at = 0;
+    (void)Driver;
+    pthread_mutex_lock(&host_lock);
+    while (at < 64 && registrations[at].routine)
+        at++;
+    if (at < 64) {
+        registrations[at] = (Registration){ .category = Category, .routine = Routine, .context = Context };
+        if (Category == EventCategoryDeviceInterfaceChange)
+            registrations[at].class = *(const GUID *)Data;
+        else
+            registrations[at].file = Data;
+        *Entry = &registrations[at];
+    }
+    pthread_mutex_unlock(&host_lock);
+    if (at == 64)
+        return STATUS_INSUFFICIENT_RESOURCES;
+    for (int i = 0; i < n_names && (Flags & PNPNOTIFY_DEVICE_INTERFACE_INCLUDE_EXISTING_INTERFACES); i++)
+        if (names[i].is_enabled && names[i].class && !memcmp(names[i].class, Data, sizeof(GUID))) {
+            DEVICE_INTERFACE_CHANGE_NOTIFICATION change = { 1, sizeof change, GUID_DEVICE_INTERFACE_ARRIVAL,
+                                                            *(const GUID *)Data, &names[i].name };
+            Routine(&change, Context);
+        }
+    return STATUS_SUCCESS;
+}
+
+NTSTATUS IoUnregisterPlugPlayNotification(PVOID Entry)
+{
+    pthread_mutex_lock(&host_lock);
+    ((Registration *)Entry)->routine = NULL;
+    pthread_mutex_unlock(&host_lock);
+    return STATUS_SUCCESS;
+}
+
+NTSTATUS IoReportTargetDeviceChange(PDEVICE_OBJECT Device, PVOID Notification)
+{
+    for (int i = 0; i < 64; i++) {
+        pthread_mutex_lock(&host_lock);
+        const Registration r = registrations[i];
+        pthread_mutex_unlock(&host_lock);
+        if (r.routine && r.category == EventCategoryTargetDeviceChange && r.file && r.file->DeviceObject == Device)
+            r.routine(Notification, r.context);
+    }
+    return STATUS_SUCCESS;
+}
+
+NTSTATUS IoReportTargetDeviceChangeAsynchronous(PDEVICE_OBJECT Device, PVOID Notification,
+                                                PDEVICE_CHANGE_COMPLETE_CALLBACK Callback, PVOID Context)
+{
+    IoReportTargetDeviceChange(Device, Notification);
+    if (Callback)
+        Callback(Context);
+    return STATUS_PENDING;
+}
+
+/* Properties: those of the registry, and those with keys of their own. */
+static Property *find_property(PDEVICE_OBJECT device, DEVICE_REGISTRY_PROPERTY property, const DEVPROPKEY *key)
+{
+    for (int i = 0; i < n_properties; i++) {
+        Property *p = &properties[i];
+        if (p->device == device && (key ? p->is_keyed && !memcmp(&p->key, key, sizeof *key)
+                                        : !p->is_keyed && p->property == property))
+            return p;
+    }
+    return NULL;
+}
+
+static NTSTATUS set_property(Property wanted, const void *data)
+{
+    NTSTATUS status = STATUS_INSUFFICIENT_RESOURCES;
+    pthread_mutex_lock(&host_lock);
+    Property *p = find_property(wanted.device, wanted.property, wanted.is_keyed ? &wanted.key : NULL);
+    if (!p && n_properties < MAX_NAMES)
+        p = &properties[n_properties++];
+    PVOID copy = p ? malloc(wanted.size ? wanted.size : 1) : NULL;
+    if (copy) {
+        *p = wanted;
+        p->data = copy;
+        memcpy(copy, data, wanted.size);
+        status = STATUS_SUCCESS;
+    }
+    pthread_mutex_unlock(&host_lock);
+    return status;
+}
+
+VOID WdmSetDeviceProperty(PDEVICE_OBJECT Device, DEVICE_REGISTRY_PROPERTY Which, const VOID *Data, ULONG Size)
+{
+    set_property((Property){ .device = Device, .property = Which, .size = Size }, Data);
+}
+
+NTSTATUS IoSetDevicePropertyData(PDEVICE_OBJECT Device, const DEVPROPKEY *Key, LCID Locale, ULONG Flags,
+                                 DEVPROPTYPE Type, ULONG Size, PVOID Data)
+{
+    (void)Locale, (void)Flags;
+    return set_property((Property){ .device = Device, .key = *Key, .type = Type, .size = Size, .is_keyed = true }, Data);
+}
+
+static NTSTATUS read_property(const Property *p, ULONG room, PVOID to, PULONG needed)
+{
+    if (needed)
+        *needed = p ? p->size : 0;
+    if (!p)
+        return STATUS_OBJECT_NAME_NOT_FOUND;
+    if (room < p->size)
+        return STATUS_BUFFER_TOO_SMALL;
+    memcpy(to, p->data, p->size);
+    return STATUS_SUCCESS;
+}
+
+NTSTATUS IoGetDeviceProperty(PDEVICE_OBJECT Device, DEVICE_REGISTRY_PROPERTY Property, ULONG Length, PVOID Buffer,
+                             PULONG Needed)
+{
+    pthread_mutex_lock(&host_lock);
+    const NTSTATUS status = read_property(find_property(Device, Property, NULL), Length, Buffer, Needed);
+    pthread_mutex_unlock(&host_lock);
+    return status;
+}
+
+NTSTATUS IoGetDevicePropertyData(PDEVICE_OBJECT Device, const DEVPROPKEY *Key, LCID Locale, ULONG Flags, ULONG Size,
+                                 PVOID Data, PULONG Needed, PDEVPROPTYPE Type)
+{
+    (void)Locale, (void)Flags;
+    pthread_mutex_lock(&host_lock);
+    const Property *p = find_property(Device, 0, Key);
+    if (p && Type)
+        *Type = p->type;
+    const NTSTATUS status = read_property(p, Size, Data, Needed);
+    pthread_mutex_unlock(&host_lock);
+    return status;
+}

@@ -1,0 +1,7 @@
+/* evntrace.h: event tracing: stubs. */
+#ifndef EVNTRACE_H
+#define EVNTRACE_H
+
+#include "wdm.h"
+
+#endif

@@ -1,0 +1,7 @@
+/* sal.h: annotations. */
+#ifndef SAL_H
+#define SAL_H
+
+#include "wdm_annotations.h"
+
+#endif

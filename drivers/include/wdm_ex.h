@@ -1,0 +1,185 @@
+/* wdm_ex.h: device queues, deferred calls, resources (ERESOURCE), guarded mutexes, rundown protection, lookaside lists,
+   interlocked singly linked lists, critical regions, processors, time. */
+#ifndef WDM_EX_H
+#define WDM_EX_H
+
+#include "wdm_ke.h"
+
+/* Device queues: what IoStartPacket keeps packets in, and drivers may use for themselves. */
+typedef struct _KDEVICE_QUEUE_ENTRY {
+    LIST_ENTRY DeviceListEntry;
+    ULONG SortKey;
+    BOOLEAN Inserted;
+} KDEVICE_QUEUE_ENTRY, *PKDEVICE_QUEUE_ENTRY;
+typedef struct _KDEVICE_QUEUE {
+    CSHORT Type, Size;
+    LIST_ENTRY DeviceListHead;
+    KSPIN_LOCK Lock;
+    BOOLEAN Busy;
+} KDEVICE_QUEUE, *PKDEVICE_QUEUE;
+VOID KeInitializeDeviceQueue(PKDEVICE_QUEUE Queue);
+BOOLEAN KeInsertDeviceQueue(PKDEVICE_QUEUE Queue, PKDEVICE_QUEUE_ENTRY Entry);
+BOOLEAN KeInsertByKeyDeviceQueue(PKDEVICE_QUEUE Queue, PKDEVICE_QUEUE_ENTRY Entry, ULONG Key);
+PKDEVICE_QUEUE_ENTRY KeRemoveDeviceQueue(PKDEVICE_QUEUE Queue);
+PKDEVICE_QUEUE_ENTRY KeRemoveByKeyDeviceQueue(PKDEVICE_QUEUE Queue, ULONG Key);
+BOOLEAN KeRemoveEntryDeviceQueue(PKDEVICE_QUEUE Queue, PKDEVICE_QUEUE_ENTRY Entry);
+
+/* Levels and deferred calls. */
+BOOLEAN KeRemoveQueueDpc(PKDPC Dpc);
+KIRQL KeRaiseIrqlToDpcLevel(VOID);
+#define KeRaiseIrqlToSynchLevel KeRaiseIrqlToDpcLevel
+typedef enum _KDPC_IMPORTANCE { LowImportance, MediumImportance, HighImportance, MediumHighImportance } KDPC_IMPORTANCE;
+#define KeSetImportanceDpc(dpc, importance) ((void)(dpc), (void)(importance))
+#define KeSetTargetProcessorDpc(dpc, number) ((void)(dpc), (void)(number))
+#define KeInitializeThreadedDpc KeInitializeDpc
+LONG KeReadStateSemaphore(PKSEMAPHORE Semaphore);
+LONG KeReadStateMutex(PKMUTEX Mutex);
+#define KeWaitForMutexObject KeWaitForSingleObject
+#define KeAcquireInStackQueuedSpinLockAtDpcLevel(lock, handle) \
+    ((handle)->Lock = (lock), (void)((handle)->OldIrql = DISPATCH_LEVEL), KeAcquireSpinLockAtDpcLevel(lock))
+#define KeReleaseInStackQueuedSpinLockFromDpcLevel(handle) KeReleaseSpinLockFromDpcLevel((handle)->Lock)
+VOID KeEnterCriticalRegion(VOID);
+VOID KeLeaveCriticalRegion(VOID);
+BOOLEAN KeAreApcsDisabled(VOID);
+#define FsRtlEnterFileSystem KeEnterCriticalRegion
+#define FsRtlExitFileSystem KeLeaveCriticalRegion
+#define KeEnterGuardedRegion KeEnterCriticalRegion
+#define KeLeaveGuardedRegion KeLeaveCriticalRegion
+#define KeAreAllApcsDisabled KeAreApcsDisabled
+
+/* Processors: there is one, by its number. */
+#define ALL_PROCESSOR_GROUPS 0xffff
+#define KeNumberProcessors ((CCHAR)1)
+#define KeQueryActiveProcessorCount(affinity) ((void)(affinity), 1u)
+#define KeQueryActiveProcessorCountEx(group) ((void)(group), 1u)
+#define KeQueryMaximumProcessorCountEx(group) ((void)(group), 1u)
+#define KeQueryActiveProcessors() ((KAFFINITY)1)
+#define KeGetCurrentProcessorNumber() 0u
+#define KeGetCurrentProcessorNumberEx(number) ((void)(number), 0u)
+NTSTATUS KeGetProcessorNumberFromIndex(ULONG Index, PPROCESSOR_NUMBER Number);
+#define KeSetSystemAffinityThread(affinity) ((void)(affinity))
+#define KeRevertToUserAffinityThread() ((void)0)
+#define KeSetSystemGroupAffinityThread(affinity, before) ((void)(affinity), (void)(before))
+#define KeRevertToUserGroupAffinityThread(before) ((void)(before))
+ULONGLONG KeQueryInterruptTime(VOID);
+#define KeQueryUnbiasedInterruptTime KeQueryInterruptTime
+#define KeQuerySystemTimePrecise KeQuerySystemTime
+#define KeFlushIoBuffers(mdl, read, dma) ((void)(mdl), (void)(read), (void)(dma))
+
+/* Resources: shared by readers, or exclusive to one thread, which may take it again. */
+typedef struct _ERESOURCE {
+    KEVENT Changed;
+    LONG Shared, Exclusive, Waiting;
+    PVOID Owner;
+    struct { PVOID Thread; LONG Count; } Readers[32];
+} ERESOURCE, *PERESOURCE;
+NTSTATUS ExInitializeResourceLite(PERESOURCE Resource);
+NTSTATUS ExReinitializeResourceLite(PERESOURCE Resource);
+NTSTATUS WdmExDeleteResource(PERESOURCE Resource, WDM_SITE at);
+BOOLEAN WdmExAcquireResource(PERESOURCE Resource, BOOLEAN Exclusive, BOOLEAN Wait, WDM_SITE at);
+VOID WdmExReleaseResource(PERESOURCE Resource, WDM_SITE at);
+BOOLEAN ExIsResourceAcquiredExclusiveLite(PERESOURCE Resource);
+ULONG ExIsResourceAcquiredSharedLite(PERESOURCE Resource);
+VOID ExConvertExclusiveToSharedLite(PERESOURCE Resource);
+#define ExDeleteResourceLite(resource) WdmExDeleteResource((resource), WDM_HERE)
+#define ExAcquireResourceExclusiveLite(resource, wait) WdmExAcquireResource((resource), TRUE, (BOOLEAN)(wait), WDM_HERE)
+#define ExAcquireResourceSharedLite(resource, wait) WdmExAcquireResource((resource), FALSE, (BOOLEAN)(wait), WDM_HERE)
+#define ExAcquireSharedStarveExclusive ExAcquireResourceSharedLite
+#define ExTryToAcquireResourceExclusiveLite(resource) WdmExAcquireResource((resource), TRUE, FALSE, WDM_HERE)
+#define ExReleaseResourceLite(resource) WdmExReleaseResource((resource), WDM_HERE)
+#define ExReleaseResourceForThreadLite(resource, thread) ((void)(thread), WdmExReleaseResource((resource), WDM_HERE))
+#define ExEnterCriticalRegionAndAcquireResourceExclusive(resource) \
+    (KeEnterCriticalRegion(), (void)ExAcquireResourceExclusiveLite((resource), TRUE))
+#define ExEnterCriticalRegionAndAcquireResourceShared(resource) \
+    (KeEnterCriticalRegion(), (void)ExAcquireResourceSharedLite((resource), TRUE))
+#define ExReleaseResourceAndLeaveCriticalRegion(resource) (ExReleaseResourceLite(resource), KeLeaveCriticalRegion())
+#define ExIsResourceAcquiredLite ExIsResourceAcquiredSharedLite
+#define ExGetCurrentResourceThread() ((ULONG_PTR)KeGetCurrentThread())
+typedef ULONG_PTR ERESOURCE_THREAD;
+
+/* Guarded mutexes, as fast ones. */
+typedef FAST_MUTEX KGUARDED_MUTEX, *PKGUARDED_MUTEX;
+#define KeInitializeGuardedMutex(m) ExInitializeFastMutex(m)
+#define KeAcquireGuardedMutex(m) ExAcquireFastMutex(m)
+#define KeReleaseGuardedMutex(m) ExReleaseFastMutex(m)
+#define KeAcquireGuardedMutexUnsafe(m) ExAcquireFastMutex(m)
+#define KeReleaseGuardedMutexUnsafe(m) ExReleaseFastMutex(m)
+#define ExAcquireFastMutexUnsafe(m) ExAcquireFastMutex(m)
+#define ExReleaseFastMutexUnsafe(m) ExReleaseFastMutex(m)
+BOOLEAN WdmTryToAcquireFastMutex(PFAST_MUTEX Mutex, WDM_SITE at);
+#define ExTryToAcquireFastMutex(m) WdmTryToAcquireFastMutex((m), WDM_HERE)
+#define KeTryToAcquireGuardedMutex(m) WdmTryToAcquireFastMutex((m), WDM_HERE)
+
+/* Rundown protection. */
+typedef struct _EX_RUNDOWN_REF { KEVENT Over; LONG Count; BOOLEAN RunDown; } EX_RUNDOWN_REF, *PEX_RUNDOWN_REF;
+VOID ExInitializeRundownProtection(PEX_RUNDOWN_REF Ref);
+VOID ExReInitializeRundownProtection(PEX_RUNDOWN_REF Ref);
+BOOLEAN ExAcquireRundownProtection(PEX_RUNDOWN_REF Ref);
+VOID WdmExReleaseRundownProtection(PEX_RUNDOWN_REF Ref, WDM_SITE at);
+VOID WdmExWaitForRundown(PEX_RUNDOWN_REF Ref, WDM_SITE at);
+VOID ExRundownCompleted(PEX_RUNDOWN_REF Ref);
+#define ExReleaseRundownProtection(ref) WdmExReleaseRundownProtection((ref), WDM_HERE)
+#define ExWaitForRundownProtectionRelease(ref) WdmExWaitForRundown((ref), WDM_HERE)
+
+/* Lookaside lists: each block comes from pool and goes back there. */
+typedef PVOID ALLOCATE_FUNCTION(POOL_TYPE Type, SIZE_T Bytes, ULONG Tag);
+typedef VOID FREE_FUNCTION(PVOID Block);
+typedef ALLOCATE_FUNCTION *PALLOCATE_FUNCTION;
+typedef FREE_FUNCTION *PFREE_FUNCTION;
+typedef struct _GENERAL_LOOKASIDE {
+    PALLOCATE_FUNCTION Allocate;
+    PFREE_FUNCTION Free;
+    POOL_TYPE Type;
+    ULONG Tag;
+    SIZE_T Bytes;
+} GENERAL_LOOKASIDE, NPAGED_LOOKASIDE_LIST, PAGED_LOOKASIDE_LIST, LOOKASIDE_LIST_EX, *PNPAGED_LOOKASIDE_LIST,
+    *PPAGED_LOOKASIDE_LIST, *PLOOKASIDE_LIST_EX;
+#define WDM_LOOKASIDE(list, allocate, release, pool, bytes, tag) \
+    ((void)(*(list) = (GENERAL_LOOKASIDE){ (allocate), (release), (pool), (tag), (bytes) }))
+#define ExInitializeNPagedLookasideList(list, allocate, release, flags, bytes, tag, depth) \
+    ((void)(flags), (void)(depth), WDM_LOOKASIDE(list, allocate, release, NonPagedPool, bytes, tag))
+#define ExInitializePagedLookasideList(list, allocate, release, flags, bytes, tag, depth) \
+    ((void)(flags), (void)(depth), WDM_LOOKASIDE(list, allocate, release, PagedPool, bytes, tag))
+#define ExAllocateFromNPagedLookasideList(list) \
+    ((list)->Allocate ? (list)->Allocate((list)->Type, (list)->Bytes, (list)->Tag) \
+                      : ExAllocatePoolWithTag((list)->Type, (list)->Bytes, (list)->Tag))
+#define ExFreeToNPagedLookasideList(list, block) \
+    do { \
+        if ((list)->Free) \
+            (list)->Free(block); \
+        else \
+            ExFreePoolWithTag((block), (list)->Tag); \
+    } while (0)
+#define ExDeleteNPagedLookasideList(list) ((void)(list))
+#define ExAllocateFromPagedLookasideList ExAllocateFromNPagedLookasideList
+#define ExFreeToPagedLookasideList ExFreeToNPagedLookasideList
+#define ExDeletePagedLookasideList ExDeleteNPagedLookasideList
+
+/* Singly linked lists. */
+typedef struct _SLIST_ENTRY { struct _SLIST_ENTRY *Next; } SLIST_ENTRY, *PSLIST_ENTRY;
+typedef struct _SLIST_HEADER { PSLIST_ENTRY First; ULONG Depth; } SLIST_HEADER, *PSLIST_HEADER;
+VOID ExInitializeSListHead(PSLIST_HEADER Head);
+PSLIST_ENTRY WdmPushEntrySList(PSLIST_HEADER Head, PSLIST_ENTRY Entry);
+PSLIST_ENTRY WdmPopEntrySList(PSLIST_HEADER Head);
+PSLIST_ENTRY ExInterlockedFlushSList(PSLIST_HEADER Head);
+USHORT ExQueryDepthSList(PSLIST_HEADER Head);
+#define InitializeSListHead ExInitializeSListHead
+#define ExInterlockedPushEntrySList(head, entry, lock) ((void)(lock), WdmPushEntrySList((head), (entry)))
+#define ExInterlockedPopEntrySList(head, lock) ((void)(lock), WdmPopEntrySList(head))
+#define InterlockedPushEntrySList WdmPushEntrySList
+#define InterlockedPopEntrySList WdmPopEntrySList
+#define InterlockedFlushSList ExInterlockedFlushSList
+PSINGLE_LIST_ENTRY ExInterlockedPushEntryList(PSINGLE_LIST_ENTRY Head, PSINGLE_LIST_ENTRY Entry, PKSPIN_LOCK Lock);
+PSINGLE_LIST_ENTRY ExInterlockedPopEntryList(PSINGLE_LIST_ENTRY Head, PKSPIN_LOCK Lock);
+LARGE_INTEGER ExInterlockedAddLargeInteger(PLARGE_INTEGER Sum, LARGE_INTEGER More, PKSPIN_LOCK Lock);
+
+/* What drivers ask of pool, privileges and users. */
+#define ExAllocatePoolWithQuotaTag ExAllocatePoolWithTag
+#define ExAllocatePoolWithQuota ExAllocatePool
+#define ExAllocatePoolUninitialized ExAllocatePoolWithTag
+#define ExInitializeDriverRuntime(flags) ((void)(flags))
+#define DrvRtPoolNxOptIn 1
+VOID DECLSPEC_NORETURN ExRaiseStatus(NTSTATUS Status);
+BOOLEAN ExIsProcessorFeaturePresent(ULONG Feature);
+
+#endif

@@ -1,0 +1,7 @@
+/* wdmsec.h: IoCreateDeviceSecure. */
+#ifndef WDMSEC_H
+#define WDMSEC_H
+
+#include "wdm.h"
+
+#endif

@@ -1,0 +1,7 @@
+/* wmilib.h: the WMI library: stubs. */
+#ifndef WMILIB_H
+#define WMILIB_H
+
+#include "wdm.h"
+
+#endif
