@@ -2,7 +2,7 @@
 use Rattle.std.proofs.Common.{◌≡◌, ℕ, ◌+◌, ◌<◌, ◌≤◌, Bool, List, [], ◌∷◌, ◌++◌, take, length, refl, sym, ap, subst, ◌∙◌, arith, Option, Some, None, MatchOption}
 use Rattle.std.specs.Prelude.{slice_get}
 use Rattle.std.proofs.lemmas.List.{take-append-le, take_all}
-use Rattle.std.proofs.lemmas.Option.{slice_get_within, same_Some}
+use Rattle.std.proofs.lemmas.Option.{slice_get_within}
 use Rattle.irp_types.specs.Packet.{PacketValue}
 use Rattle.irp_types.specs.State.{StateValue, Fixed, Tables, packet_of}
 use Rattle.irp_types.specs.Histories.{LeadsTo, IsEntryAt, IsLegal, HistoryGoesOn, HistorySettlesStates}
@@ -23,7 +23,7 @@ use Rattle.irp_judge.specs.Differences.{Differs}
 use Rattle.irp_judge.specs.Causes.{cause_of, cause_in}
 use Rattle.irp_judge.specs.Checked.{IsFirstIllegal, IsWrong}
 use Rattle.irp_judge.specs.Judging.{followed}
-use Rattle.irp_judge.specs.Replayed.{IsMadeOf}
+use Rattle.irp_judge.specs.Replayed.{IsMadeOf, IsSlotTold}
 use Rattle.irp_judge.specs.declared.verdict.Wrong.{Wrong}
 use Rattle.irp_judge.proofs.AskedOnce.{step_apart}
 use Rattle.irp_judge.proofs.Unallowed.{difference_unallowed}
@@ -102,6 +102,8 @@ wrong_stays fixed history entry wrong is =
       call = is.call;
       goes_on = subst (λ (given : List Entry). IsLegal fixed (given ++ wrong.made ∷ [])) (sym before) is.goes_on;
       told = is.told;
+      drained = is.drained;
+      slot = λ state leads. is.slot state (subst (λ (given : List Entry). LeadsTo fixed given state) before leads);
       differs = is.differs;
       unallowed = is.unallowed;
       cause = λ state leads. is.cause state (subst (λ (given : List Entry). LeadsTo fixed given state) before leads);
@@ -149,14 +151,18 @@ module _ (goes_on : HistoryGoesOn) (settles : HistorySettlesStates) (fixed : Fix
       not_legal settles fixed longer wrong.at old entry there led (is.other (λ same. apart (sym same))),
     )
 
-    same_cause : (state : StateValue) → LeadsTo fixed (take wrong.at longer) state → wrong.cause ≡ cause_in state wrong.made.call wrong.made.reply
-    same_cause state other =
+    -- the entries before it lead to no other state
+    same_state : (state : StateValue) → LeadsTo fixed (take wrong.at longer) state → old ≡ state
+    same_state state other =
         let states : other.0 ≡ led.0 = settles fixed (take wrong.at longer) other.0 led.0 other.1 led.1 in
         let found : Some state ≡ Some old = sym other.2 ∙ ap (λ (given : List StateValue). slice_get given (length (take wrong.at longer))) states ∙ led.2 in
-        let same : state ≡ old = cc (found) in
+        cc (found)
+
+    same_cause : (state : StateValue) → LeadsTo fixed (take wrong.at longer) state → wrong.cause ≡ cause_in state wrong.made.call wrong.made.reply
+    same_cause state other =
         cause
         ∙ cause_stays fixed old new wrong.made.drained wrong.made.call wrong.made.asked wrong.made.reply is.follows.step
-        ∙ ap (λ (given : StateValue). cause_in given wrong.made.call wrong.made.reply) (sym same)
+        ∙ ap (λ (given : StateValue). cause_in given wrong.made.call wrong.made.reply) (same_state state other)
 
     pub wrong_here : IsWrong fixed (history ++ entry ∷ []) wrong
     unfolding longer
@@ -168,6 +174,8 @@ module _ (goes_on : HistoryGoesOn) (settles : HistorySettlesStates) (fixed : Fix
       call = is.call;
       goes_on = (on.0, on.1);
       told = is.told;
+      drained = is.drained;
+      slot = λ state other. subst (λ (given : StateValue). IsSlotTold given entry wrong.made) (same_state state other) is.slot;
       differs = differs;
       unallowed = difference_unallowed fixed.tables entry wrong.made wrong.difference
           (step_apart fixed old new wrong.made.drained wrong.made.call wrong.made.asked wrong.made.reply stands is.follows.step) is.told differs;

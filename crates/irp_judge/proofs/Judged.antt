@@ -2,7 +2,7 @@
 use Rattle.std.proofs.Common.{◌≡◌, ℕ, ◌+◌, true, false, is_some, List, [], ◌∷◌, ◌++◌, length, refl, sym, subst, ◌∙◌, arith, Option, Some, None, length-append}
 use mathlib.Core.Bool.{true≢false}
 use Rattle.irp_types.specs.State.{StateValue, Fixed, opening_state}
-use Rattle.irp_types.specs.Histories.{LeadsTo, IsLegal, HistoryGoesOn, HistorySettlesStates}
+use Rattle.irp_types.specs.Histories.{LeadsTo, HistoryGoesOn, HistorySettlesStates}
 use Rattle.irp_types.specs.Standing.{StandingFacts}
 use Rattle.irp_types.specs.declared.entry.Entry.{Entry}
 use Rattle.irp_transcript.specs.Headers.{fixed_of}

@@ -1,5 +1,5 @@
 -- What of the manager's state a refusal comes from.
-use Rattle.std.specs.Prelude.{ℕ, List, length, map, Option, Some, None}
+use Rattle.std.specs.Prelude.{ℕ, length, Option, Some, None}
 use Rattle.std.specs.Option.{option_map, option_map_or, option_and_then}
 use Rattle.std.specs.FinMap as fin
 use Rattle.irp_types.specs.Calls.{Call, packet_named}
@@ -9,7 +9,6 @@ use Rattle.irp_types.specs.Stacks.{DevicesValue, stack_of, stack_size_of, lower_
 use Rattle.irp_types.specs.State.{StateValue, LivePacket, live_at}
 use Rattle.irp_types.specs.declared.names.DeviceId.{DeviceId}
 use Rattle.irp_types.specs.declared.names.IrpRef.{IrpRef}
-use Rattle.irp_types.specs.declared.names.LockNo.{LockNo}
 use Rattle.irp_types.specs.declared.call.Party.{Party}
 use Rattle.irp_types.specs.declared.call.Party.TheVariants as by
 use Rattle.irp_types.specs.declared.call.Call.TheVariants as call

@@ -15,6 +15,7 @@ use Rattle.irp_judge.specs.declared.difference.Difference.TheVariants as kind
 use Rattle.irp_judge.specs.Answers.{is_answer_allowed}
 use Rattle.irp_judge.specs.Causes.{cause_in}
 use Rattle.irp_judge.specs.Recorded.{AreTold}
+use Rattle.irp_judge.specs.Replayed.{IsDrainedTold, IsSlotTold}
 use Rattle.irp_judge.specs.declared.verdict.Wrong.{Wrong}
 use Rattle.irp_judge.specs.declared.verdict.Verdict.{Verdict}
 use Rattle.irp_judge.specs.declared.verdict.Verdict.TheVariants.{Legal, Illegal}
@@ -58,8 +59,8 @@ IsUnallowed tables kind.Reply asked = ⊤
 
 -- what is wrong with a history: the entry at this place is the first that isn't legal. There the manager goes on with
 -- another entry of the same seat and call, in which closures answered what the wrong one tells of them, where they may;
--- and the two differ in the part that is named. Where that is an answer, the tables don't allow it. Where the manager
--- refuses the call, the cause is what its state has there
+-- `drained` and the slot of a new packet are told by the wrong one, too. The two differ in the part that is named. Where
+-- that is an answer, the tables don't allow it. Where the manager refuses the call, the cause is what its state has there
 pub record IsWrong (fixed : Fixed) (history : List Entry) (wrong : Wrong) : Type 0 where
   pub first : IsFirstIllegal fixed history wrong.at
   pub entry : Entry
@@ -68,6 +69,11 @@ pub record IsWrong (fixed : Fixed) (history : List Entry) (wrong : Wrong) : Type
   pub call : wrong.made.call ≡ entry.call
   pub goes_on : IsLegal fixed (take wrong.at history ++ wrong.made ∷ [])
   pub told : AreTold fixed.tables entry.asked wrong.made.asked
+  pub drained : IsDrainedTold entry wrong.made
+  pub slot :
+      (state : StateValue)
+      → LeadsTo fixed (take wrong.at history) state
+      → IsSlotTold state entry wrong.made
   pub differs : Differs wrong.difference entry wrong.made
   pub unallowed : IsUnallowed fixed.tables wrong.difference entry.asked
   pub cause :

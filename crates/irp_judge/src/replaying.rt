@@ -18,6 +18,15 @@ use std::alloc::AllocError;
 #[derive(Clone, Copy)]
 struct SaysDrained(bool);
 
+impl SaysDrained {
+    /// The note of an entry.
+    fn of(entry: &Entry) -> SaysDrained
+        ensures { result.0 ≡ entry.now.drained }
+    {
+        SaysDrained(entry.drained)
+    }
+}
+
 impl DrainNote for SaysDrained {
     ghost knows_drained = { λ note lock. note.0 };
 
@@ -60,7 +69,7 @@ pub fn made_of(
     ensures agrees { Agrees (fixed_of header.now) core.new }
 {
     let answers = RecordedAnswers::new(header, entry.asked.as_slice());
-    let note = SaysDrained(entry.drained);
+    let note = SaysDrained::of(entry);
     let wish = slot_named(entry.reply);
     let applied = core.apply(&answers, entry.call, &note, wish)?;
     step_is_settled();

@@ -1,4 +1,4 @@
-use Rattle.std.proofs.Common.{◌≡◌, List, length, Option, sym, ap, subst}
+use Rattle.std.proofs.Common.{List, length, Option, sym, subst}
 use Rattle.irp_types.specs.declared.entry.Entry.{Entry}
 use Rattle.irp_transcript.specs.Transcripts.{TranscriptValue}
 use Rattle.irp_judge.specs.Checked.{IsVerdictOn, verdict_of}
