@@ -226,7 +226,7 @@ pub fn warnings(alloc: Global, text: &[u8], script: &Script) -> Result<Vec<Warni
         at: 0,
     };
     let parts = script.parts();
-    let mut made = Made::new(alloc, parts.labels)?;
+    let mut made = Made::new(alloc, parts.labels.len())?;
     let mut found = Vec::new(alloc);
     add_warnings(alloc, &mut found, &mut made, parts, whole, Section::Setup)?;
     add_warnings(alloc, &mut found, &mut made, parts, whole, Section::Steps)?;

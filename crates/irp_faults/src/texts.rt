@@ -128,7 +128,7 @@ fn lengths_of(script: &Script) -> (usize, usize, usize) {
     (
         parts.setup.as_slice().len(),
         parts.steps.as_slice().len(),
-        parts.labels,
+        parts.labels.len(),
     )
 }
 

@@ -1,5 +1,5 @@
 -- Where a script stands as the steps of its seats begin, and where these lead.
-use Rattle.std.specs.Prelude.{ℕ, ◌≡◌, Bool, false, List, [], ◌∷◌, ◌++◌, map, replicate, Some, None}
+use Rattle.std.specs.Prelude.{ℕ, ◌≡◌, Bool, false, List, [], ◌∷◌, ◌++◌, length, map, replicate, Some, None}
 use Rattle.irp_types.specs.State.{StateValue, opening_state}
 use Rattle.irp_types.specs.declared.names.IrpRef.{IrpRef}
 use Rattle.irp_transcript.specs.Headers.{fixed_of, slots_of}
@@ -56,7 +56,7 @@ begun header state labels = record {
 
 -- before the setup no label is bound
 abbrev pub first_standing : Header → ScriptParts → StandingValue
-first_standing header script = begun header opening_state (replicate script.labels unbound)
+first_standing header script = begun header opening_state (replicate (length script.labels) unbound)
 
 -- the seats of steps
 abbrev pub seats_of : List Step → List ℕ

@@ -78,7 +78,7 @@ pub fn first_standing(
     Standing::new(
         alloc,
         header,
-        Vec::from_elem(alloc, UNBOUND, script.labels)?,
+        Vec::from_elem(alloc, UNBOUND, script.labels.len())?,
         Vec::from_elem(alloc, 0u64, header.locks as usize)?,
         Vec::from_elem(alloc, EMPTY, header.form.slots() as usize)?,
         new_seats(alloc, header.seats)?,

@@ -295,7 +295,7 @@ pub fn run_workers<
         worked.words.items worked.stop) }
 {
     let _ = slots;
-    let labels = Labels::new(alloc, script.labels)?;
+    let labels = Labels::new(alloc, script.labels.len())?;
     let context = RunContext { shared, labels };
     let all = Worker::new(alloc, 0, 1, locks, seats);
     let alone = Meeting::new(1);

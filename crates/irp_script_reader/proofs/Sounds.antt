@@ -1,10 +1,13 @@
 -- A script that is read is sound: what each member keeps is kept by its list.
-use Rattle.std.proofs.Common.{◌≡◌, ℕ, ◌+◌, ◌≤◌, List, [], ◌∷◌, ◌++◌, length, Bool, true, false, not, ◌&&◌, ◌||◌, nat_le, nat_lt, Option, Some, None, Result, Ok, Err, refl, sym, ap, ◌∙◌, subst, arith, if◌then◌else◌, codes, inr}
-use Rattle.std.specs.Prelude.{IfOk, IsUtf8}
-use Rattle.std.specs.List.{All}
+use Rattle.std.proofs.Common.{◌≡◌, ℕ, suc, zero, ◌+◌, ◌≤◌, ◌<◌, List, [], ◌∷◌, ◌++◌, length, Bool, true, false, not, ◌&&◌, ◌||◌, nat_le, nat_lt, Option, Some, None, Result, Ok, Err, refl, sym, ap, ◌∙◌, subst, arith, if◌then◌else◌, codes, inr}
+use Rattle.std.specs.Prelude.{IfOk, IsUtf8, ◌≢◌}
+use Rattle.std.specs.List.{All, AllPairs}
+use Rattle.std.proofs.Common.{bytes_eq, get_or}
+use Rattle.std.proofs.lemmas.List.Quantifiers.{all_pairs_push}
+use Rattle.std.proofs.lemmas.Slice.Eq.{bytes_eq-Decides}
 use Rattle.std.specs.Option.{ok_or, option_and_then}
 use Rattle.std.proofs.lemmas.List.Elements.{All-nil, All-push}
-use Rattle.std.proofs.lemmas.Bool.{and_parts, leb-true, ltb-true}
+use Rattle.std.proofs.lemmas.Bool.{and_parts, le-ltb, leb-true, ltb-false, ltb-true}
 use Rattle.std.proofs.lemmas.Grind.{common_steps}
 use Rattle.serde_json.specs.Data.{Data, Items, no_items, item}
 use Rattle.serde_json.specs.Find.{get, as_array}
@@ -297,22 +300,51 @@ driver_kept dispatches list form has =
 abbrev IsListed : ScriptForm → ℕ → Bool → Step → Type 0
 IsListed form seats in_setup step = IsStep form seats step × (not in_setup || suits_setup step.act ≡ true)
 
+-- labels of which there are no more than there may be, and no two the same
+abbrev AreLabels : List (List ℕ) → Type 0
+AreLabels labels = (length labels ≤ 4096) × AllPairs (λ label later. label ≢ later) labels
+
 abbrev AreSteps : ScriptForm → ℕ → Bool → Steps → Type 0
 AreSteps form seats in_setup list =
-    (list.form ≡ form) × (list.seats ≡ seats) × (list.in_setup ≡ in_setup) × (length list.labels ≤ 4096)
+    (list.form ≡ form) × (list.seats ≡ seats) × (list.in_setup ≡ in_setup) × AreLabels list.labels
     × All (IsListed form seats in_setup) list.steps
 
-label_by : (labels : List (List ℕ)) (label : List ℕ) (known room : Bool) → room ≡ nat_lt (length labels) 4096 → length labels ≤ 4096
-    → IfOk (if known then Ok labels else (if room then Ok (labels ++ label ∷ []) else Err TooMany)) (λ more. length more ≤ 4096)
-label_by labels label true room is few = few
-label_by labels label false true is few = few_more labels label 4096 (sym is)
-label_by labels label false false is few = tt
+-- a label whose place is behind all labels is none of them
+none_place : (labels : List (List ℕ)) (label first : List ℕ) (same : Bool) → same ≡ bytes_eq first label
+    → nat_lt (if same then 0 else suc (place_of label labels)) (suc (length labels)) ≡ false
+    → (first ≢ label) × (nat_lt (place_of label labels) (length labels) ≡ false)
+none_place labels label first true is none =
+    absurd (let low : suc (length labels) ≤ 0 = ltb-false 0 (suc (length labels)) none in omega (arith, low))
+none_place labels label first false is none =
+    let high : suc (length labels) ≤ suc (place_of label labels) = ltb-false (suc (place_of label labels)) (suc (length labels)) none in
+    (λ one. let both = (bytes_eq-Decides first label).1 one in cc, le-ltb (place_of label labels) (length labels) (omega (arith, high)))
 
-labels_kept : (labels : List (List ℕ)) (label : Option (List ℕ)) → length labels ≤ 4096 → IfOk (with_labels labels label) (λ more. length more ≤ 4096)
+none_same : (labels : List (List ℕ)) (label : List ℕ) → nat_lt (place_of label labels) (length labels) ≡ false
+    → (k : ℕ) (other : List ℕ) → k < length labels → get_or labels k other ≢ label
+none_same [] label none k other within = absurd (omega (arith, within))
+none_same (first ∷ others) label none zero other within =
+    (none_place others label first (bytes_eq first label) refl none).0
+none_same (first ∷ others) label none (suc k) other within =
+    none_same others label (none_place others label first (bytes_eq first label) refl none).1 k other (omega (arith, within))
+
+label_by : (labels : List (List ℕ)) (label : List ℕ) (known room : Bool) → known ≡ nat_lt (place_of label labels) (length labels)
+    → room ≡ nat_lt (length labels) 4096 → AreLabels labels
+    → IfOk (if known then Ok labels else (if room then Ok (labels ++ label ∷ []) else Err TooMany)) AreLabels
+label_by labels label true room at is has = has
+label_by labels label false true at is has = (
+  few_more labels label 4096 (sym is),
+  all_pairs_push (λ label later. label ≢ later) labels label has.1 (none_same labels label (sym at)),
+)
+label_by labels label false false at is has = tt
+
+labels_kept : (labels : List (List ℕ)) (label : Option (List ℕ)) → AreLabels labels → IfOk (with_labels labels label) AreLabels
 unfolding with_label
-labels_kept labels None few = few
-labels_kept labels (Some label) few =
-    label_by labels label (nat_lt (place_of label labels) (length labels)) (nat_lt (length labels) 4096) refl few
+labels_kept labels None has = has
+labels_kept labels (Some label) has =
+    label_by labels label (nat_lt (place_of label labels) (length labels)) (nat_lt (length labels) 4096) refl refl has
+
+no_labels : AreLabels []
+no_labels = (omega arith, λ i j other before within. absurd (omega (arith, within)))
 
 may_is : (list : Steps) (step : Step) → may_have list step ≡ true → IsListed list.form list.seats list.in_setup step
 may_is list step may =
@@ -326,13 +358,13 @@ unfolding takes_step
 step_kept form seats in_setup list given has =
     then_any (ok_or (step_at (place_among list.labels (label_at given)) given) BadField) _ (AreSteps form seats in_setup) (λ step read.
     then_if (may_have list step) BadField _ (AreSteps form seats in_setup) (λ may.
-    then_from (with_labels list.labels (label_at given)) _ (λ more. length more ≤ 4096) (AreSteps form seats in_setup)
+    then_from (with_labels list.labels (label_at given)) _ AreLabels (AreSteps form seats in_setup)
     (labels_kept list.labels (label_at given) has.3)
-    (λ labels few. (
+    (λ labels named. (
       has.0,
       has.1,
       has.2,
-      few,
+      named,
       All-push (IsListed form seats in_setup) list.steps step has.4
           (subst (λ to. IsListed to seats in_setup step) has.0
           (subst (λ to. IsListed list.form to in_setup step) has.1
@@ -346,7 +378,7 @@ steps_kept form seats whole =
     then_from (list_at takes_step section.Setup (codes "setup") (no_steps form seats true []) whole) _
     (AreSteps form seats true) _
     (list_kept takes_step section.Setup (AreSteps form seats true) (step_kept form seats true)
-    (codes "setup") (no_steps form seats true []) whole (refl, refl, refl, omega arith, All-nil _))
+    (codes "setup") (no_steps form seats true []) whole (refl, refl, refl, no_labels, All-nil _))
     (λ setup seated.
     then_from (list_at takes_step section.Steps (codes "steps") (no_steps form seats false setup.labels) whole) _
     (AreSteps form seats false) _
@@ -463,7 +495,8 @@ script_sound whole =
       few_routines = subst (λ known. IsWithin known most_known) obey.1 obey.2;
       few_dispatches = named.0;
       few_drivers = named.2.1;
-      few_labels = listed.1.3;
+      few_labels = listed.1.3.0;
+      other_labels = listed.1.3.1;
       completions = obey.0;
       dispatches = subst (λ known. All (IsPlan form known) tables.0) obey.1 named.1;
       drivers = named.2.2;

@@ -116,7 +116,7 @@ script_at whole = do
     drivers = tables.1.tables;
     setup = steps.0;
     steps = steps.1.steps;
-    labels = length steps.1.labels;
+    labels = steps.1.labels;
   })
 
 -- ---- texts

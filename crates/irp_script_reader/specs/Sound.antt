@@ -1,6 +1,6 @@
 -- What is true of every script, list by list.
-use Rattle.std.specs.Prelude.{◌≡◌, ℕ, ◌+◌, ◌<◌, ◌≤◌, List, [], ◌∷◌, length, true}
-use Rattle.std.specs.List.{All}
+use Rattle.std.specs.Prelude.{◌≡◌, ◌≢◌, ℕ, ◌+◌, ◌<◌, ◌≤◌, List, [], ◌∷◌, length, true}
+use Rattle.std.specs.List.{All, AllPairs}
 use Rattle.irp_types.specs.Limits.{most_dispatches, most_drivers, most_locks, most_seats, most_slots}
 use Rattle.irp_types.specs.Rules.{IsWithin}
 use Rattle.irp_types.specs.State.{most_known, no_routines}
@@ -40,8 +40,8 @@ IsStep form seats step = (step.seat < seats) × (may_do form seats step.seat ste
 
 -- A script is within the limits: it has a seat and a remove lock at least, and no more of anything than there may be.
 -- Behaviours are those of their rules; plans are those that the form has, sound, and name only routines that the script
--- has; drivers name only dispatches that it has; each step's seat is there and may do it; and `setup` has no step on a
--- remove lock or on a cancel slot.
+-- has; drivers name only dispatches that it has; no two labels are the same; each step's seat is there and may do it; and
+-- `setup` has no step on a remove lock or on a cancel slot.
 pub record IsSound (script : ScriptParts) : Type 0 where
   pub some_seats : 1 ≤ script.seats
   pub few_seats : script.seats ≤ most_seats
@@ -51,7 +51,8 @@ pub record IsSound (script : ScriptParts) : Type 0 where
   pub few_routines : IsWithin (known_of script) most_known
   pub few_dispatches : length script.dispatches ≤ most_dispatches
   pub few_drivers : length script.drivers ≤ most_drivers
-  pub few_labels : script.labels ≤ most_labels
+  pub few_labels : length script.labels ≤ most_labels
+  pub other_labels : AllPairs (λ label later. label ≢ later) script.labels
   pub completions : All (λ routine. obeys_its_rule routine ≡ true) script.completions
   pub dispatches : All (IsPlan script.form (known_of script)) script.dispatches
   pub drivers : All (λ handlers. is_driver (length script.dispatches) handlers ≡ true) script.drivers

@@ -1,6 +1,6 @@
 //! The labels of a script, and the packets that steps name.
 
-ghost use Rattle.std.specs.Prelude.{◌≡◌, [], codes, length, option_map};
+ghost use Rattle.std.specs.Prelude.{◌≡◌, [], codes, length, map, option_map, string_bytes};
 ghost use Rattle.std.specs.List.{list_all};
 ghost use Rattle.serde_json.specs.View.{view};
 ghost use Rattle.irp_forms.specs.Fields.{field};
@@ -18,7 +18,8 @@ use std::marker::Model;
 /// The most labels of a script.
 const MOST_LABELS: usize = 4096;
 
-/// The labels that a script has named so far, in the order in which it first named them. Contracts see their bytes.
+/// The texts of the labels that a script names, or has named so far, in the order in which it first names them. A label's
+/// place here is its number in the script's steps. Contracts see their bytes.
 #[derive(Drop)]
 pub struct Labels {
     texts: Vec<String>,
@@ -40,6 +41,20 @@ impl Labels {
         Labels {
             texts: Vec::new(alloc),
         }
+    }
+
+    /// These labels.
+    pub fn from_texts(texts: Vec<String>) -> Labels
+        ensures { result ≡ map string_bytes texts.items }
+    {
+        Labels { texts }
+    }
+
+    /// Their texts, by number.
+    pub fn as_slice(&self) -> &[String]
+        ensures { map string_bytes result.now ≡ self.now }
+    {
+        &self.texts
     }
 
     /// How many there are.

@@ -14,6 +14,7 @@ mod script;
 mod taking;
 
 pub use act::{Named, Step, StepAct};
+pub use labels::Labels;
 pub use read::read_script;
 pub use refusal::{Fault, ScriptFault, ScriptRefusal, Section};
 pub use script::{Behaviour, CompletionRoutine, Script, ScriptForm, ScriptParts};

@@ -188,7 +188,7 @@ fn script_at(alloc: Global, value: &Value) -> Result<ScriptParts, ScriptFault>
         dispatches,
         drivers: drivers.tables,
         setup,
-        labels: steps.labels.len(),
+        labels: steps.labels,
         steps: steps.steps,
     })
 }

@@ -5,6 +5,7 @@ ghost use Rattle.irp_script_reader.specs.Forms.{slots_of};
 ghost use Rattle.irp_script_reader.specs.Sound.{IsSound};
 
 use crate::act::Step;
+use crate::labels::Labels;
 use irp_types::{CancelAnswer, DispatchId, Plan, Replacement, Row, Rule};
 use std::marker::Model;
 
@@ -77,9 +78,9 @@ pub struct ScriptParts {
     pub setup: Row<Step>,
     /// The steps of the workers.
     pub steps: Row<Step>,
-    /// How many labels the steps name, at most 4,096 in a `Script`. In one that was read each label's place is below
-    /// it.
-    pub labels: usize,
+    /// The labels that the steps name, in the order in which they first name them: at most 4,096 in a `Script`, and no
+    /// two the same. In one that was read each label's number is its place among them.
+    pub labels: Labels,
 }
 
 /// A script, which is sound: it is within the limits, its closures keep their rules, its drivers name only dispatches

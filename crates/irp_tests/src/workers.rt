@@ -11,7 +11,7 @@ use super::outcome::{Outcome, holds, number};
 use irp_remove::{Locks, RemoveSeat};
 use irp_routines::{AnswerTable, Ask};
 use irp_script::{Gate, ScriptSeat, Stop, Worked, run_workers, script_seats};
-use irp_script_reader::{Named, ScriptForm, ScriptParts, Step, StepAct};
+use irp_script_reader::{Labels, Named, ScriptForm, ScriptParts, Step, StepAct};
 use irp_shared::{Seat, Session, Shared, WordLine, open};
 use irp_types::{Call, DriverId, LockNo, Row};
 pub use meeting::two_calls_at_once;
@@ -55,6 +55,8 @@ fn script(
 {
     let setup = Row::from_vec(setup.to_vec(alloc)?);
     let steps = Row::from_vec(steps.to_vec(alloc)?);
+    let mut labels = Vec::new(alloc);
+    labels.push(String::from_str(alloc, "a")?)?;
     Ok(ScriptParts {
         form: ScriptForm::One,
         seats,
@@ -65,7 +67,7 @@ fn script(
         drivers: Row::from_vec(Vec::new(alloc)),
         setup,
         steps,
-        labels: 1,
+        labels: Labels::from_texts(labels),
     })
 }
 
