@@ -34,7 +34,7 @@ static void end(Packet *p, Entry *e)
         associated_ended(p);
     else if (p->irp->UserIosb)
         *p->irp->UserIosb = p->irp->IoStatus;
-    else
+    else if (!p->is_built)
         fault("NotKept", p, "has ended, and no routine kept it for whoever allocated it at %s",
               place(p->sites.allocated));
     protect(p);

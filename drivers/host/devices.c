@@ -146,6 +146,7 @@ static void delete_late(int d)
     Frame *const mine = self.frames;
     self.calls = &c;
     self.frames = NULL;
+    devices[d].leaving = false;
     delete_now(d, mine);
     self.calls = c.up;
     self.frames = mine;
@@ -172,7 +173,23 @@ VOID WdmIoDetachDevice(PDEVICE_OBJECT Lower, WDM_SITE at)
     leave_host();
 }
 
-/* As in Windows, a device with another one above it goes once that one is gone. */
+/* The dispatch of a REMOVE of the device that runs on this thread, or NULL. */
+static const Frame *removing(int d)
+{
+    const Frame *f = self.frames;
+    return f && f->kind == DISPATCH && f->device == d && f->major == IRP_MJ_PNP && lives(f->p) && f->p->use == f->use &&
+        raw_at(f->p, f->location)->MinorFunction == IRP_MN_REMOVE_DEVICE ? f : NULL;
+}
+
+/* A dispatch returns: where its device was deleted in it, that is done now. */
+void delete_after(int d)
+{
+    if (d >= 0 && devices[d].leaving && devices[d].upper < 0)
+        delete_late(d);
+}
+
+/* As in Windows, a device with another one above it goes once that one is gone; and one that is deleted in its own
+   REMOVE before the packet is completed goes when the dispatch returns. */
 VOID WdmIoDeleteDevice(PDEVICE_OBJECT Device, WDM_SITE at)
 {
     Call c;
@@ -182,7 +199,7 @@ VOID WdmIoDeleteDevice(PDEVICE_OBJECT Device, WDM_SITE at)
         if (lives(packets[i]))
             touch(packets[i]->irp, READS);
     const int d = Device->HostNumber;
-    if (devices[d].live && devices[d].upper >= 0 && devices[d].lower < 0) {
+    if (devices[d].live && devices[d].lower < 0 && (devices[d].upper >= 0 || removing(d))) {
         devices[d].leaving = true;
         devices[d].deleted = at;
     } else

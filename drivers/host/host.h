@@ -162,7 +162,7 @@ struct Packet {
     struct Block *direct_bytes; /* and what it describes, where nobody gave a buffer */
     bool scratch;      /* its topmost location is its allocator's own (IoSetNextIrpStackLocation) */
     ULONG room;        /* what was built has room for so many bytes there, to be copied to UserBuffer */
-    bool writes_back;
+    bool writes_back, is_built; /* is_built: by the I/O manager, which frees it at its end */
     bool trapped, touch_untold;
     const void *touched_at;
     int toucher;
@@ -313,7 +313,8 @@ PFILE_OBJECT file_for(PDEVICE_OBJECT top, UCHAR major);
 void give_mdl(Packet *p);
 void tell_locked_mdls(void);
 
-/* packets.c, preparing.c */
+/* devices.c, packets.c, preparing.c */
+void delete_after(int device);
 PIO_STACK_LOCATION raw_at(Packet *p, int j);
 Packet *find(PIRP irp);
 Packet *new_packet(int size, PIRP irp);
@@ -329,6 +330,9 @@ void put_back(Packet *p);
 void set_pending_bit(Packet *p, int j, bool real);
 void free_ended(Packet *p);
 void flush_next(Packet *p, int by);
+bool is_filled_by_hand(Packet *p);
+bool is_skipped_by_hand(const Packet *p);
+void take_hand_skip(Packet *p);
 void tell_ghost(Packet *p);
 
 /* associated.c */

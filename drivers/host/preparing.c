@@ -18,10 +18,19 @@ static void copy_shadow(Packet *p)
     p->prep = FILLED;
 }
 
+/* No major: it stands in a next location that nobody has filled, so that one who only looks there fills nothing. */
+enum { NO_MAJOR = 0xfe };
+
+/* Whether the owner wrote into its next location by hand. */
+bool is_filled_by_hand(Packet *p)
+{
+    return p->touched && p->current > 1 && raw_at(p, p->current - 1)->MajorFunction != NO_MAJOR;
+}
+
 /* What the owner wrote by hand into the next location becomes a SetNext, and what it set a SetRoutine. */
 void flush_next(Packet *p, int by)
 {
-    if (p->prep != SKIPPED && p->current > 1 && (p->touched || p->prep == FILLED)) {
+    if (p->prep != SKIPPED && p->current > 1 && (is_filled_by_hand(p) || p->prep == FILLED)) {
         PIO_STACK_LOCATION raw = raw_at(p, p->current - 1);
         Location *l = &p->at[p->current - 1];
         const uint64_t word = word_of(raw);
@@ -59,8 +68,11 @@ PIO_STACK_LOCATION WdmIoGetNextIrpStackLocation(PIRP Irp, WDM_SITE at)
     Call c;
     enter_host(&c, "IoGetNextIrpStackLocation", at);
     Packet *p = find(Irp);
-    const int here = p->current + (p->skipped && p->asking ? 1 : 0);
-    p->touched = true;
+    const bool in_routine = p->asking && p->asking->kind == ROUTINE && on_top(p) == p->asking;
+    const int here = p->current + (in_routine || (p->skipped && p->asking) ? 1 : 0);
+    if (here > 1 && !in_routine && lives(p) && !p->touched && !p->copied && p->prep == NOTHING)
+        raw_at(p, here - 1)->MajorFunction = NO_MAJOR;
+    p->touched |= !in_routine;
     if (lives(p) && here == 1) {
         settle(p, false);
         refuse(begin(SET_NEXT, p, party(p)), "TooShort");
@@ -101,11 +113,8 @@ VOID WdmIoCopyToNext(PIRP Irp, WDM_SITE at)
     leave_host();
 }
 
-VOID WdmIoSkip(PIRP Irp, WDM_SITE at)
+static void skip(Packet *p)
 {
-    Call c;
-    enter_host(&c, "IoSkipCurrentIrpStackLocation", at);
-    Packet *p = find(Irp);
     Frame *f = preparing(p);
     if (f && (p->skipped || f->cancel)) {
         settle(p, false);
@@ -121,8 +130,8 @@ VOID WdmIoSkip(PIRP Irp, WDM_SITE at)
         if (p->current > 1)
             clear_location(p, p->current - 1);
         prepare_nothing(p);
-        Irp->CurrentLocation++;
-        Irp->Tail.Overlay.CurrentStackLocation++;
+        p->irp->CurrentLocation++;
+        p->irp->Tail.Overlay.CurrentStackLocation++;
         if (f)
             p->skipped = true;
         else {
@@ -131,7 +140,30 @@ VOID WdmIoSkip(PIRP Irp, WDM_SITE at)
             p->prep = SKIPPED;
         }
     }
+}
+
+VOID WdmIoSkip(PIRP Irp, WDM_SITE at)
+{
+    Call c;
+    enter_host(&c, "IoSkipCurrentIrpStackLocation", at);
+    skip(find(Irp));
     leave_host();
+}
+
+/* Whether the packet's own words say what IoSkipCurrentIrpStackLocation makes of them, and it wasn't called. */
+bool is_skipped_by_hand(const Packet *p)
+{
+    return lives(p) && !p->skipped && p->prep != SKIPPED && p->irp->CurrentLocation == p->current + 1 &&
+        p->irp->Tail.Overlay.CurrentStackLocation == raw_at((Packet *)p, p->current + 1);
+}
+
+/* At the call that follows: a skip that is written by hand counts as one. Under G. */
+void take_hand_skip(Packet *p)
+{
+    if (!is_skipped_by_hand(p) || on_top(p) != p->asking)
+        return;
+    put_back(p);
+    skip(p);
 }
 
 static Setting *new_setting(PIO_COMPLETION_ROUTINE routine, PVOID context, UCHAR flags)

@@ -84,7 +84,9 @@ NTSTATUS enter_device(Packet *p, int d, Entry *e)
     NTSTATUS answer = fn(devices[d].raw, p->irp);
     driver_came_back();
     leave_frame();
-    return dispatch_returned(p, &f, answer);
+    answer = dispatch_returned(p, &f, answer);
+    delete_after(d);
+    return answer;
 }
 
 static void tell_hand_copied(Packet *p, const Setting *set)
@@ -99,7 +101,7 @@ static void tell_hand_copied(Packet *p, const Setting *set)
 static bool is_same_below(Packet *p)
 {
     const Location *here = &p->at[p->current];
-    return (p->copied || p->touched) && p->current > 1 && raw_at(p, p->current - 1)->MajorFunction == here->major &&
+    return (p->copied || is_filled_by_hand(p)) && p->current > 1 && raw_at(p, p->current - 1)->MajorFunction == here->major &&
         word_of(raw_at(p, p->current - 1)) == here->word;
 }
 
@@ -147,7 +149,7 @@ static NTSTATUS send(Packet *p, int by, int d)
     if (lives(p)) {
         if (f && f->marked && p->skipped)
             note("a warning of the kit", "%s: marks its location and skips it", what_runs(f));
-        const bool prepared = p->skipped || (p->current > 1 && (p->copied || p->touched || p->prep != NOTHING));
+        const bool prepared = p->skipped || (p->current > 1 && (p->copied || is_filled_by_hand(p) || p->prep != NOTHING));
         if (prepared && by >= 0 && devices[by].lower != d && devices[d].live)
             return send_in_place(p, by, d);
         settle(p, false);
@@ -175,6 +177,7 @@ NTSTATUS WdmIoCallDriver(PDEVICE_OBJECT Target, PIRP Irp, WDM_SITE at)
     Packet *p = find(Irp);
     touch(&devices, READS);
     await(p);
+    take_hand_skip(p);
     const int by = party(p), d = Target->HostNumber;
     if (lives(p) && (p->skipped || p->current > 1))
         check_dispatch_level(p, raw_at(p, p->skipped ? p->current : p->current - 1)->MajorFunction, d);

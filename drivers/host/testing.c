@@ -70,6 +70,15 @@ static void give_buffer(PIRP irp, PDEVICE_OBJECT top, ULONG length, WDM_SITE at)
     leave_host();
 }
 
+/* The packet is the I/O manager's: it is freed at its end, whether or not somebody wants its status. */
+static void frees_itself(PIRP irp)
+{
+    Call c;
+    enter_host(&c, "WdmBuildIrp", (WDM_SITE){ 0 });
+    find(irp)->is_built = true;
+    leave_host();
+}
+
 PIRP WdmBuild(PDEVICE_OBJECT Top, UCHAR Major, UCHAR Minor, ULONG Length, PIO_STATUS_BLOCK Iosb, PKEVENT Event,
               WDM_SITE at)
 {
@@ -77,6 +86,7 @@ PIRP WdmBuild(PDEVICE_OBJECT Top, UCHAR Major, UCHAR Minor, ULONG Length, PIO_ST
     PIRP irp = WdmIoAllocateIrp(Top->StackSize, at);
     if (!irp)
         return NULL;
+    frees_itself(irp);
     if (Major == IRP_MJ_PNP || Major == IRP_MJ_POWER || Major == IRP_MJ_SYSTEM_CONTROL)
         WdmIoReuseIrp(irp, STATUS_NOT_SUPPORTED, at);
     else

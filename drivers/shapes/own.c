@@ -91,7 +91,18 @@ static NTSTATUS ElsewhereAndKeep(PEXTENSION Ext, PIRP Irp)
     return STATUS_PENDING;
 }
 
+/* A packet that the I/O manager builds and frees: nobody wants its status. */
+static NTSTATUS BuiltForNobody(PEXTENSION Ext, PIRP Irp)
+{
+    const ULONG code = IoGetCurrentIrpStackLocation(Irp)->Parameters.DeviceIoControl.IoControlCode;
+    PIRP own = IoBuildDeviceIoControlRequest(code, Ext->Lower, NULL, 0, NULL, AT_ONCE, FALSE, NULL, NULL);
+    if (own)
+        IoCallDriver(Ext->Lower, own);
+    return Done(Irp, own ? STATUS_SUCCESS : STATUS_INSUFFICIENT_RESOURCES);
+}
+
 const NAMED_SHAPE OwnShapes[] = {
     { "OwnAndWait", OwnAndWait }, { "SplitTransfer", SplitTransfer }, { "SendElsewhere", SendElsewhere },
-    { "SkipElsewhere", SkipElsewhere }, { "ElsewhereAndKeep", ElsewhereAndKeep }, { NULL, NULL },
+    { "SkipElsewhere", SkipElsewhere }, { "ElsewhereAndKeep", ElsewhereAndKeep },
+    { "BuiltForNobody", BuiltForNobody }, { NULL, NULL },
 };

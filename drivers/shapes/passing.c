@@ -107,10 +107,40 @@ static NTSTATUS SetAndTakenBack(PEXTENSION Ext, PIRP Irp)
     return SkipDown(Ext, Irp);
 }
 
+/* Looks at the next location, and fills nothing there. */
+static NTSTATUS LookAndContinue(PDEVICE_OBJECT DeviceObject, PIRP Irp, PVOID Context)
+{
+    const BOOLEAN failed = IoGetNextIrpStackLocation(Irp)->MajorFunction == IRP_MJ_READ;
+    return failed ? STATUS_CONTINUE_COMPLETION : Watch(DeviceObject, Irp, Context);
+}
+
+static NTSTATUS LookInRoutine(PEXTENSION Ext, PIRP Irp) { return ForwardWith(Ext, Irp, LookAndContinue, NULL); }
+
+static NTSTATUS LookAndFinish(PEXTENSION Ext, PIRP Irp)
+{
+    UNREFERENCED_PARAMETER(Ext);
+    const BOOLEAN failed = IoGetNextIrpStackLocation(Irp)->MajorFunction == IRP_MJ_READ;
+    return Done(Irp, failed ? STATUS_UNSUCCESSFUL : STATUS_SUCCESS);
+}
+
+static NTSTATUS LookAndSkip(PEXTENSION Ext, PIRP Irp)
+{
+    return IoGetNextIrpStackLocation(Irp)->MajorFunction == IRP_MJ_READ ? STATUS_UNSUCCESSFUL : SkipDown(Ext, Irp);
+}
+
+/* IoSkipCurrentIrpStackLocation, written by hand. */
+static NTSTATUS SkipByHand(PEXTENSION Ext, PIRP Irp)
+{
+    Irp->CurrentLocation++;
+    Irp->Tail.Overlay.CurrentStackLocation++;
+    return IoCallDriver(Ext->Lower, Irp);
+}
+
 const NAMED_SHAPE PassingShapes[] = {
     { "SkipDown", SkipDown }, { "ForwardUnmarked", ForwardUnmarked }, { "ForwardMarked", ForwardMarked },
     { "MarkedRoutineSilent", MarkedRoutineSilent }, { "MarkedTwice", MarkedTwice },
     { "ForwardNoRoutine", ForwardNoRoutine }, { "OnErrorOnly", OnErrorOnly }, { "OtherParameters", OtherParameters },
     { "ChangeUnmarked", ChangeUnmarked }, { "MarkThenComplete", MarkThenComplete }, { "MarkAndSkip", MarkAndSkip },
-    { "SetAndTakenBack", SetAndTakenBack }, { NULL, NULL },
+    { "SetAndTakenBack", SetAndTakenBack }, { "LookInRoutine", LookInRoutine }, { "LookAndFinish", LookAndFinish },
+    { "LookAndSkip", LookAndSkip }, { "SkipByHand", SkipByHand }, { NULL, NULL },
 };

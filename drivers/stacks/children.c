@@ -1,7 +1,8 @@
-/* children.c: a bus with a child device, which sends the requests that it gets to its parent's stack. */
+/* children.c: a bus with a child device, which sends the requests that it gets to its parent's stack. Every second child
+   is deleted before its REMOVE is completed, as many buses do. */
 #include "common.h"
 
-typedef struct { BOOLEAN IsChild; PDEVICE_OBJECT Self, Lower, Parent; } EXTENSION, *PEXTENSION;
+typedef struct { BOOLEAN IsChild, GoesFirst; PDEVICE_OBJECT Self, Lower, Parent; } EXTENSION, *PEXTENSION;
 
 /* As a HID or serial enumerator has it: the packet has room for the parent's stack. */
 static NTSTATUS ChildRead(PEXTENSION Ext, PIRP Irp)
@@ -20,6 +21,10 @@ static NTSTATUS Pnp(PDEVICE_OBJECT DeviceObject, PIRP Irp)
 {
     PEXTENSION ext = DeviceObject->DeviceExtension;
     const UCHAR minor = IoGetCurrentIrpStackLocation(Irp)->MinorFunction;
+    if (ext->IsChild && ext->GoesFirst && minor == IRP_MN_REMOVE_DEVICE) {
+        IoDeleteDevice(DeviceObject);
+        return Complete(Irp, STATUS_SUCCESS, 0);
+    }
     if (ext->IsChild) {
         const NTSTATUS status = minor == IRP_MN_START_DEVICE || minor == IRP_MN_REMOVE_DEVICE ? STATUS_SUCCESS :
             Irp->IoStatus.Status;
@@ -74,6 +79,7 @@ static void use(PDRIVER_OBJECT driver, BOOLEAN late)
     AddDevice(driver, bottom);
     parent = IoGetAttachedDevice(bottom);
     child = AddChild(driver, parent);
+    ((PEXTENSION)child->DeviceExtension)->GoesFirst = late;
     WdmSend(parent, IRP_MJ_PNP, IRP_MN_START_DEVICE, 0);
     WdmSend(child, IRP_MJ_PNP, IRP_MN_START_DEVICE, 0);
     for (ULONG i = 0; i < WdmRounds(5); i++) {
