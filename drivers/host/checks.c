@@ -29,6 +29,12 @@ static const Check checks[] = {
     { "ZeroBytes", "0xC4/0x0", "Pool Tracking", "ask only for memory that is needed" },
     { "TimerInFreedMemory", "0xC7/0x0", "Bug Check 0xC7: TIMER_OR_DPC_INVALID", "call KeCancelTimer before" },
     { "DpcInFreedMemory", "0xC7/0x1", "Bug Check 0xC7: TIMER_OR_DPC_INVALID", "call KeFlushQueuedDpcs before" },
+    { "InformationTooLong", "no stop code", "Errors in Buffered I/O", "set Information to the bytes that were written" },
+    { "TouchedAfterSend", "no stop code", "Passing IRPs Down the Driver Stack",
+      "copy what is needed before IoCallDriver, or use it in the completion routine" },
+    { "RemoveFailed", "rule PnpRemove", "Rules for Handling Plug and Play IRPs", "succeed, and pass it down" },
+    { "PnpStatusChanged", "0xC9", "Rules for Handling Plug and Play IRPs", "leave the status of what isn't handled" },
+    { "NotPassedDown", "0xC9", "Rules for Handling Plug and Play IRPs", "pass it down, whatever is done with it here" },
     { "LockInFreedMemory", "0xC4/0x1006", "Deadlock Detection", "give it back before the memory goes" },
 };
 

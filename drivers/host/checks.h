@@ -60,6 +60,13 @@ void check_gone(const void *from, size_t size, const char *what);
 PKTIMER take_timer_in(const void *from, size_t size); /* work.c */
 PKDPC take_dpc_in(const void *from, size_t size);
 
+/* watching.c, completions.c */
+void watch(Packet *p, int by, uint64_t use);
+bool unwatch(Packet *p);
+bool is_watcher(const Packet *p);
+void check_completion(const Packet *p, int by, ULONG status, uint64_t information);
+void check_sending(const Packet *p, int by);
+
 /* low_memory.c */
 extern int n_allocations;
 bool memory_is_refused(const char *what, WDM_SITE at);

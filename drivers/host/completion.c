@@ -37,6 +37,7 @@ static void end(Packet *p, Entry *e)
     else if (!p->is_built)
         fault("NotKept", p, "has ended, and no routine kept it for whoever allocated it at %s",
               place(p->sites.allocated));
+    unwatch(p);
     protect(p);
     if (event)
         set_event(event);
@@ -220,6 +221,8 @@ VOID WdmIoCompleteRequest(PIRP Irp, WDM_SITE at)
     const ULONG status = live ? (ULONG)Irp->IoStatus.Status : 0;
     const uint64_t information = live ? Irp->IoStatus.Information : 0;
     const bool good = rules_completable(status);
+    if (live)
+        check_completion(p, by, status, information);
     Frame *f = live && p->asking && p->asking->device == by ? p->asking : NULL, *mine = on_top(p);
     if (live && mine && mine->kind == DISPATCH && good) {
         mine->finished = true;

@@ -164,6 +164,7 @@ static void use_stack(PDRIVER_OBJECT *loaded, BOOLEAN late, int threads)
     WdmSend(top, IRP_MJ_PNP, IRP_MN_START_DEVICE, 0);
     ask_capabilities(top);
     WdmSend(top, IRP_MJ_PNP, IRP_MN_QUERY_PNP_DEVICE_STATE, 0);
+    WdmSend(top, IRP_MJ_PNP, 0x7f, 0); /* a request that no driver knows */
     WdmSend(top, IRP_MJ_SYSTEM_CONTROL, IRP_MN_REGINFO, 0);
     power(top, IRP_MN_SET_POWER, PowerDeviceD0);
     use(top);

@@ -117,6 +117,7 @@ typedef struct Frame {
     bool completed_unmarked; /* its packet was completed while only the host had marked it */
     bool handed_over;        /* it made a call by which a packet may change hands: another may write to it by now */
     bool waiting;            /* its thread waits */
+    bool sent;               /* it made a send in its device's name */
     KIRQL before, irql;      /* the interrupt level before it, and the one at which it began */
     PDRIVER_CANCEL cancel;
     Entry *below; /* in_place.c: the rider's send, which returns when the dispatch's own does */
@@ -163,7 +164,10 @@ struct Packet {
     bool scratch;      /* its topmost location is its allocator's own (IoSetNextIrpStackLocation) */
     ULONG room;        /* what was built has room for so many bytes there, to be copied to UserBuffer */
     bool writes_back, is_built; /* is_built: by the I/O manager, which frees it at its end */
-    bool trapped, touch_untold;
+    bool trapped, touch_untold, touched_by_sender;
+    bool watched; /* watching.c: its page is closed, until somebody touches it */
+    const Frame *watcher;
+    const struct Call *watcher_calls;
     const void *touched_at;
     int toucher;
     struct { WDM_SITE allocated, sent, completed, freed, cancel; } sites;

@@ -185,6 +185,9 @@ NTSTATUS WdmIoCallDriver(PDEVICE_OBJECT Target, PIRP Irp, WDM_SITE at)
     NTSTATUS answer;
     if (lives(p) && p->owner == ORIGINATOR)
         give_mdl(p);
+    const uint64_t use = p->use;
+    if (lives(p))
+        check_sending(p, by);
     if (lives(p) && p->owner != ENDED && (f || p->owner == by))
         p->sites.sent = at;
     if (f && devices[by].lower == d && !f->cancel && (p->skipped ? !f->marked : is_same_below(p))) {
@@ -193,6 +196,7 @@ NTSTATUS WdmIoCallDriver(PDEVICE_OBJECT Target, PIRP Irp, WDM_SITE at)
         answer = will_wait(p, f) ? forward_in_place(p, d) : pass_down(p, f, d);
     } else
         answer = send(p, by, d);
+    watch(p, by, use);
     leave_host();
     return answer;
 }

@@ -20,7 +20,13 @@ static void touched(int signal_number, siginfo_t *info, void *context)
         return;
     }
     Packet *p = packets[i];
-    p->trapped = true;
+    const bool was_watched = unwatch(p);
+    if (was_watched && !is_watcher(p)) {
+        mprotect(arena + i * PAGE, PAGE, PROT_READ | PROT_WRITE);
+        return;
+    }
+    p->touched_by_sender = was_watched;
+    p->trapped = !was_watched;
     p->touch_untold = true;
     p->touched_at = instruction_of(context);
     p->toucher = self.frames ? self.frames->device : NOBODY;
@@ -61,6 +67,8 @@ Packet *find(PIRP irp)
     touch(p->irp, WRITES);
     if (footprints && lets_go(self.calls->name))
         plain_access(p->irp, true, NULL);
+    if (__atomic_load_n(&p->watched, __ATOMIC_SEQ_CST))
+        unprotect(p);
     while (p->rider)
         p = p->rider;
     return p;
@@ -84,6 +92,7 @@ void unprotect(Packet *p)
     if (!p->irp)
         p->irp = (PIRP)(arena + (size_t)p->slot * PAGE);
     p->trapped = false;
+    unwatch(p);
     mprotect(p->irp, PAGE, PROT_READ | PROT_WRITE);
 }
 
@@ -102,8 +111,12 @@ static void tell(Packet *p)
     p->touch_untold = false;
     self.calls = (Call *)&here; /* not the call that runs, and perhaps not the routine either */
     self.frames = NULL;
-    fault("Touched", p, "read or written after its end by %s; it was completed at %s", who(p->toucher),
-          place(p->sites.completed));
+    if (p->touched_by_sender)
+        broken("TouchedAfterSend", p, "read or written by %s, which sent it at %s, and doesn't own it any more",
+               who(p->toucher), place(p->sites.sent));
+    else
+        fault("Touched", p, "read or written after its end by %s; it was completed at %s", who(p->toucher),
+              place(p->sites.completed));
     self.calls = calls;
     self.frames = frames;
 }

@@ -2,7 +2,7 @@
    case is to be wrong. */
 #include "rules.h"
 
-static const CASE_ROW *const tables[] = { LockCases, LevelCases, PoolCases };
+static const CASE_ROW *const tables[] = { LockCases, LevelCases, PoolCases, PacketCases };
 
 /* Returns the name of the n-th case, or NULL. */
 const char *RulesName(ULONG n);
@@ -14,6 +14,9 @@ static const CASE_ROW *Find(ULONG n)
                 return row;
     return NULL;
 }
+
+/* For what a test sends beside its controls. */
+VOID RulesSetPnp(PEXTENSION Ext, ULONG n) { Ext->Pnp = Find(n)->Pnp; }
 
 const char *RulesName(ULONG n)
 {
@@ -52,7 +55,7 @@ static NTSTATUS Control(PDEVICE_OBJECT DeviceObject, PIRP Irp)
 {
     PEXTENSION ext = DeviceObject->DeviceExtension;
     const CASE_ROW *row = Find(IoGetCurrentIrpStackLocation(Irp)->Parameters.DeviceIoControl.IoControlCode >> 2);
-    return row ? row->Run(ext, Irp, ext->Wrong) : Done(Irp);
+    return row && row->Run ? row->Run(ext, Irp, ext->Wrong) : Done(Irp);
 }
 
 static NTSTATUS Pass(PDEVICE_OBJECT DeviceObject, PIRP Irp) { return PassDown(DeviceObject->DeviceExtension, Irp); }
@@ -61,6 +64,8 @@ static NTSTATUS Pnp(PDEVICE_OBJECT DeviceObject, PIRP Irp)
 {
     PEXTENSION ext = DeviceObject->DeviceExtension;
     const UCHAR minor = IoGetCurrentIrpStackLocation(Irp)->MinorFunction;
+    if (ext->Pnp && (minor != IRP_MN_REMOVE_DEVICE || (ext->Wrong && !ext->Step)))
+        return ext->Pnp(ext, Irp, ext->Wrong);
     NTSTATUS status = PassDown(ext, Irp);
     if (minor == IRP_MN_REMOVE_DEVICE) {
         IoDetachDevice(ext->Lower);

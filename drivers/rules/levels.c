@@ -139,8 +139,8 @@ static NTSTATUS AsksAtDispatch(PEXTENSION Ext, PIRP Irp, BOOLEAN Wrong)
 }
 
 const CASE_ROW LevelCases[] = {
-    { "IrqlTooHigh", WaitsInDeferredCall }, { "UnderSpinLock_Delay", DelaysUnderLock },
-    { "IrqlTooHigh_FastMutex", MutexAtDispatch }, { "IrqlTooHigh_PagedCode", PagedUnderLock },
-    { "IrqlTooHigh_Routine", RoutineWaits }, { "IrqlTooLow", AtDpcLevel }, { "IrqlReturn", StaysRaised },
-    { "RaiseLower", RaisesDown }, { "ForwardedAtBadIrql", AsksAtDispatch }, { NULL, NULL },
+    { "IrqlTooHigh", WaitsInDeferredCall, NULL }, { "UnderSpinLock_Delay", DelaysUnderLock, NULL },
+    { "IrqlTooHigh_FastMutex", MutexAtDispatch, NULL }, { "IrqlTooHigh_PagedCode", PagedUnderLock, NULL },
+    { "IrqlTooHigh_Routine", RoutineWaits, NULL }, { "IrqlTooLow", AtDpcLevel, NULL }, { "IrqlReturn", StaysRaised, NULL },
+    { "RaiseLower", RaisesDown, NULL }, { "ForwardedAtBadIrql", AsksAtDispatch, NULL }, { NULL, NULL, NULL },
 };

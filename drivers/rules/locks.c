@@ -184,9 +184,9 @@ static NTSTATUS HandsOver(PEXTENSION Ext, PIRP Irp, BOOLEAN Wrong)
 }
 
 const CASE_ROW LockCases[] = {
-    { "SelfDeadlock", TakenTwice }, { "SelfDeadlock_FastMutex", MutexTwice }, { "LockOrder", TwoOrders },
-    { "LockOrder_CancelLock", TwoOrdersOfCancelLock }, { "WrongThread", OtherThread }, { "LockKept", Kept },
-    { "LockKept_Thread", KeptByThread }, { "NotAcquired", NeverTaken }, { "InitializedHeld", InitializedAgain },
-    { "UnderSpinLock", CompletesUnderLock }, { "UnderSpinLock_CancelLock", CompletesUnderCancelLock },
-    { "UnderSpinLock_Send", SendsUnderLock }, { "WrongIrql", HandsOver }, { NULL, NULL },
+    { "SelfDeadlock", TakenTwice, NULL }, { "SelfDeadlock_FastMutex", MutexTwice, NULL }, { "LockOrder", TwoOrders, NULL },
+    { "LockOrder_CancelLock", TwoOrdersOfCancelLock, NULL }, { "WrongThread", OtherThread, NULL }, { "LockKept", Kept, NULL },
+    { "LockKept_Thread", KeptByThread, NULL }, { "NotAcquired", NeverTaken, NULL }, { "InitializedHeld", InitializedAgain, NULL },
+    { "UnderSpinLock", CompletesUnderLock, NULL }, { "UnderSpinLock_CancelLock", CompletesUnderCancelLock, NULL },
+    { "UnderSpinLock_Send", SendsUnderLock, NULL }, { "WrongIrql", HandsOver, NULL }, { NULL, NULL, NULL },
 };

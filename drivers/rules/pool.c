@@ -151,10 +151,10 @@ static NTSTATUS FreesLock(PEXTENSION Ext, PIRP Irp, BOOLEAN Wrong)
 }
 
 const CASE_ROW PoolCases[] = {
-    { "PoolLeak", Leaks }, { "FreedTwice", FreesTwice }, { "WrongTag", OtherTag }, { "NotPool", FreesMiddle },
-    { "WrittenAfterFree", WritesLate }, { "UsedAfterFree_PageEnds", WritesLate }, { "PoolOverrun", WritesBeyond },
-    { "PoolOverrun_PageEnds", WritesBeyondBuffer }, { "ZeroBytes", AsksForNothing },
-    { "IrqlTooHigh_PagedPool", PagedUnderLock }, { "TimerInFreedMemory", FreesTimer },
-    { "TimerInFreedMemory_Device", LeavesTimer }, { "DpcInFreedMemory", FreesDeferredCall },
-    { "LockInFreedMemory", FreesLock }, { NULL, NULL },
+    { "PoolLeak", Leaks, NULL }, { "FreedTwice", FreesTwice, NULL }, { "WrongTag", OtherTag, NULL }, { "NotPool", FreesMiddle, NULL },
+    { "WrittenAfterFree", WritesLate, NULL }, { "UsedAfterFree_PageEnds", WritesLate, NULL }, { "PoolOverrun", WritesBeyond, NULL },
+    { "PoolOverrun_PageEnds", WritesBeyondBuffer, NULL }, { "ZeroBytes", AsksForNothing, NULL },
+    { "IrqlTooHigh_PagedPool", PagedUnderLock, NULL }, { "TimerInFreedMemory", FreesTimer, NULL },
+    { "TimerInFreedMemory_Device", LeavesTimer, NULL }, { "DpcInFreedMemory", FreesDeferredCall, NULL },
+    { "LockInFreedMemory", FreesLock, NULL }, { NULL, NULL, NULL },
 };

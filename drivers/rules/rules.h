@@ -5,7 +5,7 @@
 
 #include <wdm.h>
 
-typedef struct {
+typedef struct EXTENSION {
     PDEVICE_OBJECT Self, Lower;
     KSPIN_LOCK Lock, Other, Gate;
     FAST_MUTEX Mutex;
@@ -14,12 +14,13 @@ typedef struct {
     KDPC Dpc;
     BOOLEAN Wrong;
     LONG Step;
+    NTSTATUS (*Pnp)(struct EXTENSION *Ext, PIRP Irp, BOOLEAN Wrong);
 } EXTENSION, *PEXTENSION;
 
-/* A case is the dispatch of DEVICE_CONTROL for its packet. */
+/* A case is the dispatch of DEVICE_CONTROL, or of PNP, for its packet. */
 typedef NTSTATUS CASE(PEXTENSION Ext, PIRP Irp, BOOLEAN Wrong);
-typedef struct { const char *Name; CASE *Run; } CASE_ROW;
-extern const CASE_ROW LockCases[], LevelCases[], PoolCases[];
+typedef struct { const char *Name; CASE *Run, *Pnp; } CASE_ROW;
+extern const CASE_ROW LockCases[], LevelCases[], PoolCases[], PacketCases[];
 
 NTSTATUS Done(PIRP Irp);
 NTSTATUS PassDown(PEXTENSION Ext, PIRP Irp);

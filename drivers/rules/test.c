@@ -5,15 +5,18 @@
 
 DRIVER_INITIALIZE DriverEntry;
 const char *RulesName(ULONG n);
+VOID RulesSetPnp(PEXTENSION Ext, ULONG n);
 
 static void run_case(ULONG n, BOOLEAN wrong)
 {
     PDRIVER_OBJECT driver = WdmLoadDriver("rules", DriverEntry);
-    PDEVICE_OBJECT bottom = WdmCreateBottom(n % 2);
+    PDEVICE_OBJECT bottom = WdmCreateBottom(TRUE);
     driver->DriverExtension->AddDevice(driver, bottom);
     PDEVICE_OBJECT top = IoGetAttachedDevice(bottom);
     ((PEXTENSION)top->DeviceExtension)->Wrong = wrong;
+    RulesSetPnp(top->DeviceExtension, n);
     WdmSend(top, IRP_MJ_PNP, IRP_MN_START_DEVICE, 0);
+    WdmSend(top, IRP_MJ_PNP, 0x7f, 0); /* a request that no driver knows */
     WdmControl(top, n << 2, 16);
     WdmControl(top, n << 2, 16);
     WdmSend(top, IRP_MJ_PNP, IRP_MN_REMOVE_DEVICE, 0);

@@ -117,6 +117,6 @@ BOOLEAN BusDataArrived(PDEVICE_OBJECT Pdo, ULONG Bytes)
     KeReleaseSpinLock(&ext->Lock, irql);
     if (irp == NULL)
         return FALSE;
-    BusComplete(irp, STATUS_SUCCESS, Bytes);
+    BusComplete(irp, STATUS_SUCCESS, min(Bytes, IoGetCurrentIrpStackLocation(irp)->Parameters.Read.Length));
     return TRUE;
 }

@@ -25,7 +25,7 @@ static VOID Fill(PIRP Own, ULONG Ending)
 {
     PIO_STACK_LOCATION next = IoGetNextIrpStackLocation(Own);
     next->MajorFunction = IRP_MJ_DEVICE_CONTROL;
-    next->Parameters.DeviceIoControl.OutputBufferLength = Ending;
+    next->Parameters.DeviceIoControl.OutputBufferLength = ROOM + Ending;
     next->Parameters.DeviceIoControl.InputBufferLength = 10;
 }
 
@@ -54,7 +54,7 @@ static NTSTATUS SplitTransfer(PEXTENSION Ext, PIRP Irp)
     SPLIT *s = ExAllocatePool2(POOL_FLAG_NON_PAGED, sizeof *s, 'tilS');
     PIRP own = IoAllocateIrp(Ext->Lower->StackSize, FALSE);
     *s = (SPLIT){ Irp, Ext->Lower, 3, 0 };
-    const ULONG ending = IoGetCurrentIrpStackLocation(Irp)->Parameters.DeviceIoControl.OutputBufferLength;
+    const ULONG ending = IoGetCurrentIrpStackLocation(Irp)->Parameters.DeviceIoControl.OutputBufferLength - ROOM;
     IoMarkIrpPending(Irp);
     IoSetCompletionRoutine(own, SplitDone, s, TRUE, TRUE, TRUE);
     Fill(own, ending);

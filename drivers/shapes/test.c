@@ -18,9 +18,10 @@ static void *sender(void *context)
         IO_STATUS_BLOCK iosb;
         KEVENT done;
         KeInitializeEvent(&done, NotificationEvent, FALSE);
-        PIRP irp = WdmBuildIrp(top, IRP_MJ_DEVICE_CONTROL, 0, 10, &iosb, &done);
+        PIRP irp = WdmBuildIrp(top, IRP_MJ_DEVICE_CONTROL, 0, ROOM + ENDINGS, &iosb, &done);
         PIO_STACK_LOCATION next = IoGetNextIrpStackLocation(irp);
-        next->Parameters.DeviceIoControl.OutputBufferLength = (ULONG)(ending < 0 ? i % ENDINGS : ending);
+        next->Parameters.DeviceIoControl.InputBufferLength = 10;
+        next->Parameters.DeviceIoControl.OutputBufferLength = ROOM + (ULONG)(ending < 0 ? i % ENDINGS : ending);
         next->Parameters.DeviceIoControl.IoControlCode = (ULONG)(shape < 0 ? i / ENDINGS % n_right : shape);
         IoCallDriver(top, irp);
         KeWaitForSingleObject(&done, Executive, KernelMode, FALSE, NULL);

@@ -17,7 +17,7 @@ typedef struct {
 
 static VOID Take(PIRP Irp)
 {
-    Irp->IoStatus.Information += 1000;
+    Irp->IoStatus.Information /= 2;
     KeStallExecutionProcessor(4000);
     IoCompleteRequest(Irp, IO_NO_INCREMENT);
 }
@@ -149,7 +149,7 @@ int main(void)
     WdmDeclareRule(ReadDone, "keeper");
     for (ULONG i = 0; i < 3 * WAYS; i++) {
         REQUEST r;
-        Start(&r, top, IRP_MJ_READ, i);
+        Start(&r, top, IRP_MJ_READ, i + WAYS);
         Finish(&r);
     }
     InterlockedIncrement(&ext->Stops);

@@ -1,0 +1,77 @@
+/* completions.c: what a packet is completed or passed down with: its length of data, its status of Plug and Play. */
+#include "host.h"
+
+enum { FIRST_UNKNOWN = 0x1a, RESERVED = 0x0e };
+
+static bool is_unknown(UCHAR minor) { return minor >= FIRST_UNKNOWN || minor == RESERVED; }
+
+/* The bytes that may come back, by the location of whoever completes; or all of them where that isn't known. */
+static uint64_t room_of(const IO_STACK_LOCATION *l)
+{
+    switch (l->MajorFunction) {
+    case IRP_MJ_READ:
+    case IRP_MJ_WRITE: return l->Parameters.Read.Length;
+    case IRP_MJ_DEVICE_CONTROL:
+        if (METHOD_FROM_CTL_CODE(l->Parameters.DeviceIoControl.IoControlCode) != METHOD_NEITHER)
+            return l->Parameters.DeviceIoControl.OutputBufferLength;
+        return UINT64_MAX;
+    default: return UINT64_MAX;
+    }
+}
+
+static void check_information(const Packet *p, const IO_STACK_LOCATION *l, ULONG status, uint64_t information)
+{
+    const uint64_t room = room_of(l);
+    if (!NT_ERROR(status) && information > room)
+        broken("InformationTooLong", p, "completed with Information %lu, and %s has room for %lu",
+               (unsigned long)information, major_name(l->MajorFunction), (unsigned long)room);
+}
+
+/* Whether a device that stands on another one has to pass the request on, whatever it does itself. */
+static bool has_to_go_down(UCHAR minor)
+{
+    return minor <= IRP_MN_CANCEL_STOP_DEVICE || minor == IRP_MN_SURPRISE_REMOVAL || minor == IRP_MN_QUERY_CAPABILITIES ||
+        is_unknown(minor);
+}
+
+static void check_pnp(const Packet *p, const IO_STACK_LOCATION *l, int by, ULONG status)
+{
+    const Frame *f = on_top(p);
+    const bool good = NT_SUCCESS(status) || status == (ULONG)STATUS_NOT_SUPPORTED;
+    if (l->MinorFunction == IRP_MN_REMOVE_DEVICE && !NT_SUCCESS(status))
+        broken("RemoveFailed", p, "IRP_MN_REMOVE_DEVICE is completed with %#x", status);
+    else if (is_unknown(l->MinorFunction) && status != p->status)
+        broken("PnpStatusChanged", p, "a request that the driver can't know (minor %#x) came with %#x, and is completed "
+               "with %#x", l->MinorFunction, p->status, status);
+    else if (f && f->kind == DISPATCH && !f->sent && devices[by].lower >= 0 && good && has_to_go_down(l->MinorFunction))
+        broken("NotPassedDown", p, "%s completes minor %#x, and the drivers below haven't seen it", who(by),
+               l->MinorFunction);
+}
+
+/* A device that has the packet completes it. */
+void check_completion(const Packet *p, int by, ULONG status, uint64_t information)
+{
+    if (by < 0 || p->skipped || p->current > p->size || p->at[p->current].device != by)
+        return;
+    const IO_STACK_LOCATION *l = raw_at((Packet *)p, p->current);
+    check_information(p, l, status, information);
+    if (l->MajorFunction == IRP_MJ_PNP)
+        check_pnp(p, l, by, status);
+}
+
+/* A dispatch passes the packet down. */
+void check_sending(const Packet *p, int by)
+{
+    Frame *f = self.frames;
+    while (f && (f->kind != DISPATCH || f->device != by))
+        f = f->up;
+    if (f)
+        f->sent = true;
+    if (!f || f->major != IRP_MJ_PNP || on_top(p) != f)
+        return;
+    const UCHAR minor = raw_at((Packet *)p, p->current)->MinorFunction;
+    const ULONG status = (ULONG)p->irp->IoStatus.Status;
+    if (is_unknown(minor) && p->asking == f && status != p->status)
+        broken("PnpStatusChanged", p, "a request that the driver can't know (minor %#x) came with %#x, and is passed "
+               "down with %#x", minor, p->status, status);
+}
