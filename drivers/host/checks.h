@@ -61,7 +61,7 @@ PKTIMER take_timer_in(const void *from, size_t size); /* work.c */
 PKDPC take_dpc_in(const void *from, size_t size);
 
 /* watching.c, completions.c */
-void watch(Packet *p, int by, uint64_t use);
+void watch_sent(Packet *p, int by, uint64_t use);
 bool unwatch(Packet *p);
 bool is_watcher(const Packet *p);
 void check_completion(const Packet *p, int by, ULONG status, uint64_t information);

@@ -196,7 +196,7 @@ NTSTATUS WdmIoCallDriver(PDEVICE_OBJECT Target, PIRP Irp, WDM_SITE at)
         answer = will_wait(p, f) ? forward_in_place(p, d) : pass_down(p, f, d);
     } else
         answer = send(p, by, d);
-    watch(p, by, use);
+    watch_sent(p, by, use);
     leave_host();
     return answer;
 }

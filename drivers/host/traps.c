@@ -15,14 +15,14 @@ static void touched(int signal_number, siginfo_t *info, void *context)
     const size_t i = (size_t)((char *)info->si_addr - arena) / PAGE;
     if (touched_block(info->si_addr, (void *)(uintptr_t)instruction_of(context)))
         return;
-    if ((char *)info->si_addr < arena || i >= (size_t)n_packets || packets[i]->trapped) {
-        crashed(signal_number, info, context);
-        return;
-    }
-    Packet *p = packets[i];
-    const bool was_watched = unwatch(p);
+    Packet *p = (char *)info->si_addr < arena || i >= MAX_PACKETS ? NULL : packets[i];
+    const bool was_watched = p && unwatch(p);
     if (was_watched && !is_watcher(p)) {
         mprotect(arena + i * PAGE, PAGE, PROT_READ | PROT_WRITE);
+        return;
+    }
+    if (!p || (!was_watched && p->trapped)) {
+        crashed(signal_number, info, context);
         return;
     }
     p->touched_by_sender = was_watched;

@@ -8,7 +8,7 @@
 static int driver_of(int device) { return device < 0 ? device : devices[device].raw->DriverObject->HostNumber; }
 
 /* Before IoCallDriver returns to the code of `by`. */
-void watch(Packet *p, int by, uint64_t use)
+void watch_sent(Packet *p, int by, uint64_t use)
 {
     if (!self.frames || !lives(p) || p->use != use || p->rides || p->rider || p->owner == by)
         return;
