@@ -184,9 +184,10 @@ static NTSTATUS HandsOver(PEXTENSION Ext, PIRP Irp, BOOLEAN Wrong)
 }
 
 const CASE_ROW LockCases[] = {
-    { "SelfDeadlock", TakenTwice, NULL }, { "SelfDeadlock_FastMutex", MutexTwice, NULL }, { "LockOrder", TwoOrders, NULL },
-    { "LockOrder_CancelLock", TwoOrdersOfCancelLock, NULL }, { "WrongThread", OtherThread, NULL }, { "LockKept", Kept, NULL },
-    { "LockKept_Thread", KeptByThread, NULL }, { "NotAcquired", NeverTaken, NULL }, { "InitializedHeld", InitializedAgain, NULL },
+    { "SelfDeadlock", TakenTwice, NULL }, { "SelfDeadlock_FastMutex", MutexTwice, NULL },
+    { "LockOrder", TwoOrders, NULL }, { "LockOrder_CancelLock", TwoOrdersOfCancelLock, NULL },
+    { "WrongThread", OtherThread, NULL }, { "LockKept", Kept, NULL }, { "LockKept_Thread", KeptByThread, NULL },
+    { "NotAcquired", NeverTaken, NULL }, { "InitializedHeld", InitializedAgain, NULL },
     { "UnderSpinLock", CompletesUnderLock, NULL }, { "UnderSpinLock_CancelLock", CompletesUnderCancelLock, NULL },
     { "UnderSpinLock_Send", SendsUnderLock, NULL }, { "WrongIrql", HandsOver, NULL }, { NULL, NULL, NULL },
 };
