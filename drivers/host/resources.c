@@ -262,3 +262,11 @@ VOID ExRaiseStatus(NTSTATUS Status)
     snprintf(text, sizeof text, "a driver raises the exception %#x", (unsigned)Status);
     give_up(text);
 }
+
+PVOID (ExAllocatePoolWithTag)(POOL_TYPE Type, SIZE_T Bytes, ULONG Tag)
+{
+    return WdmAllocatePool(WDM_POOL_OF(Type), Bytes, Tag, nowhere);
+}
+
+VOID (ExFreePoolWithTag)(PVOID Memory, ULONG Tag) { WdmFreePool(Memory, Tag, TRUE, nowhere); }
+VOID (ExFreePool)(PVOID Memory) { WdmFreePool(Memory, 0, FALSE, nowhere); }

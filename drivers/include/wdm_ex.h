@@ -173,7 +173,10 @@ PSINGLE_LIST_ENTRY ExInterlockedPushEntryList(PSINGLE_LIST_ENTRY Head, PSINGLE_L
 PSINGLE_LIST_ENTRY ExInterlockedPopEntryList(PSINGLE_LIST_ENTRY Head, PKSPIN_LOCK Lock);
 LARGE_INTEGER ExInterlockedAddLargeInteger(PLARGE_INTEGER Sum, LARGE_INTEGER More, PKSPIN_LOCK Lock);
 
-/* What drivers ask of pool, privileges and users. */
+/* What drivers ask of pool, privileges and users. As functions, for who takes their addresses. */
+PVOID (ExAllocatePoolWithTag)(POOL_TYPE Type, SIZE_T Bytes, ULONG Tag);
+VOID (ExFreePoolWithTag)(PVOID Memory, ULONG Tag);
+VOID (ExFreePool)(PVOID Memory);
 #define ExAllocatePoolWithQuotaTag ExAllocatePoolWithTag
 #define ExAllocatePoolWithQuota ExAllocatePool
 #define ExAllocatePoolUninitialized ExAllocatePoolWithTag

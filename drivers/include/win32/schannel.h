@@ -1,0 +1,2 @@
+/* schannel.h: nothing of it is used here. */
+#include "win32.h"

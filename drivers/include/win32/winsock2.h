@@ -1,0 +1,53 @@
+/* winsock2.h: sockets of this machine by their names of Win32. */
+#ifndef WDM_WIN32_WINSOCK2_H
+#define WDM_WIN32_WINSOCK2_H
+
+#include "win32.h"
+#include <arpa/inet.h>
+#include <errno.h>
+#include <netinet/in.h>
+#include <strings.h>
+#include <sys/ioctl.h>
+#include <sys/socket.h>
+#include <unistd.h>
+
+typedef long SOCKET;
+typedef struct sockaddr SOCKADDR, *PSOCKADDR, *LPSOCKADDR;
+typedef struct sockaddr_storage SOCKADDR_STORAGE, *PSOCKADDR_STORAGE;
+typedef OVERLAPPED WSAOVERLAPPED, *LPWSAOVERLAPPED;
+typedef struct { int version; } WSADATA;
+typedef struct _WSANETWORKEVENTS { long lNetworkEvents; int iErrorCode[10]; } WSANETWORKEVENTS;
+#define INVALID_SOCKET (-1L)
+#define SOCKET_ERROR (-1)
+#define SD_RECEIVE 0
+#define SD_SEND 1
+#define SD_BOTH 2
+#define FD_READ 1
+#define FD_WRITE 2
+#define FD_ACCEPT 8
+#define FD_CLOSE 32
+#define WSAEWOULDBLOCK EWOULDBLOCK
+#define WSAEADDRINUSE EADDRINUSE
+#define WSAEACCES EACCES
+#define SO_EXCLUSIVEADDRUSE SO_REUSEADDR
+#define closesocket(s) close((int)(s))
+#define ioctlsocket(s, command, value) ioctl((int)(s), (command), (value))
+#define WSAGetLastError() errno
+#define WSAStartup(version, data) ((void)(data), 0)
+#define WSACleanup() 0
+#define WSAEnumNetworkEvents(s, event, events) ((void)(s), (events)->lNetworkEvents = 0, 0)
+#define WSAEventSelect(s, event, mask) WdmSelect((s), (event))
+int WdmSelect(long Socket, HANDLE Event);
+
+/* An address as Win32 lays it out, which this machine does too, but for its names. */
+#undef s_addr
+struct wdm_in_addr { union { union { ULONG S_addr; UCHAR S_bytes[4]; } S_un; unsigned s_addr; }; };
+struct wdm_sockaddr_in {
+    unsigned short sin_family, sin_port;
+    struct wdm_in_addr sin_addr;
+    char sin_zero[8];
+};
+#define sockaddr_in wdm_sockaddr_in
+#define in_addr wdm_in_addr
+
+#endif
