@@ -37,6 +37,17 @@ PDRIVER_OBJECT WdmLoad(const char *Name, PDRIVER_INITIALIZE Entry, WDM_SITE at)
     return NT_SUCCESS(status) ? d : NULL;
 }
 
+extern const struct { const char *name; PDRIVER_INITIALIZE entry; } wdm_drivers[] __attribute__((weak));
+
+PDRIVER_OBJECT WdmLoadNamed(const char *Name, WDM_SITE at)
+{
+    for (int i = 0; wdm_drivers && wdm_drivers[i].name; i++)
+        if (!strcmp(wdm_drivers[i].name, Name))
+            return WdmLoad(wdm_drivers[i].name, wdm_drivers[i].entry, at);
+    say("no driver is named %s", Name);
+    return NULL;
+}
+
 VOID WdmUnloadDriver(PDRIVER_OBJECT Driver)
 {
     if (Driver->DriverUnload)

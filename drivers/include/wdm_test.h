@@ -12,6 +12,9 @@
 /* Calls DriverEntry of a driver. Returns its object, or NULL where DriverEntry fails. The name is for messages. */
 PDRIVER_OBJECT WdmLoad(const char *Name, PDRIVER_INITIALIZE Entry, WDM_SITE at);
 #define WdmLoadDriver(name, entry) WdmLoad((name), (entry), WDM_HERE)
+/* The same of a driver that `run` was given, by its file's or its folder's name without an ending. */
+PDRIVER_OBJECT WdmLoadNamed(const char *Name, WDM_SITE at);
+#define WdmLoadByName(name) WdmLoadNamed((name), WDM_HERE)
 
 /* Calls DriverUnload, where the driver has one. */
 VOID WdmUnloadDriver(PDRIVER_OBJECT Driver);

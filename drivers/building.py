@@ -1,0 +1,164 @@
+"""Builds a program of drivers, a test and the host.
+
+Each driver is linked alone, and what its source calls by a global name stays its own: drivers with the same globals stand
+side by side. A name that another driver or the test wants stays global, where just one driver has it. DriverEntry of a
+driver is found by the driver's name: FILE_DriverEntry, in a table for WdmLoadByName."""
+
+import os
+import re
+import subprocess
+import sys
+
+import missing
+
+HERE = os.path.dirname(os.path.abspath(__file__))
+DRIVER_FLAGS = ["-std=gnu11", "-fcommon", "-Wall", "-Wextra", "-Wno-multichar", "-Wno-unknown-pragmas",
+                "-Wno-unused-parameter", "-Werror=implicit-function-declaration"]
+
+
+class Stop(Exception):
+    """What keeps the run from being made."""
+
+
+def call(words, why):
+    made = subprocess.run(words, capture_output=True, text=True, errors="replace", check=False)
+    if made.returncode:
+        sys.stderr.write(missing.listed(made.stderr))
+    sys.stderr.write(made.stderr)
+    if made.returncode:
+        raise Stop(f"{why}: {words[0]} ended with status {made.returncode}")
+    return made.stdout
+
+
+def has(source, function):
+    with open(source, encoding="utf-8", errors="replace") as it:
+        text = re.sub(r"/\*.*?\*/|//[^\n]*", " ", it.read(), flags=re.S)
+    return re.search(r"\b" + function + r"\s*\([^;{}]*\)\s*\{", text) is not None
+
+
+def stem(path):
+    return re.sub(r"\W", "_", os.path.splitext(os.path.basename(path.rstrip("/")))[0])
+
+
+def files_of(named):
+    if os.path.isdir(named):
+        found = sorted(os.path.join(named, name) for name in os.listdir(named) if name.endswith(".c"))
+        if not found:
+            raise Stop(f"{named}: no .c file in this folder")
+        return found
+    if os.path.exists(named):
+        return [named]
+    raise Stop(f"{named}: no such file")
+
+
+def find_sources(named):
+    """Returns the drivers, each with its name and files, and the other files; and whether one of these has `main`."""
+    drivers, others = [], []
+    for it in named:
+        files = files_of(it)
+        entries = [file for file in files if has(file, "DriverEntry")]
+        mains = [file for file in files if has(file, "main")]
+        if len(entries) == 1 and not mains:
+            drivers.append((stem(entries[0]) if len(files) == 1 else stem(it), files))
+        else:
+            drivers += [(stem(file), [file]) for file in entries]
+            others += [file for file in files if file not in entries]
+    with_main = [file for _, files in drivers for file in files if has(file, "main")]
+    with_main += [file for file in others if has(file, "main")]
+    if not drivers and not with_main:
+        raise Stop("no file defines DriverEntry, and none defines main")
+    if len(drivers) == 1 and not with_main:
+        return [(drivers[0][0], drivers[0][1] + others)], [], False
+    return drivers, others, bool(with_main)
+
+
+def symbols_of(path):
+    """Returns the global names that an object defines, each with its letter of `nm`, and those that it wants."""
+    defined, wanted = {}, set()
+    for line in call(["nm", "-g", path], "nm fails").splitlines():
+        words = line.split()
+        if len(words) == 2:
+            wanted.add(words[1])
+        elif len(words) == 3:
+            defined[words[2]] = words[1]
+    return defined, wanted
+
+
+def shared_names(units, others, libraries):
+    """Returns for each unit the names that stay global. A weak one, such as a GUID, stays the first unit's."""
+    wanted_by = [wanted for _, _, wanted in units] + [wanted for _, wanted in others]
+    kept = []
+    for at, (name, defined, _) in enumerate(units):
+        names = set(defined) if name in libraries else set()
+        for symbol, letter in defined.items():
+            if not any(symbol in wanted for i, wanted in enumerate(wanted_by) if i != at):
+                continue
+            rivals = [i for i, (_, theirs, _) in enumerate(units) if i != at and symbol in theirs]
+            if letter in "VWw" and any(i < at for i in rivals):
+                continue
+            strong = [i for i in rivals if units[i][1][symbol] not in "VWw" and units[i][0] not in libraries]
+            if strong and name not in libraries and not any(units[i][0] in libraries for i in rivals):
+                raise Stop(f"{symbol}: defined by {name} and by {units[strong[0]][0]}, and another driver wants it; "
+                           "name the one that exports it by --library")
+            names.add(symbol)
+        kept.append(names)
+    return kept
+
+
+def localize(made, name, keep):
+    """Makes the driver's globals its own, but for those that are kept; DriverEntry gets the driver's name."""
+    listed = made + ".kept"
+    with open(listed, "w", encoding="utf-8") as it:
+        it.writelines(f"{symbol}\n" for symbol in sorted(keep | {f"{name}_DriverEntry", "main"}))
+    call(["objcopy", f"--redefine-sym=DriverEntry={name}_DriverEntry", f"--keep-global-symbols={listed}", made],
+         f"the names of {name} can't be made its own")
+    os.remove(listed)
+
+
+def write_table(path, drivers, has_alias):
+    with open(path, "w", encoding="utf-8") as it:
+        it.write('#include "wdm_test.h"\n')
+        it.writelines(f"DRIVER_INITIALIZE {name}_DriverEntry;\n" for name, _ in drivers)
+        it.write("const struct { const char *name; PDRIVER_INITIALIZE entry; } wdm_drivers[] = {\n")
+        it.writelines(f'    {{ "{name}", {name}_DriverEntry }},\n' for name, _ in drivers)
+        it.write("    { NULL, NULL }\n")
+        it.write(f"}};\nconst int wdm_n_drivers = {len(drivers)};\n")
+        if has_alias:
+            it.write("NTSTATUS DriverEntry(PDRIVER_OBJECT DriverObject, PUNICODE_STRING RegistryPath)\n{\n"
+                     f"    return {drivers[0][0]}_DriverEntry(DriverObject, RegistryPath);\n}}\n")
+
+
+def build(compiler, flags, named, library, folder, link_flags=(), libraries=()):
+    """Returns the program. The objects that it is linked of lie in the folder, the drivers' parts below it."""
+    drivers, others, has_main = find_sources(list(libraries) + list(named))
+    names = [name for name, _ in drivers]
+    if len(set(names)) != len(names):
+        raise Stop("two drivers have the same name: " + ", ".join(sorted({it for it in names if names.count(it) > 1})))
+    exporting = {stem(it) for it in libraries}
+    os.makedirs(folder + "/parts", exist_ok=True)
+    compiled = lambda source, made: call([compiler, *flags, "-c", source, "-o", made], f"{source} doesn't compile")
+    objects, units, apart = [], [], []
+    for number, (name, files) in enumerate(drivers):
+        parts = [f"{folder}/parts/{number}_{at}_{stem(source)}.o" for at, source in enumerate(files)]
+        for source, part in zip(files, parts):
+            compiled(source, part)
+        made = f"{folder}/{number}_{name}.o"
+        call(["ld", "-r", "-d", "-o", made, *parts], f"the files of {name} don't link")
+        objects.append(made)
+        units.append((name, *symbols_of(made)))
+    for number, source in enumerate(others, len(drivers)):
+        made = f"{folder}/{number}_{stem(source)}.o"
+        compiled(source, made)
+        objects.append(made)
+        apart.append(symbols_of(made))
+    for made, (name, _, _), keep in zip(objects, units, shared_names(units, apart, exporting)):
+        localize(made, name, keep - {"DriverEntry"})
+    table = folder + "/drivers.c"
+    write_table(table, drivers, len(drivers) == 1 and any("DriverEntry" in wanted for _, wanted in apart))
+    for source in (table, *(() if has_main else (HERE + "/host/exercise.c",))):
+        made = f"{folder}/{len(objects)}_{stem(source)}.o"
+        compiled(source, made)
+        objects.append(made)
+    program = folder + "/program"
+    call([compiler, "-pthread", *link_flags, "-o", program, *objects, library], "it doesn't link")
+    return program

@@ -1,0 +1,61 @@
+"""What a driver wants and the host hasn't, told as one list before the compiler's own lines."""
+
+import re
+
+# Where a name isn't there: the group of the kit that it is of, by the first pattern that fits.
+GROUPS = [
+    (r"^Flt|^FLT|^PFLT", "filter manager"),
+    (r"^Wdf|^WDF", "WDF"),
+    (r"^(Ndis|NDIS|NET_|Wsk|WSK|Nmr|NPI|Fwps|Fwpm|SOCKADDR|OID_)", "networks"),
+    (r"^Hid|^HID|^(P?USAGE|PHIDP)", "HID class"),
+    (r"^(Usb|USB|URB|_URB|PURB)", "USB class"),
+    (r"^(Scsi|SCSI|Srb|SRB|StorPort|ScsiPort|ATA_)", "storage ports"),
+    (r"^(Io(Read|Write|Set)Partition|IoVerifyVolume|IoRaise.*HardError|Disk|DISK_|PARTITION|FsRtl|FSRTL|Cc[A-Z]|FILE_|File|"
+     r"IOCTL_(DISK|STORAGE|VOLUME|MOUNT)|STORAGE_|MOUNTMGR|MOUNTDEV|VPB|Zw(Query|Set).*File)", "files and disks"),
+    (r"(Dma|DMA|Adapter|ADAPTER|ScatterGather|SCATTER_GATHER)", "DMA"),
+    (r"^(Se[A-Z]|Rtl.*(Sid|Acl|Ace|SecurityDescriptor)|SECURITY_|SID|P?ACL|ACCESS_|PSID|TOKEN_)", "security"),
+    (r"^(Ps|Zw.*Process|Zw.*Thread|Zw.*Token|PEPROCESS|PROCESS|IMAGE_|CLIENT_)", "processes"),
+    (r"^(Po|PO_|POWER)", "power"),
+    (r"^(Ke|K[A-Z]+)", "kernel"),
+    (r"^(Ex|EX_|POOL|LOOKASIDE)", "executive"),
+    (r"^(Mm|MM_|MEMORY_)", "memory manager"),
+    (r"^(Ob|OBJECT_|OB_)", "object manager"),
+    (r"^(Zw|Nt[A-Z]|KEY_|REG_|Cm[A-Z])", "system calls and registry"),
+    (r"^(Io|IRP|IO_|SL_|DO_|DRIVER_|DEVICE_)", "I/O manager"),
+    (r"^(Rtl|RTL)", "run-time library"),
+    (r"^(Hal|HAL|READ_|WRITE_|PCI)", "hardware"),
+    (r"^(Wmi|WMI|Etw|ETW|EVENT_|TRACE)", "tracing"),
+    (r"^STATUS_", "statuses"),
+    (r"^__(finally|leave)|^(finally|leave)$", "structured exceptions"),
+]
+
+WANTED = [
+    (r"implicit declaration of function [‘'`](\w+)[’']", "{}"),
+    (r"unknown type name [‘'`](\w+)[’']", "{}"),
+    (r"[‘'`](\w+)[’'] undeclared", "{}"),
+    (r"use of undeclared identifier [‘'`](\w+)[’']", "{}"),
+    (r"call to undeclared function [‘'`](\w+)[’']", "{}"),
+    (r"has no member named [‘'`](\w+)[’']", "the member {}"),
+    (r"error: ([\w./]+\.h): No such file", "{}"),
+    (r"undefined (?:reference|symbol)(?: to|:) [‘'`]?(\w+)[’']?", "{}"),
+]
+
+
+def group_of(name):
+    """Returns the kit's group of a name, or None."""
+    return next((group for pattern, group in GROUPS if re.search(pattern, name)), None)
+
+
+def names_in(said):
+    """Returns the names that a compiler or a linker says aren't there, each once, in order of their names."""
+    found = {}
+    for pattern, text in WANTED:
+        for name in re.findall(pattern, said):
+            found[text.format(name)] = group_of(name) or ("a header" if name.endswith(".h") else None)
+    return sorted(found.items())
+
+
+def listed(said):
+    """Returns the list for a reader, or an empty text."""
+    lines = [f"{name}: not there{f' ({group})' if group else ''}\n" for name, group in names_in(said)]
+    return "".join(lines) and "".join(lines) + "(drivers/INTERFACE.md has what is there; what the compiler says follows)\n"
