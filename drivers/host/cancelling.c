@@ -118,6 +118,7 @@ static void run_cancel_routine(Packet *p, Entry *e, KIRQL irql)
     PDRIVER_CANCEL routine = p->routine;
     const int d = p->owner;
     p->routine = p->irp->CancelRoutine = NULL;
+    p->ran = routine;
     p->irp->CancelIrql = irql;
     Frame f = { .kind = CANCELLING, .p = p, .use = p->use, .fn = (void *)routine, .device = d, .location = p->current,
                 .e = e, .i = ask(e, p, CANCELLING, (void *)routine, d, p->current), .before = irql };

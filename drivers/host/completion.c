@@ -35,8 +35,7 @@ static void end(Packet *p, Entry *e)
     else if (p->irp->UserIosb)
         *p->irp->UserIosb = p->irp->IoStatus;
     else if (!p->is_built)
-        fault("NotKept", p, "has ended, and no routine kept it for whoever allocated it at %s",
-              place(p->sites.allocated));
+        fault("NotKept", p, "has ended, and no routine kept it for %s", who_of(p, ORIGINATOR));
     unwatch(p);
     protect(p);
     if (event)

@@ -23,7 +23,9 @@ NTSTATUS WdmIoCreateDevice(PDRIVER_OBJECT Driver, ULONG Extension, DEVICE_TYPE T
                           .HostNumber = n_devices, .HostExtensionSize = Extension, .Flags = DO_DEVICE_INITIALIZING };
     InitializeListHead(&o->DeviceQueue.DeviceListHead);
     Driver->DeviceObject = o;
-    devices[n_devices] = (Device){ .raw = o, .lower = NOBODY, .upper = NOBODY, .live = true };
+    devices[n_devices] = (Device){ .raw = o, .lower = NOBODY, .upper = NOBODY, .live = true,
+                                   .driver = Driver, .extension = extension, .extension_size = Extension,
+                                   .created = at };
     Entry *e = begin(CREATE, NULL, ORIGINATOR);
     e->device = Driver->HostNumber;
     answered(e, DEVICE, (uint64_t)n_devices++);
@@ -37,8 +39,8 @@ PDEVICE_OBJECT WdmIoAttachDevice(PDEVICE_OBJECT Device, PDEVICE_OBJECT Target, W
     Call c;
     enter_host(&c, "IoAttachDeviceToDeviceStack", at);
     touch(&devices, WRITES);
-    const int d = Device->HostNumber;
-    int top = Target->HostNumber;
+    const int d = device_number(Device);
+    int top = device_number(Target);
     Entry *e = begin(ATTACH, NULL, d);
     e->device = d;
     e->other = top;
@@ -157,7 +159,7 @@ VOID WdmIoDetachDevice(PDEVICE_OBJECT Lower, WDM_SITE at)
     Call c;
     enter_host(&c, "IoDetachDevice", at);
     touch(&devices, WRITES);
-    const int d = Lower->HostNumber, up = devices[d].upper;
+    const int d = device_number(Lower), up = devices[d].upper;
     Entry *e = begin(DETACH, NULL, d);
     e->device = d;
     const char *no = rules_refusal(e);
@@ -198,7 +200,7 @@ VOID WdmIoDeleteDevice(PDEVICE_OBJECT Device, WDM_SITE at)
     for (int i = 0; i < n_packets; i++) /* whether one is in flight there */
         if (lives(packets[i]))
             touch(packets[i]->irp, READS);
-    const int d = Device->HostNumber;
+    const int d = device_number(Device);
     if (devices[d].live && devices[d].lower < 0 && (devices[d].upper >= 0 || removing(d))) {
         devices[d].leaving = true;
         devices[d].deleted = at;

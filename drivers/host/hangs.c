@@ -3,6 +3,22 @@
 
 enum { MOST_TOLD = 30 };
 
+/* Nobody ends it: its cancel has come, and no cancel routine is there that would. On Windows it isn't ended either. */
+bool is_cancelled_and_held(const Packet *p)
+{
+    return lives(p) && p->owner >= 0 && p->cancel && !p->routine && !p->asking;
+}
+
+void tell_cancelled_and_held(const Packet *p)
+{
+    const bool was_set = p->sites.cancel.file != NULL;
+    fault_at("CancelledAndHeld", p, was_set ? "IoSetCancelRoutine" : "IoCallDriver",
+             was_set ? p->sites.cancel : p->sites.sent, "was cancelled, and %s still holds it: %s%s. Sent at %s",
+             who(p->owner), p->ran ? "its cancel routine has run, and hasn't completed it: " :
+             "no cancel routine is set. if (Irp->Cancel && IoSetCancelRoutine(Irp, NULL) != NULL) complete it",
+             p->ran ? function_name((void *)p->ran) : "", place(p->sites.sent));
+}
+
 static bool is_in_flight(const Packet *p) { return lives(p) && (p->owner != ORIGINATOR || p->asking); }
 
 /* Who has the packet. Returns how long the text is. */
@@ -10,7 +26,7 @@ static size_t tell_packet(const Packet *p, char *text, size_t size)
 {
     const Location *l = &p->at[p->current <= p->size ? p->current : p->size];
     const int n = snprintf(text, size, "IRP %u.%lu (%s), which %s %s%s%s%s, sent at %s", p->slot, (unsigned long)p->use,
-                           major_name(l->major), p->asking ? "is in" : who(p->owner),
+                           major_name(l->major), p->asking ? "is in" : who_of(p, p->owner),
                            p->asking ? what_runs(p->asking) : "holds", p->routine ? " with a cancel routine" : "",
                            p->kept_by ? ", kept by " : "", p->kept_by ? function_name(p->kept_by) : "",
                            place(p->sites.sent));
@@ -75,6 +91,9 @@ void hang(WDM_SITE at)
     enter_host(&c, "KeWaitForSingleObject", at);
     if (!told) {
         told = true;
+        for (int i = 0; i < n_packets; i++)
+            if (is_cancelled_and_held(packets[i]))
+                tell_cancelled_and_held(packets[i]);
         tell_in_flight(text, sizeof text);
         fault("Hang", NULL, "waits for what nobody does; %s", text);
     }

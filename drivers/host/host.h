@@ -104,7 +104,7 @@ typedef struct Frame {
     Packet *p;
     uint64_t use;
     void *fn;
-    int device, location;
+    int device, location, driver; /* driver: of work, whose it is */
     UCHAR major;
     Entry *e;
     int i;
@@ -150,6 +150,7 @@ struct Packet {
     bool live, returned, cancel, touched, copied, skipped, unwinding, lost;
     Preparation prep;
     PDRIVER_CANCEL routine, ghost; /* ghost: a routine that came after the cancel, and hasn't been taken back */
+    PDRIVER_CANCEL ran;            /* the cancel routine that was called */
     Setting *want;
     Frame *asking; /* who is asked about it and hasn't decided */
     Entry *open;
@@ -173,6 +174,9 @@ struct Packet {
     struct { WDM_SITE allocated, sent, completed, freed, cancel; } sites;
     uint64_t name; /* by the thread that allocated it, and how many that had allocated before */
     UCHAR major;   /* what was sent to the first device */
+    CHAR stack_count;         /* what the packet says of itself */
+    IO_STACK_LOCATION *above; /* the locations of the devices above, as they left them; `left` has a bit for each */
+    uint64_t left;
     Location at[MAX_SIZE + 2];
 };
 
@@ -181,6 +185,10 @@ typedef struct {
     int lower, upper;
     int running; /* how many of its dispatches, routines and work items run, on all threads */
     bool live, leaving, bound;
+    PDRIVER_OBJECT driver; /* this and the next two: what stands in the device object */
+    PVOID extension;
+    ULONG extension_size;
+    WDM_SITE created;
     WDM_SITE deleted; /* where its delete was called that waits for the device above */
 } Device;
 
@@ -227,6 +235,8 @@ extern unsigned long host_activity; /* grows with each call, so that a wait sees
 
 /* telling.c, names.c */
 const char *who(int device);
+const char *who_of(const Packet *p, int device);
+const char *who_calls(void);
 const char *what_runs(const Frame *f);
 const char *place(WDM_SITE at);
 FILE *open_high(const char *path);
@@ -235,6 +245,8 @@ __attribute__((format(printf, 1, 2))) void say(const char *how, ...);
 __attribute__((format(printf, 3, 4))) void fault(const char *rule, const Packet *p, const char *how, ...);
 __attribute__((format(printf, 4, 5))) void fault_of(const char *rule, const Packet *p, const Frame *f, const char *how,
                                                     ...);
+__attribute__((format(printf, 5, 6))) void fault_at(const char *rule, const Packet *p, const char *call, WDM_SITE at,
+                                                    const char *how, ...);
 __attribute__((format(printf, 2, 3))) void note(const char *key, const char *how, ...);
 __attribute__((noreturn)) void give_up(const char *why);
 __attribute__((noreturn)) void stop_run(const char *why);
@@ -261,6 +273,8 @@ void tell_others(void);
 void tell_packets(void);
 __attribute__((noreturn)) void end_process(int status);
 void hang(WDM_SITE at);
+bool is_cancelled_and_held(const Packet *p);
+void tell_cancelled_and_held(const Packet *p);
 
 /* printing.c, text.c */
 size_t print_wide(char *to, size_t room, const WCHAR *format, va_list list);
@@ -316,6 +330,14 @@ void tell_files_dereferenced(PVOID object);
 PFILE_OBJECT file_for(PDEVICE_OBJECT top, UCHAR major);
 void give_mdl(Packet *p);
 void tell_locked_mdls(void);
+
+/* own_memory.c, stack_blocks.c */
+void remember_blocks(Packet *p);
+void check_blocks(const Frame *f);
+int device_number(const DEVICE_OBJECT *device);
+void check_devices(void);
+void check_packet(Packet *p);
+void leave_location(Packet *p, int j);
 
 /* devices.c, packets.c, preparing.c */
 void delete_after(int device);

@@ -29,6 +29,7 @@ static Packet *new_rider(Packet *p, int size, UCHAR major, uint64_t word, Settin
     r->owner = r->last = ORIGINATOR;
     r->rides = p;
     r->sites = p->sites;
+    r->stack_count = p->stack_count;
     for (int j = 1; j <= size; j++)
         r->at[j] = (Location){ .device = NOBODY };
     p->rider = r;
@@ -273,7 +274,7 @@ BOOLEAN WdmIoForwardIrpSynchronously(PDEVICE_OBJECT Target, PIRP Irp, WDM_SITE a
     KEVENT event;
     enter_host(&c, "IoForwardIrpSynchronously", at);
     Packet *p = find(Irp);
-    const bool done = forward_in_dispatch(p, Target->HostNumber, at), too_short = p->current == 1;
+    const bool done = forward_in_dispatch(p, device_number(Target), at), too_short = p->current == 1;
     leave_host();
     if (done)
         return TRUE;

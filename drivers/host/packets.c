@@ -115,7 +115,8 @@ static void begin_use(Packet *p, NTSTATUS status)
     memset(p->irp, 0, sizeof *p->irp);
     p->irp->Type = 6;
     p->irp->Size = IoSizeOfIrp(p->size);
-    p->irp->StackCount = (CHAR)p->size;
+    p->irp->StackCount = p->stack_count = (CHAR)p->size;
+    p->left = 0;
     p->irp->IoStatus.Status = status;
     p->current = p->size + 1;
     put_back(p);
@@ -126,6 +127,7 @@ static void begin_use(Packet *p, NTSTATUS status)
     p->cancel = p->returned = p->lost = p->writes_back = false;
     prepare_nothing(p);
     p->kept_by = NULL;
+    p->ran = NULL;
     p->sites.sent = p->sites.completed = p->sites.cancel = (WDM_SITE){ 0 };
     p->use = next_use++;
 }
@@ -213,8 +215,8 @@ VOID WdmIoFreeIrp(PIRP Irp, WDM_SITE at)
         refuse(e, no);
     else {
         if (p->owner == ENDED)
-            fault("NotKept", p, "is freed after it has ended at %s: no routine kept it for whoever allocated it",
-                  place(p->sites.completed));
+            fault("NotKept", p, "is freed after it has ended at %s: no routine kept it for %s",
+                  place(p->sites.completed), who_of(p, ORIGINATOR));
         answered(e, DONE, 0);
         free_now(p);
         p->sites.freed = at;

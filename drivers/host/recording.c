@@ -61,6 +61,8 @@ static void tell_before(const Packet *p, const char *name, char *text, size_t si
         what = "completed before at", at = p->sites.completed;
     else if (!strcmp(name, "NoIrp"))
         what = "freed before at", at = p->sites.freed;
+    else if (!strcmp(name, "NotOwner") && p->owner < 0 && p->sites.completed.file)
+        what = "completed before at", at = p->sites.completed;
     else if (!strcmp(name, "NotOwner") || !strcmp(name, "InFlight"))
         what = "sent before at", at = p->sites.sent;
     else if (!strcmp(name, "CancelRoutineSet"))
@@ -84,7 +86,7 @@ void refuse(Entry *e, const char *name)
     const char *rule = second ? "CompletedTwice" : name;
     tell_before(e->p, second ? "Ended" : name, before, sizeof before);
     if (e->p && !second && !strcmp(name, "NotOwner"))
-        snprintf(holder, sizeof holder, ", which %s has", who(e->p->owner));
+        snprintf(holder, sizeof holder, ", which %s has", who_of(e->p, e->p->owner));
     if (is_expected_refusal(name))
         note("a refusal that the test expects", "%s is refused: %s", op_names[e->op], name);
     else if (e->op <= REMOVE)
@@ -92,9 +94,9 @@ void refuse(Entry *e, const char *name)
               e->drained || e->op != REMOVE ? "" : " (lock not drained)",
               strcmp(name, "NotDrained") ? "" : held_tags(e->device));
     else if (e->op >= SET_NEXT && e->op <= SET_CANCEL)
-        fault(rule, e->p, "by %s%s%s; refused: %s", who(e->by), holder, before, name);
+        fault(rule, e->p, "by %s%s%s; refused: %s", who_of(e->p, e->by), holder, before, name);
     else
-        fault(rule, e->p, "refused: %s%s%s", name, holder, before);
+        fault(rule, e->p, "by %s%s%s; refused: %s", who_calls(), holder, before, name);
     answered(e, REFUSED, 0);
 }
 

@@ -57,6 +57,7 @@ static NTSTATUS dispatch_returned(Packet *p, Frame *f, NTSTATUS answer)
 /* Enters a device with the packet: its location is the next lower one. Under G before and after. */
 NTSTATUS enter_device(Packet *p, int d, Entry *e)
 {
+    leave_location(p, p->current);
     Location *l = &p->at[--p->current];
     p->sites.completed = (WDM_SITE){ 0 };
     if (p->current == p->size)
@@ -178,7 +179,7 @@ NTSTATUS WdmIoCallDriver(PDEVICE_OBJECT Target, PIRP Irp, WDM_SITE at)
     touch(&devices, READS);
     await(p);
     take_hand_skip(p);
-    const int by = party(p), d = Target->HostNumber;
+    const int by = party(p), d = device_number(Target);
     if (lives(p) && (p->skipped || p->current > 1))
         check_dispatch_level(p, raw_at(p, p->skipped ? p->current : p->current - 1)->MajorFunction, d);
     Frame *f = dispatching(p);

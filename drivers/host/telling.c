@@ -64,7 +64,10 @@ static const struct { const char *rule, *known; } known_as[] = {
     { "Mark", "if (Irp->PendingReturned) IoMarkIrpPending(Irp)" }, { "NoIrp", "used after IoFreeIrp" },
     { "Touched", "used after its end" }, { "NotOwner", "somebody else has the packet" },
     { "NotPrepared", "the next location isn't filled" }, { "AfterSkip", "the location is the driver's below" },
-    { "AlreadyCancelled", "Irp->Cancel isn't looked at" }, { "NoLocation", "whoever allocated it has no location" },
+    { "AlreadyCancelled", "if (Irp->Cancel && IoSetCancelRoutine(Irp, NULL)) complete it" },
+    { "CancelledAndHeld", "nobody ends it" },
+    { "Overwritten", "only the I/O manager writes there" },
+    { "StackBlock", "it's written to at the packet's end" }, { "NoLocation", "whoever allocated it has no location" },
 };
 
 static const char *expected[64];
@@ -122,6 +125,30 @@ const char *place(WDM_SITE at)
     return text;
 }
 
+/* A party of this packet: the originator is who allocated it. */
+const char *who_of(const Packet *p, int device)
+{
+    if (device != ORIGINATOR || !p)
+        return who(device);
+    char *text = passing_text();
+    if (p->allocator < 0 || p->is_built)
+        snprintf(text, 200, "who had it built at %s", place(p->sites.allocated));
+    else
+        snprintf(text, 200, "(%s), which allocated it at %s", drivers[p->allocator]->HostName, place(p->sites.allocated));
+    return text;
+}
+
+/* Whose code makes the call that runs. */
+const char *who_calls(void)
+{
+    const int driver = calling_driver();
+    char *text = passing_text();
+    if (driver < 0)
+        return "the test";
+    snprintf(text, 200, "(%s)", drivers[driver]->HostName);
+    return text;
+}
+
 /* The dispatch or routine that runs: its function, its device, what it was asked. */
 const char *what_runs(const Frame *f)
 {
@@ -129,10 +156,15 @@ const char *what_runs(const Frame *f)
     snprintf(name, 100, is_in_program(f->fn) ? "%s" : "%s (%p, which is no function)", function_name(f->fn), f->fn);
     if (f->kind == DISPATCH)
         snprintf(text, 200, "%s, dispatch for %s of %s", name, major_name(f->major), who(f->device));
+    else if (f->kind == WORK && f->device < 0 && f->driver >= 0)
+        snprintf(text, 200, "%s, work of (%s)", name, drivers[f->driver]->HostName);
+    else if (f->kind == ROUTINE && f->device < 0 && f->p->allocator >= 0)
+        snprintf(text, 200, "%s, completion routine of (%s) for its own packet", name,
+                 drivers[f->p->allocator]->HostName);
     else
         snprintf(text, 200, "%s, %s of %s", name,
                  f->kind == ROUTINE ? "completion routine" : f->kind == WORK ? "work" : "cancel routine",
-                 who(f->device));
+                 f->kind == ROUTINE && f->device < 0 ? "the test" : who(f->device));
     return text;
 }
 
@@ -220,8 +252,28 @@ void fault_of(const char *rule, const Packet *p, const Frame *f, const char *how
     int n = 0;
     if (f->last.file)
         n = snprintf(where, sizeof where, "%s (its last call, %s) in ", place(f->last), f->last_call);
+    else if (is_in_program(f->fn))
+        n = snprintf(where, sizeof where, "+0x%lx in %s: ", place_in_program(f->fn), function_name(f->fn));
     snprintf(where + n, sizeof where - (size_t)n, "%s, IRP %u.%lu", what_runs(f), p->slot, (unsigned long)p->use);
     tell(rule, NULL, where, text);
+}
+
+/* A fault of a call that was made before, at this place. */
+void fault_at(const char *rule, const Packet *p, const char *call, WDM_SITE at, const char *how, ...)
+{
+    char text[500];
+    va_list list;
+    va_start(list, how);
+    vsnprintf(text, sizeof text, how, list);
+    va_end(list);
+    const Call *const calls = self.calls;
+    Frame *const frames = self.frames;
+    Call then = { .name = call, .at = at };
+    self.calls = &then;
+    self.frames = NULL;
+    fault(rule, p, "%s", text);
+    self.calls = (Call *)calls;
+    self.frames = frames;
 }
 
 /* Each note is told once. */

@@ -87,6 +87,7 @@ static void frees_itself(PIRP irp)
     Call c;
     enter_host(&c, "WdmBuildIrp", (WDM_SITE){ 0 });
     find(irp)->is_built = true;
+    remember_blocks(find(irp));
     leave_host();
 }
 
@@ -97,7 +98,6 @@ PIRP WdmBuild(PDEVICE_OBJECT Top, UCHAR Major, UCHAR Minor, ULONG Length, PIO_ST
     PIRP irp = WdmIoAllocateIrp(Top->StackSize, at);
     if (!irp)
         return NULL;
-    frees_itself(irp);
     if (Major == IRP_MJ_PNP || Major == IRP_MJ_POWER || Major == IRP_MJ_SYSTEM_CONTROL)
         WdmIoReuseIrp(irp, STATUS_NOT_SUPPORTED, at);
     else
@@ -115,6 +115,7 @@ PIRP WdmBuild(PDEVICE_OBJECT Top, UCHAR Major, UCHAR Minor, ULONG Length, PIO_ST
     irp->Tail.Overlay.Thread = KeGetCurrentThread();
     irp->UserIosb = Iosb;
     irp->UserEvent = Event;
+    frees_itself(irp);
     return irp;
 }
 
@@ -222,7 +223,9 @@ static void tell_leftovers(void)
         Packet *p = packets[i];
         if (p->ghost)
             tell_ghost(p);
-        if (lives(p) && p->owner >= 0)
+        if (is_cancelled_and_held(p))
+            tell_cancelled_and_held(p);
+        else if (lives(p) && p->owner >= 0)
             note("at the end", "IRP %u.%lu, sent at %s, is still held by %s", p->slot, (unsigned long)p->use,
                  place(p->sites.sent), who(p->owner));
         else if (lives(p) && p->allocator != NOBODY && !p->asking)

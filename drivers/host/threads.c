@@ -78,6 +78,7 @@ void enter_quietly(Call *c, const char *name, WDM_SITE at)
     self.calls = c;
     self.last = at;
     self.last_call = name;
+    check_devices();
     if (self.frames && at.file) {
         self.frames->last = at;
         self.frames->last_call = name;
@@ -106,6 +107,7 @@ void enter_frame(Frame *f)
     f->up = self.frames;
     f->thread = this_thread();
     self.frames = f;
+    f->driver = self.driver;
     enter_level(f);
     if (f->device >= 0) {
         touch(&devices[f->device].running, MEETS);
@@ -115,6 +117,7 @@ void enter_frame(Frame *f)
 
 void leave_frame(void)
 {
+    check_blocks(self.frames);
     leave_level(self.frames);
     if (self.frames->device >= 0) {
         touch(&devices[self.frames->device].running, MEETS);

@@ -71,6 +71,7 @@ Packet *find(PIRP irp)
         unprotect(p);
     while (p->rider)
         p = p->rider;
+    check_packet(p);
     return p;
 }
 
