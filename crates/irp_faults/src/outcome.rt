@@ -2,6 +2,7 @@
 
 use irp_manager::{NotRecorded, Receipt};
 use irp_types::Reply;
+use std::sync::ledger::Ledger;
 
 /// Why a call had no reply.
 #[derive(Clone, Copy)]
@@ -14,8 +15,8 @@ pub enum Lack {
 }
 
 /// What came of a call of this name whose entry has to have this number. A refused one has to have left all as it was.
-pub fn told(
-    made: Result<Receipt, NotRecorded>,
+pub fn told<L: Ledger>(
+    made: Result<Receipt<L>, NotRecorded>,
     name: &'static str,
     number: u64,
     is_same: bool,

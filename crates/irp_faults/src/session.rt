@@ -38,7 +38,7 @@ fn finished<A: Ask, L: Session>(
     seat: &mut Seat<L>,
     token: &mut Option<Token>,
     call: Call,
-) -> Result<Result<Receipt, NotRecorded>, Lack> {
+) -> Result<Result<Receipt<L>, NotRecorded>, Lack> {
     let Call::FinishTaken {
         irp,
         status,

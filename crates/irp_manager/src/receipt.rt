@@ -5,20 +5,25 @@ ghost use Rattle.irp_manager.specs.Booked.{most_entries, receipt_of};
 
 use irp_types::{Call, Entry, LockNo, Reply};
 use std::marker::Model;
+use std::snapshot::Snapshot;
+use std::sync::ledger::{Book as Total, Ledger};
 
-/// What an entry of the history says, without what was asked. Only recording a call makes one (this project's own
-/// rule).
+/// What an entry of a book's history says, without what was asked. Only the book of the ledger `L` makes one, when it
+/// records a call, and [`one_book`](crate::one_book) says that there is one. For contracts alone it also has the
+/// history as it was then, with this entry at its end (this project's own rule).
 #[derive(Drop)]
-pub struct Receipt {
+pub struct Receipt<L: Ledger> {
     number: u64,
     seat: u32,
     call: Call,
     lock: Option<LockNo>,
     drained: bool,
     reply: Reply,
+    history: Snapshot<Vec<Entry>>,
+    of: Snapshot<Total<L>>,
 }
 
-impl Model for Receipt {
+impl<L: Ledger> Model for Receipt<L> {
     ghost use Rattle.std.specs.Prelude.{◌<◌};
     ghost use Rattle.irp_manager.specs.Booked.{Receipted, most_entries};
 
@@ -31,17 +36,18 @@ impl Model for Receipt {
       lock = receipt.lock;
       drained = receipt.drained;
       reply = receipt.reply;
+      history = receipt.history.value.items;
     } };
 
     ghost invariant = { λ receipt. receipt.number < most_entries };
 }
 
-impl Receipt {
-    /// What tells of this entry.
+impl<L: Ledger> Receipt<L> {
+    /// What tells of this entry, the last of a history whose entries this total counts.
     #[inline]
-    pub(super) fn of(entry: &Entry) -> Receipt
+    pub(super) fn of(entry: &Entry, history: &Vec<Entry>, total: &Total<L>) -> Receipt<L>
         requires { entry.now.number < most_entries }
-        ensures { result ≡ receipt_of entry.now }
+        ensures { result ≡ receipt_of history.now.items entry.now }
     {
         Receipt {
             number: entry.number,
@@ -50,6 +56,8 @@ impl Receipt {
             lock: entry.lock,
             drained: entry.drained,
             reply: entry.reply,
+            history: Snapshot::of(history),
+            of: Snapshot::of(total),
         }
     }
 

@@ -1,8 +1,10 @@
 //! Who makes calls.
 
-ghost use Rattle.std.specs.Prelude.{◌≡◌, ◌<◌, ◌+◌, ◌++◌, ◌∷◌, [], length, OnErr, OnOk, if◌then◌else◌, nat_lt};
+ghost use Rattle.irp_manager.specs.Booked.{most_entries};
+ghost use Rattle.std.specs.Prelude.{◌≡◌, ◌<◌, ◌≤◌, ◌+◌, ◌++◌, ◌∷◌, [], length, OnErr, OnOk, if◌then◌else◌, nat_lt};
 
 use irp_types::Entry;
+use irp_types::limits::MOST_ENTRIES;
 use std::alloc::{AllocError, Global};
 use std::marker::Model;
 use std::sync::ledger::{Book as Total, Ledger, Share};
@@ -101,15 +103,28 @@ impl<L: Ledger> Seat<L> {
         self.entries.reserve(1)
     }
 
-    /// Takes one more entry, on condition that there is room for it, and counts it in the ledger's total.
-    pub fn took(&mut self, entry: Entry, total: &mut Total<L>)
-        requires { 0 < self.old.room }
+    /// Takes one more entry, on condition that there is room for it, and counts it in the ledger's total. The seat has
+    /// seen up to it.
+    pub(super) fn took(&mut self, entry: Entry, total: &mut Total<L>)
+        requires room { 0 < self.old.room }
+        requires few { entry.number < most_entries }
         ensures entries { self.new.entries ≡ self.old.entries ++ entry ∷ [] }
-        ensures same { (self.new.number ≡ self.old.number) × (self.new.seen ≡ self.old.seen) }
+        ensures number { self.new.number ≡ self.old.number }
+        ensures seen { self.new.seen ≡ entry.number + 1 }
         ensures total { total.new.total ≡ total.old.total + 1 }
     {
         total.add(&mut self.share, 1);
+        self.seen = entry.number + 1;
         self.entries.push_reserved(entry);
+    }
+
+    /// Counts more than a history has room for in one total, and finds the count in another: so they are one.
+    pub(super) fn finds_one(&mut self, one: &mut Total<L>, other: &mut Total<L>)
+        requires { other.old.total ≤ most_entries }
+        ensures { ⊥ }
+    {
+        one.add(&mut self.share, MOST_ENTRIES as u64 + 1);
+        other.audit(&mut self.share);
     }
 
     /// The seat has seen this many entries, or more if it had seen more.

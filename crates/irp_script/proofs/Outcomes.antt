@@ -48,8 +48,8 @@ came_out : (count place : ℕ) (step : Step) (kind : StepKind) (old new : AtWork
 came_out count place step Calls old new lines longer did = record {
   tokenless = false;
   told = none_told lines longer did.silent;
-  pair = λ i. record { seat = did.called.recorded.kept.number i; table = (did.rest i).remove.table; remove = (did.rest i).remove.number };
-  calls = one_call old.seat.entries new.seat.entries did.called.recorded.entry did.called.call did.called.recorded.kept.entries did.called.recorded.of_call.asks
+  pair = λ i. record { seat = did.called.recorded.recorded.kept.number i; table = (did.rest i).remove.table; remove = (did.rest i).remove.number };
+  calls = one_call old.seat.entries new.seat.entries did.called.recorded.recorded.entry did.called.call did.called.recorded.recorded.kept.entries did.called.recorded.recorded.of_call.asks
       ∙ ap (λ made. calls_in old.seat.entries ++ option_to_list made) (sym (nameless_of step.act did.called.of_act.irp did.called.call did.called.of_act.made));
 }
 came_out count place step (OnLock on) old new lines longer did = record {
@@ -67,8 +67,8 @@ came_out count place step (OnSlot on) old new lines longer did = record {
 came_out count place step (Finishes slot status information) old new lines longer (inl did) = record {
   tokenless = false;
   told = none_told lines longer did.silent;
-  pair = λ i. record { seat = did.recorded.kept.number i; table = (did.rest i).remove.table; remove = (did.rest i).remove.number };
-  calls = one_call old.seat.entries new.seat.entries did.recorded.entry _ did.recorded.kept.entries did.recorded.of_call.asks;
+  pair = λ i. record { seat = did.recorded.recorded.kept.number i; table = (did.rest i).remove.table; remove = (did.rest i).remove.number };
+  calls = one_call old.seat.entries new.seat.entries did.recorded.recorded.entry _ did.recorded.recorded.kept.entries did.recorded.recorded.of_call.asks;
 }
 came_out count place step (Finishes slot status information) old new lines longer (inr did) = record {
   tokenless = true;

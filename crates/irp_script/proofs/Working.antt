@@ -47,12 +47,19 @@ roomless_same before after same = λ i. record { number = same.number i; seen = 
 
 pub roomless_called : (before after : Seated) (call : Call) (knows : LockNo → Bool) (receipt : Receipted) → Called before call knows receipt after → Called (roomless before) call knows receipt (roomless after)
 roomless_called before after call knows receipt called =
-    let kept = called.kept in
-    let of_call = called.of_call in
+    let recorded = called.recorded in
+    let kept = recorded.kept in
+    let of_call = recorded.of_call in
     record {
-      entry = called.entry;
-      of_call = record { within = of_call.within; after = of_call.after; by = of_call.by; asks = of_call.asks; noted = of_call.noted; deletes = of_call.deletes; few = of_call.few; told = of_call.told };
-      kept = record { number = kept.number; entries = kept.entries; seen = kept.seen };
+      before = called.before;
+      recorded = record {
+        entry = recorded.entry;
+        appended = recorded.appended;
+        numbered = recorded.numbered;
+        of_call = record { within = of_call.within; after = of_call.after; by = of_call.by; asks = of_call.asks; noted = of_call.noted; deletes = of_call.deletes; few = of_call.few };
+        told = recorded.told;
+        kept = record { number = kept.number; entries = kept.entries; seen = kept.seen };
+      };
     }
 
 -- a call that wasn't recorded, and one that was

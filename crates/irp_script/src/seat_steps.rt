@@ -319,7 +319,7 @@ impl<'a, L: Session> ScriptSeat<'a, L> {
             .shared
             .finish_taken(rt, seat, irp, token, status, information)
         {
-            Ok((_, token)) => {
+            Ok((_receipt, token)) => {
                 self.parties.put_back(at, slot, token);
                 Ok(())
             }

@@ -1,6 +1,7 @@
 -- What a recorded call asked was answered as it may be in its session.
 use Rattle.std.proofs.Common.{◌≡◌, List, [], ◌∷◌, ◌++◌}
 use Rattle.std.specs.List.{All}
+use Rattle.std.specs.Prelude.{IfOk, OnErr, Result, Ok, Err}
 use Rattle.std.proofs.lemmas.List.Elements.{All-append, All-cons, All-from_recursion, All-nil, All-same, All-weaker}
 use Rattle.irp_types.specs.State.{Tables}
 use Rattle.irp_types.specs.declared.names.DispatchId.{DispatchId}
@@ -35,3 +36,8 @@ answered_more tables own may_plan may_answer may_cancel may history longer entry
     All-weaker P (λ (asked : Asked). ∥ may asked ∥₁) (λ asked is_passed. answers asked (passed_is_own tables own may_plan may_answer may_cancel is asked is_passed))
     entry.asked (All-from_recursion P entry.asked passed) in
     All-same Each longer (history ++ entry ∷ []) grown (All-append Each history (entry ∷ []) before (All-cons Each entry [] here (All-nil Each)))
+
+-- what follows of both ends of a call
+pub either_way : {T E Q Goal : Type 0} (P : T → Type 0) (result : Result T E) → IfOk result P → OnErr result Q → ((value : T) → P value → Goal) → (Q → Goal) → Goal
+either_way P (Ok value) ok err on_ok on_err = on_ok value ok
+either_way P (Err error) ok err on_ok on_err = on_err err

@@ -1,5 +1,4 @@
 mod SeatNumbers
-mod Appended
 mod Gathering
 mod Opened
 mod OwnPlaces

@@ -4,10 +4,12 @@ use Rattle.std.specs.List.{list_any}
 use Rattle.std.specs.Option.{option_and_then}
 use Rattle.irp_types.specs.State.{Fixed}
 use Rattle.irp_types.specs.Histories.{IsLegal, CompletesOnce, own_entries}
+use Rattle.irp_types.specs.declared.asked.Asked.{Asked}
 use Rattle.irp_types.specs.declared.entry.Entry.{Entry}
 use Rattle.irp_manager.specs.Seats.{Seated}
 use Rattle.irp_transcript.specs.Headers.{fixed_of, slots_of}
 use Rattle.irp_transcript.specs.Transcripts.{TranscriptValue}
+use Rattle.irp_shared.specs.Answered.{EachAnswered}
 use Rattle.irp_shared.specs.declared.closing.Difference.{Difference}
 use Rattle.irp_shared.specs.declared.closing.Parting.{Parting}
 use Rattle.irp_transcript.specs.declared.header.Header.{Header}
@@ -72,6 +74,16 @@ Differs seats history difference =
     Kept seats difference.seat difference.index difference.kept
     × IsOther history difference.kept difference.place
     × IsInPlace history difference
+
+-- a legal history with as many entries as these seats have, whose questions were answered as they may be, has this at
+-- the index among the entries of a seat
+pub record Found (fixed : Fixed) (may : Asked → Type 0) (seats : List Seated) (number index : ℕ)
+    (found : Option Entry) : Type 0 where
+  pub history : List Entry
+  pub legal : IsLegal fixed history
+  pub answered : EachAnswered may history
+  pub counts : sum_by count_of seats ≡ length history
+  pub found_there : found ≡ slice_get (own_entries history number) index
 
 -- each entry is of a seat with a number below this one
 abbrev pub AreSeated : ℕ → List Entry → Type 0

@@ -8,7 +8,7 @@ use Rattle.irp_types.specs.declared.reply.Reply.TheVariants as reply
 use Rattle.irp_slots.specs.declared.answers.Token.{Token}
 use Rattle.irp_types.specs.declared.entry.Entry.{Entry}
 use Rattle.irp_manager.specs.Seats.{Seated}
-use Rattle.irp_manager.specs.Booked.{Receipted, IsCallOf, most_entries}
+use Rattle.irp_manager.specs.Booked.{Receipted, CalledIn, most_entries}
 
 -- whether a reply is Done
 abbrev pub is_done : Reply → Bool
@@ -19,27 +19,12 @@ is_done other = false
 abbrev pub given_back : Reply → Token → Option Token
 given_back answered token = if is_done answered then None else Some token
 
--- the seat has one entry more, this one, and has seen it and all before it
-pub record Keeps (entry : Entry) (old new : Seated) : Type 0 where
-  pub number : new.number ≡ old.number
-  pub entries : new.entries ≡ old.entries ++ entry ∷ []
-  pub seen : new.seen ≡ entry.number + 1
-
--- the seat made a recorded call, and keeps its entry
+-- the seat made a recorded call, and keeps its entry. The receipt has the session's history up to that entry, which
+-- stands there at its number
 pub record Called (seat : Seated) (call : Call) (knows : LockNo → Bool) (receipt : Receipted) (after : Seated)
     : Type 0 where
-  pub entry : Entry
-  pub of_call : IsCallOf seat call knows receipt entry
-  pub kept : Keeps entry seat after
-
--- the same, with the history that it was recorded in, which grew by that entry
-pub record CalledIn (history longer : List Entry) (seat : Seated) (call : Call) (knows : LockNo → Bool)
-    (receipt : Receipted) (after : Seated) : Type 0 where
-  pub entry : Entry
-  pub appended : longer ≡ history ++ entry ∷ []
-  pub numbered : entry.number ≡ length history
-  pub of_call : IsCallOf seat call knows receipt entry
-  pub kept : Keeps entry seat after
+  pub before : List Entry
+  pub recorded : CalledIn before receipt.history seat call knows receipt after
 
 -- the seat says what it said
 pub record IsAsBefore (old new : Seated) : Type 0 where

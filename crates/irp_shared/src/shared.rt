@@ -3,6 +3,7 @@
 ghost use Rattle.std.specs.Prelude.{◌≡◌, ◌<◌, ◌+◌, ℕ, if◌then◌else◌, nat_lt, Some, IfSome, IfOk, IfErr, OnErr, Err, Option, false};
 ghost use mathlib.Core.Logic.{◌↔◌};
 ghost use Rattle.irp_types.specs.declared.limit.Limit.TheVariants.{ThirtyTwo};
+ghost use Rattle.irp_types.specs.Histories.{IsLegal};
 ghost use Rattle.irp_types.specs.declared.entry.Entry.{Entry};
 ghost use Rattle.irp_manager.specs.declared.not_recorded.NotRecorded.TheVariants.{Behind};
 ghost use Rattle.irp_shared.specs.Answered.{AnswersSo, EachAnswered};
@@ -12,7 +13,7 @@ ghost use Rattle.irp_slots.specs.declared.answers.Token.{Token};
 ghost use Rattle.irp_shared.specs.Sharing.{Called, IsAsBefore, is_done, given_back};
 ghost use Rattle.irp_transcript.specs.Tokens.{needs_token};
 ghost use Rattle.irp_transcript.specs.Headers.{fixed_of, slots_of};
-ghost use Rattle.irp_shared.specs.Closing.{AllHere, Kept, Closes, entry_at};
+ghost use Rattle.irp_shared.specs.Closing.{AllHere, Kept, Found, Closes, entry_at};
 ghost use Rattle.irp_shared.specs.declared.open_refused.OpenRefused.TheVariants.{BadCount};
 ghost use Rattle.irp_shared.specs.declared.mismatch.Mismatch.TheVariants.{Seats as OtherSeats, Entry as OtherEntry};
 
@@ -106,14 +107,14 @@ pub fn open_with_limit<A: Ask + Drop, L: Session>(
     if locks == 0 || locks > MOST_LOCKS || seats == 0 || seats > MOST_SEATS {
         return Err(OpenRefused::BadCount);
     }
-    let (total, mut spare) = blank.open::<L>();
+    let Ok((book, mut spare)) = Book::new(Manager::with_limit(alloc, ask, locks, limit), blank)
+    else {
+        return Err(OpenRefused::Memory);
+    };
     let Some(places) = seats_of(alloc, &mut spare, seats) else {
         return Err(OpenRefused::Memory);
     };
-    let Ok(book) = Book::new(Manager::with_limit(alloc, ask, locks, limit)) else {
-        return Err(OpenRefused::Memory);
-    };
-    let lock = Mutex::new(Locked::new(book, total, spare));
+    let lock = Mutex::new(Locked::new(book, spare));
     let shared = Shared { seats, alloc, lock };
     Ok((shared, places))
 }
@@ -122,16 +123,16 @@ impl<A: Ask, L: Session> Shared<A, L> {
     /// Makes a call in a seat that was opened with this book, and records it, on condition that the call needs no
     /// token: a packet that was taken from a cancel slot is finished by `finish_taken`.
     ///
-    /// The seat keeps a copy of the entry, which the receipt tells of, and has seen up to it. The entry's number is at
-    /// least what the seat had seen. Its `drained` is what the note knows of the entry's lock, and true where a
-    /// deletion is answered Done.
+    /// The seat keeps a copy of the entry, which the receipt tells of, and has seen up to it. The entry's number is its
+    /// place in the session's history, and at least what the seat had seen. Its `drained` is what the note knows of
+    /// the entry's lock, and true where a deletion is answered Done.
     ///
     /// It waits for its turn. All growths come before anything is asked; room for the seat's entry comes before its
     /// turn, and room for the questions in it comes in its turn, when it is known how many can be asked.
     ///
     /// # Errors
     ///
-    /// `Memory` where a growth was refused, which may come first; else `Behind` and `HistoryFull` as `Book::record`
+    /// `Memory` where a growth was refused, which may come first; else `Behind` and `HistoryFull` as `Book::call`
     /// answers them. The clause says of `Behind` only that the length that it gives is below what the seat had seen,
     /// since it can't name the history. The seat stays as it was, and nothing is recorded.
     pub fn call<N: DrainNote>(
@@ -140,10 +141,11 @@ impl<A: Ask, L: Session> Shared<A, L> {
         seat: &mut Seat<L>,
         call: Call,
         note: &N,
-    ) -> Result<Receipt, NotRecorded>
+    ) -> Result<Receipt<L>, NotRecorded>
         requires free { needs_token call ≡ false }
         ensures called { IfOk result (λ receipt.
             Called seat.old call (N.knows_drained note.now) receipt seat.new) }
+        ensures legal { IfOk result (λ receipt. IsLegal L.fixed receipt.history) }
         ensures err { OnErr result (IsAsBefore seat.old seat.new) }
         ensures behind { (told : ℕ) → result ≡ Err (Behind told) → told < seat.old.seen }
     {
@@ -170,9 +172,10 @@ impl<A: Ask, L: Session> Shared<A, L> {
         token: Token,
         status: Status,
         information: u64,
-    ) -> Result<(Receipt, Option<Token>), (NotRecorded, Token)>
+    ) -> Result<(Receipt<L>, Option<Token>), (NotRecorded, Token)>
         ensures called { IfOk result (λ finished. Called seat.old
             (FinishTaken irp token.use_no status information) (λ lock. false) finished.0 seat.new) }
+        ensures legal { IfOk result (λ finished. IsLegal L.fixed finished.0.history) }
         ensures spent { IfOk result (λ finished. finished.1 ≡ given_back finished.0.reply token) }
         ensures err { IfErr result (λ error. IsAsBefore seat.old seat.new × (error.1 ≡ token)) }
         ensures behind { (told : ℕ) (back : Token)
@@ -206,9 +209,8 @@ fn is_done(reply: Reply) -> bool
     matches!(reply, Reply::Done)
 }
 
-/// A seat that learns of a receipt has seen its entry, and all before it. A receipt of another session may be learned
-/// too: then `Behind` may answer the seat's next call. It takes no memory.
-pub fn learn<L: Ledger>(seat: &mut Seat<L>, receipt: &Receipt)
+/// A seat that learns of a receipt of its session has seen that entry, and all before it. It takes no memory.
+pub fn learn<L: Ledger>(seat: &mut Seat<L>, receipt: &Receipt<L>)
     ensures { seat.new ≡ record seat.old {
       seen = if nat_lt seat.old.seen (receipt.now.number + 1)
           then receipt.now.number + 1 else seat.old.seen;
@@ -272,9 +274,10 @@ impl<A: Ask + Drop, L: Session> Shared<A, L> {
     ///
     /// # Errors
     ///
-    /// `Mismatch::Seats` exactly where the seats handed in are not all seats, each once; else `Mismatch::Entry` with a
-    /// seat's entry and another value, where a seat's entries are not the history's own (that it comes only there, and
-    /// that the other value is the history's, no clause says). The book is gone then.
+    /// `Mismatch::Seats` exactly where the seats handed in are not all seats, each once; else `Mismatch::Entry` where a
+    /// seat's entries are not the history's own: with the first that the seat has otherwise, and the one that the
+    /// history has in its stead. The book is gone then, so the clause says of the history that it is legal, answered as
+    /// `L` says, and as long as the seats' entries are many.
     pub fn close(self, seats: Vec<Seat<L>>) -> Result<Transcript, Mismatch<L>>
         requires { L.seats ≡ L.parts }
         ensures closes { IfOk result (Closes L.fixed L.seats seats.items) }
@@ -285,7 +288,8 @@ impl<A: Ask + Drop, L: Session> Shared<A, L> {
             → AllHere seats.items L.seats → ⊥ }
         ensures entry { (seat index : ℕ) (kept found : Option Entry)
             → result ≡ Err (OtherEntry seat index kept found)
-            → Kept seats.items seat index kept × (kept ≡ found → ⊥) }
+            → Kept seats.items seat index kept × (kept ≡ found → ⊥)
+            × Found L.fixed L.may seats.items seat index found }
     {
         let Shared {
             seats: expected,
@@ -296,15 +300,15 @@ impl<A: Ask + Drop, L: Session> Shared<A, L> {
             let given = seats;
             return Err(Mismatch::Seats { expected, given });
         }
-        let (book, mut total, spare) = lock.into_inner().into_parts();
+        let (mut book, spare) = lock.into_inner().into_parts();
+        let (mut all, difference) = gather(spare, seats, book.entries());
+        book.audit(&mut all);
         let Recorded {
             locks,
             limit,
             tables,
             history,
         } = book.end();
-        let (mut all, difference) = gather(spare, seats, history.as_slice());
-        total.audit(&mut all);
         if let Some(difference) = difference {
             return Err(mismatch_of(difference, history));
         }

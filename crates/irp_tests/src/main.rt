@@ -41,7 +41,7 @@ static TESTS: [(&str, Test); 10] = [
         "closures_are_called_once_in_the_order_of_the_list",
         Test::Closures,
     ),
-    ("a_seat_is_behind_what_it_learned", Test::Behind),
+    ("a_seat_is_behind_what_it_has_seen", Test::Behind),
     ("acquire_during_call", Test::AcquireDuringCall),
     (
         "a_seat_dropped_while_it_holds_keeps_the_lock_busy",
@@ -65,7 +65,7 @@ static TESTS: [(&str, Test); 10] = [
 fn outcome_of<R: Threads + Wait + Sync>(rt: &R, alloc: Global, test: Test) -> Outcome {
     match test {
         Test::Closures => closures::closures_are_called_once_in_the_order_of_the_list(rt, alloc),
-        Test::Behind => shared::a_seat_is_behind_what_it_learned(rt, alloc),
+        Test::Behind => shared::a_seat_is_behind_what_it_has_seen(rt, alloc),
         Test::AcquireDuringCall => sharing::acquire_during_call(rt, alloc),
         Test::DroppedSeat => remove::a_seat_dropped_while_it_holds_keeps_the_lock_busy(alloc),
         Test::RemoveUnderLoad => remove::remove_under_load(rt, alloc),

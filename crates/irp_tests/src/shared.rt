@@ -1,15 +1,14 @@
-//! A seat that learns of a receipt of another history.
+//! What a seat has seen: more than its history has, and what a receipt tells it.
 
 ghost use Rattle.std.specs.Prelude.{◌≡◌};
 ghost use Rattle.irp_types.specs.declared.limit.Limit.TheVariants.{ThirtyTwo};
 ghost use Rattle.irp_shared.specs.Answered.{AnswersSo};
 
 use super::outcome::{NO_MEMORY, Outcome, number};
-use super::stores::{Step, made_of};
-use irp_manager::{KnowsNothing, NotRecorded, Receipt};
-use irp_routines::{AnswerTable, Ask, Store};
+use irp_manager::{KnowsNothing, NotRecorded};
+use irp_routines::{AnswerTable, Ask};
 use irp_shared::{Seat, Session, Shared, learn, open};
-use irp_types::{Call, IrpRef, Reply};
+use irp_types::Call;
 use std::alloc::Global;
 use std::marker::Brand;
 use std::sync::Wait;
@@ -17,14 +16,7 @@ use std::sync::ledger::Blank;
 
 const ALLOCATE: Call = Call::Allocate { size: 1 };
 
-/// The other history.
-static ELSEWHERE: [Step; 3] = [
-    (ALLOCATE, Reply::Irp(IrpRef { slot: 0, use_no: 1 })),
-    (ALLOCATE, Reply::Irp(IrpRef { slot: 1, use_no: 2 })),
-    (ALLOCATE, Reply::Irp(IrpRef { slot: 2, use_no: 3 })),
-];
-
-/// Which seat allocates a packet, and the number of the entry. The first has learned of three entries elsewhere, and is
+/// Which seat allocates a packet, and the number of the entry. The first was told that it has seen three entries, and is
 /// refused until the history is as long.
 static CALLS: [(usize, Result<u64, NotRecorded>); 5] = [
     (0, Err(NotRecorded::Behind { length: 0 })),
@@ -54,24 +46,39 @@ fn count_answered<A: Ask, L: Session>(
     count
 }
 
-/// Closes the session of these seats. Right where its transcript has four entries.
+/// The second seat makes a call, and the first learns of its receipt. Right where it has then seen five entries.
+fn learned<A: Ask, L: Session>(
+    rt: &impl Wait,
+    shared: &Shared<A, L>,
+    seats: &mut [Seat<L>],
+) -> Outcome {
+    let [first, second, ..] = seats else {
+        return Outcome::Wrong("there are no two seats");
+    };
+    match shared.call(rt, second, ALLOCATE, &KnowsNothing) {
+        Ok(receipt) => learn(first, &receipt),
+        Err(_) => return Outcome::Wrong("a call wasn't recorded"),
+    }
+    number("entries that a seat has seen", first.seen(), 5)
+}
+
+/// Closes the session of these seats. Right where its transcript has five entries.
 fn closed<A: Ask + Drop, L: Session>(shared: Shared<A, L>, seats: Vec<Seat<L>>) -> Outcome
     requires { L.seats ≡ L.parts }
 {
     match shared.close(seats) {
-        Ok(transcript) => number("entries", transcript.entries().len() as u64, 4),
+        Ok(transcript) => number("entries", transcript.entries().len() as u64, 5),
         Err(_) => Outcome::Wrong("the seats kept other entries than the history has"),
     }
 }
 
-/// A session of two seats, the first of which learns of the receipt. Right where each call is answered as it has to be,
-/// and the transcript has an entry for each that isn't refused.
+/// A session of two seats, the first of which was told that it has seen three entries. Right where each call is
+/// answered as it has to be, and the transcript has an entry for each that isn't refused.
 fn behind<A: Ask + Drop, L: Session>(
     rt: &impl Wait,
     alloc: Global,
     blank: Blank,
     ask: A,
-    receipt: &Receipt,
 ) -> Outcome
     requires blank { (blank.name ≡ L.name) × (blank.parts ≡ L.parts) }
     requires seats { (L.parts ≡ 2) × (L.seats ≡ 2) }
@@ -82,26 +89,16 @@ fn behind<A: Ask + Drop, L: Session>(
         return NO_MEMORY;
     };
     if let Some(first) = seats.first_mut() {
-        learn(first, receipt);
+        first.saw(3);
     }
     let count = count_answered(rt, &shared, seats.as_mut_slice());
-    number("calls answered as they have to be", count, 5).and(closed(shared, seats))
+    number("calls answered as they have to be", count, 5)
+        .and(learned(rt, &shared, seats.as_mut_slice()))
+        .and(closed(shared, seats))
 }
 
-/// A session whose first seat learns of this receipt, the last of another history.
-fn behind_receipt(rt: &impl Wait, alloc: Global, receipt: &Receipt) -> Outcome {
-    let table = AnswerTable::new(alloc);
-    behind::<AnswerTable, Brand>(rt, alloc, Blank::new(2), table, receipt)
-}
-
-/// A seat that has learned of a receipt of another session is behind, until the history is as long.
-pub fn a_seat_is_behind_what_it_learned(rt: &impl Wait, alloc: Global) -> Outcome {
-    let Some(made) = made_of(rt, alloc, Store::new(alloc), &ELSEWHERE) else {
-        return NO_MEMORY;
-    };
-    let is_made = made.are_right(ELSEWHERE.len());
-    match &made.last {
-        Some(receipt) => is_made.and(behind_receipt(rt, alloc, receipt)),
-        None => is_made,
-    }
+/// A seat that has seen more than the history has is behind, until the history is as long; and one that learns of
+/// another's receipt has seen up to that entry.
+pub fn a_seat_is_behind_what_it_has_seen(rt: &impl Wait, alloc: Global) -> Outcome {
+    behind::<AnswerTable, Brand>(rt, alloc, Blank::new(2), AnswerTable::new(alloc))
 }

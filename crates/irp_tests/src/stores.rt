@@ -7,7 +7,7 @@ ghost use Rattle.irp_types.specs.declared.routine.Rule.TheVariants.{Watch};
 ghost use Rattle.irp_shared.specs.Answered.{AnswersSo};
 
 use super::outcome::{NO_MEMORY, Outcome, number};
-use irp_manager::{KnowsNothing, Receipt};
+use irp_manager::KnowsNothing;
 use irp_routines::{Ask, Store};
 use irp_shared::{Seat, Session, Shared, needs_token, open};
 use irp_types::{Answer, Call, DispatchId, Reply, Rule, Shown};
@@ -35,18 +35,15 @@ pub fn look_on(shown: Shown) -> Answer
     }
 }
 
-/// What came of steps.
+/// What came of steps: how many were answered as they have to be, up to the first that wasn't.
 #[derive(Drop)]
-pub struct Made {
-    /// How many were answered as they have to be, up to the first that wasn't.
+struct Made {
     right: usize,
-    /// The receipt of the last of these.
-    pub last: Option<Receipt>,
 }
 
 impl Made {
     /// Right where so many steps were answered as they have to be.
-    pub fn are_right(&self, wanted: usize) -> Outcome {
+    fn are_right(&self, wanted: usize) -> Outcome {
         number(
             "steps answered as they have to be",
             self.right as u64,
@@ -62,20 +59,16 @@ fn makes<A: Ask, L: Session>(
     seat: &mut Seat<L>,
     steps: &[Step],
 ) -> Made {
-    let mut made = Made {
-        right: 0,
-        last: None,
-    };
+    let mut made = Made { right: 0 };
     for step in steps {
         let (call, reply) = *step;
         if needs_token(call) {
             return made;
         }
         match shared.call(rt, seat, call, &KnowsNothing) {
-            Ok(receipt) if receipt.reply() == reply => made.last = Some(receipt),
+            Ok(receipt) if receipt.reply() == reply => made.right = made.right.wrapping_add(1),
             _ => return made,
         }
-        made.right = made.right.wrapping_add(1);
     }
     made
 }
@@ -103,7 +96,7 @@ fn makes_in_session<A: Ask + Drop, L: Session>(
 }
 
 /// Makes the steps in a new session of this store. None where memory is missing for it.
-pub fn made_of(rt: &impl Wait, alloc: Global, store: Store, steps: &[Step]) -> Option<Made> {
+fn made_of(rt: &impl Wait, alloc: Global, store: Store, steps: &[Step]) -> Option<Made> {
     makes_in_session::<Store, Brand>(rt, alloc, Blank::new(1), store, steps)
 }
 

@@ -1,25 +1,24 @@
-use Rattle.std.proofs.Common.{◌≡◌, ◌++◌, ◌∷◌, [], List, Some, length, refl, sym, ap, ◌≤◌, ◌∙◌, subst, rules, arith, length-append}
-use Rattle.std.specs.Prelude.{slice_get, vec_capacity}
+use Rattle.std.proofs.Common.{◌≡◌, ◌++◌, ◌∷◌, [], List, length, refl, sym, ap, ◌≤◌, ◌+◌, ◌∙◌, subst, rules, arith, length-append}
+use Rattle.std.specs.Prelude.{vec_capacity}
 use Rattle.irp_types.specs.State.{Fixed}
 use Rattle.irp_types.specs.Steps.{Step}
 use Rattle.irp_types.specs.Histories.{IsEntryAt, LeadsTo}
 use Rattle.irp_types.specs.declared.asked.Asked.{Asked}
 use Rattle.irp_types.specs.Calls.{Call}
 use Rattle.irp_types.specs.declared.entry.Entry.{Entry}
-use Rattle.irp_types.proofs.LongerLists.{get_last}
 use Rattle.irp_routines.specs.Answers.{AreAnswered}
 use Rattle.irp_manager.specs.Passing.{PassesPlan, PassesAnswer, PassesCancel}
 use Rattle.irp_manager.specs.Keeps.{slabbed}
 use Rattle.irp_manager.specs.ManagerStates.{state_of, fixed_with, most_asked}
-use Rattle.irp_manager.specs.Booked.{Receipted}
+use Rattle.irp_manager.specs.Booked.{receipt_of}
 use Rattle.irp_manager.specs.Rooms.{can_ask}
 use Rattle.irp_manager.proofs.Few.{few_stepped}
 use Rattle.irp_manager.proofs.Recording.{leads_more, legal, undrained, done_is_drained}
-use Rattle.irp_manager.proofs.book.Book.record_copied.Goals as goal
-use Rattle.irp_manager.proofs.book.Book.record_copied.Given.{Over}
+use Rattle.irp_manager.proofs.book.Book.call.Goals as goal
+use Rattle.irp_manager.proofs.book.Book.call.Given.{Over}
 
 -- what is recorded
-entry : (g : Over) → goal.After-history_goes_on g → Entry
+entry : (g : Over) → goal.After-took g → Entry
 entry g c = record {
   number = c.len-length.result;
   seat = c.number.result;
@@ -30,25 +29,25 @@ entry g c = record {
   reply = c.in-Ok-apply.applied.reply;
 }
 
-grown : (g : Over) (c : goal.After-history_goes_on g) → c.push_reserved.new.self.items ≡ c.self.inside.history.items ++ entry g c ∷ []
+grown : (g : Over) (c : goal.After-took g) → c.push_reserved.new.self.items ≡ c.self.inside.history.items ++ entry g c ∷ []
 unfolding entry
 grown g c = c.push_reserved.ensures.items ∙ ap (λ (history : List Entry). history ++ entry g c ∷ []) c.reserve.ensures.items
 
-place : (g : Over) (c : goal.After-history_goes_on g) → c.len-length.result ≡ length c.self.inside.history.items
+place : (g : Over) (c : goal.After-took g) → c.len-length.result ≡ length c.self.inside.history.items
 place g c = search rules
 
 -- what is fixed, before the call
-before : (g : Over) → goal.After-history_goes_on g → Fixed
+before : (g : Over) → goal.After-took g → Fixed
 before g c = fixed_with c.self.inside.state c.self.inside.guarded.tables
 
 -- the step that is recorded
-stepped : (g : Over) (c : goal.After-history_goes_on g) → Step (before g c) (state_of slabbed c.self.inside.state) c.in-Ok-apply.applied.drained c.args.call c.put.result c.in-Ok-apply.applied.reply (state_of slabbed c.apply.new.self)
+stepped : (g : Over) (c : goal.After-took g) → Step (before g c) (state_of slabbed c.self.inside.state) c.in-Ok-apply.applied.drained c.args.call c.put.result c.in-Ok-apply.applied.reply (state_of slabbed c.apply.new.self)
 unfolding before
 stepped g c =
     subst (λ (asked : List Asked). Step (before g c) (state_of slabbed c.self.inside.state) c.in-Ok-apply.applied.drained c.args.call asked c.in-Ok-apply.applied.reply (state_of slabbed c.apply.new.self))
     (sym c.put.ensures) (c.in-Ok-apply.ensures.stepped.step (before g c) refl (refl, refl))
 
-leads : (g : Over) (c : goal.After-history_goes_on g) → LeadsTo (before g c) c.push_reserved.new.self.items (state_of slabbed c.apply.new.self)
+leads : (g : Over) (c : goal.After-took g) → LeadsTo (before g c) c.push_reserved.new.self.items (state_of slabbed c.apply.new.self)
 unfolding entry before
 leads g c =
     let old = state_of slabbed c.self.inside.state in
@@ -63,7 +62,7 @@ leads g c =
     leads_more c.history_goes_on.ensures (before g c) c.self.inside.history.items c.push_reserved.new.self.items old new (entry g c) c.self.invariant.leads holds (grown g c)
 
 -- the same, with what is fixed after the call
-leads_on : (g : Over) (c : goal.After-history_goes_on g) → LeadsTo (fixed_with c.apply.new.self c.self.inside.guarded.tables) c.push_reserved.new.self.items (state_of slabbed c.apply.new.self)
+leads_on : (g : Over) (c : goal.After-took g) → LeadsTo (fixed_with c.apply.new.self c.self.inside.guarded.tables) c.push_reserved.new.self.items (state_of slabbed c.apply.new.self)
 unfolding before
 leads_on g c =
     let tables = c.self.inside.guarded.tables in
@@ -80,6 +79,7 @@ invariant_of-self-2 g c =
       stands = c.in-Ok-apply.ensures.stepped.stands;
       few = omega (arith, length-append c.self.inside.history.items (entry g c ∷ []));
       spare = c.shared_copy-copy.ensures.empty;
+      counted = omega (arith, c.took.ensures.total, c.self.invariant.counted, long, length-append c.self.inside.history.items (entry g c ∷ []));
     }
 
 pub returns-clause-legal : goal.returns-clause-legal
@@ -96,20 +96,28 @@ returns-clause-recorded g c =
     let may = subst (λ (asked : List Asked). AreAnswered (PassesPlan held.tables own (g.A.Ask.may_plan held.ask)) (PassesAnswer held.tables own (g.A.Ask.may_answer held.ask)) (PassesCancel held.tables own (g.A.Ask.may_cancel held.ask)) asked)
     (sym c.put.ensures) c.in-Ok-apply.ensures.may in
     let few = subst (λ (asked : List Asked). length asked ≤ most_asked c.args.call) (sym c.put.ensures) c.in-Ok-apply.ensures.few in
+    let copied : c.shared_copy-copy.result ≡ entry g c = c.shared_copy-copy.ensures.copied in
     rw (← c.self.view_is) (record {
-      entry = entry g c;
-      appended = grown g c;
-      numbered = here;
-      of_call = record {
-        within = search rules;
-        after = search rules;
-        by = c.number.ensures;
-        asks = refl;
-        noted = c.in-Ok-apply.ensures.drained;
-        deletes = λ device deletes done. done_is_drained (before g c) (state_of slabbed c.self.inside.state) c.in-Ok-apply.applied.drained device c.put.result c.in-Ok-apply.applied.reply (state_of slabbed c.apply.new.self)
-            (subst (λ (call : Call). Step (before g c) (state_of slabbed c.self.inside.state) c.in-Ok-apply.applied.drained call c.put.result c.in-Ok-apply.applied.reply (state_of slabbed c.apply.new.self)) deletes (stepped g c)) done;
-        few = few;
-        told = c.of-receipt.ensures;
+      called = record {
+        entry = entry g c;
+        appended = grown g c;
+        numbered = here;
+        of_call = record {
+          within = search rules;
+          after = search rules;
+          by = c.number.ensures;
+          asks = refl;
+          noted = c.in-Ok-apply.ensures.drained;
+          deletes = λ device deletes done. done_is_drained (before g c) (state_of slabbed c.self.inside.state) c.in-Ok-apply.applied.drained device c.put.result c.in-Ok-apply.applied.reply (state_of slabbed c.apply.new.self)
+              (subst (λ (call : Call). Step (before g c) (state_of slabbed c.self.inside.state) c.in-Ok-apply.applied.drained call c.put.result c.in-Ok-apply.applied.reply (state_of slabbed c.apply.new.self)) deletes (stepped g c)) done;
+          few = few;
+        };
+        told = c.of-receipt.ensures ∙ ap (receipt_of c.push_reserved.new.self.items) copied;
+        kept = record {
+          number = c.took.ensures.number;
+          entries = c.took.ensures.entries ∙ ap (λ (one : Entry). c.args.seat.now.entries ++ one ∷ []) copied;
+          seen = c.took.ensures.seen ∙ ap (λ (one : Entry). one.number + 1) copied;
+        };
       };
       answered = may;
     })
@@ -121,9 +129,3 @@ shared_copy-copy-requires-clause-ample g c =
     let ample : can_ask state c.args.call ≤ vec_capacity c.place_for.new.spare = c.in-Ok.ensures.ample in
     let same : length c.put.result ≡ length c.in-Ok-apply.applied.asked.items = ap length c.put.ensures in
     omega (arith, few, ample, same)
-
-pub returns-clause-copied : goal.returns-clause-copied
-unfolding entry
-returns-clause-copied g c =
-    let number : c.of-receipt.result.number ≡ length c.self.inside.history.items = ap (λ (receipt : Receipted). receipt.number) c.of-receipt.ensures ∙ place g c in
-    (λ i. slice_get (grown g c i) (number i)) ∙ get_last c.self.inside.history.items (entry g c) ∙ ap Some (sym c.shared_copy-copy.ensures.copied)
