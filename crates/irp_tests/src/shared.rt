@@ -74,12 +74,7 @@ fn closed<A: Ask + Drop, L: Session>(shared: Shared<A, L>, seats: Vec<Seat<L>>) 
 
 /// A session of two seats, the first of which was told that it has seen three entries. Right where each call is
 /// answered as it has to be, and the transcript has an entry for each that isn't refused.
-fn behind<A: Ask + Drop, L: Session>(
-    rt: &impl Wait,
-    alloc: Global,
-    blank: Blank,
-    ask: A,
-) -> Outcome
+fn behind<A: Ask + Drop, L: Session>(rt: &impl Wait, alloc: Global, blank: Blank, ask: A) -> Outcome
     requires blank { (blank.name ≡ L.name) × (blank.parts ≡ L.parts) }
     requires seats { (L.parts ≡ 2) × (L.seats ≡ 2) }
     requires fixed { L.fixed ≡ record { locks = 1; tables = A.tables ask; limit = ThirtyTwo } }

@@ -1,5 +1,5 @@
 use Rattle.irp_types.specs.declared.limit.Limit.TheVariants.{ThirtyTwo}
-use Rattle.irp_tests.proofs.shared.behind_receipt.Given as goal
+use Rattle.irp_tests.proofs.shared.a_seat_is_behind_what_it_has_seen.Given as goal
 
 abbrev pub ghosts-behind-L-Ledger : goal.ghosts-behind-L-Ledger
 ghosts-behind-L-Ledger g a = record { name = a.blank.name; parts = a.blank.parts }
