@@ -143,7 +143,7 @@ def shorter(schedule, try_it):
     return ",".join(([places] if places else []) + deviations) or "usual"
 
 
-def judge(options, irpx, folder):
+def judge(options, irpx, folder, quiet=False):
     """Has distinct transcripts judged. Returns the first that isn't legal, with its verdict, or None."""
     orders = folder + "/orders"
     names = sorted((it for it in os.listdir(orders) if it.isdigit()), key=int)
@@ -156,8 +156,9 @@ def judge(options, irpx, folder):
         if not said.startswith("legal "):
             with open(f"{orders}/{name}.schedule", encoding="utf-8") as it:
                 return it.read(), said
-    print(f"judged      {len(chosen)} of {plural(len(names), 'distinct transcript')}: "
-          f"{'legal' if chosen else 'none'}")
+    if not quiet:
+        print(f"judged      {len(chosen)} of {plural(len(names), 'distinct transcript')}: "
+              f"{'legal' if chosen else 'none'}")
     return None
 
 

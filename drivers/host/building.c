@@ -76,7 +76,7 @@ static NTSTATUS power_done(PDEVICE_OBJECT Device, PIRP Irp, PVOID Context)
     WdmIoFreeIrp(Irp, nowhere);
     if (w->complete)
         w->complete(w->device, w->minor, w->state, w->context, &iosb);
-    free(w);
+    free_host_memory(w);
     return STATUS_MORE_PROCESSING_REQUIRED;
 }
 
@@ -84,10 +84,10 @@ NTSTATUS WdmPoRequestPowerIrp(PDEVICE_OBJECT Device, UCHAR Minor, POWER_STATE St
                               PVOID Context, PIRP *Out, WDM_SITE at)
 {
     PDEVICE_OBJECT top = IoGetAttachedDevice(Device);
-    Wish *w = calloc(1, sizeof *w);
+    Wish *w = host_memory(sizeof *w);
     PIRP irp = w ? WdmBuild(top, IRP_MJ_POWER, Minor, 0, NULL, NULL, at) : NULL;
     if (!irp) {
-        free(w);
+        free_host_memory(w);
         return STATUS_INSUFFICIENT_RESOURCES;
     }
     *w = (Wish){ Complete, Context, Device, Minor, State };

@@ -21,7 +21,7 @@ static VOID device_timer(PKDPC Dpc, PVOID Context, PVOID A, PVOID B)
 
 NTSTATUS IoInitializeTimer(PDEVICE_OBJECT Device, PIO_TIMER_ROUTINE Routine, PVOID Context)
 {
-    DeviceTimer *t = calloc(1, sizeof *t);
+    DeviceTimer *t = host_memory(sizeof *t);
     if (!t)
         return STATUS_INSUFFICIENT_RESOURCES;
     t->device = Device;

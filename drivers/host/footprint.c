@@ -107,11 +107,11 @@ void touch(const void *object, Touch how)
         clocks_meet(o->clock, how);
 }
 
-void time_passed_for(int thread)
+/* Time passes, so that this thread goes on. */
+void time_passed_for(int thread, const LONGLONG *clock)
 {
-    static const char time;
     if (footprints)
-        step(thread, object_of(&time), &time, true);
+        step(thread, object_of(clock), clock, true);
 }
 
 void passed(const char *what, int line)

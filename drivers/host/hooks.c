@@ -20,11 +20,11 @@ static void access_at(const void *address, size_t size, bool writes, const void 
     const void *page = packet_page(address);
     if (page) {
         touch(page, writes ? WRITES : READS);
-        plain_access(page, false, pc);
+        access_to(page, false, pc, true);
     }
     for (uintptr_t a = first >> 2 << 2; a < first + size; a += 4) {
         touch(word_at(a, 1), writes ? WRITES : READS);
-        plain_access(word_at(a, 1), writes, pc);
+        access_to(word_at(a, 1), writes, pc, true);
     }
 }
 
@@ -39,7 +39,7 @@ static void atomic_at(const volatile void *address, bool writes, const void *pc)
         touch(page, writes ? WRITES : READS);
     touch(word_at((uintptr_t)address, 2), writes ? SYNCS : ACQUIRES);
     touch(word_at((uintptr_t)address, 1), writes ? WRITES : READS);
-    plain_access(word_at((uintptr_t)address, 1), writes, NULL);
+    access_to(word_at((uintptr_t)address, 1), writes, pc, false);
 }
 
 #define PC __builtin_return_address(0)

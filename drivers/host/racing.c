@@ -85,6 +85,7 @@ void let_go_of(const void *from, size_t size, const char *what, WDM_SITE at)
         c->let_go_at = at;
         c->let_go_by = current_thread();
         touch(c->key, WRITES);
+        access_to(c->key, true, NULL, false);
     }
 }
 
@@ -94,14 +95,15 @@ static void note_race(uint32_t here, uint32_t there)
     place_races(there);
 }
 
-/* An access to a cell, or with no `pc` something that counts as one. */
-void plain_access(const void *key, bool writes, const void *pc)
+/* An access to a cell at a place of the program, or at none. Only that of a plain one may become a point. */
+void access_to(const void *key, bool writes, const void *pc, bool is_plain)
 {
     Cell *c = cell_of(key);
     const int me = current_thread();
     const uint32_t *mine = clocks[me];
     if (c->let_go && pc)
         tell_let_go(c, writes, pc);
+    pc = is_plain ? pc : NULL;
     if (c->writer != NOBODY && c->writer != me && c->written > mine[c->writer])
         note_race(place_of(pc), place_of(c->write_pc));
     for (uint32_t r = writes ? c->readers & ~(1u << me) : 0; r; r &= r - 1) {

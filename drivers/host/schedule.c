@@ -4,6 +4,7 @@
 #include <ucontext.h>
 
 enum { STACK = 256 * 1024, MOST_STUCK = 50 };
+static const uintptr_t STACKS = 0x210000000000; /* the same in each run: what lies on a stack counts by its address */
 typedef struct {
     ucontext_t context;
     Self self;
@@ -45,10 +46,14 @@ void after_end_of(int t) { touch(&threads[t], SYNCS); }
 static bool is_over(const Thread *t)
 {
     const Self mine = self;
-    if (t != &threads[running])
-        self = t->self;
+    const int me = running;
+    if (t == &threads[me])
+        return t->wait.ready(t->wait.context);
+    self = t->self;
+    running = (int)(t - threads);
     const bool over = t->wait.ready(t->wait.context);
     self = mine;
+    running = me;
     return over;
 }
 
@@ -157,7 +162,7 @@ static void let_time_pass(int t)
     const LONGLONG end = deadline_of(&threads[t]);
     if (end > clock_now)
         clock_now = end;
-    time_passed_for(t);
+    time_passed_for(t, &clock_now);
 }
 
 static void go_to(int t)
@@ -241,13 +246,15 @@ static void name_thread(int n, const char *kind, void *fn)
     snprintf(threads[n].name, sizeof threads[n].name, "T%d, %s%s%s", n, kind, fn ? " " : "", fn ? function_name(fn) : "");
 }
 
-int start_by_schedule(void *(*run)(void *), void *context, const char *kind, void *fn)
+/* A thread that begins with a wait may be given it, and so be there before it has run. */
+int start_by_schedule(void *(*run)(void *), void *context, const char *kind, void *fn, const Wait *first)
 {
     if (n_threads == MAX_THREADS)
         give_up("more than 32 threads under a schedule");
     const int n = n_threads++;
     Thread *t = &threads[n];
-    char *stack = mmap(NULL, STACK, PROT_READ | PROT_WRITE, MAP_PRIVATE | MAP_ANONYMOUS | MAP_NORESERVE, -1, 0);
+    char *stack = mmap((char *)STACKS + (size_t)n * STACK, STACK, PROT_READ | PROT_WRITE,
+                       MAP_PRIVATE | MAP_ANONYMOUS | MAP_NORESERVE, -1, 0);
     if (stack == MAP_FAILED || mprotect(stack, PAGE, PROT_NONE))
         give_up("out of memory");
     getcontext(&t->context);
@@ -257,6 +264,9 @@ int start_by_schedule(void *(*run)(void *), void *context, const char *kind, voi
     t->argument = context;
     t->place = (Place){ .what = "its start" };
     t->self = (Self){ .seat = -1, .driver = NOBODY, .device = NOBODY };
+    t->waits = first != NULL;
+    if (first)
+        t->wait = *first;
     makecontext(&t->context, begin_thread, 0);
     name_thread(n, kind, fn);
     touch(&n_threads, SYNCS);

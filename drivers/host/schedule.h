@@ -21,7 +21,7 @@ void begin_schedule(void);
 Woken wait_by_schedule(const Wait *w);
 void point_by_schedule(const char *what, WDM_SITE at, const void *pc);
 void yield_by_schedule(const char *what);
-int start_by_schedule(void *(*run)(void *), void *context, const char *kind, void *fn);
+int start_by_schedule(void *(*run)(void *), void *context, const char *kind, void *fn, const Wait *first);
 __attribute__((noreturn)) void end_by_schedule(void *result);
 bool has_ended(int thread, void **result);
 void after_end_of(int thread);
@@ -61,13 +61,13 @@ uint64_t state_of(int n_threads);
 uint64_t state_of_run(void);
 void passed(const char *what, int line);
 void thread_born(int parent, int child);
-void time_passed_for(int thread);
+void time_passed_for(int thread, const LONGLONG *clock);
 uint64_t next_name(void);
 
 /* racing.c: which plain accesses race, by what happened before what; and memory that was let go. */
 void clocks_born(int parent, int child);
 void clocks_meet(uint32_t *of_object, Touch how);
-void plain_access(const void *cell, bool writes, const void *pc);
+void access_to(const void *cell, bool writes, const void *pc, bool is_plain);
 
 /* ending.c */
 void note_fault(const char *text);

@@ -16,8 +16,8 @@ PDRIVER_OBJECT WdmLoad(const char *Name, PDRIVER_INITIALIZE Entry, WDM_SITE at)
     RtlInitUnicodeString(&path, text);
     enter_host(&c, "WdmLoadDriver", (WDM_SITE){ 0 });
     open_traps();
-    PDRIVER_OBJECT d = calloc(1, sizeof *d);
-    PDRIVER_EXTENSION extension = calloc(1, sizeof *extension);
+    PDRIVER_OBJECT d = host_memory(sizeof *d);
+    PDRIVER_EXTENSION extension = host_memory(sizeof *extension);
     if (!d || !extension || n_drivers == MAX_DRIVERS)
         give_up("more than 64 drivers");
     extension->DriverObject = d;

@@ -188,11 +188,11 @@ void end_thread(void *result)
     pthread_exit(result);
 }
 
-int start_thread(void *(*run)(void *), void *context, const char *kind, void *fn)
+int start_thread(void *(*run)(void *), void *context, const char *kind, void *fn, const Wait *first)
 {
     pthread_t thread;
     if (by_schedule) {
-        start_by_schedule(run, context, kind, fn);
+        start_by_schedule(run, context, kind, fn, first);
         return 0;
     }
     pthread_attr_t attributes;
@@ -234,7 +234,8 @@ NTSTATUS WdmPsCreateSystemThread(PHANDLE Handle, PKSTART_ROUTINE Start, PVOID Co
     *Handle = new_handle(*PsThreadType, t);
     if (!*Handle)
         return STATUS_INSUFFICIENT_RESOURCES;
-    return start_thread(run_thread, t, "system thread", (void *)Start) ? STATUS_INSUFFICIENT_RESOURCES : STATUS_SUCCESS;
+    const int failed = start_thread(run_thread, t, "system thread", (void *)Start, NULL);
+    return failed ? STATUS_INSUFFICIENT_RESOURCES : STATUS_SUCCESS;
 }
 
 NTSTATUS PsTerminateSystemThread(NTSTATUS Status)
@@ -249,7 +250,7 @@ NTSTATUS PsTerminateSystemThread(NTSTATUS Status)
 PKTHREAD KeGetCurrentThread(VOID)
 {
     if (!self.thread) {
-        self.thread = calloc(1, sizeof *self.thread);
+        self.thread = host_memory(sizeof *self.thread);
         if (self.thread)
             WdmKeInitializeEvent(&self.thread->ended, NotificationEvent, FALSE);
     }

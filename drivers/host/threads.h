@@ -10,8 +10,10 @@
 #include "wdm_io.h"
 #include <pthread.h>
 
-/* Threads. */
-int start_thread(void *(*run)(void *), void *context, const char *kind, void *fn); /* 0, or why not */
+/* Starts a thread, named by its kind and by what it runs for, or NULL. One that waits first may be given that wait.
+   Returns 0, or why there is none. */
+typedef struct Wait Wait;
+int start_thread(void *(*run)(void *), void *context, const char *kind, void *fn, const Wait *first);
 pthread_t this_thread(void);
 __attribute__((noreturn)) void end_thread(void *result);
 static inline bool is_this_thread(pthread_t thread) { return pthread_equal(thread, this_thread()); }
@@ -29,7 +31,7 @@ typedef enum {
     IDLES     /* for work: it never ends so, and isn't told */
 } Patience;
 
-typedef struct {
+struct Wait {
     bool (*ready)(const void *context);        /* whether the wait is over; asked in the waiter's name */
     LONGLONG (*deadline)(const void *context); /* NULL, or when it ends without that, in 100 ns; 0: never */
     const void *context;
@@ -39,7 +41,7 @@ typedef struct {
     int seconds;        /* how long a real thread waits where nothing goes on; 0: WDM_PATIENCE */
     const char *what;   /* the call */
     WDM_SITE at;
-} Wait;
+};
 
 /* Waits until it is ready, its time is up, or no thread can go on. A real thread takes it for stuck where nothing at all
    went on in the host for some seconds. */

@@ -66,7 +66,7 @@ Packet *find(PIRP irp)
     Packet *p = packets[i];
     touch(p->irp, WRITES);
     if (footprints && lets_go(self.calls->name))
-        plain_access(p->irp, true, NULL);
+        access_to(p->irp, true, NULL, false);
     if (__atomic_load_n(&p->watched, __ATOMIC_SEQ_CST))
         unprotect(p);
     while (p->rider)

@@ -100,7 +100,7 @@ PIO_WORKITEM WdmIoAllocateWorkItem(PDEVICE_OBJECT Device, WDM_SITE at)
 {
     Call c;
     enter_host(&c, "IoAllocateWorkItem", at);
-    struct _IO_WORKITEM *item = memory_is_refused(c.name, at) ? NULL : calloc(1, sizeof *item);
+    struct _IO_WORKITEM *item = memory_is_refused(c.name, at) ? NULL : host_memory(sizeof *item);
     leave_host();
     if (item)
         item->device = Device;
@@ -126,7 +126,7 @@ VOID WdmIoQueueWorkItem(PIO_WORKITEM Item, PIO_WORKITEM_ROUTINE Routine, PVOID C
         last_item = Item;
         touch(&first_item, SYNCS);
         if (n_idle < n_queued() && n_workers < MAX_WORKERS &&
-            !start_thread(work, (void *)(intptr_t)n_workers, "worker", NULL))
+            !start_thread(work, (void *)(intptr_t)n_workers, "worker", NULL, NULL))
             n_workers++;
         tell_waiters(&work_came);
     }
@@ -139,7 +139,7 @@ VOID IoFreeWorkItem(PIO_WORKITEM Item)
     if (Item->queued)
         fault("QueuedTwice", NULL, "a work item is freed while it is in the queue");
     else
-        free(Item);
+        free_host_memory(Item);
     pthread_mutex_unlock(&host_lock);
 }
 
@@ -227,12 +227,8 @@ static LONGLONG next_due(const void *context)
     return next;
 }
 
-static void await_clock(void)
-{
-    const Wait w = { .ready = has_dpc, .deadline = next_due, .on = &clock_changed, .patience = IDLES,
-                     .what = "the clock" };
-    wait_for(&w);
-}
+static const Wait until_due = { .ready = has_dpc, .deadline = next_due, .on = &clock_changed, .patience = IDLES,
+                                .what = "the clock" };
 
 static void *run_clock(void *context)
 {
@@ -257,7 +253,7 @@ static void *run_clock(void *context)
             dpc_runs = false;
             tell_waiters(&host_settled);
         } else
-            await_clock();
+            wait_for(&until_due);
     }
     return NULL;
 }
@@ -266,7 +262,7 @@ static void start_clock(void)
 {
     touch(&timers, SYNCS);
     if (!clock_runs)
-        clock_runs = !start_thread(run_clock, NULL, "the clock", NULL);
+        clock_runs = !start_thread(run_clock, NULL, "the clock", NULL, &until_due);
     tell_waiters(&clock_changed);
 }
 

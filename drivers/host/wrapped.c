@@ -10,7 +10,7 @@ int wdm_pthread_create(pthread_t *t, const pthread_attr_t *a, void *(*run)(void 
 {
     if (!by_schedule)
         return pthread_create(t, a, run, context);
-    *t = (pthread_t)start_by_schedule(run, context, "test thread", (void *)run) + 1;
+    *t = (pthread_t)start_by_schedule(run, context, "test thread", (void *)run, NULL) + 1;
     return 0;
 }
 

@@ -1,0 +1,195 @@
+"""Tests of `run --every-order`: races that need so many preemptions, their right counterparts, stacks of right drivers, the
+reduction against none, and explorers made wrong.
+
+The first comment of each file of races/ says how many preemptions its fault needs at least, and as what it is told."""
+
+import os
+import re
+import shutil
+
+import orders
+
+HERE = os.path.dirname(os.path.abspath(__file__))
+RACES = sorted(it[:-2] for it in os.listdir(HERE + "/races") if it.endswith(".c"))
+# Stacks at one round a loop: how many preemptions are exhausted, and up to how many the reduction is compared with none.
+STACKS = {"children": (2, 2), "keyboard": (1, 1), "late": (2, 2), "policy": (2, 2), "power": (1, 1), "removal": (1, 1),
+          "retry": (2, 2), "serial": (2, 2), "split": (1, 1), "watchdog": (2, 2)}
+
+# An explorer with one thing wrong: a name, a file of the host, what is replaced by what, and where it shows: in a race that
+# it doesn't find with as few preemptions, in a right driver that isn't clean, or in a stack's number of classes.
+WRONG = [
+    ("a wait's end isn't seen while another thread can go on", "schedule.c",
+     "ready |= (uint32_t)can_go_on(&threads[i]) << i;",
+     "ready |= (uint32_t)(can_go_on(&threads[i]) && !(ready && threads[i].waits)) << i;", "classes", "watchdog"),
+    ("a wait is never told that it is over", "schedule.c", "(end && end <= clock_now) || is_over(t));",
+     "(end && end <= clock_now) || (is_over(t) && end));", "right", "lost_wakeup"),
+    ("a state counts as reached by any choice", "exploring.c", "(state + (uint64_t)choice * 0x9E3779B97F4A7C15u)",
+     "(state + (uint64_t)(choice / MAX_THREADS))", "classes", "late"),
+    ("what an object had been through is forgotten", "footprint.c",
+     "*mine = mix(mix(*mine, normal(object) * 2 + writes), o->written);",
+     "*mine = mix(*mine, normal(object) * 2 + writes);", "classes", "watchdog"),
+    ("a state counts as reached that cost more", "exploring.c", "if (was && (int)(was & 255) > left)", "if (was)",
+     "classes", "watchdog"),
+    ("that time passed is no event of the clock", "schedule.c", "time_passed_for(t, &clock_now);", "(void)time_passed_for;",
+     "classes", "watchdog"),
+    ("an early timer is never tried", "exploring.c", "if (t != c->usual && can_choose(c, t) &&",
+     "if (t != c->usual && !is_early(c, t) && can_choose(c, t) &&", "race", "timer_cancel"),
+    ("the first two threads are never tried", "exploring.c", "for (int t = 0; t < MAX_THREADS; t++)",
+     "for (int t = 2; t < MAX_THREADS; t++)", "race", "routine_late"),
+    ("a racy access isn't a point", "hooks.c", "if (shared->is_point[", "if (!shared && shared->is_point[", "race",
+     "plain_count"),
+    ("memory that was let go isn't told", "racing.c", "if (c->let_go && pc)", "if (c->let_go && pc && !by_schedule)", "race",
+     "deleted_while_used"),
+]
+
+
+class Options:
+    """The options of `run` for an exploration."""
+
+    def __init__(self, cc, source, preemptions, flags=(), rounds=1):
+        self.cc, self.source, self.preemptions, self.cflag, self.rounds = cc, [source], preemptions, list(flags), rounds
+        self.every_order, self.schedule, self.real, self.sanitize = True, None, False, None
+        self.seeds = self.threads = self.controls = self.transcript = self.patience = self.part = self.shake = None
+        self.page_ends = self.routines_high = self.refuse = None
+        self.args, self.timeout, self.settings, self.minutes, self.processes = "", 100, {}, 2, 1
+
+
+class Explored:
+    """A program, built for schedules."""
+
+    def __init__(self, run, bench, name, options, library=None):
+        self.run, self.bench, self.options = run, bench, options
+        self.folder = bench.folder(name)
+        self.program = run.build(options, library or bench.library, self.folder)
+
+    def report(self, **settings):
+        self.options.settings = settings
+        return orders.explore(self.options, self.program, self.folder, self.run.settings_of(self.options))
+
+    def classes(self, reduces):
+        """Returns the report, and the hashes of the classes of orders, or None where not all were made."""
+        path = f"{self.folder}/classes{reduces}"
+        report = self.report(WDM_REDUCE=str(reduces), WDM_CLASSES=path)
+        with open(path, encoding="ascii") as it:
+            return report, set(it.read().split()) if report.facts["ended"] == "done" else None
+
+    def followed(self, schedule, name):
+        """Returns a judged run by a schedule."""
+        self.options.settings, self.options.schedule = {}, schedule
+        self.options.transcript = f"{self.folder}/{name}"
+        made = self.run.Run(self.options, self.program, self.folder, None)
+        made.judge(self.bench.irpx)
+        self.options.schedule = None
+        return made
+
+
+def said_of(name):
+    """Returns how many preemptions a race needs, and as what it is told."""
+    with open(f"{HERE}/races/{name}.c", encoding="utf-8") as it:
+        found = re.match(r"/\* \w+\.c: (\d) preemptions?, (\w+)\.", it.read())
+    return int(found[1]), found[2]
+
+
+def bytes_of(path):
+    with open(path, "rb") as it:
+        return it.read()
+
+
+def wrong_race(report, name):
+    """Returns what is wrong with the report of a race, or None."""
+    preemptions, rule = said_of(name)
+    if report.facts["ended"] != "failed":
+        return f"nothing fails: {report.facts['ended']}"
+    if int(report.facts["cost"]) != preemptions or not report.facts["why"].startswith(rule + ":"):
+        return f"with {report.facts['cost']} preemptions {report.facts['why']}"
+    return None
+
+
+def wrong_right(report):
+    return None if report.facts["ended"] == "done" else f"{report.facts['ended']}: {report.facts.get('why', '')}"
+
+
+def wrong_classes(made):
+    """Returns how the classes with the reduction differ from those without, or None."""
+    (one, none), (two, states) = made.classes(0), made.classes(1)
+    if none is None or states is None:
+        return f"not all orders were made: {one.facts['ended']}, {two.facts['ended']}; {two.facts.get('why', '')}"
+    return None if none == states else f"{len(none)} classes, with the reduction {len(states)} ({len(none & states)} in both)"
+
+
+def wrong_count(right, report):
+    one, two = (it.finished()[-1]["classes"] for it in (right, report))
+    return None if one == two else f"{two:.0f} classes instead of {one:.0f}"
+
+
+def test_race(run, bench, name):
+    made = Explored(run, bench, name, Options(bench.cc, f"{HERE}/races/{name}.c", 2))
+    report = made.report()
+    wrong = wrong_race(report, name)
+    yield f"race {name}, told with the fewest preemptions", wrong
+    if wrong:
+        return
+    one, two = made.followed(report.facts["schedule"], "one"), made.followed(report.facts["schedule"], "two")
+    same = bytes_of(one.transcript) == bytes_of(two.transcript) and one.said == two.said
+    fault = said_of(name)[1] in orders.first_fault(one)
+    yield f"race {name}, again by its schedule, the same bytes", None if same and fault else one.said
+    yield f"race {name}, a schedule that doesn't fit", None if "doesn't fit" in made.followed("1=1,9999=1", "none").said \
+        else "it isn't told"
+
+
+def test_right(run, bench, name):
+    made = Explored(run, bench, f"right {name}", Options(bench.cc, f"{HERE}/races/{name}.c", 2, ["-DRIGHT"]))
+    yield f"race {name}, its right counterpart, every order", wrong_right(made.report())
+    yield f"race {name}, its right counterpart, the same classes without the reduction", wrong_classes(made)
+
+
+def test_stack(run, bench, name):
+    most, compared = STACKS[name]
+    made = Explored(run, bench, f"orders {name}", Options(bench.cc, f"{HERE}/stacks/{name}.c", most))
+    report = made.report()
+    yield f"stack {name}, every order with {orders.plural(most, 'preemption')}", wrong_right(report) or not_legal(made)
+    made.options.preemptions = compared
+    yield f"stack {name}, the same classes without the reduction", wrong_classes(made)
+
+
+def not_legal(made, most=6):
+    """Has some of the distinct transcripts judged."""
+    made.options.judge = most
+    illegal = orders.judge(made.options, made.bench.irpx, made.folder, quiet=True)
+    return f"{illegal[1]}, schedule {illegal[0]}" if illegal else None
+
+
+def test_wrong(run, bench, name, file, old, new, how, where):
+    """An explorer made wrong: the test of that race or stack fails."""
+    folder = bench.folder(name)
+    shutil.copytree(HERE + "/host", folder + "/host")
+    os.makedirs(folder + "/host/out")
+    for it in os.listdir(os.path.dirname(bench.library)):
+        if it.endswith(".o"):
+            shutil.copy2(f"{os.path.dirname(bench.library)}/{it}", folder + "/host/out")
+    path = f"{folder}/host/{file}"
+    with open(path, encoding="utf-8") as it:
+        text = it.read()
+    if text.count(old) != 1:
+        yield f"wrong explorer: {name}", f"{file}: {text.count(old)} places for {old!r}"
+        return
+    with open(path, "w", encoding="utf-8") as it:
+        it.write(text.replace(old, new))
+    library = run.build_host(bench.cc, None, folder + "/host")
+    source, flags = f"{HERE}/{'stacks' if how == 'classes' else 'races'}/{where}.c", [] if how != "right" else ["-DRIGHT"]
+    options = Options(bench.cc, source, 2, flags)
+    report = Explored(run, bench, f"wrong {where}", options, library).report()
+    if how == "classes":
+        right = Explored(run, bench, f"not wrong {where}", options).report(WDM_REDUCE="0")
+        wrong = wrong_right(report) or wrong_count(right, report)
+    else:
+        wrong = wrong_race(report, where) if how == "race" else wrong_right(report)
+    yield f"wrong explorer: {name}: {wrong}", None if wrong else "no test shows it"
+
+
+def tests(run, bench):
+    """Returns the tests: of each a name, and a call that gives names and complaints."""
+    found = [(f"race {it}", lambda it=it: test_race(run, bench, it)) for it in RACES]
+    found += [(f"race {it} right", lambda it=it: test_right(run, bench, it)) for it in RACES]
+    found += [(f"orders {it}", lambda it=it: test_stack(run, bench, it)) for it in STACKS]
+    return found + [(f"wrong explorer {it[0]}", lambda it=it: test_wrong(run, bench, *it)) for it in WRONG]
