@@ -146,8 +146,9 @@ static void raise_to(_Atomic unsigned long *most, unsigned long n)
 void end_run(int status)
 {
     fflush(NULL);
+    alarm(0); /* this process may have to wait for others */
     if (!shared)
-        _exit(status);
+        end_process(status);
     const char *why = failure(status);
     if (is_exploring) {
         is_exploring = false;
@@ -163,5 +164,5 @@ void end_run(int status)
         tell_story(stderr);
         fflush(NULL);
     }
-    _exit(status);
+    end_process(status);
 }

@@ -102,11 +102,13 @@ static void begin_round(int bound)
     memcpy(shared->is_point, shared->is_racy, sizeof shared->is_point);
 }
 
-static void be_silent(void)
+/* What many runs say is for nobody. */
+static void silence(void)
 {
     const int nowhere = open("/dev/null", O_WRONLY);
     dup2(nowhere, 1);
     dup2(nowhere, 2);
+    be_silent();
 }
 
 static void at_exit(int status, void *context)
@@ -163,7 +165,7 @@ static Ended run_round(int bound)
         _exit(2);
     }
     if (!child) {
-        be_silent();
+        silence();
         go_on_into_main();
         begin_exploring();
         return ALL_MADE;

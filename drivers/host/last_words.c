@@ -5,7 +5,7 @@
  * A handler may find the host's lock or the allocator's taken. So it tells the place first, takes the lock for a short
  * time only, and ends the process where the rest takes too long.
  */
-#include "host.h"
+#include "schedule.h"
 #include <dlfcn.h>
 #include <signal.h>
 #include <sys/mman.h>
@@ -83,6 +83,8 @@ static void tell_thread(const Self *t, const char *where)
 void tell_others(void)
 {
     char where[600];
+    if (by_schedule)
+        tell_threads();
     for (int s = 0; s < n_seats; s++)
         if (selves[s] && selves[s] != &self) {
             put_places(where, sizeof where, places[s].at, places[s].n);

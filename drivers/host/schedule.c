@@ -91,23 +91,42 @@ static int first_by_time(uint32_t ready)
     return first;
 }
 
-/* No thread can go on. Names each one that isn't idle, and what it waits for. */
+/* What a thread waits for. Returns how long the text is. */
+static size_t put_wait(const Thread *t, char *text, size_t room)
+{
+    int seat;
+    const Hold *h = t->wait.object ? holder_of(t->wait.object, &seat) : NULL;
+    int n = snprintf(text, room, "%s waits in %s%s%s", t->name, t->wait.what, t->wait.at.file ? " at " : "",
+                     t->wait.at.file ? place(t->wait.at) : "");
+    if (h && n > 0 && (size_t)n < room)
+        n += snprintf(text + n, room - (size_t)n, " for a %s that %s has held since %s", lock_kind(h->kind),
+                      threads[seat].name, place(h->at));
+    return n < 0 ? 0 : (size_t)n;
+}
+
+static bool waits_for_something(const Thread *t) { return !t->ended && t->waits && t->wait.patience != IDLES; }
+
+/* A line for each other thread that doesn't wait for work. */
+void tell_threads(void)
+{
+    char text[400];
+    for (int i = 0; i < n_threads; i++)
+        if (i != running && waits_for_something(&threads[i])) {
+            put_wait(&threads[i], text, sizeof text);
+            say("  %s", text);
+        }
+}
+
+/* No thread can go on, and one of them waits for a lock. */
 static void tell_stuck(void)
 {
     char text[1500] = "";
     size_t n = 0;
-    for (int i = 0; i < n_threads && n < sizeof text; i++) {
-        const Thread *t = &threads[i];
-        if (t->ended || !t->waits || t->wait.patience == IDLES)
-            continue;
-        n += (size_t)snprintf(text + n, sizeof text - n, "%s%s waits in %s%s%s", n ? "; " : "", t->name, t->wait.what,
-                              t->wait.at.file ? " at " : "", t->wait.at.file ? place(t->wait.at) : "");
-        int seat;
-        const Hold *h = t->wait.patience == DEADLOCK ? holder_of(t->wait.object, &seat) : NULL;
-        if (h && n < sizeof text)
-            n += (size_t)snprintf(text + n, sizeof text - n, " for a %s that %s has held since %s", lock_kind(h->kind),
-                                  threads[seat].name, place(h->at));
-    }
+    for (int i = 0; i < n_threads && n < sizeof text; i++)
+        if (waits_for_something(&threads[i])) {
+            n += (size_t)snprintf(text + n, sizeof text - n, n ? "; " : "");
+            n += put_wait(&threads[i], text + n, n < sizeof text ? sizeof text - n : 0);
+        }
     Call here = { .name = "every thread waits" }, *const calls = self.calls;
     self.calls = &here;
     fault("Stuck", NULL, "%s", text);

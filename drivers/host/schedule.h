@@ -27,6 +27,7 @@ bool has_ended(int thread, void **result);
 void after_end_of(int thread);
 const char *thread_name(int thread);
 int points_of_run(void);
+void tell_threads(void);
 
 typedef struct { const char *what; WDM_SITE at; const void *pc; } Place;
 
@@ -69,7 +70,8 @@ void clocks_born(int parent, int child);
 void clocks_meet(uint32_t *of_object, Touch how);
 void access_to(const void *cell, bool writes, const void *pc, bool is_plain);
 
-/* ending.c */
+/* telling.c, ending.c */
+void be_silent(void);
 void note_fault(const char *text);
 __attribute__((noreturn)) void end_run(int status);
 

@@ -27,6 +27,9 @@ FILE *open_high(const char *path)
     return fdopen(high, "w");
 }
 
+/* From now on nothing is written there. */
+void be_silent(void) { error_file = -1; }
+
 /* Writes all of it, as far as it goes. */
 void write_error(const char *text, size_t n)
 {
@@ -44,6 +47,8 @@ void say(const char *how, ...)
 {
     char text[2000];
     va_list list;
+    if (error_file < 0)
+        return;
     va_start(list, how);
     int n = snprintf(text, sizeof text, "host: ");
     n += vsnprintf(text + n, sizeof text - 1 - (size_t)n, how, list);

@@ -176,11 +176,20 @@ static bool has_packet(void)
     return false;
 }
 
-/* Returns which object ended the wait, or -1 where its time is up. A driver's own thread may wait for ever. */
+/* A driver's own thread may wait for ever, but for a mutex: somebody has that. */
+static bool may_idle(const Objects *o)
+{
+    for (ULONG i = 0; i < o->n; i++)
+        if (((DISPATCHER_HEADER *)o->objects[i])->Type == MUTEX)
+            return false;
+    return self.is_driver && !has_packet() && !o->until;
+}
+
+/* Returns which object ended the wait, or -1 where its time is up. */
 static int await_objects(const Objects *o, WDM_SITE at)
 {
     const Wait w = { .ready = is_one_ready, .deadline = until_of, .context = o, .on = &changed,
-                     .object = o->n ? o->objects[0] : NULL, .patience = self.is_driver && !has_packet() && !o->until ? IDLES : HANGS, .at = at,
+                     .object = o->n ? o->objects[0] : NULL, .patience = may_idle(o) ? IDLES : HANGS, .at = at,
                      .what = o->n ? "KeWaitForSingleObject" : "KeDelayExecutionThread" };
     pthread_mutex_lock(&wait_lock);
     while (wait_for(&w) == STUCK) {
