@@ -16,6 +16,9 @@ DRIVER_FLAGS = ["-std=gnu11", "-fcommon", "-Wall", "-Wextra", "-Wno-multichar", 
                 "-Wno-unused-parameter", "-Werror=implicit-function-declaration"]
 
 
+OWN_TESTS = ["exercise.c", "overlaps.c"]  # the host's, where none is given: for a run, and for every order
+
+
 class Stop(Exception):
     """What keeps the run from being made."""
 
@@ -128,7 +131,7 @@ def write_table(path, drivers, has_alias):
                      f"    return {drivers[0][0]}_DriverEntry(DriverObject, RegistryPath);\n}}\n")
 
 
-def build(compiler, flags, named, library, folder, link_flags=(), libraries=()):
+def build(compiler, flags, named, library, folder, link_flags=(), libraries=(), own_test=OWN_TESTS[0]):
     """Returns the program. The objects that it is linked of lie in the folder, the drivers' parts below it."""
     drivers, others, has_main = find_sources(list(libraries) + list(named))
     names = [name for name, _ in drivers]
@@ -155,7 +158,7 @@ def build(compiler, flags, named, library, folder, link_flags=(), libraries=()):
         localize(made, name, keep - {"DriverEntry"})
     table = folder + "/drivers.c"
     write_table(table, drivers, len(drivers) == 1 and any("DriverEntry" in wanted for _, wanted in apart))
-    for source in (table, *(() if has_main else (HERE + "/host/exercise.c",))):
+    for source in (table, *(() if has_main else (f"{HERE}/host/{own_test}",))):
         made = f"{folder}/{len(objects)}_{stem(source)}.o"
         compiled(source, made)
         objects.append(made)

@@ -187,9 +187,39 @@ def test_wrong(run, bench, name, file, old, new, how, where):
     yield f"wrong explorer: {name}: {wrong}", None if wrong else "no test shows it"
 
 
+def test_untested(run, bench):
+    """A driver without a test: the host's own test finds its fault, and nothing in the right counterpart."""
+    source = HERE + "/races/untested/pends.c"
+    made = Explored(run, bench, "untested", Options(bench.cc, source, 2))
+    made.options.scenario = "overlap"
+    report = made.report()
+    well = report.facts["ended"] == "failed" and report.facts["cost"] == "2" and "CompletedTwice" in report.facts["why"]
+    yield "the host's own test under every order finds a fault", None if well else str(report.facts)
+    right = Explored(run, bench, "untested right", Options(bench.cc, source, 2, ["-DRIGHT"]))
+    for right.options.scenario in orders.SCENARIOS:
+        yield f"the host's own test, {right.options.scenario}, every order of a right driver", wrong_right(right.report())
+
+
+def test_chance(run, bench):
+    """A seed is a schedule by chance: again the same bytes, and not those of each other seed."""
+    options = Options(bench.cc, HERE + "/stacks/serial.c", 0)
+    options.every_order, options.shake, found = False, 1, []
+    made = Explored(run, bench, "chance", options)
+    for seed, name in ((7, "one"), (7, "two"), (8, "three"), (9, "four")):
+        options.transcript = f"{made.folder}/{name}"
+        one = run.Run(options, made.program, made.folder, seed)
+        one.judge(bench.irpx)
+        yield f"by chance, seed {seed}", "; ".join(one.complaints()) or None
+        found.append((bytes_of(options.transcript), one.said))
+    yield "by chance, a seed again, the same bytes", None if found[0] == found[1] else "they differ"
+    yield "by chance, other seeds, other orders", None if len(set(found)) > 1 else "they are the same"
+
+
 def tests(run, bench):
     """Returns the tests: of each a name, and a call that gives names and complaints."""
     found = [(f"race {it}", lambda it=it: test_race(run, bench, it)) for it in RACES]
     found += [(f"race {it} right", lambda it=it: test_right(run, bench, it)) for it in RACES]
     found += [(f"orders {it}", lambda it=it: test_stack(run, bench, it)) for it in STACKS]
+    found += [("untested under every order", lambda: test_untested(run, bench)),
+              ("orders by chance", lambda: test_chance(run, bench))]
     return found + [(f"wrong explorer {it[0]}", lambda it=it: test_wrong(run, bench, *it)) for it in WRONG]

@@ -17,6 +17,13 @@ FLAGS = ["-fsanitize=thread", *(f"-D{it}=wdm_{it}" for it in RENAMED)]
 MANY = 200  # decisions of a run, from which on a test is told to be made smaller
 
 
+# The pieces of the host's own test (host/overlaps.c).
+SCENARIOS = {"overlap": "a read and a write at once", "cancel": "a read that is cancelled meanwhile",
+             "power": "power goes and comes while a read is under way",
+             "remove": "the device is removed while it holds a read",
+             "surprise": "the device is gone while it holds a read"}
+
+
 def fixed(words):
     """Returns the command with addresses that are the same in each run."""
     return ["setarch", "-R", *words] if shutil.which("setarch") else words
@@ -55,6 +62,8 @@ class Report:
 def settings_of(options, seed=None):
     """Returns what the environment of a run by a schedule says besides."""
     made = {"WDM_ROUNDS": str(options.rounds)} if options.every_order or options.schedule else {}
+    if getattr(options, "scenario", None):
+        made["WDM_SCENARIO"] = options.scenario
     if options.schedule:
         made["WDM_SCHEDULE"] = options.schedule
     elif seed is not None:

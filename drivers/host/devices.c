@@ -53,6 +53,7 @@ PDEVICE_OBJECT WdmIoAttachDevice(PDEVICE_OBJECT Device, PDEVICE_OBJECT Target, W
         devices[d].lower = top;
         devices[top].upper = d;
         devices[top].raw->AttachedDevice = Device;
+        touch_memory(&devices[top].raw->AttachedDevice, sizeof Device, WRITES);
         Device->StackSize = (CCHAR)(devices[top].raw->StackSize + 1);
         answered(e, DEVICE, (uint64_t)top);
     }
@@ -168,6 +169,7 @@ VOID WdmIoDetachDevice(PDEVICE_OBJECT Lower, WDM_SITE at)
     else {
         devices[d].upper = devices[up].lower = NOBODY;
         Lower->AttachedDevice = NULL;
+        touch_memory(&Lower->AttachedDevice, sizeof Lower->AttachedDevice, WRITES);
         answered(e, DEVICE, (uint64_t)up);
         if (devices[d].leaving)
             delete_late(d);

@@ -18,6 +18,7 @@ static PFILE_OBJECT last_open(PDEVICE_OBJECT top)
 PFILE_OBJECT file_for(PDEVICE_OBJECT top, UCHAR major)
 {
     pthread_mutex_lock(&host_lock);
+    touch(&host_lock, SYNCS);
     PFILE_OBJECT file = major == IRP_MJ_CREATE ? NULL : self.file && self.file->DeviceObject == top ? self.file : last_open(top);
     if (!file && n_files < MAX_FILES && (file = host_memory(sizeof *file))) {
         *file = (FILE_OBJECT){ .Type = IO_TYPE_FILE, .Size = sizeof *file, .DeviceObject = top, .ReadAccess = TRUE,
@@ -47,6 +48,7 @@ PFILE_OBJECT WdmOpen(PDEVICE_OBJECT Top, WDM_SITE at)
     WdmKeWaitForSingleObject(&ended, NULL, at);
     if (file && !NT_SUCCESS(iosb.Status)) {
         pthread_mutex_lock(&host_lock);
+        touch(&host_lock, SYNCS);
         file->Flags &= ~(ULONG)FO_FILE_OPEN;
         pthread_mutex_unlock(&host_lock);
         return NULL;
@@ -68,6 +70,7 @@ VOID WdmClose(PFILE_OBJECT File, WDM_SITE at)
 void tell_files_dereferenced(PVOID object)
 {
     pthread_mutex_lock(&host_lock);
+    touch(&host_lock, SYNCS);
     bool is_file = false;
     for (int i = 0; i < n_files; i++)
         is_file |= files[i] == object && (files[i]->Flags & FO_FILE_OPEN) && files[i]->HostCloses;

@@ -107,6 +107,12 @@ void touch(const void *object, Touch how)
         clocks_meet(o->clock, how);
 }
 
+void touch_memory(const void *from, size_t size, Touch how)
+{
+    for (uintptr_t a = (uintptr_t)from >> 2 << 2; footprints && a < (uintptr_t)from + size; a += 4)
+        touch((const void *)(a | 1), how);
+}
+
 /* Time passes, so that this thread goes on. */
 void time_passed_for(int thread, const LONGLONG *clock)
 {

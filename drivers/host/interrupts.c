@@ -95,6 +95,7 @@ BOOLEAN WdmRaiseInterrupt(ULONG Vector, WDM_SITE at)
     int n = 0;
     learn_test(at.file);
     pthread_mutex_lock(&host_lock);
+    touch(&host_lock, SYNCS);
     for (struct _KINTERRUPT *i = connected; i && n < 16; i = i->next)
         if (i->vector == Vector)
             found[n++] = i;
@@ -127,6 +128,7 @@ BOOLEAN WdmIoRequestDpc(PDEVICE_OBJECT Device, PIRP Irp, PVOID Context, WDM_SITE
 static void tell_no_hardware(const char *call)
 {
     pthread_mutex_lock(&host_lock);
+    touch(&host_lock, SYNCS);
     note("not there", "%s: no hardware answers; what is read is all ones, or zero bytes", call);
     pthread_mutex_unlock(&host_lock);
 }

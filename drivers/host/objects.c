@@ -76,6 +76,7 @@ PDEVICE_OBJECT WdmIoGetAttachedDeviceReference(PDEVICE_OBJECT Device, WDM_SITE a
 PDEVICE_OBJECT WdmIoGetLowerDeviceObject(PDEVICE_OBJECT Device, WDM_SITE at)
 {
     pthread_mutex_lock(&host_lock);
+    touch(&host_lock, SYNCS);
     const int lower = devices[Device->HostNumber].lower;
     pthread_mutex_unlock(&host_lock);
     if (lower < 0)
@@ -99,6 +100,7 @@ HANDLE new_handle(POBJECT_TYPE type, PVOID object)
 {
     int i = 0;
     pthread_mutex_lock(&host_lock);
+    touch(&host_lock, SYNCS);
     while (i < MAX_HANDLES && handles[i].object)
         i++;
     if (i < MAX_HANDLES) {
@@ -113,6 +115,7 @@ PVOID handle_object(HANDLE handle, POBJECT_TYPE type)
 {
     const ULONG_PTR i = (ULONG_PTR)handle / 4 - 1;
     pthread_mutex_lock(&host_lock);
+    touch(&host_lock, SYNCS);
     const bool is_good = i < MAX_HANDLES && (!type || !handles[i].type || handles[i].type == type);
     PVOID object = is_good ? handles[i].object : NULL;
     pthread_mutex_unlock(&host_lock);
@@ -239,6 +242,7 @@ NTSTATUS WdmZwWaitForSingleObject(HANDLE Handle, PLARGE_INTEGER Timeout, WDM_SIT
 static NTSTATUS refused(const char *call)
 {
     pthread_mutex_lock(&host_lock);
+    touch(&host_lock, SYNCS);
     note("not there", "%s: there are no files and no sections; it returns STATUS_NOT_SUPPORTED", call);
     pthread_mutex_unlock(&host_lock);
     return STATUS_NOT_SUPPORTED;

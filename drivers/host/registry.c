@@ -94,6 +94,7 @@ static NTSTATUS open_key(PHANDLE handle, POBJECT_ATTRIBUTES attributes, bool mak
     if (!path_of(attributes, &path, room, ARRAYSIZE(room)))
         return STATUS_INVALID_HANDLE;
     pthread_mutex_lock(&registry_lock);
+    touch(&registry_lock, SYNCS);
     Key *k = makes ? make_key(&path, &is_new) : find_key(&path);
     pthread_mutex_unlock(&registry_lock);
     if (!k)
@@ -161,6 +162,7 @@ NTSTATUS ZwQueryValueKey(HANDLE Key_, PUNICODE_STRING Name, KEY_VALUE_INFORMATIO
     Key *k = key_of(Key_);
     NTSTATUS status = k ? STATUS_OBJECT_NAME_NOT_FOUND : STATUS_INVALID_HANDLE;
     pthread_mutex_lock(&registry_lock);
+    touch(&registry_lock, SYNCS);
     Value *v = k ? *find_value(k, Name) : NULL;
     if (v)
         status = tell_value(v, Class, Information, Length, Needed);
@@ -175,6 +177,7 @@ NTSTATUS ZwSetValueKey(HANDLE Key_, PUNICODE_STRING Name, ULONG Index, ULONG Typ
     if (!k)
         return STATUS_INVALID_HANDLE;
     pthread_mutex_lock(&registry_lock);
+    touch(&registry_lock, SYNCS);
     const NTSTATUS status = set_value(k, Name, Type, Data, Size);
     pthread_mutex_unlock(&registry_lock);
     return status;
@@ -186,6 +189,7 @@ NTSTATUS ZwDeleteValueKey(HANDLE Key_, PUNICODE_STRING Name)
     if (!k)
         return STATUS_INVALID_HANDLE;
     pthread_mutex_lock(&registry_lock);
+    touch(&registry_lock, SYNCS);
     Value **v = find_value(k, Name);
     const bool is_there = *v != NULL;
     if (is_there)
@@ -239,6 +243,7 @@ NTSTATUS ZwEnumerateKey(HANDLE Key_, ULONG Index, KEY_INFORMATION_CLASS Class, P
     if (!k)
         return STATUS_INVALID_HANDLE;
     pthread_mutex_lock(&registry_lock);
+    touch(&registry_lock, SYNCS);
     const Key *found = child(k, Index);
     NTSTATUS status = STATUS_NO_MORE_ENTRIES;
     if (found) {
@@ -258,6 +263,7 @@ NTSTATUS ZwEnumerateValueKey(HANDLE Key_, ULONG Index, KEY_VALUE_INFORMATION_CLA
     if (!k)
         return STATUS_INVALID_HANDLE;
     pthread_mutex_lock(&registry_lock);
+    touch(&registry_lock, SYNCS);
     const Value *v = k->values;
     while (v && Index--)
         v = v->next;
@@ -279,6 +285,7 @@ NTSTATUS ZwQueryKey(HANDLE Key_, KEY_INFORMATION_CLASS Class, PVOID Information,
     KEY_FULL_INFORMATION *f = Information;
     *f = (KEY_FULL_INFORMATION){ .ClassOffset = offsetof(KEY_FULL_INFORMATION, Class) };
     pthread_mutex_lock(&registry_lock);
+    touch(&registry_lock, SYNCS);
     while (child(k, f->SubKeys))
         f->SubKeys++;
     for (const Value *v = k->values; v; v = v->next) {
@@ -299,6 +306,7 @@ VOID WdmSetRegistry(PCWSTR Path, PCWSTR Name, ULONG Type, const VOID *Data, ULON
     RtlInitUnicodeString(&path, Path);
     RtlInitUnicodeString(&name, Name);
     pthread_mutex_lock(&registry_lock);
+    touch(&registry_lock, SYNCS);
     Key *k = make_key(&path, &is_new);
     if (k)
         set_value(k, &name, Type, Data, Size);

@@ -122,8 +122,10 @@ VOID WdmIoStartPacket(PDEVICE_OBJECT Device, PIRP Irp, PULONG Key, PDRIVER_CANCE
         WdmIoSetCancelRoutine(Irp, Cancel, at);
     }
     const BOOLEAN is_queued = insert(&Device->DeviceQueue, &Irp->Tail.Overlay.DeviceQueueEntry, Key);
-    if (!is_queued)
+    if (!is_queued) {
         Device->CurrentIrp = Irp;
+        touch_memory(&Device->CurrentIrp, sizeof Device->CurrentIrp, WRITES);
+    }
     if (is_queued && Cancel && Irp->Cancel && WdmIoSetCancelRoutine(Irp, NULL, at)) {
         Irp->CancelIrql = irql;
         Cancel(Device, Irp); /* it was cancelled before: its routine gives the lock back */
@@ -141,9 +143,11 @@ VOID WdmIoStartNextPacket(PDEVICE_OBJECT Device, BOOLEAN Cancelable, PULONG Key,
     if (Cancelable)
         WdmIoAcquireCancelSpinLock(&irql, at);
     Device->CurrentIrp = NULL;
+    touch_memory(&Device->CurrentIrp, sizeof Device->CurrentIrp, WRITES);
     PKDEVICE_QUEUE_ENTRY entry = take(&Device->DeviceQueue, Key);
     PIRP irp = entry ? CONTAINING_RECORD(entry, IRP, Tail.Overlay.DeviceQueueEntry) : NULL;
     Device->CurrentIrp = irp;
+    touch_memory(&Device->CurrentIrp, sizeof Device->CurrentIrp, WRITES);
     if (Cancelable)
         WdmIoReleaseCancelSpinLock(irql, at);
     if (irp)

@@ -63,6 +63,8 @@ typedef enum {
     SYNCS     /* writes, acquires and releases */
 } Touch;
 void touch(const void *object, Touch how);
+/* The same of memory that a driver or test may touch itself. */
+void touch_memory(const void *from, size_t size, Touch how);
 
 /* Memory of zeros, or NULL. Under a schedule its address is the same in each order, and it is used only once. */
 void *host_memory(size_t size);

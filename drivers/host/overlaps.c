@@ -1,0 +1,168 @@
+/*
+ * overlaps.c: the test that `run --every-order` takes where none is given: small pieces in which a driver's routines meet.
+ *
+ * WDM_SCENARIO names the piece. Each puts the drivers, in their order, on a bottom device that completes reads and writes
+ * later, and starts them. A driver that creates a device in DriverEntry gets the requests there, and only the first two.
+ */
+#include "wdm_test.h"
+#include <pthread.h>
+
+extern const struct { const char *name; PDRIVER_INITIALIZE entry; } wdm_drivers[];
+extern const int wdm_n_drivers;
+
+typedef struct { PIRP irp; KEVENT done; NTSTATUS status; } Request;
+static PDEVICE_OBJECT top;
+static Request pended;
+
+static NTSTATUS keep(PDEVICE_OBJECT device, PIRP irp, PVOID context)
+{
+    Request *r = context;
+    (void)device;
+    r->status = irp->IoStatus.Status;
+    KeSetEvent(&r->done, IO_NO_INCREMENT, FALSE);
+    return STATUS_MORE_PROCESSING_REQUIRED;
+}
+
+static void start(Request *r, UCHAR major)
+{
+    KeInitializeEvent(&r->done, NotificationEvent, FALSE);
+    r->irp = WdmBuildIrp(top, major, 0, 16, NULL, NULL);
+    IoSetCompletionRoutine(r->irp, keep, r, TRUE, TRUE, TRUE);
+    IoCallDriver(top, r->irp);
+}
+
+/* Waits for a request, and cancels it where it isn't done after some time. */
+static void finish(Request *r)
+{
+    LARGE_INTEGER limit = { .QuadPart = -10000LL * 50 };
+    if (KeWaitForSingleObject(&r->done, Executive, KernelMode, FALSE, &limit) == STATUS_TIMEOUT) {
+        IoCancelIrp(r->irp);
+        KeWaitForSingleObject(&r->done, Executive, KernelMode, FALSE, NULL);
+    }
+    IoFreeIrp(r->irp);
+}
+
+static void *read_once(void *context)
+{
+    Request r;
+    start(&r, IRP_MJ_READ);
+    finish(&r);
+    return context;
+}
+
+static void *finish_pended(void *context)
+{
+    finish(&pended);
+    return context;
+}
+
+static void *cancel_pended(void *context)
+{
+    IoCancelIrp(pended.irp);
+    return context;
+}
+
+static void set_power(DEVICE_POWER_STATE state)
+{
+    IO_STATUS_BLOCK iosb;
+    KEVENT ended;
+    KeInitializeEvent(&ended, NotificationEvent, FALSE);
+    PIRP irp = WdmBuildIrp(top, IRP_MJ_POWER, IRP_MN_SET_POWER, 0, &iosb, &ended);
+    PIO_STACK_LOCATION next = IoGetNextIrpStackLocation(irp);
+    next->Parameters.Power.Type = DevicePowerState;
+    next->Parameters.Power.State.DeviceState = state;
+    PoCallDriver(top, irp);
+    KeWaitForSingleObject(&ended, Executive, KernelMode, FALSE, NULL);
+}
+
+static void pnp(UCHAR minor) { WdmSend(top, IRP_MJ_PNP, minor, 0); }
+
+/* A read of another thread meets a write of this one. */
+static void overlap(void)
+{
+    pthread_t t;
+    Request r;
+    pthread_create(&t, NULL, read_once, NULL);
+    start(&r, IRP_MJ_WRITE);
+    finish(&r);
+    pthread_join(t, NULL);
+}
+
+/* A read is cancelled by another thread while it is sent, held or completed. */
+static void cancel(void)
+{
+    pthread_t t;
+    KeInitializeEvent(&pended.done, NotificationEvent, FALSE);
+    pended.irp = WdmBuildIrp(top, IRP_MJ_READ, 0, 16, NULL, NULL);
+    IoSetCompletionRoutine(pended.irp, keep, &pended, TRUE, TRUE, TRUE);
+    pthread_create(&t, NULL, cancel_pended, NULL);
+    IoCallDriver(top, pended.irp);
+    pthread_join(t, NULL);
+    finish(&pended);
+}
+
+/* Power goes and comes while another thread reads. */
+static void power(void)
+{
+    pthread_t t;
+    pthread_create(&t, NULL, read_once, NULL);
+    set_power(PowerDeviceD3);
+    set_power(PowerDeviceD0);
+    pthread_join(t, NULL);
+}
+
+/* The device goes while a read is held in it, which its sender cancels at some time. */
+static void remove_with_read(UCHAR before)
+{
+    pthread_t t;
+    start(&pended, IRP_MJ_READ);
+    pthread_create(&t, NULL, finish_pended, NULL);
+    pnp(before);
+    pnp(IRP_MN_REMOVE_DEVICE);
+    pthread_join(t, NULL);
+}
+
+static void play(const char *scenario)
+{
+    if (!strcmp(scenario, "overlap"))
+        overlap();
+    else if (!strcmp(scenario, "cancel"))
+        cancel();
+    else if (!strcmp(scenario, "power"))
+        power();
+}
+
+static void play_on_stack(PDRIVER_OBJECT *loaded, const char *scenario)
+{
+    PDEVICE_OBJECT bottom = WdmCreateBottom(TRUE);
+    for (int i = 0; i < wdm_n_drivers; i++)
+        if (loaded[i] && loaded[i]->DriverExtension->AddDevice)
+            loaded[i]->DriverExtension->AddDevice(loaded[i], bottom);
+    top = IoGetAttachedDevice(bottom);
+    if (top != bottom) {
+        pnp(IRP_MN_START_DEVICE);
+        play(scenario);
+        if (!strcmp(scenario, "remove"))
+            remove_with_read(IRP_MN_QUERY_REMOVE_DEVICE);
+        else if (!strcmp(scenario, "surprise"))
+            remove_with_read(IRP_MN_SURPRISE_REMOVAL);
+        else
+            pnp(IRP_MN_REMOVE_DEVICE);
+    }
+    IoDeleteDevice(bottom);
+}
+
+int main(void)
+{
+    PDRIVER_OBJECT loaded[64] = { NULL };
+    const char *scenario = getenv("WDM_SCENARIO") ? getenv("WDM_SCENARIO") : "overlap";
+    for (int i = 0; i < wdm_n_drivers && i < 64; i++)
+        loaded[i] = WdmLoadDriver(wdm_drivers[i].name, wdm_drivers[i].entry);
+    play_on_stack(loaded, scenario);
+    for (int i = 0; i < wdm_n_drivers && i < 64; i++)
+        if (loaded[i] && loaded[i]->DeviceObject && !loaded[i]->DriverExtension->AddDevice) {
+            top = loaded[i]->DeviceObject;
+            play(scenario);
+        }
+    return WdmFinish();
+}
