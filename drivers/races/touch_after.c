@@ -1,6 +1,7 @@
-/* touch_after.c: 2 preemptions, Touched. The dispatch reads the packet after IoCallDriver, where that returned
-   STATUS_PENDING. The device below completes it by a work item that sleeps first. The dispatch below has to be preempted
-   so that the work item begins to sleep, and once more, with its time coming early, before the read. */
+/* touch_after.c: 0 preemptions, TouchedAfterSend. The dispatch reads the packet after IoCallDriver, where that returned
+   STATUS_PENDING. That is told in each order, since it doesn't own the packet any more. For the packet to have ended by then
+   it takes two: the dispatch is preempted so that the work item of the device below begins to sleep, and once more, with
+   its time coming early, before the read. */
 #include "race.h"
 
 typedef struct { PDEVICE_OBJECT Lower; LONG Reads; } EXTENSION, *PEXTENSION;
