@@ -200,6 +200,79 @@ def test_untested(run, bench):
         yield f"the host's own test, {right.options.scenario}, every order of a right driver", wrong_right(right.report())
 
 
+def test_parts(run, bench):
+    """Three parts have together the classes of the whole, and none has them alone."""
+    made = Explored(run, bench, "parts", Options(bench.cc, HERE + "/stacks/watchdog.c", 2))
+    whole, parts = made.classes(1)[1], []
+    for made.options.part in ("1/3", "2/3", "3/3"):
+        parts.append(made.classes(1)[1])
+    wrong = [] if set.union(*parts) == whole else [f"together {len(set.union(*parts))} of {len(whole)} classes"]
+    wrong += [f"part {at} alone has all" for at, it in enumerate(parts, 1) if it == whole]
+    yield "parts of an exploration, together the whole", "; ".join(wrong) or None
+
+
+LOCKS = """#include <wdm.h>
+#include "wdm_test.h"
+#include <pthread.h>
+#include <semaphore.h>
+#include <time.h>
+
+static sem_t one;
+static pthread_rwlock_t lock = PTHREAD_RWLOCK_INITIALIZER;
+static pthread_mutex_t mutex = PTHREAD_MUTEX_INITIALIZER;
+static pthread_cond_t told = PTHREAD_COND_INITIALIZER;
+static int sum, is_told;
+
+static void *add(void *context)
+{
+    sem_wait(&one);
+    const int was = sum;
+    sum = was + 1;
+    sem_post(&one);
+    pthread_rwlock_rdlock(&lock);
+    const int seen = sum;
+    pthread_rwlock_unlock(&lock);
+    pthread_rwlock_wrlock(&lock);
+    pthread_rwlock_unlock(&lock);
+    while (pthread_mutex_trylock(&mutex))
+        nanosleep(&(struct timespec){ 0, 1000000 }, NULL);
+    is_told++;
+    pthread_cond_signal(&told);
+    pthread_mutex_unlock(&mutex);
+    return seen ? context : NULL;
+}
+
+int main(void)
+{
+    pthread_t t[2];
+    struct timespec limit;
+    sem_init(&one, 0, 1);
+    WdmSend(WdmCreateBottom(FALSE), IRP_MJ_READ, 0, 4);
+    for (int i = 0; i < 2; i++)
+        pthread_create(&t[i], NULL, add, NULL);
+    pthread_mutex_lock(&mutex);
+    clock_gettime(CLOCK_REALTIME, &limit);
+    limit.tv_sec += 5;
+    while (is_told < 2 && !pthread_cond_timedwait(&told, &mutex, &limit))
+        ;
+    pthread_mutex_unlock(&mutex);
+    for (int i = 0; i < 2; i++)
+        pthread_join(t[i], NULL);
+    return WdmFinish() || sum != 2 ? 2 : 0;
+}
+"""
+
+
+def test_locks(run, bench):
+    """A test's own semaphores, locks for readers and writers, and waits with a limit; and one without its semaphore."""
+    folder = bench.folder("own locks")
+    for name, text, ended in (("right", LOCKS, "done"), ("wrong", re.sub(r"    sem_(wait|post)\(&one\);\n", "", LOCKS), "failed")):
+        with open(f"{folder}/{name}.c", "w", encoding="utf-8") as it:
+            it.write(text)
+        report = Explored(run, bench, f"own locks {name}", Options(bench.cc, f"{folder}/{name}.c", 1)).report()
+        yield f"a test's own locks, {name}", None if report.facts["ended"] == ended else str(report.facts)
+
+
 def test_chance(run, bench):
     """A seed is a schedule by chance: again the same bytes, and not those of each other seed."""
     options = Options(bench.cc, HERE + "/stacks/serial.c", 0)
@@ -221,5 +294,7 @@ def tests(run, bench):
     found += [(f"race {it} right", lambda it=it: test_right(run, bench, it)) for it in RACES]
     found += [(f"orders {it}", lambda it=it: test_stack(run, bench, it)) for it in STACKS]
     found += [("untested under every order", lambda: test_untested(run, bench)),
-              ("orders by chance", lambda: test_chance(run, bench))]
+              ("orders in parts", lambda: test_parts(run, bench)),
+              ("orders by chance", lambda: test_chance(run, bench)), ("orders with a test's own locks",
+                                                                      lambda: test_locks(run, bench))]
     return found + [(f"wrong explorer {it[0]}", lambda it=it: test_wrong(run, bench, *it)) for it in WRONG]

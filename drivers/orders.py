@@ -10,8 +10,9 @@ import subprocess
 import sys
 
 RENAMED = ["pthread_create", "pthread_join", "pthread_detach", "pthread_self", "pthread_exit", "pthread_mutex_lock",
-           "pthread_mutex_unlock", "pthread_cond_wait", "pthread_cond_signal", "pthread_cond_broadcast", "sched_yield",
-           "usleep", "memcpy", "memset", "memmove", "malloc", "calloc", "free"]
+           "pthread_mutex_unlock", "pthread_mutex_trylock", "pthread_cond_wait", "pthread_cond_timedwait", "pthread_cond_signal", "pthread_cond_broadcast", "sched_yield",
+           "usleep", "nanosleep", "sem_wait", "sem_trywait", "sem_post", "pthread_rwlock_rdlock",
+           "pthread_rwlock_wrlock", "pthread_rwlock_unlock", "memcpy", "memset", "memmove", "malloc", "calloc", "free"]
 # The sanitizer's compiler pass, and hooks of the host's in place of its library.
 FLAGS = ["-fsanitize=thread", *(f"-D{it}=wdm_{it}" for it in RENAMED)]
 MANY = 200  # decisions of a run, from which on a test is told to be made smaller
@@ -78,6 +79,7 @@ def explore(options, program, folder, settings):
     os.makedirs(orders)
     setting = dict(os.environ, **settings, WDM_EXPLORE=str(options.preemptions), WDM_REPORT=path,
                    WDM_ORDERS=orders, WDM_SECONDS=str(int(options.minutes * 60)))
+    setting.setdefault("WDM_CLASSES", folder + "/classes")
     if options.processes:
         setting["WDM_PROCESSES"] = str(options.processes)
     if options.part:
@@ -85,6 +87,20 @@ def explore(options, program, folder, settings):
         setting.update(WDM_PART=str(int(part) - 1), WDM_PARTS=parts)
     subprocess.run(fixed([program, *options.args.split()]), env=setting, stdout=subprocess.DEVNULL, check=False)
     return Report(path)
+
+
+def write_result(report, options, folder):
+    """Writes lines that merge with those of other parts: a class of orders each, outcomes, races, and what was covered."""
+    piece = options.scenario + " " if options.scenario else ""
+    with open(folder + "/classes", encoding="ascii") as it:
+        lines = {f"class {piece}{line}" for line in it.read().split()}
+    lines |= {f"outcome {piece}{text}" for _, text in report.outcomes} | {f"racy {piece}{it}" for it in report.racy}
+    for it in report.finished():
+        covered = "all" if it["all"] else report.facts.get("ended", "crashed")
+        lines.add(f"covered {piece}{plural(it['bound'], 'preemption')}, part {options.part or '1/1'}: {covered}")
+    is_first = options.scenario in (None, next(iter(SCENARIOS)))
+    with open(options.result, "w" if is_first else "a", encoding="utf-8") as it:
+        it.writelines(line + "\n" for line in sorted(lines))
 
 
 def plural(count, word):

@@ -108,9 +108,13 @@ static NTSTATUS Entry(PDRIVER_OBJECT DriverObject, PUNICODE_STRING RegistryPath)
     return STATUS_SUCCESS;
 }
 
+static PDRIVER_OBJECT driver;
+
+bool is_bottom(PDEVICE_OBJECT device);
+bool is_bottom(PDEVICE_OBJECT device) { return driver && device->DriverObject == driver; }
+
 PDEVICE_OBJECT WdmCreateBottom(BOOLEAN Late)
 {
-    static PDRIVER_OBJECT driver;
     PDEVICE_OBJECT device = NULL;
     if (!driver)
         driver = WdmLoadDriver("bottom", Entry);

@@ -192,6 +192,13 @@ void delete_after(int d)
         delete_late(d);
 }
 
+/* The host's own bottom device goes when its work items are done, as a driver waits for its own. */
+static bool is_at_rest(const void *device)
+{
+    const Device *d = device;
+    return !d->running && !has_work((int)(d - devices));
+}
+
 /* As in Windows, a device with another one above it goes once that one is gone; and one that is deleted in its own
    REMOVE before the packet is completed goes when the dispatch returns. */
 VOID WdmIoDeleteDevice(PDEVICE_OBJECT Device, WDM_SITE at)
@@ -203,6 +210,10 @@ VOID WdmIoDeleteDevice(PDEVICE_OBJECT Device, WDM_SITE at)
         if (lives(packets[i]))
             touch(packets[i]->irp, READS);
     const int d = device_number(Device);
+    if (is_bottom(Device)) {
+        wait_for_host(is_at_rest, &devices[d]);
+        touch(&devices[d].running, SYNCS);
+    }
     if (devices[d].live && devices[d].lower < 0 && (devices[d].upper >= 0 || removing(d))) {
         devices[d].leaving = true;
         devices[d].deleted = at;

@@ -318,6 +318,8 @@ void clear_event(PKEVENT event);
 bool is_event(const void *object);
 bool wait_for_host(bool (*done)(const void *), const void *context);
 void finish_work(void);
+bool has_work(int device);
+bool is_bottom(PDEVICE_OBJECT device);
 bool timers_armed(void);
 
 /* objects.c, mdl.c, start_io.c: what wdm_ob.h, wdm_mm.h and wdm_hw.h have */

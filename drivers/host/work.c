@@ -61,6 +61,15 @@ static bool has_item(const void *number)
     return before < n_queued();
 }
 
+/* Whether a work item of the device is queued. */
+bool has_work(int device)
+{
+    for (PIO_WORKITEM i = first_item; i; i = i->next)
+        if (i->device->HostNumber == device)
+            return true;
+    return false;
+}
+
 static void await_item(int number)
 {
     const Wait w = { .ready = has_item, .context = (void *)(intptr_t)number, .on = &work_came, .patience = IDLES,
