@@ -72,6 +72,7 @@ extern int n_allocations;
 bool memory_is_refused(const char *what, WDM_SITE at);
 bool memory_was_refused(void);
 void tell_refused(void);
+void end_without_driver(PDRIVER_OBJECT driver);
 
 /* kernel.c: spin locks, which take G and give it back themselves. */
 KIRQL take_spin_lock(PKSPIN_LOCK lock, LockKind kind, const char *name, WDM_SITE at);

@@ -24,10 +24,18 @@ static bool is_chosen(int n)
     return wanted > 0 && (n == wanted || (n > wanted && wish[strlen(wish) - 1] == '+'));
 }
 
-/* Under G: whether this allocation of a driver fails. What a test asks for by itself doesn't count. */
+/* The host's own drivers are never refused. */
+static bool is_of_host(const char *file)
+{
+    const size_t n = strlen(__FILE__) - strlen("low_memory.c");
+    return !strncmp(file, __FILE__, n);
+}
+
+/* Under G: whether this allocation of a driver fails. Packets and MDLs that a test asks for by itself don't count. */
 bool memory_is_refused(const char *what, WDM_SITE at)
 {
-    if (!at.file || (!self.frames && !self.is_driver && self.driver == NOBODY && has_test(at.file)))
+    const bool may_be_a_test = !self.frames && !self.is_driver && self.driver == NOBODY && has_test(at.file);
+    if (!at.file || is_of_host(at.file) || (may_be_a_test && !strncmp(what, "IoAllocate", 10)))
         return false;
     if (!is_chosen(++n_allocations))
         return false;
@@ -40,6 +48,19 @@ bool memory_is_refused(const char *what, WDM_SITE at)
 
 /* Whether this run refuses memory: then a test may end early, and fewer entries are no fault. */
 bool memory_was_refused(void) { return n_refused > 0; }
+
+/* DriverEntry fails, as it may where memory is refused. Most tests can't go on, so the run ends here; the driver has
+   to have given all back. */
+void end_without_driver(PDRIVER_OBJECT driver)
+{
+    Call c;
+    if (!memory_was_refused())
+        return;
+    enter_host(&c, "DriverEntry", (WDM_SITE){ 0 });
+    tell_pool_leaks(driver->HostNumber, true);
+    leave_host();
+    end_process(WdmFinish());
+}
 
 /* For the end of a run. */
 void tell_refused(void)

@@ -27,7 +27,7 @@ PMDL WdmIoAllocateMdl(PVOID Address, ULONG Length, BOOLEAN Secondary, PIRP Irp, 
 {
     Call c;
     enter_host(&c, "IoAllocateMdl", at);
-    PMDL mdl = host_memory(MmSizeOfMdl(Address, Length));
+    PMDL mdl = memory_is_refused(c.name, at) ? NULL : host_memory(MmSizeOfMdl(Address, Length));
     if (mdl)
         MmInitializeMdl(mdl, Address, Length);
     if (mdl && Irp && Secondary) {

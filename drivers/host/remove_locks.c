@@ -40,7 +40,6 @@ VOID WdmIoInitializeRemoveLock(PIO_REMOVE_LOCK Lock, WDM_SITE at)
     if (Lock->HostNumber < 0)
         give_up("a remove lock that is in no device's extension");
     Lock->HostBound = TRUE;
-    devices[Lock->HostNumber].bound = true;
     leave_host();
 }
 
@@ -58,6 +57,7 @@ NTSTATUS WdmIoAcquireRemoveLock(PIO_REMOVE_LOCK RemoveLock, PVOID Tag, WDM_SITE 
     enter_host(&c, "IoAcquireRemoveLock", at);
     const int d = lock_of(RemoveLock);
     Lock *k = &locks[d];
+    devices[d].bound = true; /* one that nobody ever acquired needs no drain */
     const bool removed = k->removed;
     const Frame *f = self.frames;
     if (!removed && k->n == MAX_HELD)

@@ -34,6 +34,8 @@ PDRIVER_OBJECT WdmLoad(const char *Name, PDRIVER_INITIALIZE Entry, WDM_SITE at)
     self.driver = before;
     if (!NT_SUCCESS(status))
         say("DriverEntry of %s returned %#x", Name, (unsigned)status);
+    if (!NT_SUCCESS(status))
+        end_without_driver(d);
     return NT_SUCCESS(status) ? d : NULL;
 }
 
@@ -144,7 +146,7 @@ static void write_summary(size_t entries)
     fprintf(f, "entries %zu\nwanted %zu\nfaults %d\nnotes %d\n", entries, expected_entries(), n_faults, n_notes);
     if (stopped_by)
         fprintf(f, "stopped %s\n", stopped_by);
-    fprintf(f, "allocations %d\n", n_allocations);
+    fprintf(f, "allocations %d\n%s", n_allocations, memory_was_refused() ? "refused 1\n" : "");
     tell_expected(f);
     fclose(f);
 }

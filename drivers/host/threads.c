@@ -230,7 +230,10 @@ NTSTATUS WdmPsCreateSystemThread(PHANDLE Handle, PKSTART_ROUTINE Start, PVOID Co
     t->start = Start;
     t->context = Context;
     t->driver = calling_driver();
+    const bool is_refused = memory_is_refused(c.name, at);
     leave_host();
+    if (is_refused)
+        return STATUS_INSUFFICIENT_RESOURCES;
     *Handle = new_handle(*PsThreadType, t);
     if (!*Handle)
         return STATUS_INSUFFICIENT_RESOURCES;

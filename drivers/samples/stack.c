@@ -99,7 +99,8 @@ int main(int argc, char **argv)
 {
     PDRIVER_OBJECT bus = WdmLoadDriver("bus", bus_DriverEntry), toaster = WdmLoadDriver("toaster", toaster_DriverEntry),
                    filter = WdmLoadDriver("filter", filter_DriverEntry);
-    BusCreatePdo(bus, &pdo);
+    if (!NT_SUCCESS(BusCreatePdo(bus, &pdo)))
+        return WdmFinish();
     toaster->DriverExtension->AddDevice(toaster, pdo);
     filter->DriverExtension->AddDevice(filter, pdo);
     PDEVICE_OBJECT top = IoGetAttachedDevice(pdo);

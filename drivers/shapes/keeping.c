@@ -30,6 +30,8 @@ static NTSTATUS TimedWait(PEXTENSION Ext, PIRP Irp)
 static NTSTATUS WaitElsewhere(PEXTENSION Ext, PIRP Irp)
 {
     PKEVENT event = ExAllocatePoolWithTag(NonPagedPool, sizeof *event, 'tnvE');
+    if (event == NULL)
+        return Done(Irp, STATUS_INSUFFICIENT_RESOURCES);
     KeInitializeEvent(event, NotificationEvent, FALSE);
     ForwardWith(Ext, Irp, Signal, event);
     KeWaitForSingleObject(event, Executive, KernelMode, FALSE, NULL);
@@ -136,11 +138,16 @@ static NTSTATUS CompleteInRoutine(PEXTENSION Ext, PIRP Irp)
 
 typedef struct { PIO_WORKITEM Item; PIRP Irp; KEVENT Done; } JOB;
 
+/* Returns NULL where there is no memory. */
 static JOB *NewJob(PEXTENSION Ext, PIRP Irp)
 {
     JOB *job = ExAllocatePool2(POOL_FLAG_NON_PAGED, sizeof *job, 'boJM');
+    if (job == NULL || (job->Item = IoAllocateWorkItem(Ext->Self)) == NULL) {
+        if (job)
+            ExFreePool(job);
+        return NULL;
+    }
     job->Irp = Irp;
-    job->Item = IoAllocateWorkItem(Ext->Self);
     KeInitializeEvent(&job->Done, NotificationEvent, FALSE);
     return job;
 }
@@ -157,6 +164,8 @@ static VOID SendDown(PDEVICE_OBJECT DeviceObject, PVOID Context)
 static NTSTATUS ToAWorker(PEXTENSION Ext, PIRP Irp)
 {
     JOB *job = NewJob(Ext, Irp);
+    if (job == NULL)
+        return Done(Irp, STATUS_INSUFFICIENT_RESOURCES);
     IoMarkIrpPending(Irp);
     IoQueueWorkItem(job->Item, SendDown, DelayedWorkQueue, job);
     return STATUS_PENDING;
@@ -175,6 +184,8 @@ static VOID CompleteIt(PDEVICE_OBJECT DeviceObject, PVOID Context)
 static NTSTATUS WaitForAWorker(PEXTENSION Ext, PIRP Irp)
 {
     JOB *job = NewJob(Ext, Irp);
+    if (job == NULL)
+        return Done(Irp, STATUS_INSUFFICIENT_RESOURCES);
     IoQueueWorkItem(job->Item, CompleteIt, DelayedWorkQueue, job);
     KeWaitForSingleObject(&job->Done, Executive, KernelMode, FALSE, NULL);
     IoFreeWorkItem(job->Item);

@@ -5,6 +5,8 @@ static NTSTATUS OwnAndWait(PEXTENSION Ext, PIRP Irp)
 {
     KEVENT event;
     PIRP own = IoAllocateIrp(Ext->Lower->StackSize, FALSE);
+    if (own == NULL)
+        return Done(Irp, STATUS_INSUFFICIENT_RESOURCES);
     KeInitializeEvent(&event, NotificationEvent, FALSE);
     PIO_STACK_LOCATION next = IoGetNextIrpStackLocation(own);
     *next = *IoGetCurrentIrpStackLocation(Irp);
@@ -52,7 +54,12 @@ static NTSTATUS SplitDone(PDEVICE_OBJECT DeviceObject, PIRP Irp, PVOID Context)
 static NTSTATUS SplitTransfer(PEXTENSION Ext, PIRP Irp)
 {
     SPLIT *s = ExAllocatePool2(POOL_FLAG_NON_PAGED, sizeof *s, 'tilS');
-    PIRP own = IoAllocateIrp(Ext->Lower->StackSize, FALSE);
+    PIRP own = s ? IoAllocateIrp(Ext->Lower->StackSize, FALSE) : NULL;
+    if (own == NULL) {
+        if (s)
+            ExFreePool(s);
+        return Done(Irp, STATUS_INSUFFICIENT_RESOURCES);
+    }
     *s = (SPLIT){ Irp, Ext->Lower, 3, 0 };
     const ULONG ending = IoGetCurrentIrpStackLocation(Irp)->Parameters.DeviceIoControl.OutputBufferLength - ROOM;
     IoMarkIrpPending(Irp);

@@ -54,10 +54,11 @@ int main(int argc, char **argv)
     rounds = argc > 4 ? atoi(argv[4]) : (shape < 0 ? n_right : 1) * (ending < 0 ? ENDINGS : 1);
     PDRIVER_OBJECT lower = WdmLoadDriver("lower", lower_DriverEntry);
     PDRIVER_OBJECT middle = WdmLoadDriver("middle", middle_DriverEntry);
-    IoCreateDevice(lower, 0, NULL, FILE_DEVICE_UNKNOWN, 0, FALSE, &pdo);
-    IoCreateDevice(lower, 0, NULL, FILE_DEVICE_UNKNOWN, 0, FALSE, &MiddleElsewhere);
-    middle->DriverExtension->AddDevice(middle, pdo);
-    middle->DriverExtension->AddDevice(middle, pdo);
+    if (!NT_SUCCESS(IoCreateDevice(lower, 0, NULL, FILE_DEVICE_UNKNOWN, 0, FALSE, &pdo)) ||
+        !NT_SUCCESS(IoCreateDevice(lower, 0, NULL, FILE_DEVICE_UNKNOWN, 0, FALSE, &MiddleElsewhere)) ||
+        !NT_SUCCESS(middle->DriverExtension->AddDevice(middle, pdo)) ||
+        !NT_SUCCESS(middle->DriverExtension->AddDevice(middle, pdo)))
+        return WdmFinish();
     top = IoGetAttachedDevice(pdo);
     for (int i = 0; i < threads && i < 16; i++)
         pthread_create(&t[i], NULL, sender, NULL);

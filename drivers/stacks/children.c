@@ -76,9 +76,17 @@ NTSTATUS DriverEntry(PDRIVER_OBJECT DriverObject, PUNICODE_STRING RegistryPath)
 static void use(PDRIVER_OBJECT driver, BOOLEAN late)
 {
     PDEVICE_OBJECT bottom = WdmCreateBottom(late), parent, child;
-    AddDevice(driver, bottom);
+    if (!NT_SUCCESS(AddDevice(driver, bottom))) {
+        IoDeleteDevice(bottom);
+        return;
+    }
     parent = IoGetAttachedDevice(bottom);
     child = AddChild(driver, parent);
+    if (child == NULL) {
+        WdmSend(parent, IRP_MJ_PNP, IRP_MN_REMOVE_DEVICE, 0);
+        IoDeleteDevice(bottom);
+        return;
+    }
     ((PEXTENSION)child->DeviceExtension)->GoesFirst = late;
     WdmSend(parent, IRP_MJ_PNP, IRP_MN_START_DEVICE, 0);
     WdmSend(child, IRP_MJ_PNP, IRP_MN_START_DEVICE, 0);

@@ -68,7 +68,14 @@ static VOID Called(PKDPC Dpc, PVOID Context, PVOID Argument1, PVOID Argument2)
 static VOID QueueWork(PEXTENSION Ext, PIRP Irp)
 {
     JOB *job = ExAllocatePool2(POOL_FLAG_NON_PAGED, sizeof *job, 'boJH');
-    *job = (JOB){ IoAllocateWorkItem(Ext->Self), Irp };
+    PIO_WORKITEM item = job ? IoAllocateWorkItem(Ext->Self) : NULL;
+    if (item == NULL) {
+        if (job)
+            ExFreePool(job);
+        IoCompleteRequest(Irp, IO_NO_INCREMENT); /* as it is */
+        return;
+    }
+    *job = (JOB){ item, Irp };
     IoQueueWorkItem(job->Item, Work, DelayedWorkQueue, job);
 }
 
@@ -108,11 +115,22 @@ static NTSTATUS Read(PDEVICE_OBJECT DeviceObject, PIRP Irp)
     return STATUS_PENDING;
 }
 
+static VOID StopWaiter(PEXTENSION Ext, HANDLE Waiter)
+{
+    PVOID thread;
+    InterlockedIncrement(&Ext->Stops);
+    KeSetEvent(&Ext->Came, IO_NO_INCREMENT, FALSE);
+    ObReferenceObjectByHandle(Waiter, THREAD_ALL_ACCESS, NULL, KernelMode, &thread, NULL);
+    KeWaitForSingleObject(thread, Executive, KernelMode, FALSE, NULL);
+    ObDereferenceObject(thread);
+    ZwClose(Waiter);
+}
+
 static NTSTATUS AddDevice(PDRIVER_OBJECT DriverObject, PDEVICE_OBJECT Pdo)
 {
     PDEVICE_OBJECT device;
     HANDLE waiter, poller;
-    const NTSTATUS status = IoCreateDevice(DriverObject, sizeof(EXTENSION), NULL, FILE_DEVICE_UNKNOWN, 0, FALSE,
+    NTSTATUS status = IoCreateDevice(DriverObject, sizeof(EXTENSION), NULL, FILE_DEVICE_UNKNOWN, 0, FALSE,
                                            &device);
     if (!NT_SUCCESS(status))
         return status;
@@ -124,8 +142,17 @@ static NTSTATUS AddDevice(PDRIVER_OBJECT DriverObject, PDEVICE_OBJECT Pdo)
     InitializeListHead(&ext->Listed);
     KeInitializeDpc(&ext->Dpc, Called, ext);
     KeInitializeTimer(&ext->Timer);
-    PsCreateSystemThread(&waiter, THREAD_ALL_ACCESS, NULL, NULL, NULL, Waiter, ext);
-    PsCreateSystemThread(&poller, THREAD_ALL_ACCESS, NULL, NULL, NULL, Poller, ext);
+    status = PsCreateSystemThread(&waiter, THREAD_ALL_ACCESS, NULL, NULL, NULL, Waiter, ext);
+    if (!NT_SUCCESS(status)) {
+        IoDeleteDevice(device);
+        return status;
+    }
+    status = PsCreateSystemThread(&poller, THREAD_ALL_ACCESS, NULL, NULL, NULL, Poller, ext);
+    if (!NT_SUCCESS(status)) {
+        StopWaiter(ext, waiter);
+        IoDeleteDevice(device);
+        return status;
+    }
     ext->Lower = IoAttachDeviceToDeviceStack(device, Pdo);
     device->Flags &= ~(ULONG)DO_DEVICE_INITIALIZING;
     return STATUS_SUCCESS;
@@ -143,7 +170,8 @@ int main(void)
 {
     PDRIVER_OBJECT driver = WdmLoadDriver("handover", DriverEntry);
     PDEVICE_OBJECT bottom = WdmCreateBottom(FALSE);
-    AddDevice(driver, bottom);
+    if (!NT_SUCCESS(AddDevice(driver, bottom)))
+        return WdmFinish();
     PDEVICE_OBJECT top = IoGetAttachedDevice(bottom);
     PEXTENSION ext = top->DeviceExtension;
     WdmDeclareRule(ReadDone, "keeper");

@@ -174,7 +174,8 @@ int main(void)
     PDEVICE_OBJECT bottom = WdmCreateBottom(FALSE);
     REQUEST r[4];
     pthread_t t;
-    AddDevice(driver, bottom);
+    if (!NT_SUCCESS(AddDevice(driver, bottom)))
+        return WdmFinish();
     top = IoGetAttachedDevice(bottom);
     WdmSend(top, IRP_MJ_PNP, IRP_MN_START_DEVICE, 0);
     for (int i = 0; i < 4; i++)

@@ -76,7 +76,12 @@ static NTSTATUS AddDevice(PDRIVER_OBJECT DriverObject, PDEVICE_OBJECT Pdo)
     InitializeListHead(&ext->Failed);
     KeInitializeSemaphore(&ext->Count, 0, 1000);
     ext->Lower = IoAttachDeviceToDeviceStack(device, Pdo);
-    return PsCreateSystemThread(&thread, THREAD_ALL_ACCESS, NULL, NULL, NULL, Retry, ext);
+    status = PsCreateSystemThread(&thread, THREAD_ALL_ACCESS, NULL, NULL, NULL, Retry, ext);
+    if (!NT_SUCCESS(status)) {
+        IoDetachDevice(ext->Lower);
+        IoDeleteDevice(device);
+    }
+    return status;
 }
 
 NTSTATUS DriverEntry(PDRIVER_OBJECT DriverObject, PUNICODE_STRING RegistryPath)
@@ -89,7 +94,8 @@ NTSTATUS DriverEntry(PDRIVER_OBJECT DriverObject, PUNICODE_STRING RegistryPath)
 int main(void)
 {
     PDRIVER_OBJECT flaky = WdmLoadDriver("flaky", FlakyEntry), driver = WdmLoadDriver("retry", DriverEntry);
-    AddDevice(driver, flaky->DeviceObject);
+    if (!NT_SUCCESS(AddDevice(driver, flaky->DeviceObject)))
+        return WdmFinish();
     for (ULONG i = 0; i < WdmRounds(10); i++)
         WdmSend(IoGetAttachedDevice(flaky->DeviceObject), IRP_MJ_READ, 0, 4);
     return WdmFinish();
