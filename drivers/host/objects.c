@@ -1,4 +1,4 @@
-/* objects.c: references to objects, handles, events by handle; files, sections and directories are refused. */
+/* objects.c: references to objects, handles, events by handle. */
 #include "host.h"
 
 struct _OBJECT_TYPE { const char *name; };
@@ -236,86 +236,6 @@ NTSTATUS WdmZwWaitForSingleObject(HANDLE Handle, PLARGE_INTEGER Timeout, WDM_SIT
 {
     PVOID object = handle_object(Handle, NULL);
     return object ? WdmKeWaitForSingleObject(object, Timeout, at) : STATUS_INVALID_HANDLE;
-}
-
-/* What is refused. */
-static NTSTATUS refused(const char *call)
-{
-    pthread_mutex_lock(&host_lock);
-    touch(&host_lock, SYNCS);
-    note("not there", "%s: there are no files and no sections; it returns STATUS_NOT_SUPPORTED", call);
-    pthread_mutex_unlock(&host_lock);
-    return STATUS_NOT_SUPPORTED;
-}
-
-NTSTATUS ZwCreateFile(PHANDLE File, ACCESS_MASK Access, POBJECT_ATTRIBUTES Attributes, PIO_STATUS_BLOCK Iosb,
-                      PLARGE_INTEGER Size, ULONG FileAttributes, ULONG Share, ULONG Disposition, ULONG Options,
-                      PVOID Ea, ULONG EaLength)
-{
-    (void)File, (void)Access, (void)Attributes, (void)Iosb, (void)Size, (void)FileAttributes, (void)Share;
-    (void)Disposition, (void)Options, (void)Ea, (void)EaLength;
-    return refused("ZwCreateFile");
-}
-
-NTSTATUS ZwOpenFile(PHANDLE File, ACCESS_MASK Access, POBJECT_ATTRIBUTES Attributes, PIO_STATUS_BLOCK Iosb, ULONG Share,
-                    ULONG Options)
-{
-    (void)File, (void)Access, (void)Attributes, (void)Iosb, (void)Share, (void)Options;
-    return refused("ZwOpenFile");
-}
-
-NTSTATUS ZwReadFile(HANDLE File, HANDLE Event, PIO_APC_ROUTINE Apc, PVOID Context, PIO_STATUS_BLOCK Iosb, PVOID Buffer,
-                    ULONG Length, PLARGE_INTEGER Offset, PULONG Key)
-{
-    (void)File, (void)Event, (void)Apc, (void)Context, (void)Iosb, (void)Buffer, (void)Length, (void)Offset, (void)Key;
-    return refused("ZwReadFile");
-}
-
-NTSTATUS ZwWriteFile(HANDLE File, HANDLE Event, PIO_APC_ROUTINE Apc, PVOID Context, PIO_STATUS_BLOCK Iosb, PVOID Buffer,
-                     ULONG Length, PLARGE_INTEGER Offset, PULONG Key)
-{
-    (void)File, (void)Event, (void)Apc, (void)Context, (void)Iosb, (void)Buffer, (void)Length, (void)Offset, (void)Key;
-    return refused("ZwWriteFile");
-}
-
-NTSTATUS ZwQueryInformationFile(HANDLE File, PIO_STATUS_BLOCK Iosb, PVOID Information, ULONG Length, ULONG Class)
-{
-    (void)File, (void)Iosb, (void)Information, (void)Length, (void)Class;
-    return refused("ZwQueryInformationFile");
-}
-
-NTSTATUS ZwSetInformationFile(HANDLE File, PIO_STATUS_BLOCK Iosb, PVOID Information, ULONG Length, ULONG Class)
-{
-    (void)File, (void)Iosb, (void)Information, (void)Length, (void)Class;
-    return refused("ZwSetInformationFile");
-}
-
-NTSTATUS ZwCreateSection(PHANDLE Section, ACCESS_MASK Access, POBJECT_ATTRIBUTES Attributes, PLARGE_INTEGER Size,
-                         ULONG Protection, ULONG Allocation, HANDLE File)
-{
-    (void)Section, (void)Access, (void)Attributes, (void)Size, (void)Protection, (void)Allocation, (void)File;
-    return refused("ZwCreateSection");
-}
-
-NTSTATUS ZwOpenSection(PHANDLE Section, ACCESS_MASK Access, POBJECT_ATTRIBUTES Attributes)
-{
-    (void)Section, (void)Access, (void)Attributes;
-    return refused("ZwOpenSection");
-}
-
-NTSTATUS ZwMapViewOfSection(HANDLE Section, HANDLE Process, PVOID *Base, ULONG_PTR ZeroBits, SIZE_T Commit,
-                            PLARGE_INTEGER Offset, PSIZE_T Size, SECTION_INHERIT Inherit, ULONG Allocation,
-                            ULONG Protection)
-{
-    (void)Section, (void)Process, (void)Base, (void)ZeroBits, (void)Commit, (void)Offset, (void)Size, (void)Inherit;
-    (void)Allocation, (void)Protection;
-    return refused("ZwMapViewOfSection");
-}
-
-NTSTATUS ZwUnmapViewOfSection(HANDLE Process, PVOID Base)
-{
-    (void)Process, (void)Base;
-    return refused("ZwUnmapViewOfSection");
 }
 
 NTSTATUS ZwCreateDirectoryObject(PHANDLE Directory, ACCESS_MASK Access, POBJECT_ATTRIBUTES Attributes)

@@ -1,5 +1,5 @@
 /* wdm_ob.h: objects and their references, handles, the registry (WdmSetRegistry fills it), events by name or handle,
-   threads. Files and sections are refused: there are none. */
+   threads. Files and sections are refused, but for those that a test made. */
 #ifndef WDM_OB_H
 #define WDM_OB_H
 
@@ -183,7 +183,7 @@ NTSTATUS RtlDeleteRegistryValue(ULONG Where, PCWSTR Path, PCWSTR Name);
 NTSTATUS RtlCheckRegistryKey(ULONG Where, PWSTR Path);
 NTSTATUS RtlCreateRegistryKey(ULONG Where, PWSTR Path);
 
-/* Files, sections, directories: refused, and the refusal says so once. */
+/* Files, sections, directories. */
 typedef struct _IO_STATUS_BLOCK IO_STATUS_BLOCK, *PIO_STATUS_BLOCK;
 typedef VOID IO_APC_ROUTINE(PVOID Context, PIO_STATUS_BLOCK Iosb, ULONG Reserved);
 typedef IO_APC_ROUTINE *PIO_APC_ROUTINE;

@@ -61,6 +61,11 @@ BOOLEAN WdmRaiseInterrupt(ULONG Vector, WDM_SITE at);
    DriverEntry gets, is \Registry\Machine\System\CurrentControlSet\Services\NAME. */
 VOID WdmSetRegistry(PCWSTR Path, PCWSTR Name, ULONG Type, const VOID *Data, ULONG Size);
 
+/* A section and a file that drivers can open by these paths: memory of zeros, which is returned; what is written to the
+   file goes nowhere. */
+PVOID WdmMakeSection(PCWSTR Path, SIZE_T Size);
+VOID WdmMakeFile(PCWSTR Path);
+
 /* What IoGetDeviceProperty answers for a device. */
 VOID WdmSetDeviceProperty(PDEVICE_OBJECT Device, DEVICE_REGISTRY_PROPERTY Which, const VOID *Data, ULONG Size);
 

@@ -1,0 +1,65 @@
+/* hid.c: a joystick: Wine's test bus, its HID minidriver, hidclass. Words say what is done. */
+#include "hid.h"
+
+static const BYTE report[] = { 0x05, 0x01, 0x09, 0x05, 0xa1, 0x01, 0x15, 0x00, 0x25, 0x7f, 0x75, 0x08, 0x95, 0x02, 0x09,
+                               0x30, 0x09, 0x31, 0x81, 0x02, 0x95, 0x01, 0x09, 0x32, 0xb1, 0x02, 0x09, 0x33, 0x91, 0x02,
+                               0xc0 };
+
+static void read_and_cancel(PDEVICE_OBJECT collection)
+{
+    Request *read = Prepare(collection, IRP_MJ_READ, 0, NULL, 0, 3);
+    IoCallDriver(collection, read->irp);
+    Input((BYTE[]){ 5, 5 }, 2);
+    Wait(read, 500);
+    read = Prepare(collection, IRP_MJ_READ, 0, NULL, 0, 3);
+    IoCallDriver(collection, read->irp);
+    IoCancelIrp(read->irp);
+    Wait(read, 500);
+}
+
+static void read_cancelled_before(PDEVICE_OBJECT collection)
+{
+    Request *read = Prepare(collection, IRP_MJ_READ, 0, NULL, 0, 3);
+    IoCancelIrp(read->irp);
+    IoCallDriver(collection, read->irp);
+    Wait(read, 200);
+    Input((BYTE[]){ 6, 6 }, 2);
+    Wait(read, 200);
+}
+
+/* The bus is asked to wait until all that it expects has come, and something hasn't. */
+static void wait_for_expected(void)
+{
+    static struct { struct hid_device_desc device; struct hid_expect expect[1]; } message;
+    static struct { struct hid_device_desc device; struct wait_expect_params wait; } params;
+    message.device = params.device = description;
+    message.expect[0].code = IOCTL_HID_SET_FEATURE;
+    Control(bus, IOCTL_WINETEST_HID_SET_EXPECT, &message, sizeof message, 0);
+    Control(bus, IOCTL_WINETEST_HID_WAIT_EXPECT, &params, sizeof params, 0);
+}
+
+int main(int argc, char **argv)
+{
+    PDEVICE_OBJECT device = MakeDevice(report, sizeof report, 3);
+    PDEVICE_OBJECT hid = Add(WdmLoadByName("driver_hid"), device), collection = hid ? Child(hid, 0) : NULL;
+    if (!collection || Pnp(collection, IRP_MN_START_DEVICE))
+        return WdmFinish();
+    PFILE_OBJECT file = WdmOpenFile(collection);
+    if (Does(argc, argv, "read"))
+        read_and_cancel(collection);
+    if (Does(argc, argv, "before"))
+        read_cancelled_before(collection);
+    if (Does(argc, argv, "wait"))
+        wait_for_expected();
+    if (file && !Does(argc, argv, "before"))
+        WdmCloseFile(file);
+    if (Does(argc, argv, "surprise"))
+        Pnp(hid, IRP_MN_SURPRISE_REMOVAL);
+    if (Does(argc, argv, "remove")) {
+        Pnp(collection, IRP_MN_SURPRISE_REMOVAL);
+        Pnp(collection, IRP_MN_REMOVE_DEVICE);
+        Pnp(hid, IRP_MN_REMOVE_DEVICE);
+        Pnp(bus, IRP_MN_REMOVE_DEVICE);
+    }
+    return WdmFinish();
+}
