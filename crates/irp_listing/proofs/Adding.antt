@@ -1,8 +1,9 @@
 -- Lines that are put one after the other.
-use Rattle.std.proofs.Common.{◌≡◌, ◌+◌, ◌*◌, ℕ, List, [], ◌∷◌, ◌++◌, length, refl, sym, ap, ap₂, ◌∙◌, append_assoc, append-nil, length-append, subst, arith}
+use Rattle.std.proofs.Common.{Bool, ◌≡◌, ◌+◌, ◌*◌, ℕ, List, [], ◌∷◌, ◌++◌, length, refl, sym, ap, ap₂, ◌∙◌, append_assoc, append-nil, length-append, subst, arith}
 use Rattle.std.specs.List.{flat_map}
 use Rattle.std.proofs.lemmas.Grind.{flat_map-append}
 use Rattle.irp_types.specs.declared.entry.Entry.{Entry}
+use Rattle.irp_listing.specs.Heads.{head_text}
 use Rattle.irp_listing.specs.Lines.{further_of, head_of}
 use Rattle.irp_listing.specs.Blocks.{AddsBlock, AddsEnd, AddsLines}
 
@@ -33,13 +34,15 @@ pub two_lines : (x y z words more : List ℕ) → y ≡ x ++ further_of words �
 two_lines x y z words more first second = both_lines 1 1 x y z (one_line x y words first) (one_line y z more second)
 
 -- a head, the lines of the questions, and perhaps one more are the block of an entry
-pub is_block : (entry : Entry) (w x y z words : List ℕ) → x ≡ w ++ head_of entry.number words → AddsLines (length entry.asked * 2) x y → AddsEnd y z → AddsBlock entry w z
-is_block entry w x y z words head asked end =
+pub is_block : (entry : Entry) (tells_seat is_left_out : Bool) (w x y z : List ℕ) → x ≡ w ++ head_of entry.number (head_text tells_seat is_left_out entry) → AddsLines (length entry.asked * 2) x y → AddsEnd y z → AddsBlock entry w z
+is_block entry tells_seat is_left_out w x y z head asked end =
+    let words : List ℕ = head_text tells_seat is_left_out entry in
     let lines = both_lines (length entry.asked * 2) end.count x y z asked end.adds in
     record {
       block = head_of entry.number words ++ flat_map further_of lines.lines;
       is_one = record {
-        head = words;
+        tells_seat = tells_seat;
+        is_left_out = is_left_out;
         lines = lines.lines;
         two_each = omega (arith, lines.many);
         few = omega (arith, lines.many, end.few);

@@ -1,10 +1,11 @@
 //! The lines of an entry.
 
-ghost use Rattle.std.specs.Prelude.{length, OnOk, ◌*◌};
+ghost use Rattle.std.specs.Prelude.{length, OnOk, ◌*◌, Some};
 ghost use Rattle.irp_listing.specs.Blocks.{AddsLines, AddsBlock, AddsEnd};
+ghost use Rattle.irp_listing.specs.Heads.{answer_text, caller_text, head_text, refused_text, seat_text};
 
 use crate::lines::{put_further, put_head};
-use crate::outcome::{OutcomeWords, moves, outcome_of};
+use crate::outcome::{OutcomeWords, moves, outcome_of, sends};
 use crate::questions::QuestionWords;
 use crate::stacks::Stacks;
 use irp_names::{
@@ -25,42 +26,102 @@ struct HeadWords<'a> {
 }
 
 impl fmt::Display for HeadWords<'_> {
+    ghost output = { λ words. Some (head_text words.tells_seat words.is_left_out words.entry.now) };
+
     fn fmt<W: fmt::Write>(&self, f: &mut fmt::Formatter<W>) -> fmt::Result {
         let Entry {
             call,
-            reply,
             drained,
             seat,
             ..
         } = *self.entry;
-        if self.tells_seat {
-            write!(f, "seat {}  ", seat)?;
+        let seat = SeatWords {
+            seat,
+            is_told: self.tells_seat,
+        };
+        write!(
+            f,
+            "{}{}{}",
+            seat,
+            CallerWords { call, drained },
+            AnswerWords(*self)
+        )
+    }
+}
+
+/// The seat of an entry, where it is told.
+#[derive(Clone, Copy)]
+struct SeatWords {
+    seat: u32,
+    is_told: bool,
+}
+
+impl fmt::Display for SeatWords {
+    ghost output = { λ words. Some (seat_text words.is_told words.seat) };
+
+    fn fmt<W: fmt::Write>(&self, f: &mut fmt::Formatter<W>) -> fmt::Result {
+        if self.is_told {
+            write!(f, "seat {}  ", self.seat)
+        } else {
+            f.write_str("")
         }
-        write!(f, "{}", CallerWords { call, drained })?;
+    }
+}
+
+/// What stands behind the call.
+#[derive(Clone, Copy)]
+struct AnswerWords<'a>(HeadWords<'a>);
+
+impl fmt::Display for AnswerWords<'_> {
+    ghost output = { λ words. Some (answer_text words.0.is_left_out words.0.entry.now
+        words.0.entry.now.reply) };
+
+    fn fmt<W: fmt::Write>(&self, f: &mut fmt::Formatter<W>) -> fmt::Result {
+        let HeadWords {
+            entry,
+            is_left_out,
+            ..
+        } = self.0;
+        let Entry { call, reply, .. } = *entry;
         match reply {
-            Reply::Done => Ok(()),
-            Reply::Refused(refusal) if self.is_left_out => write!(
-                f,
-                " -> refused: {}",
-                LeftOutWords(refusal)
-            ),
-            Reply::Refused(refusal) => write!(f, " -> refused: {}", RefusalWords { call, refusal }),
-            _ if moves(self.entry) => Ok(()),
+            Reply::Done => f.write_str(""),
+            Reply::Refused(refusal) => {
+                let words = RefusedWords {
+                    call,
+                    refusal,
+                    is_left_out,
+                };
+                write!(f, " -> refused: {}", words)
+            }
+            _ if sends(call, entry.asked.as_slice()) => f.write_str(""),
             _ => write!(f, " -> {}", ReplyWords { call, reply }),
         }
     }
 }
 
-/// The refusal of a completion that a right driver leaves out.
+/// A refusal; of a completion that a right driver leaves out, as such.
 #[derive(Clone, Copy)]
-struct LeftOutWords(Refusal);
+struct RefusedWords {
+    call: Call,
+    refusal: Refusal,
+    is_left_out: bool,
+}
 
-impl fmt::Display for LeftOutWords {
+impl fmt::Display for RefusedWords {
+    ghost output = { λ words. Some (refused_text words.is_left_out words.call words.refusal) };
+
     fn fmt<W: fmt::Write>(&self, f: &mut fmt::Formatter<W>) -> fmt::Result {
-        f.write_str(refusal_name(self.0))?;
-        f.write_str(", ")?;
-        f.write_str(refusal_meaning(self.0))?;
-        f.write_str(" (a right driver makes no such call: its cancel routine was gone)")
+        let RefusedWords { call, refusal, .. } = *self;
+        if self.is_left_out {
+            write!(
+                f,
+                "{}, {} (a right driver makes no such call: its cancel routine was gone)",
+                refusal_name(refusal),
+                refusal_meaning(refusal)
+            )
+        } else {
+            write!(f, "{}", RefusalWords { call, refusal })
+        }
     }
 }
 
@@ -72,12 +133,15 @@ pub struct CallerWords {
 }
 
 impl fmt::Display for CallerWords {
+    ghost output = { λ words. Some (caller_text words.call words.drained) };
+
     fn fmt<W: fmt::Write>(&self, f: &mut fmt::Formatter<W>) -> fmt::Result {
         let CallerWords { call, drained } = *self;
-        if let Some(party) = caller_of(call) {
-            write!(f, "{}: ", PartyWords(party))?;
+        let words = CallWords { call, drained };
+        match caller_of(call) {
+            Some(party) => write!(f, "{}: {}", PartyWords(party), words),
+            None => write!(f, "{}", words),
         }
-        write!(f, "{}", CallWords { call, drained })
     }
 }
 

@@ -1,5 +1,8 @@
 //! Where a packet is after a call that moved it.
 
+ghost use Rattle.std.specs.Prelude.{◌≡◌};
+ghost use Rattle.irp_listing.specs.Heads.{sends};
+
 use irp_names::{DeviceWords, ReplyWords, ResultWords};
 use irp_types::{Asked, Call, CancelAnswer, DeviceId, Entry, Plan, Reply, Status};
 use std::fmt;
@@ -17,16 +20,20 @@ pub enum Outcome {
     Completed(Status, u64),
 }
 
-/// Whether the call of an entry moved its packet.
-pub fn moves(entry: &Entry) -> bool {
-    if matches!(entry.reply, Reply::Refused(_)) {
-        return false;
-    }
-    match entry.call {
+/// Whether a call sends or completes its packet; a Cancel does where it asked somebody.
+pub fn sends(call: Call, asked: &[Asked]) -> bool
+    ensures { result ≡ sends call asked.now }
+{
+    match call {
         Call::CallDriver { .. } | Call::Complete { .. } | Call::FinishTaken { .. } => true,
-        Call::Cancel { .. } => !entry.asked.as_slice().is_empty(),
+        Call::Cancel { .. } => !asked.is_empty(),
         _ => false,
     }
+}
+
+/// Whether the call of an entry moved its packet.
+pub fn moves(entry: &Entry) -> bool {
+    !matches!(entry.reply, Reply::Refused(_)) && sends(entry.call, entry.asked.as_slice())
 }
 
 /// What a packet is completed with before any routine is asked: what the call says, else what a driver without a

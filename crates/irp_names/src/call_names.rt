@@ -1,15 +1,21 @@
 //! Calls of the manager.
 
+ghost use Rattle.std.specs.Prelude.{◌≡◌, Some};
+ghost use Rattle.irp_names.specs.Calls.{arguments_text, call_name, call_text, caller_of, further_text, knowledge, locations_text};
+ghost use Rattle.irp_names.specs.Small.{cancel_text};
+
 use crate::closures::SettingWords;
 use crate::majors::MajorWords;
-use crate::small::{PacketWords, RoutineWords};
+use crate::small::{Hex, PacketWords};
 use crate::statuses::{ResultWords, StatusWords};
-use irp_types::{Call, CancelId, DeviceId, DriverId, IrpRef, LockNo, Party, Setting};
+use irp_types::{Call, CancelId, Party};
 use std::fmt;
 
 /// The routine of Windows that a call stands for (docs/RULES.md, The eighteen calls). Look stands for none: it reads
 /// the packet. SetNext stands for what a driver does with the location that IoGetNextIrpStackLocation gives.
-pub fn call_name(call: Call) -> &'static str {
+pub fn call_name(call: Call) -> &'static str
+    ensures { result.now ≡ call_name call }
+{
     match call {
         Call::CreateDevice { .. } => "IoCreateDevice",
         Call::Attach { .. } => "IoAttachDeviceToDeviceStack",
@@ -56,7 +62,9 @@ pub fn rules_name(call: Call) -> &'static str {
 }
 
 /// The party that a call names. None where it names none (docs/RULES.md, Who may do what).
-pub fn caller_of(call: Call) -> Option<Party> {
+pub fn caller_of(call: Call) -> Option<Party>
+    ensures { result ≡ caller_of call }
+{
     match call {
         Call::SetNext { party, .. }
         | Call::CopyToNext { party, .. }
@@ -79,104 +87,104 @@ pub struct CallWords {
 }
 
 impl fmt::Display for CallWords {
+    ghost output = { λ words. Some (call_text words.call words.drained) };
+
     fn fmt<W: fmt::Write>(&self, f: &mut fmt::Formatter<W>) -> fmt::Result {
-        f.write_str(call_name(self.call))?;
-        match self.call {
-            Call::CreateDevice { driver, lock } => write!(f, "{}", Creation(driver, lock)),
+        write!(f, "{}{}", call_name(self.call), ArgumentWords(*self))
+    }
+}
+
+/// Whether a lock is known drained.
+fn knowledge(drained: bool) -> &'static str
+    ensures { result.now ≡ knowledge drained }
+{
+    if drained {
+        "known drained"
+    } else {
+        "not known drained"
+    }
+}
+
+/// What stands behind the name of a call.
+#[derive(Clone, Copy)]
+struct ArgumentWords(CallWords);
+
+impl fmt::Display for ArgumentWords {
+    ghost output = { λ words. Some (arguments_text words.0.call words.0.drained) };
+
+    fn fmt<W: fmt::Write>(&self, f: &mut fmt::Formatter<W>) -> fmt::Result {
+        match self.0.call {
+            Call::CreateDevice { driver, lock } => write!(
+                f,
+                "(driver {}, remove lock {})",
+                driver.0, lock.0
+            ),
             Call::Attach { device, to } => write!(f, "(D{}, the stack of D{})", device.0, to.0),
             Call::Detach { lower } => write!(f, "(what stands on D{})", lower.0),
-            Call::Delete { device } => write!(f, "{}", Deletion(device, self.drained)),
-            Call::Allocate { size: 1 } => f.write_str("(1 location)"),
-            Call::Allocate { size } => write!(f, "({} locations)", size),
-            Call::SetNext {
-                irp,
-                major,
-                word,
-                ..
-            } => write!(f, "{}", Filling(irp, major, word)),
-            Call::SetRoutine { irp, setting, .. } => write!(f, "{}", SettingOf(irp, setting)),
+            Call::Delete { device } => write!(
+                f,
+                "(D{}), its remove lock {}",
+                device.0,
+                knowledge(self.0.drained)
+            ),
+            Call::Allocate { size } => write!(f, "{}", LocationsWords(size)),
             Call::CallDriver { irp, target, .. } => {
                 write!(f, "(D{}, {})", target.0, PacketWords(irp))
             }
-            Call::SetCancelRoutine { irp, cancel, .. } => {
-                write!(f, "({}, {})", PacketWords(irp), CancelWords(cancel))
-            }
-            Call::Reuse { irp, status } => {
-                write!(f, "({}, {})", PacketWords(irp), StatusWords(status))
-            }
-            Call::Complete { .. } | Call::FinishTaken { .. } => write!(
-                f,
-                "{}",
-                Completion(self.call)
-            ),
             Call::Look { irp } => write!(f, " {}", PacketWords(irp)),
             Call::Free { irp }
             | Call::CopyToNext { irp, .. }
             | Call::Skip { irp, .. }
             | Call::MarkPending { irp, .. }
             | Call::Cancel { irp } => write!(f, "({})", PacketWords(irp)),
+            other => write!(f, "{}", FurtherWords(other)),
         }
     }
 }
 
-/// The driver and the lock of a new device.
+/// The size of a packet.
 #[derive(Clone, Copy)]
-struct Creation(DriverId, LockNo);
+struct LocationsWords(u8);
 
-impl fmt::Display for Creation {
+impl fmt::Display for LocationsWords {
+    ghost output = { λ words. Some (locations_text words.0) };
+
     fn fmt<W: fmt::Write>(&self, f: &mut fmt::Formatter<W>) -> fmt::Result {
-        write!(f, "(driver {}, remove lock {})", self.0.0, self.1.0)
-    }
-}
-
-/// The device that is deleted, and whether its lock is known drained.
-#[derive(Clone, Copy)]
-struct Deletion(DeviceId, bool);
-
-impl fmt::Display for Deletion {
-    fn fmt<W: fmt::Write>(&self, f: &mut fmt::Formatter<W>) -> fmt::Result {
-        let known = if self.1 {
-            "known drained"
+        if self.0 == 1 {
+            f.write_str("(1 location)")
         } else {
-            "not known drained"
-        };
-        write!(f, "(D{}), its remove lock {}", self.0.0, known)
+            write!(f, "({} locations)", self.0)
+        }
     }
 }
 
-/// What is filled into the next lower location.
+/// What stands behind the name of a call that says more of its packet.
 #[derive(Clone, Copy)]
-struct Filling(IrpRef, u8, u64);
+struct FurtherWords(Call);
 
-impl fmt::Display for Filling {
-    fn fmt<W: fmt::Write>(&self, f: &mut fmt::Formatter<W>) -> fmt::Result {
-        write!(
-            f,
-            "({}): {}, word {:#x}",
-            PacketWords(self.0),
-            MajorWords(self.1),
-            self.2
-        )
-    }
-}
+impl fmt::Display for FurtherWords {
+    ghost output = { λ words. Some (further_text words.0) };
 
-/// Which completion routine is set.
-#[derive(Clone, Copy)]
-struct SettingOf(IrpRef, Setting);
-
-impl fmt::Display for SettingOf {
-    fn fmt<W: fmt::Write>(&self, f: &mut fmt::Formatter<W>) -> fmt::Result {
-        write!(f, "({}, {})", PacketWords(self.0), SettingWords(self.1))
-    }
-}
-
-/// A completion's packet, with what it ends.
-#[derive(Clone, Copy)]
-struct Completion(Call);
-
-impl fmt::Display for Completion {
     fn fmt<W: fmt::Write>(&self, f: &mut fmt::Formatter<W>) -> fmt::Result {
         match self.0 {
+            Call::Reuse { irp, status } => {
+                write!(f, "({}, {})", PacketWords(irp), StatusWords(status))
+            }
+            Call::SetNext {
+                irp,
+                major,
+                word,
+                ..
+            } => write!(
+                f,
+                "({}): {}, word {}",
+                PacketWords(irp),
+                MajorWords(major),
+                Hex(word)
+            ),
+            Call::SetRoutine { irp, setting, .. } => {
+                write!(f, "({}, {})", PacketWords(irp), SettingWords(setting))
+            }
             Call::Complete {
                 irp,
                 status,
@@ -193,11 +201,17 @@ impl fmt::Display for Completion {
                 token,
                 status,
                 information,
-            } => {
-                write!(f, "({}) by the token of use {}", PacketWords(irp), token)?;
-                write!(f, " with {}", ResultWords(status, information))
+            } => write!(
+                f,
+                "({}) by the token of use {} with {}",
+                PacketWords(irp),
+                token,
+                ResultWords(status, information)
+            ),
+            Call::SetCancelRoutine { irp, cancel, .. } => {
+                write!(f, "({}, {})", PacketWords(irp), CancelWords(cancel))
             }
-            _ => Ok(()),
+            _ => f.write_str(""),
         }
     }
 }
@@ -207,6 +221,8 @@ impl fmt::Display for Completion {
 pub struct CancelWords(pub Option<CancelId>);
 
 impl fmt::Display for CancelWords {
+    ghost output = { λ words. Some (cancel_text words.0) };
+
     fn fmt<W: fmt::Write>(&self, f: &mut fmt::Formatter<W>) -> fmt::Result {
         match self.0 {
             Some(id) => write!(f, "cancel routine {}", id.0),

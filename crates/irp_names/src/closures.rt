@@ -1,6 +1,9 @@
 //! Closures, what they answer and what is set for them.
 
-use crate::small::RoutineWords;
+ghost use Rattle.std.specs.Prelude.{◌≡◌, Some};
+ghost use Rattle.irp_names.specs.Calls.{flags_words, setting_text};
+
+use crate::small::{Hex, RoutineWords};
 use crate::statuses::ResultWords;
 use irp_types::{Answer, Asked, CancelAnswer, Plan, Setting, Shown};
 use std::fmt;
@@ -20,7 +23,9 @@ impl fmt::Display for ClosureWords {
 }
 
 /// On what a completion routine is asked, from its flags.
-fn flags_words(setting: Setting) -> &'static str {
+fn flags_words(setting: Setting) -> &'static str
+    ensures { result.now ≡ flags_words setting.on_success setting.on_error setting.on_cancel }
+{
     match (setting.on_success, setting.on_error, setting.on_cancel) {
         (true, true, true) => "on success, on error, on cancel",
         (true, true, false) => "on success, on error",
@@ -38,14 +43,16 @@ fn flags_words(setting: Setting) -> &'static str {
 pub struct SettingWords(pub Setting);
 
 impl fmt::Display for SettingWords {
+    ghost output = { λ words. Some (setting_text words.0) };
+
     fn fmt<W: fmt::Write>(&self, f: &mut fmt::Formatter<W>) -> fmt::Result {
         write!(
             f,
-            "{}, context {:#x}",
+            "{}, context {}, {}",
             RoutineWords(self.0.routine),
-            self.0.context
-        )?;
-        write!(f, ", {}", flags_words(self.0))
+            Hex(self.0.context),
+            flags_words(self.0)
+        )
     }
 }
 

@@ -1,13 +1,18 @@
 //! Major function codes.
 
-ghost use Rattle.std.specs.Prelude.{◌≡◌, ◌≤◌, ◌↔◌, true, is_some};
+ghost use Rattle.std.specs.Prelude.{◌≡◌, ◌≤◌, ◌↔◌, Some, false, true, is_some};
+ghost use Rattle.std.specs.Option.{option_map};
+ghost use Rattle.irp_names.specs.Majors.{major_rows, major_text};
+ghost use Rattle.irp_names.specs.Rows.{named};
+ghost use Rattle.irp_names.specs.Small.{wide_hex};
 ghost use Rattle.irp_types.specs.Limits.{last_major};
 
 use std::fmt;
 
 /// The name of a major function code, 0x00 to 0x1b. None for any other (WDK: "IRP Major Function Codes").
 pub fn major_name(major: u8) -> Option<&'static str>
-    ensures { (is_some result ≡ true) ↔ (major ≤ last_major) }
+    ensures some { (is_some result ≡ true) ↔ (major ≤ last_major) }
+    ensures name { option_map (λ name. name.now) result ≡ named major_rows major }
 {
     Some(match major {
         0x00 => "IRP_MJ_CREATE",
@@ -42,15 +47,29 @@ pub fn major_name(major: u8) -> Option<&'static str>
     })
 }
 
+/// A number, as `0x1c`.
+#[derive(Clone, Copy)]
+struct TwoPlaces(u8);
+
+impl fmt::Display for TwoPlaces {
+    ghost output = { λ words. Some (wide_hex 2 false words.0) };
+
+    fn fmt<W: fmt::Write>(&self, f: &mut fmt::Formatter<W>) -> fmt::Result {
+        write!(f, "0x{:02x}", self.0)
+    }
+}
+
 /// A major function code by its name, such as IRP_MJ_READ, or `major 0x1c` where it has none.
 #[derive(Clone, Copy)]
 pub struct MajorWords(pub u8);
 
 impl fmt::Display for MajorWords {
+    ghost output = { λ words. Some (major_text words.0) };
+
     fn fmt<W: fmt::Write>(&self, f: &mut fmt::Formatter<W>) -> fmt::Result {
         match major_name(self.0) {
             Some(name) => f.write_str(name),
-            None => write!(f, "major {:#04x}", self.0),
+            None => write!(f, "major {}", TwoPlaces(self.0)),
         }
     }
 }

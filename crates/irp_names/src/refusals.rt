@@ -1,10 +1,16 @@
 //! Refusals.
 
+ghost use Rattle.std.specs.Prelude.{◌≡◌, Some};
+ghost use Rattle.std.specs.Option.{option_map};
+ghost use Rattle.irp_names.specs.Refusals.{completion_name, delete_name, refusal_meaning, refusal_name, refusal_text, reuse_name, sending_name, windows_name};
+
 use irp_types::{Call, Refusal};
 use std::fmt;
 
 /// The name of a refusal, as transcripts and docs/RULES.md have it (this project's own).
-pub fn refusal_name(refusal: Refusal) -> &'static str {
+pub fn refusal_name(refusal: Refusal) -> &'static str
+    ensures { result.now ≡ refusal_name refusal }
+{
     match refusal {
         Refusal::NoIrp => "NoIrp",
         Refusal::Stale => "Stale",
@@ -39,7 +45,9 @@ pub fn refusal_name(refusal: Refusal) -> &'static str {
 }
 
 /// When a refusal comes, in a few words (docs/RULES.md, Refusals).
-pub fn refusal_meaning(refusal: Refusal) -> &'static str {
+pub fn refusal_meaning(refusal: Refusal) -> &'static str
+    ensures { result.now ≡ refusal_meaning refusal }
+{
     match refusal {
         Refusal::NoIrp => "no live packet is under this slot",
         Refusal::Stale => "the packet is in another use by now",
@@ -75,20 +83,52 @@ pub fn refusal_meaning(refusal: Refusal) -> &'static str {
 
 /// The name in Windows of the mistake for which this call is refused so: a bug check, a code of Driver Verifier or a
 /// rule of Static Driver Verifier. None where there is none (docs/RULES.md, Refusals).
-pub fn windows_name(call: Call, refusal: Refusal) -> Option<&'static str> {
-    match (call, refusal) {
-        (Call::CallDriver { .. }, Refusal::TooShort) => {
-            Some("bug check 0x35, NO_MORE_IRP_STACK_LOCATIONS")
-        }
-        (Call::Complete { .. } | Call::FinishTaken { .. }, _) => completion_name(refusal),
-        (Call::Reuse { .. }, Refusal::InFlight) => Some("rule IoReuseIrp"),
-        (Call::Delete { .. }, Refusal::NotDrained) => Some("the RemoveLock rules"),
+pub fn windows_name(call: Call, refusal: Refusal) -> Option<&'static str>
+    ensures { option_map (λ name. name.now) result ≡ windows_name call refusal }
+{
+    match call {
+        Call::CallDriver { .. } => sending_name(refusal),
+        Call::Complete { .. } | Call::FinishTaken { .. } => completion_name(refusal),
+        Call::Reuse { .. } => reuse_name(refusal),
+        Call::Delete { .. } => delete_name(refusal),
+        _ => None,
+    }
+}
+
+/// The same for a call of the driver below.
+fn sending_name(refusal: Refusal) -> Option<&'static str>
+    ensures { option_map (λ name. name.now) result ≡ sending_name refusal }
+{
+    match refusal {
+        Refusal::TooShort => Some("bug check 0x35, NO_MORE_IRP_STACK_LOCATIONS"),
+        _ => None,
+    }
+}
+
+/// The same for a reuse.
+fn reuse_name(refusal: Refusal) -> Option<&'static str>
+    ensures { option_map (λ name. name.now) result ≡ reuse_name refusal }
+{
+    match refusal {
+        Refusal::InFlight => Some("rule IoReuseIrp"),
+        _ => None,
+    }
+}
+
+/// The same for the deletion of a device.
+fn delete_name(refusal: Refusal) -> Option<&'static str>
+    ensures { option_map (λ name. name.now) result ≡ delete_name refusal }
+{
+    match refusal {
+        Refusal::NotDrained => Some("the RemoveLock rules"),
         _ => None,
     }
 }
 
 /// The same for a completion.
-fn completion_name(refusal: Refusal) -> Option<&'static str> {
+fn completion_name(refusal: Refusal) -> Option<&'static str>
+    ensures { option_map (λ name. name.now) result ≡ completion_name refusal }
+{
     match refusal {
         Refusal::Ended => {
             Some("bug check 0x44, MULTIPLE_IRP_COMPLETE_REQUESTS; rule DoubleCompletion")
@@ -109,13 +149,14 @@ pub struct RefusalWords {
 }
 
 impl fmt::Display for RefusalWords {
+    ghost output = { λ words. Some (refusal_text words.call words.refusal) };
+
     fn fmt<W: fmt::Write>(&self, f: &mut fmt::Formatter<W>) -> fmt::Result {
-        f.write_str(refusal_name(self.refusal))?;
-        f.write_str(", ")?;
-        f.write_str(refusal_meaning(self.refusal))?;
-        if let Some(name) = windows_name(self.call, self.refusal) {
-            write!(f, " (in Windows: {})", name)?;
+        let name = refusal_name(self.refusal);
+        let meaning = refusal_meaning(self.refusal);
+        match windows_name(self.call, self.refusal) {
+            Some(known) => write!(f, "{}, {} (in Windows: {})", name, meaning, known),
+            None => write!(f, "{}, {}", name, meaning),
         }
-        Ok(())
     }
 }

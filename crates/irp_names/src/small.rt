@@ -1,16 +1,40 @@
 //! Devices, packets, parties and routines.
 
+ghost use Rattle.std.specs.Prelude.{◌≡◌, Some};
+ghost use Rattle.irp_names.specs.Small.{device_text, hex_text, owner_text, packet_text, party_text, routine_text, rule_word, told_if};
+
 use irp_types::{DeviceId, IrpRef, Owner, Party, RoutineId, Rule};
 use std::fmt;
 
 /// The slot that a label stands for where it isn't bound (this project's own format, docs/FORMATS.md).
 const UNBOUND: usize = 4_294_967_295;
 
+/// A number, as `0x2a`.
+#[derive(Clone, Copy)]
+pub(crate) struct Hex(pub u64);
+
+impl fmt::Display for Hex {
+    ghost output = { λ words. Some (hex_text words.0) };
+
+    fn fmt<W: fmt::Write>(&self, f: &mut fmt::Formatter<W>) -> fmt::Result {
+        write!(f, "0x{:x}", self.0)
+    }
+}
+
+/// These words where a flag is set, and nothing where it isn't.
+pub(crate) fn told_if(flag: bool, words: &'static str) -> &'static str
+    ensures { result.now ≡ told_if flag words.now }
+{
+    if flag { words } else { "" }
+}
+
 /// A device, as `D1`; the originator where there is none.
 #[derive(Clone, Copy)]
 pub struct DeviceWords(pub Option<DeviceId>);
 
 impl fmt::Display for DeviceWords {
+    ghost output = { λ words. Some (device_text words.0) };
+
     fn fmt<W: fmt::Write>(&self, f: &mut fmt::Formatter<W>) -> fmt::Result {
         match self.0 {
             Some(device) => write!(f, "D{}", device.0),
@@ -24,6 +48,8 @@ impl fmt::Display for DeviceWords {
 pub struct PacketWords(pub IrpRef);
 
 impl fmt::Display for PacketWords {
+    ghost output = { λ words. Some (packet_text words.0) };
+
     fn fmt<W: fmt::Write>(&self, f: &mut fmt::Formatter<W>) -> fmt::Result {
         if self.0.slot == UNBOUND {
             f.write_str("IRP of a label that isn't bound")
@@ -38,6 +64,8 @@ impl fmt::Display for PacketWords {
 pub struct PartyWords(pub Party);
 
 impl fmt::Display for PartyWords {
+    ghost output = { λ words. Some (party_text words.0) };
+
     fn fmt<W: fmt::Write>(&self, f: &mut fmt::Formatter<W>) -> fmt::Result {
         match self.0 {
             Party::Originator => f.write_str("originator"),
@@ -51,6 +79,8 @@ impl fmt::Display for PartyWords {
 pub struct OwnerWords(pub Owner);
 
 impl fmt::Display for OwnerWords {
+    ghost output = { λ words. Some (owner_text words.0) };
+
     fn fmt<W: fmt::Write>(&self, f: &mut fmt::Formatter<W>) -> fmt::Result {
         match self.0 {
             Owner::Originator => f.write_str("the originator owns it"),
@@ -61,7 +91,9 @@ impl fmt::Display for OwnerWords {
 }
 
 /// The word of a rule, as scripts and transcripts have it.
-fn rule_word(rule: Rule) -> &'static str {
+fn rule_word(rule: Rule) -> &'static str
+    ensures { result.now ≡ rule_word rule }
+{
     match rule {
         Rule::Watch => "watch",
         Rule::Change => "change",
@@ -76,6 +108,8 @@ fn rule_word(rule: Rule) -> &'static str {
 pub struct RoutineWords(pub RoutineId);
 
 impl fmt::Display for RoutineWords {
+    ghost output = { λ words. Some (routine_text words.0) };
+
     fn fmt<W: fmt::Write>(&self, f: &mut fmt::Formatter<W>) -> fmt::Result {
         write!(f, "{} {}", rule_word(self.0.rule), self.0.no)
     }

@@ -1,21 +1,33 @@
 //! Statuses.
 
+ghost use Rattle.std.specs.Prelude.{◌≡◌, Some, true};
+ghost use Rattle.std.specs.Option.{option_map};
+ghost use Rattle.irp_names.specs.Rows.{named};
+ghost use Rattle.irp_names.specs.Small.{wide_hex};
+ghost use Rattle.irp_names.specs.Statuses.{error_rows, result_text, status_name, status_text, success_rows, warning_rows};
+
+use crate::small::Hex;
 use irp_types::Status;
 use std::fmt;
 
 /// The name of a status, where it is one of those that drivers give often. None for any other: Windows has thousands
 /// (WDK: "NTSTATUS Values").
-pub fn status_name(status: Status) -> Option<&'static str> {
-    match status.0 >> 30 {
-        0 => success_name(status.0),
-        2 => warning_name(status.0),
-        3 => error_name(status.0),
-        _ => None,
+pub fn status_name(status: Status) -> Option<&'static str>
+    ensures { option_map (λ name. name.now) result ≡ status_name status.0 }
+{
+    if let Some(name) = success_name(status.0) {
+        return Some(name);
     }
+    if let Some(name) = warning_name(status.0) {
+        return Some(name);
+    }
+    error_name(status.0)
 }
 
 /// The name of a success.
-fn success_name(number: u32) -> Option<&'static str> {
+fn success_name(number: u32) -> Option<&'static str>
+    ensures { option_map (λ name. name.now) result ≡ named success_rows number }
+{
     Some(match number {
         0x0000_0000 => "STATUS_SUCCESS",
         0x0000_0102 => "STATUS_TIMEOUT",
@@ -26,7 +38,9 @@ fn success_name(number: u32) -> Option<&'static str> {
 }
 
 /// The name of a warning.
-fn warning_name(number: u32) -> Option<&'static str> {
+fn warning_name(number: u32) -> Option<&'static str>
+    ensures { option_map (λ name. name.now) result ≡ named warning_rows number }
+{
     Some(match number {
         0x8000_0005 => "STATUS_BUFFER_OVERFLOW",
         0x8000_0006 => "STATUS_NO_MORE_FILES",
@@ -37,7 +51,9 @@ fn warning_name(number: u32) -> Option<&'static str> {
 }
 
 /// The name of an error.
-fn error_name(number: u32) -> Option<&'static str> {
+fn error_name(number: u32) -> Option<&'static str>
+    ensures { option_map (λ name. name.now) result ≡ named error_rows number }
+{
     Some(match number {
         0xC000_0001 => "STATUS_UNSUCCESSFUL",
         0xC000_0002 => "STATUS_NOT_IMPLEMENTED",
@@ -70,15 +86,29 @@ fn error_name(number: u32) -> Option<&'static str> {
     })
 }
 
+/// A number, as `0xC0000999`.
+#[derive(Clone, Copy)]
+struct EightPlaces(u32);
+
+impl fmt::Display for EightPlaces {
+    ghost output = { λ words. Some (wide_hex 8 true words.0) };
+
+    fn fmt<W: fmt::Write>(&self, f: &mut fmt::Formatter<W>) -> fmt::Result {
+        write!(f, "0x{:08X}", self.0)
+    }
+}
+
 /// A status by its name, such as STATUS_PENDING, or `status 0xC0000999` where it has none here.
 #[derive(Clone, Copy)]
 pub struct StatusWords(pub Status);
 
 impl fmt::Display for StatusWords {
+    ghost output = { λ words. Some (status_text words.0) };
+
     fn fmt<W: fmt::Write>(&self, f: &mut fmt::Formatter<W>) -> fmt::Result {
         match status_name(self.0) {
             Some(name) => f.write_str(name),
-            None => write!(f, "status {:#010X}", self.0.0),
+            None => write!(f, "status {}", EightPlaces(self.0.0)),
         }
     }
 }
@@ -88,7 +118,9 @@ impl fmt::Display for StatusWords {
 pub struct ResultWords(pub Status, pub u64);
 
 impl fmt::Display for ResultWords {
+    ghost output = { λ words. Some (result_text words.0 words.1) };
+
     fn fmt<W: fmt::Write>(&self, f: &mut fmt::Formatter<W>) -> fmt::Result {
-        write!(f, "{}, information {:#x}", StatusWords(self.0), self.1)
+        write!(f, "{}, information {}", StatusWords(self.0), Hex(self.1))
     }
 }

@@ -1,8 +1,9 @@
 -- Rows that were put one behind the other.
-use Rattle.std.proofs.Common.{◌≡◌, ℕ, List, [], ◌++◌, Option, None, Some, refl, sym, ap, ◌∙◌, append_assoc, append-nil}
+use Rattle.std.proofs.Common.{◌≡◌, ℕ, true, false, List, [], ◌++◌, Option, None, Some, refl, sym, ap, ◌∙◌, append_assoc, append-nil}
 use Rattle.irp_types.specs.declared.entry.Entry.{Entry}
 use Rattle.irp_judge.specs.declared.cause.Cause.{Cause}
 use Rattle.irp_judge.specs.declared.verdict.Wrong.{Wrong}
+use Rattle.irp_listing.specs.Heads.{caller_text}
 use Rattle.irp_listing.specs.Lines.{row_of}
 use Rattle.irp_view.specs.Parts.{part_text, value_text}
 use Rattle.irp_view.specs.Blocks as spec
@@ -15,13 +16,12 @@ use Rattle.std.specs.Prelude.{IfSome}
 pub behind : (x y z one other : List ℕ) → y ≡ x ++ one → z ≡ y ++ other → z ≡ x ++ (one ++ other)
 behind x y z one other p q = q ∙ ap (λ given. given ++ other) p ∙ append_assoc x one other
 
-pub all_rows : (entry : Entry) (wrong : Wrong) (known : Option (List ℕ)) (x a b c d y : List ℕ) → AddsHead wrong.at x a → AddsRow spec.differs_in (part_text wrong.difference) a b → AddsRow spec.says (value_text wrong.difference entry) b c → AddsRow spec.manager (value_text wrong.difference wrong.made) c d → AddsRow spec.rule known d y → AddsRows entry wrong x y
+pub all_rows : (entry : Entry) (wrong : Wrong) (known : Option (List ℕ)) (x a b c d y : List ℕ) → AddsHead wrong.at entry x a → AddsRow spec.differs_in (part_text wrong.difference) a b → AddsRow spec.says (value_text wrong.difference false entry) b c → AddsRow spec.manager (value_text wrong.difference true wrong.made) c d → AddsRow spec.rule known d y → AddsRows entry wrong x y
 all_rows entry wrong known x a b c d y head part given made rule = record {
-  rows = head_of wrong.at head.line head.words ++ (row_of spec.differs_in part.words ++ (row_of spec.says given.words ++ (row_of spec.manager made.words ++ row_of spec.rule rule.words)));
+  rows = head_of wrong.at head.line (caller_text entry.call entry.drained) ++ (row_of spec.differs_in part.words ++ (row_of spec.says given.words ++ (row_of spec.manager made.words ++ row_of spec.rule rule.words)));
   are = record {
     line = head.line;
     line_is = head.line_is;
-    who = head.words;
     part = part.words;
     part_is = part.are;
     given = given.words;

@@ -1,7 +1,8 @@
 -- The block of rows that tells what is wrong with an entry.
-use Rattle.std.specs.Prelude.{ℕ, ◌≡◌, ◌+◌, ◌<◌, ◌^◌, List, [], ◌++◌, codes, Option, None, Some, IfSome}
+use Rattle.std.specs.Prelude.{ℕ, ◌≡◌, ◌+◌, ◌<◌, ◌^◌, true, false, List, [], ◌++◌, codes, Option, None, Some, IfSome}
 use Rattle.std.specs.Fmt.{decimal}
 use Rattle.irp_types.specs.declared.entry.Entry.{Entry}
+use Rattle.irp_listing.specs.Heads.{caller_text}
 use Rattle.irp_listing.specs.Lines.{line_of, row_of}
 use Rattle.irp_judge.specs.declared.difference.Difference.{Difference}
 use Rattle.irp_judge.specs.declared.difference.Difference.TheVariants as kind
@@ -55,12 +56,11 @@ abbrev pub why_row : Option Cause → List ℕ → List ℕ
 why_row None words = []
 why_row (Some cause) words = row_of why words
 
--- the first line was put behind what stood there; the header is a transcript's first line
-pub record AddsHead (at : ℕ) (before after : List ℕ) : Type 0 where
+-- the first line was put behind what stood there, with who called what; the header is a transcript's first line
+pub record AddsHead (at : ℕ) (entry : Entry) (before after : List ℕ) : Type 0 where
   pub line : ℕ
-  pub words : List ℕ
   pub line_is : at + 2 < 2 ^ 64 → line ≡ at + 2
-  pub put : after ≡ before ++ head_of at line words
+  pub put : after ≡ before ++ head_of at line (caller_text entry.call entry.drained)
 
 -- a row with these words, where they are known, was
 pub record AddsRow (name : List ℕ) (known : Option (List ℕ)) (before after : List ℕ) : Type 0 where
@@ -77,21 +77,20 @@ pub record AddsCause (cause : Option Cause) (before after : List ℕ) : Type 0 w
 abbrev pub AddsSection : Section → List ℕ → List ℕ → Type 0
 AddsSection section before after = after ≡ before ++ see_row section
 
--- the first line and the four rows that each block has: which entry it is, and in which line; the part that differs
--- first, what the entry says there and what the manager makes; the rule
+-- the first line and the four rows that each block has: which entry it is, in which line, and its call; the part that
+-- differs first, what the entry says there and what the manager makes; the rule
 pub record AreRows (entry : Entry) (wrong : Wrong) (rows : List ℕ) : Type 0 where
   pub line : ℕ
   pub line_is : wrong.at + 2 < 2 ^ 64 → line ≡ wrong.at + 2
-  pub who : List ℕ
   pub part : List ℕ
   pub part_is : AreWords (part_text wrong.difference) part
   pub given : List ℕ
-  pub given_is : AreWords (value_text wrong.difference entry) given
+  pub given_is : AreWords (value_text wrong.difference false entry) given
   pub made : List ℕ
-  pub made_is : AreWords (value_text wrong.difference wrong.made) made
+  pub made_is : AreWords (value_text wrong.difference true wrong.made) made
   pub words : List ℕ
   pub whole :
-      rows ≡ head_of wrong.at line who
+      rows ≡ head_of wrong.at line (caller_text entry.call entry.drained)
       ++ (row_of differs_in part ++ (row_of says given ++ (row_of manager made ++ row_of rule words)))
 
 -- they were put behind what stood there

@@ -1,9 +1,15 @@
 -- The part of an entry that differs, and what stands there, in the words of a line of a transcript.
 use Rattle.std.specs.Prelude.{ℕ, ◌+◌, List, ◌++◌, codes, Bool, true, false, Option, Some, None}
 use Rattle.std.specs.Fmt.{decimal}
+use Rattle.std.specs.Option.{option_map_or}
+use Rattle.irp_types.specs.Calls.{Call}
 use Rattle.irp_types.specs.declared.entry.Entry.{Entry}
 use Rattle.irp_types.specs.declared.names.LockNo.{LockNo}
-use Rattle.irp_judge.specs.Differences.{place_of}
+use Rattle.irp_types.specs.declared.refusal.Refusal.{Refusal}
+use Rattle.irp_types.specs.declared.reply.Reply.{Reply}
+use Rattle.irp_types.specs.declared.reply.Reply.TheVariants.{Refused}
+use Rattle.irp_names.specs.Replies.{reply_text}
+use Rattle.irp_judge.specs.Differences.{place_of, refusal_in}
 use Rattle.irp_judge.specs.declared.difference.ShownField.{ShownField}
 use Rattle.irp_judge.specs.declared.difference.ShownField.TheVariants as field
 use Rattle.irp_judge.specs.declared.difference.QuestionPart.{QuestionPart}
@@ -57,11 +63,19 @@ abbrev pub bool_text : Bool → List ℕ
 bool_text true = codes "true"
 bool_text false = codes "false"
 
--- what stands in the part that differs, where it isn't told in the words for replies and questions
-abbrev pub value_text : Difference → Entry → Option (List ℕ)
-value_text kind.Number entry = Some (decimal entry.number)
-value_text kind.Lock entry = lock_text entry.lock
-value_text kind.Drained entry = Some (bool_text entry.drained)
-value_text kind.Refusal entry = None
-value_text (kind.Question at part) entry = None
-value_text kind.Reply entry = None
+-- whether a call is refused, and how: of one that the manager doesn't refuse no more is told
+abbrev pub refusal_told : Bool → Call → Reply → List ℕ
+refusal_told false call reply = reply_text call reply
+refusal_told true call reply =
+    option_map_or (λ (refusal : Refusal). reply_text call (Refused refusal)) (refusal_in reply)
+    (codes "doesn't refuse it")
+
+-- what stands in the part that differs, of the manager's own entry or of the recorded one; of questions it is told in
+-- words that aren't fixed here
+abbrev pub value_text : Difference → Bool → Entry → Option (List ℕ)
+value_text kind.Number is_made entry = Some (decimal entry.number)
+value_text kind.Lock is_made entry = lock_text entry.lock
+value_text kind.Drained is_made entry = Some (bool_text entry.drained)
+value_text kind.Refusal is_made entry = Some (refusal_told is_made entry.call entry.reply)
+value_text (kind.Question at part) is_made entry = None
+value_text kind.Reply is_made entry = Some (reply_text entry.call entry.reply)

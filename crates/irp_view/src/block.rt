@@ -29,7 +29,7 @@ fn put_place(out: &mut Vec<u8>, at: u64, line: u64) -> Result<(), AllocError>
 
 /// Puts the first line: the entry's number and line, and who called what. The one error is want of memory.
 fn put_head(out: &mut Vec<u8>, words: &mut String, at: u64, entry: &Entry) -> Result<(), AllocError>
-    ensures { OnOk result (AddsHead at out.old.items out.new.items) }
+    ensures { OnOk result (AddsHead at entry.now out.old.items out.new.items) }
 {
     put_place(out, at, at.saturating_add(2))?;
     words.clear();

@@ -1,13 +1,13 @@
 //! The part of an entry that differs, and what stands there.
 
-ghost use Rattle.std.specs.Prelude.{◌≡◌};
-ghost use Rattle.irp_view.specs.Parts.{part_text, shown_text, value_text, lock_text, bool_text};
+ghost use Rattle.std.specs.Prelude.{◌≡◌, Some};
+ghost use Rattle.irp_view.specs.Parts.{part_text, refusal_told, shown_text, value_text, lock_text, bool_text};
 
 use crate::answers::AnswerParts;
 use crate::fields::{FieldWords, field_name, field_place};
 use irp_judge::{Difference, QuestionPart, ShownField};
 use irp_names::{ClosureWords, DeviceWords, ReplyWords, shown_of};
-use irp_types::{Asked, Entry, LockNo, Reply};
+use irp_types::{Asked, Call, Entry, LockNo, Reply};
 use std::fmt;
 
 /// The part in which an entry differs.
@@ -104,6 +104,27 @@ fn bool_text(value: bool) -> &'static str
     if value { "true" } else { "false" }
 }
 
+/// Whether a call is refused, and how.
+#[derive(Clone, Copy)]
+struct RefusalTold {
+    is_made: bool,
+    call: Call,
+    reply: Reply,
+}
+
+impl fmt::Display for RefusalTold {
+    ghost output = { λ words. Some (refusal_told words.is_made words.call words.reply) };
+
+    fn fmt<W: fmt::Write>(&self, f: &mut fmt::Formatter<W>) -> fmt::Result {
+        let RefusalTold { call, reply, .. } = *self;
+        match reply {
+            Reply::Refused(_) => write!(f, "{}", ReplyWords { call, reply }),
+            _ if self.is_made => f.write_str("doesn't refuse it"),
+            _ => write!(f, "{}", ReplyWords { call, reply }),
+        }
+    }
+}
+
 /// What stands in the part of an entry that differs. Of an answer, those of the manager are told as such: any that is
 /// allowed could stand there. Of a call that it doesn't refuse its reply isn't told: it may come of answers that nobody
 /// gave.
@@ -116,7 +137,7 @@ pub struct ValueWords<'a> {
 }
 
 impl fmt::Display for ValueWords<'_> {
-    ghost output = { λ words. value_text words.difference words.entry.now };
+    ghost output = { λ words. value_text words.difference words.is_made words.entry.now };
 
     fn fmt<W: fmt::Write>(&self, f: &mut fmt::Formatter<W>) -> fmt::Result {
         let Entry {
@@ -127,14 +148,20 @@ impl fmt::Display for ValueWords<'_> {
             drained,
             ..
         } = *self.entry;
+        let is_made = self.is_made;
         match self.difference {
             Difference::Number => write!(f, "{}", number),
             Difference::Lock => write!(f, "{}", LockWords(lock)),
             Difference::Drained => f.write_str(bool_text(drained)),
-            Difference::Refusal if self.is_made && !matches!(reply, Reply::Refused(_)) => {
-                f.write_str("doesn't refuse it")
+            Difference::Refusal => {
+                let words = RefusalTold {
+                    is_made,
+                    call,
+                    reply,
+                };
+                write!(f, "{}", words)
             }
-            Difference::Refusal | Difference::Reply => write!(f, "{}", ReplyWords { call, reply }),
+            Difference::Reply => write!(f, "{}", ReplyWords { call, reply }),
             Difference::Question { at, part } => { write!(f, "{}", QuestionValue(*self, at, part)) }
         }
     }

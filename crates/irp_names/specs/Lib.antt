@@ -1,0 +1,7 @@
+pub mod Calls
+pub mod Majors
+pub mod Refusals
+pub mod Replies
+pub mod Rows
+pub mod Small
+pub mod Statuses

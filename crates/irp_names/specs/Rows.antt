@@ -1,0 +1,11 @@
+-- Tables of names by numbers.
+use Rattle.std.specs.Prelude.{ℕ, ◌==◌, List, [], ◌∷◌, Option, Some, None, if◌then◌else◌}
+
+-- a number and its name
+abbrev pub Row : Type 0
+Row = ℕ × List ℕ
+
+-- the name in the first row of a number, if there is one
+abbrev pub named : List Row → ℕ → Option (List ℕ)
+named [] number = None
+named (row ∷ rows) number = if number == row.0 then Some row.1 else named rows number
