@@ -266,5 +266,13 @@ HOSTILE = {
     "keeps_a_cancelled_packet": ["FAULT CancelledAndHeld", "keeps_a_cancelled_packet.c:13 in Read",
                                  "if (Irp->Cancel && IoSetCancelRoutine(Irp, NULL) != NULL) complete it"],
     "leaves_a_status_block": ["FAULT StackBlock", "leaves_a_status_block.c:11 in Read", "its IoStatusBlock lies on the"],
+    "fails_in_driver_entry": ["FAULT DriverEntry", "DriverEntry of fails_in_driver_entry returned 0xc000000e"],
+    "fails_in_add_device": ["FAULT AddDevice", "AddDevice of fails_in_add_device returned 0xc000000e"],
+    "leaves_its_device": ["FAULT LeftBehind", "in Begin: IoCreateDevice: the device D0 (leaves_its_device)"],
+    "leaves_a_timer": ["FAULT LeftBehind: leaves_a_timer.c:15 in Read: KeSetTimer"],
+    "leaves_a_thread": ["FAULT LeftBehind: leaves_a_thread.c:14 in DriverEntry: PsCreateSystemThread"],
+    "leaves_a_packet": ["FAULT LeftBehind: leaves_a_packet.c:6 in Read: IoAllocateIrp(IRP "],
+    "leaves_a_work_item": ["FAULT LeftBehind: leaves_a_work_item.c:6 in Read: IoAllocateWorkItem"],
+    "leaves_a_link": ["FAULT LeftBehind: leaves_a_link.c:9 in DriverEntry: IoCreateSymbolicLink"],
     "uses_no_packet": [STOPPED + "a pointer that is no packet", "at uses_no_packet.c:7"],
 }

@@ -19,7 +19,7 @@ static void copy_out(const Packet *p)
 /* Nobody kept the packet. */
 static void end(Packet *p, Entry *e)
 {
-    PKEVENT event = p->irp->UserEvent;
+    PKEVENT event = p->event_is_gone ? NULL : p->irp->UserEvent;
     if (p->writes_back)
         copy_out(p);
     p->owner = ENDED;
@@ -32,7 +32,7 @@ static void end(Packet *p, Entry *e)
     hand_over_block((PVOID)p->information);
     if (is_associated(p))
         associated_ended(p);
-    else if (p->irp->UserIosb)
+    else if (p->irp->UserIosb && !p->status_is_gone)
         *p->irp->UserIosb = p->irp->IoStatus;
     else if (!p->is_built)
         fault("NotKept", p, "has ended, and no routine kept it for %s", who_of(p, ORIGINATOR));

@@ -155,7 +155,7 @@ static void use_stack(PDRIVER_OBJECT *loaded, BOOLEAN late, int threads)
         return;
     for (int i = 0; i < wdm_n_drivers; i++)
         if (loaded[i] && loaded[i]->DriverExtension->AddDevice)
-            loaded[i]->DriverExtension->AddDevice(loaded[i], bottom);
+            WdmAddDevice(loaded[i], bottom);
     top = IoGetAttachedDevice(bottom);
     if (top == bottom) {
         IoDeleteDevice(bottom);

@@ -164,6 +164,7 @@ struct Packet {
     struct Block *direct_bytes; /* and what it describes, where nobody gave a buffer */
     bool scratch;      /* its topmost location is its allocator's own (IoSetNextIrpStackLocation) */
     ULONG room;        /* what was built has room for so many bytes there, to be copied to UserBuffer */
+    bool status_is_gone, event_is_gone; /* its IoStatusBlock or event lies where nobody may write any more */
     bool writes_back, is_built; /* is_built: by the I/O manager, which frees it at its end */
     bool trapped, touch_untold, touched_by_sender;
     bool watched; /* watching.c: its page is closed, until somebody touches it */
@@ -259,28 +260,6 @@ bool is_in_program(const void *address);
 unsigned long place_in_program(const void *address);
 const char *major_name(int major);
 
-/* callers.c, last_words.c, hangs.c */
-const char *callers_of(const Call *c);
-int where_is(bool in_handler, const void **at, int most);
-const void *instruction_of(const void *context);
-void crashed(int number, siginfo_t *info, void *context);
-void watch_for_the_end(void);
-void watch_thread(void);
-void thread_is_gone(int seat);
-void begin_last_words(void);
-void run_is_finished(void);
-void tell_others(void);
-void tell_packets(void);
-__attribute__((noreturn)) void end_process(int status);
-void hang(WDM_SITE at);
-bool is_cancelled_and_held(const Packet *p);
-void tell_cancelled_and_held(const Packet *p);
-
-/* printing.c, text.c */
-size_t print_wide(char *to, size_t room, const WCHAR *format, va_list list);
-bool copy_text(PUNICODE_STRING to, PCUNICODE_STRING from);
-size_t to_wide(WCHAR *to, size_t room, const char *from, size_t count);
-
 /* recording.c, writing.c */
 Entry *begin(Op op, Packet *p, int by);
 void seal(Entry *e, bool cancel);
@@ -299,7 +278,7 @@ const char *rules_refusal(const Entry *call);
 bool rules_completable(ULONG status);
 int rules_stack_size(int device);
 
-/* threads.c, waits.c, work.c */
+/* threads.c, waits.c, work.c, work_items.c */
 void enter_host(Call *c, const char *name, WDM_SITE at);
 void enter_quietly(Call *c, const char *name, WDM_SITE at);
 void leave_host(void);
@@ -318,6 +297,9 @@ void clear_event(PKEVENT event);
 bool is_event(const void *object);
 bool wait_for_host(bool (*done)(const void *), const void *context);
 void finish_work(void);
+void run_work(Frame *f, int driver);
+void work_done(void);
+bool workers_are_idle(void);
 bool has_work(int device);
 bool is_bottom(PDEVICE_OBJECT device);
 bool timers_armed(void);
@@ -332,14 +314,6 @@ void tell_files_dereferenced(PVOID object);
 PFILE_OBJECT file_for(PDEVICE_OBJECT top, UCHAR major);
 void give_mdl(Packet *p);
 void tell_locked_mdls(void);
-
-/* own_memory.c, stack_blocks.c */
-void remember_blocks(Packet *p);
-void check_blocks(const Frame *f);
-int device_number(const DEVICE_OBJECT *device);
-void check_devices(void);
-void check_packet(Packet *p);
-void leave_location(Packet *p, int j);
 
 /* devices.c, packets.c, preparing.c */
 void delete_after(int device);
@@ -393,5 +367,6 @@ bool lock_knows_drained(int device);
 const char *held_tags(int device);
 
 #include "checks.h"
+#include "told.h"
 
 #endif

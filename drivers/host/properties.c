@@ -2,7 +2,8 @@
 #include "host.h"
 
 enum { MAX_NAMES = 256 };
-typedef struct { UNICODE_STRING name, target; PDEVICE_OBJECT device; const GUID *class; bool is_enabled; } Name;
+typedef struct { UNICODE_STRING name, target; PDEVICE_OBJECT device; const GUID *class; bool is_enabled;
+                 WDM_SITE made; int driver; } Name;
 typedef struct { PDEVICE_OBJECT device; DEVPROPKEY key; DEVICE_REGISTRY_PROPERTY property; DEVPROPTYPE type; ULONG size;
                  PVOID data; bool is_keyed; } Property;
 typedef struct { IO_NOTIFICATION_EVENT_CATEGORY category; GUID class; PFILE_OBJECT file;
@@ -62,9 +63,25 @@ void forget_names(PDEVICE_OBJECT device)
             names[i].name.Buffer = NULL;
 }
 
-NTSTATUS IoCreateSymbolicLink(PUNICODE_STRING Link, PUNICODE_STRING Device)
+NTSTATUS WdmIoCreateSymbolicLink(PUNICODE_STRING Link, PUNICODE_STRING Device, WDM_SITE at)
 {
-    return Link && Device && Link->Length ? add_name(Link, Device, NULL) : STATUS_INVALID_PARAMETER;
+    Call c;
+    const NTSTATUS status = Link && Device && Link->Length ? add_name(Link, Device, NULL) : STATUS_INVALID_PARAMETER;
+    enter_host(&c, "IoCreateSymbolicLink", at);
+    const int i = NT_SUCCESS(status) ? find_name(Link) : -1;
+    if (i >= 0) {
+        names[i].made = at;
+        names[i].driver = calling_driver();
+    }
+    leave_host();
+    return status;
+}
+
+void tell_links_left(int driver)
+{
+    for (int i = 0; i < n_names; i++)
+        if (names[i].name.Buffer && names[i].made.file && names[i].driver == driver)
+            left_behind("the symbolic link", "IoCreateSymbolicLink", names[i].made);
 }
 
 NTSTATUS IoDeleteSymbolicLink(PUNICODE_STRING Link)

@@ -41,7 +41,7 @@ void check_blocks(const Frame *f)
         fault_at("StackBlock", b.p, "IoBuild", b.p->sites.allocated, "its %s lies on the stack of %s, which has returned "
                  "while the packet is in flight; not written to", b.status_of == f ? "IoStatusBlock" : "event",
                  what_runs(f));
-        b.p->irp->UserIosb = b.status_of == f ? NULL : b.p->irp->UserIosb;
-        b.p->irp->UserEvent = b.event_of == f ? NULL : b.p->irp->UserEvent;
+        b.p->status_is_gone |= b.status_of == f;
+        b.p->event_is_gone |= b.event_of == f;
     }
 }

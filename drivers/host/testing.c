@@ -6,6 +6,29 @@ PDRIVER_OBJECT drivers[MAX_DRIVERS];
 int n_drivers;
 static const char *stopped_by; /* why the run couldn't go on */
 
+/* A driver fails where it had all that it asked for. */
+static void tell_failed(const char *what, PDRIVER_OBJECT driver, NTSTATUS status, WDM_SITE at)
+{
+    Call c;
+    enter_host(&c, what, (WDM_SITE){ 0 });
+    if (memory_was_refused() || is_expected_refusal(what))
+        say("%s of %s returned %#x", what, driver->HostName, (unsigned)status);
+    else
+        fault_at(what, NULL, what, at, "%s of %s returned %#x", what, driver->HostName, (unsigned)status);
+    leave_host();
+}
+
+NTSTATUS WdmAdd(PDRIVER_OBJECT Driver, PDEVICE_OBJECT Pdo, WDM_SITE at)
+{
+    const int before = self.driver;
+    self.driver = Driver->HostNumber;
+    const NTSTATUS status = Driver->DriverExtension->AddDevice(Driver, Pdo);
+    self.driver = before;
+    if (!NT_SUCCESS(status))
+        tell_failed("AddDevice", Driver, status, at);
+    return status;
+}
+
 PDRIVER_OBJECT WdmLoad(const char *Name, PDRIVER_INITIALIZE Entry, WDM_SITE at)
 {
     Call c;
@@ -32,10 +55,10 @@ PDRIVER_OBJECT WdmLoad(const char *Name, PDRIVER_INITIALIZE Entry, WDM_SITE at)
     if (NT_SUCCESS(status))
         reinitialize(d);
     self.driver = before;
-    if (!NT_SUCCESS(status))
-        say("DriverEntry of %s returned %#x", Name, (unsigned)status);
-    if (!NT_SUCCESS(status))
+    if (!NT_SUCCESS(status)) {
+        tell_failed("DriverEntry", d, status, at);
         end_without_driver(d);
+    }
     return NT_SUCCESS(status) ? d : NULL;
 }
 
@@ -56,8 +79,11 @@ VOID WdmUnloadDriver(PDRIVER_OBJECT Driver)
         Driver->DriverUnload(Driver);
     Call c;
     enter_host(&c, "WdmUnloadDriver", (WDM_SITE){ 0 });
-    if (Driver->DriverUnload)
+    if (Driver->DriverUnload) {
+        finish_work();
+        tell_left(Driver->HostNumber);
         tell_pool_leaks(Driver->HostNumber, true);
+    }
     leave_host();
 }
 

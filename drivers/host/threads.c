@@ -12,6 +12,8 @@ struct _KTHREAD {
     PKSTART_ROUTINE start;
     PVOID context;
     int driver;
+    WDM_SITE made;
+    struct _KTHREAD *next;
 };
 
 /* A thread has a seat from its first call until it ends; then another thread may get it. */
@@ -166,13 +168,20 @@ void learn_test(const char *file)
     pthread_mutex_unlock(&host_lock);
 }
 
+int driver_of_file(const char *file)
+{
+    for (int i = 0; file && i < n_files; i++)
+        if (!strcmp(files[i].file, file))
+            return files[i].driver;
+    return NOBODY;
+}
+
 /* Whose code makes this call: by its file; else by the innermost routine that runs; else by who made the thread. */
 int calling_driver(void)
 {
-    const char *file = self.calls ? self.calls->at.file : NULL;
-    for (int i = 0; file && i < n_files; i++)
-        if (!strcmp(files[i].file, file) && files[i].driver != NOBODY)
-            return files[i].driver;
+    const int by_file = driver_of_file(self.calls ? self.calls->at.file : NULL);
+    if (by_file != NOBODY)
+        return by_file;
     const Frame *f = self.frames;
     if (f && f->device >= 0)
         return devices[f->device].raw->DriverObject->HostNumber;
@@ -203,7 +212,28 @@ int start_thread(void *(*run)(void *), void *context, const char *kind, void *fn
     return failed;
 }
 
-/* Threads of drivers: their objects stay until the end of the run. */
+static struct _KTHREAD *threads; /* of drivers: their objects stay until the end of the run */
+
+static bool are_over(const void *driver)
+{
+    for (struct _KTHREAD *t = threads; t; t = t->next)
+        if (t->driver == (int)(intptr_t)driver && !KeReadStateEvent(&t->ended))
+            return false;
+    return true;
+}
+
+/* A thread that only returns is given a moment. */
+void tell_threads_left(int driver)
+{
+    const Wait w = { .ready = are_over, .context = (void *)(intptr_t)driver, .on = &host_settled, .seconds = 1,
+                     .patience = GIVES_IN, .what = "DriverUnload" };
+    if (wait_for(&w) == READY)
+        return;
+    for (struct _KTHREAD *t = threads; t; t = t->next)
+        if (t->driver == driver && !KeReadStateEvent(&t->ended))
+            left_behind("the thread", "PsCreateSystemThread", t->made);
+}
+
 static void *run_thread(void *context)
 {
     struct _KTHREAD *t = context;
@@ -230,14 +260,15 @@ NTSTATUS WdmPsCreateSystemThread(PHANDLE Handle, PKSTART_ROUTINE Start, PVOID Co
     t->start = Start;
     t->context = Context;
     t->driver = calling_driver();
+    t->made = at;
+    t->next = threads;
+    threads = t;
     const bool is_refused = memory_is_refused(c.name, at);
     leave_host();
-    if (is_refused)
-        return STATUS_INSUFFICIENT_RESOURCES;
-    *Handle = new_handle(*PsThreadType, t);
-    if (!*Handle)
-        return STATUS_INSUFFICIENT_RESOURCES;
-    const int failed = start_thread(run_thread, t, "system thread", (void *)Start, NULL);
+    *Handle = is_refused ? NULL : new_handle(*PsThreadType, t);
+    const bool failed = !*Handle || start_thread(run_thread, t, "system thread", (void *)Start, NULL);
+    if (failed)
+        set_event(&t->ended);
     return failed ? STATUS_INSUFFICIENT_RESOURCES : STATUS_SUCCESS;
 }
 

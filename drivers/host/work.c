@@ -1,21 +1,8 @@
-/*
- * work.c: work items on up to eight threads of the host; timers and deferred calls on one. All of it is under G.
- */
+/* work.c: timers and deferred calls, on one thread of the host. All of it is under G. */
 #include "host.h"
 
-struct _IO_WORKITEM {
-    PDEVICE_OBJECT device;
-    PIO_WORKITEM_ROUTINE routine;
-    PVOID context;
-    bool queued;
-    struct _IO_WORKITEM *next;
-};
-
-enum { MAX_WORKERS = 8, MAX_DPCS = 256 };
-static Condition work_came = { &host_lock, PTHREAD_COND_INITIALIZER };
+enum { MAX_DPCS = 256 };
 static Condition clock_changed = { &host_lock, PTHREAD_COND_INITIALIZER };
-static PIO_WORKITEM first_item, last_item;
-static int n_workers, n_idle;
 static PKTIMER timers;
 static PKDPC dpcs[MAX_DPCS];
 static int n_dpcs;
@@ -25,7 +12,7 @@ static _Atomic int n_armed; /* timers that will go off once */
 bool timers_armed(void) { return n_armed > 0; }
 
 /* Runs a driver's routine that no packet asked for, in its own frame. Under G before and after. */
-static void run_work(Frame *f, int driver)
+void run_work(Frame *f, int driver)
 {
     self.driver = driver;
     self.is_driver = true;
@@ -35,121 +22,11 @@ static void run_work(Frame *f, int driver)
     point("the driver's routine", (WDM_SITE){ 0 });
 }
 
-static void work_done(void)
+void work_done(void)
 {
     driver_came_back();
     leave_frame();
     tell_waiters(&host_settled);
-}
-
-/* Idle workers are alike: the n-th of them is ready where n items are queued. */
-static bool is_idle[MAX_WORKERS];
-
-static int n_queued(void)
-{
-    int n = 0;
-    for (PIO_WORKITEM i = first_item; i; i = i->next)
-        n++;
-    return n;
-}
-
-static bool has_item(const void *number)
-{
-    int before = 0;
-    for (int i = 0; i < (int)(intptr_t)number; i++)
-        before += is_idle[i];
-    return before < n_queued();
-}
-
-/* Whether a work item of the device is queued. */
-bool has_work(int device)
-{
-    for (PIO_WORKITEM i = first_item; i; i = i->next)
-        if (i->device->HostNumber == device)
-            return true;
-    return false;
-}
-
-static void await_item(int number)
-{
-    const Wait w = { .ready = has_item, .context = (void *)(intptr_t)number, .on = &work_came, .patience = IDLES,
-                     .what = "the queue of work items" };
-    touch(&first_item, SYNCS);
-    n_idle++;
-    is_idle[number] = true;
-    wait_for(&w);
-    is_idle[number] = false;
-    n_idle--;
-    touch(&first_item, SYNCS);
-}
-
-static void *work(void *context)
-{
-    Call c;
-    enter_host(&c, "a work item", (WDM_SITE){ 0 });
-    for (;;) {
-        await_item((int)(intptr_t)context);
-        struct _IO_WORKITEM *item = first_item;
-        PIO_WORKITEM_ROUTINE routine = item->routine;
-        PDEVICE_OBJECT device = item->device;
-        PVOID its = item->context;
-        first_item = item->next;
-        if (!first_item)
-            last_item = NULL;
-        item->queued = false;
-        Frame f = { .kind = WORK, .fn = (void *)routine, .device = device->HostNumber, .settled = true };
-        run_work(&f, device->DriverObject->HostNumber);
-        routine(device, its);
-        work_done();
-    }
-    return NULL;
-}
-
-PIO_WORKITEM WdmIoAllocateWorkItem(PDEVICE_OBJECT Device, WDM_SITE at)
-{
-    Call c;
-    enter_host(&c, "IoAllocateWorkItem", at);
-    struct _IO_WORKITEM *item = memory_is_refused(c.name, at) ? NULL : host_memory(sizeof *item);
-    leave_host();
-    if (item)
-        item->device = Device;
-    return item;
-}
-
-VOID WdmIoQueueWorkItem(PIO_WORKITEM Item, PIO_WORKITEM_ROUTINE Routine, PVOID Context, WDM_SITE at)
-{
-    Call c;
-    enter_host(&c, "IoQueueWorkItem", at);
-    hands_over();
-    if (Item->queued)
-        fault("QueuedTwice", NULL, "the work item is in the queue already");
-    else {
-        Item->routine = Routine;
-        Item->context = Context;
-        Item->queued = true;
-        Item->next = NULL;
-        if (last_item)
-            last_item->next = Item;
-        else
-            first_item = Item;
-        last_item = Item;
-        touch(&first_item, SYNCS);
-        if (n_idle < n_queued() && n_workers < MAX_WORKERS &&
-            !start_thread(work, (void *)(intptr_t)n_workers, "worker", NULL, NULL))
-            n_workers++;
-        tell_waiters(&work_came);
-    }
-    leave_host();
-}
-
-VOID IoFreeWorkItem(PIO_WORKITEM Item)
-{
-    pthread_mutex_lock(&host_lock);
-    if (Item->queued)
-        fault("QueuedTwice", NULL, "a work item is freed while it is in the queue");
-    else
-        free_host_memory(Item);
-    pthread_mutex_unlock(&host_lock);
 }
 
 /* The clock's thread. A timer that is due is signalled, and its deferred call queued. */
@@ -199,6 +76,16 @@ PKDPC take_dpc_in(const void *from, size_t size)
             return d;
         }
     return NULL;
+}
+
+void tell_timers_left(int driver)
+{
+    for (PKTIMER t = timers; t; t = t->HostNext)
+        if ((t->Dpc ? t->Dpc->HostDriver : driver_of_file(t->HostSet.file)) == driver)
+            left_behind("the timer that was set here", "KeSetTimer", t->HostSet);
+    for (int i = 0; i < n_dpcs; i++)
+        if (dpcs[i]->HostDriver == driver)
+            left_behind("the deferred call that was queued here", "KeInsertQueueDpc", dpcs[i]->HostQueued);
 }
 
 /* Lets the timers that are due go off. */
@@ -366,7 +253,7 @@ static bool dpcs_are_done(const void *context)
 
 static bool work_is_done(const void *context)
 {
-    return !first_item && n_idle == n_workers && dpcs_are_done(context);
+    return workers_are_idle() && dpcs_are_done(context);
 }
 
 /* Under G: work items and deferred calls that are queued are waited for, as long as something goes on. */

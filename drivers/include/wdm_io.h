@@ -47,7 +47,8 @@ VOID IoRegisterDriverReinitialization(PDRIVER_OBJECT Driver, PDRIVER_REINITIALIZ
 #define IoGetRemainingStackSize() ((ULONG_PTR)0x4000)
 
 /* Names, links, interfaces, properties: what Plug and Play keeps of devices. */
-NTSTATUS IoCreateSymbolicLink(PUNICODE_STRING Link, PUNICODE_STRING Device);
+NTSTATUS WdmIoCreateSymbolicLink(PUNICODE_STRING Link, PUNICODE_STRING Device, WDM_SITE at);
+#define IoCreateSymbolicLink(link, device) WdmIoCreateSymbolicLink((link), (device), WDM_HERE)
 #define IoCreateUnprotectedSymbolicLink IoCreateSymbolicLink
 NTSTATUS IoDeleteSymbolicLink(PUNICODE_STRING Link);
 NTSTATUS WdmIoRegisterDeviceInterface(PDEVICE_OBJECT Device, const GUID *Class, PUNICODE_STRING Reference,
@@ -252,7 +253,8 @@ PIO_WORKITEM WdmIoAllocateWorkItem(PDEVICE_OBJECT Device, WDM_SITE at);
 VOID WdmIoQueueWorkItem(PIO_WORKITEM Item, PIO_WORKITEM_ROUTINE Routine, PVOID Context, WDM_SITE at);
 #define IoQueueWorkItem(item, routine, queue, context) \
     ((void)(queue), WdmIoQueueWorkItem((item), (routine), (context), WDM_HERE))
-VOID IoFreeWorkItem(PIO_WORKITEM Item);
+VOID WdmIoFreeWorkItem(PIO_WORKITEM Item, WDM_SITE at);
+#define IoFreeWorkItem(item) WdmIoFreeWorkItem((item), WDM_HERE)
 NTSTATUS IoInitializeTimer(PDEVICE_OBJECT Device, PIO_TIMER_ROUTINE Routine, PVOID Context);
 VOID IoStartTimer(PDEVICE_OBJECT Device);
 VOID IoStopTimer(PDEVICE_OBJECT Device);

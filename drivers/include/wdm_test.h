@@ -9,14 +9,20 @@
 #include "wdm_io.h"
 #include "wdm_hw.h"
 
-/* Calls DriverEntry of a driver. Returns its object, or NULL where DriverEntry fails. The name is for messages. */
+/* Calls DriverEntry of a driver. Returns its object, or NULL where DriverEntry fails, which is a fault, unless the test
+   expects the refusal "DriverEntry". The name is for messages. */
 PDRIVER_OBJECT WdmLoad(const char *Name, PDRIVER_INITIALIZE Entry, WDM_SITE at);
 #define WdmLoadDriver(name, entry) WdmLoad((name), (entry), WDM_HERE)
 /* The same of a driver that `run` was given, by its file's or its folder's name without an ending. */
 PDRIVER_OBJECT WdmLoadNamed(const char *Name, WDM_SITE at);
 #define WdmLoadByName(name) WdmLoadNamed((name), WDM_HERE)
 
-/* Calls DriverUnload, where the driver has one. */
+/* Calls AddDevice. Returns its status; one that fails is a fault, unless the test expects the refusal "AddDevice". */
+NTSTATUS WdmAdd(PDRIVER_OBJECT Driver, PDEVICE_OBJECT Pdo, WDM_SITE at);
+#define WdmAddDevice(driver, pdo) WdmAdd((driver), (pdo), WDM_HERE)
+
+/* Calls DriverUnload, where the driver has one. What of it is there then is a fault: devices, timers, threads, work items,
+   packets, links, pool. */
 VOID WdmUnloadDriver(PDRIVER_OBJECT Driver);
 
 /*

@@ -1,0 +1,44 @@
+/* told.h: what is told of a run that ends badly, and of what a driver has left or written over. */
+#ifndef DRIVERS_TOLD_H
+#define DRIVERS_TOLD_H
+
+/* callers.c, last_words.c, hangs.c */
+const char *callers_of(const Call *c);
+int where_is(bool in_handler, const void **at, int most);
+const void *instruction_of(const void *context);
+void crashed(int number, siginfo_t *info, void *context);
+void watch_for_the_end(void);
+void watch_thread(void);
+void thread_is_gone(int seat);
+void begin_last_words(void);
+void run_is_finished(void);
+void tell_others(void);
+void tell_packets(void);
+__attribute__((noreturn)) void end_process(int status);
+void hang(WDM_SITE at);
+bool is_cancelled_and_held(const Packet *p);
+void tell_cancelled_and_held(const Packet *p);
+
+/* printing.c, text.c */
+size_t print_wide(char *to, size_t room, const WCHAR *format, va_list list);
+bool copy_text(PUNICODE_STRING to, PCUNICODE_STRING from);
+size_t to_wide(WCHAR *to, size_t room, const char *from, size_t count);
+
+/* leftovers.c, with its parts in work.c, work_items.c, threads.c and properties.c */
+void left_behind(const char *what, const char *call, WDM_SITE at);
+void tell_left(int driver);
+void tell_work_left(int driver);
+void tell_timers_left(int driver);
+void tell_threads_left(int driver);
+void tell_links_left(int driver);
+int driver_of_file(const char *file);
+
+/* own_memory.c, stack_blocks.c */
+void remember_blocks(Packet *p);
+void check_blocks(const Frame *f);
+int device_number(const DEVICE_OBJECT *device);
+void check_devices(void);
+void check_packet(Packet *p);
+void leave_location(Packet *p, int j);
+
+#endif

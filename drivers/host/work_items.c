@@ -1,0 +1,146 @@
+/* work_items.c: work items, on up to eight threads of the host. All of it is under G. */
+#include "host.h"
+
+struct _IO_WORKITEM {
+    PDEVICE_OBJECT device;
+    PIO_WORKITEM_ROUTINE routine;
+    PVOID context;
+    bool queued;
+    struct _IO_WORKITEM *next;
+    WDM_SITE made;
+    int driver;
+    struct _IO_WORKITEM *next_made;
+};
+
+enum { MAX_WORKERS = 8 };
+static Condition work_came = { &host_lock, PTHREAD_COND_INITIALIZER };
+static PIO_WORKITEM first_item, last_item, items; /* items: all that are there */
+static int n_workers, n_idle;
+
+bool workers_are_idle(void) { return !first_item && n_idle == n_workers; }
+
+/* Idle workers are alike: the n-th of them is ready where n items are queued. */
+static bool is_idle[MAX_WORKERS];
+
+static int n_queued(void)
+{
+    int n = 0;
+    for (PIO_WORKITEM i = first_item; i; i = i->next)
+        n++;
+    return n;
+}
+
+static bool has_item(const void *number)
+{
+    int before = 0;
+    for (int i = 0; i < (int)(intptr_t)number; i++)
+        before += is_idle[i];
+    return before < n_queued();
+}
+
+/* Whether a work item of the device is queued. */
+bool has_work(int device)
+{
+    for (PIO_WORKITEM i = first_item; i; i = i->next)
+        if (i->device->HostNumber == device)
+            return true;
+    return false;
+}
+
+static void await_item(int number)
+{
+    const Wait w = { .ready = has_item, .context = (void *)(intptr_t)number, .on = &work_came, .patience = IDLES,
+                     .what = "the queue of work items" };
+    touch(&first_item, SYNCS);
+    n_idle++;
+    is_idle[number] = true;
+    wait_for(&w);
+    is_idle[number] = false;
+    n_idle--;
+    touch(&first_item, SYNCS);
+}
+
+static void *work(void *context)
+{
+    Call c;
+    enter_host(&c, "a work item", (WDM_SITE){ 0 });
+    for (;;) {
+        await_item((int)(intptr_t)context);
+        struct _IO_WORKITEM *item = first_item;
+        PIO_WORKITEM_ROUTINE routine = item->routine;
+        PDEVICE_OBJECT device = item->device;
+        PVOID its = item->context;
+        first_item = item->next;
+        if (!first_item)
+            last_item = NULL;
+        item->queued = false;
+        Frame f = { .kind = WORK, .fn = (void *)routine, .device = device->HostNumber, .settled = true };
+        run_work(&f, device->DriverObject->HostNumber);
+        routine(device, its);
+        work_done();
+    }
+    return NULL;
+}
+
+PIO_WORKITEM WdmIoAllocateWorkItem(PDEVICE_OBJECT Device, WDM_SITE at)
+{
+    Call c;
+    enter_host(&c, "IoAllocateWorkItem", at);
+    struct _IO_WORKITEM *item = memory_is_refused(c.name, at) ? NULL : host_memory(sizeof *item);
+    if (item) {
+        const int driver = Device->DriverObject->HostNumber;
+        *item = (struct _IO_WORKITEM){ .device = Device, .made = at, .driver = driver, .next_made = items };
+        items = item;
+    }
+    leave_host();
+    return item;
+}
+
+VOID WdmIoQueueWorkItem(PIO_WORKITEM Item, PIO_WORKITEM_ROUTINE Routine, PVOID Context, WDM_SITE at)
+{
+    Call c;
+    enter_host(&c, "IoQueueWorkItem", at);
+    hands_over();
+    if (Item->queued)
+        fault("QueuedTwice", NULL, "the work item is in the queue already");
+    else {
+        Item->routine = Routine;
+        Item->context = Context;
+        Item->queued = true;
+        Item->next = NULL;
+        if (last_item)
+            last_item->next = Item;
+        else
+            first_item = Item;
+        last_item = Item;
+        touch(&first_item, SYNCS);
+        if (n_idle < n_queued() && n_workers < MAX_WORKERS &&
+            !start_thread(work, (void *)(intptr_t)n_workers, "worker", NULL, NULL))
+            n_workers++;
+        tell_waiters(&work_came);
+    }
+    leave_host();
+}
+
+VOID WdmIoFreeWorkItem(PIO_WORKITEM Item, WDM_SITE at)
+{
+    Call c;
+    enter_host(&c, "IoFreeWorkItem", at);
+    PIO_WORKITEM *i = &items;
+    while (*i && *i != Item)
+        i = &(*i)->next_made;
+    if (!*i || Item->queued)
+        fault("QueuedTwice", NULL, *i ? "the work item is freed while it is queued" : "this is no work item any more");
+    else {
+        *i = Item->next_made;
+        free_host_memory(Item);
+    }
+    leave_host();
+}
+
+void tell_work_left(int driver)
+{
+    for (PIO_WORKITEM i = items; i; i = i->next_made)
+        if (i->driver == driver)
+            left_behind(i->queued ? "the work item, in the queue," : "the work item", "IoAllocateWorkItem", i->made);
+}
