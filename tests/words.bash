@@ -1,7 +1,7 @@
 #!/bin/bash
 # Tries `irp_words`: each script of the examples goes into words and back as the same script, and runs to the same
-# transcript; scripts that were written in words are the scripts of JSON beside them; and each wrong text of
-# wrong_words.txt is told with its faults, line by line. IRP_WORDS names the program; without it, it is the one that
+# transcript; scripts that were written in words are the scripts of JSON beside them; each wrong text of
+# wrong_words.txt is told with its faults, line by line, and each of warned_words.txt with its warnings. IRP_WORDS names the program; without it, it is the one that
 # bin/irp_words runs. IRPX names irpx. Each failure has a line of its own. Ends with status 0 where all was as expected,
 # else with 1.
 set -u
@@ -73,26 +73,43 @@ try_wrong() {
     meets "$1: faults" cmp -s "$kept/expected" "$kept/told"
 }
 
-# Wrong texts: a name behind '# ', lines behind '|', faults behind '>'.
-name=
-while IFS= read -r line; do
-    case $line in
-    '# '*)
-        [ -z "$name" ] || [ ! -s "$kept/text" ] || try_wrong "$name"
-        name=${line#??}
-        : >"$kept/text"
-        : >"$kept/expected"
-        ;;
-    '|'*) printf '%s\n' "${line#?}" >>"$kept/text" ;;
-    '>'*) printf '%s\n' "${line#?}" >>"$kept/expected" ;;
-    esac
-done < <(cat wrong_words.txt && echo '# end')
+# Has $1 try each text of standard input: a name behind '# ', lines behind '|', what is told behind '>'.
+each_block() {
+    local name= line
+    while IFS= read -r line; do
+        case $line in
+        '# '*)
+            [ -z "$name" ] || [ ! -s "$kept/text" ] || "$1" "$name"
+            name=${line#??}
+            : >"$kept/text"
+            : >"$kept/expected"
+            ;;
+        '|'*) printf '%s\n' "${line#?}" >>"$kept/text" ;;
+        '>'*) printf '%s\n' "${line#?}" >>"$kept/expected" ;;
+        esac
+    done < <(cat && echo '# end')
+}
+each_block try_wrong <wrong_words.txt
 printf 'steps # \xff\n' >"$kept/text"
 echo 'the text; expected UTF-8' >"$kept/expected"
 try_wrong 'a text that is not UTF-8'
 head -c 1048577 /dev/zero | tr '\0' ' ' >"$kept/text"
 echo 'the text; expected a text of at most 1,048,576 bytes' >"$kept/expected"
 try_wrong 'a text that is too long'
+
+# Tries the text in $kept/text, which is taken: its name is $1, and the warnings are in $kept/expected.
+try_warned() {
+    local words expected
+    for words in faults 'faults --strict'; do
+        expected=0
+        [ "$words" = faults ] || expected=2
+        # shellcheck disable=SC2086
+        "$irp_words" $words <"$kept/text" >"$kept/told"
+        meets "$1: $words, status" [ $? -eq "$expected" ]
+        meets "$1: $words" cmp -s "$kept/expected" "$kept/told"
+    done
+}
+each_block try_warned <warned_words.txt
 
 # An empty text is a script without anything, with one seat and one remove lock.
 "$irp_words" json </dev/null >"$kept/json"

@@ -35,9 +35,15 @@ impl Warning {
     /// Puts the message behind what the buffer holds, in one line without a newline, which begins with `warning: `. The
     /// one error is want of memory.
     pub fn write(&self, out: &mut Vec<u8>) -> Result<(), AllocError> {
+        self.write_at(out, self.place)
+    }
+
+    /// The same, with another place: that of the step in the text from which the JSON was made. The one error is want of
+    /// memory.
+    pub fn write_at(&self, out: &mut Vec<u8>, place: Place) -> Result<(), AllocError> {
         put(out, &[Say("warning: ")])?;
         put_section(out, self.section, self.index)?;
-        put_place(out, self.place)?;
+        put_place(out, place)?;
         out.extend_from_slice(self.words.as_slice())
     }
 }

@@ -198,6 +198,13 @@ impl<'a> Said<'a> {
         }
     }
 
+    /// The line and the column of the member of a section with this index, both from 1; a column counts bytes. None where
+    /// the section has no such member. Source: this project's own rule.
+    pub fn line_and_column(&self, section: Section, index: usize) -> Option<(usize, usize)> {
+        let place = self.place_of(section, index)?;
+        Some((place.line, place.column))
+    }
+
     /// Where the member of a section with this index stands.
     fn place_of(&self, section: Section, index: usize) -> Option<Place<'a>> {
         let mut before = 0usize;

@@ -16,7 +16,7 @@ The text is read from FILE, or from standard input.
   json    prints the JSON of a script in words, which irpx run reads
   words   prints a script of JSON in words, with made-up names
   faults  prints what is wrong with a script in words, or with one of JSON, each with its line and column; where
-          nothing is wrong with one of JSON, warnings of what is hardly meant
+          nothing is wrong, warnings of what is hardly meant
 
   --strict  ends with status 2 where there is a warning
   --help    prints this

@@ -5,8 +5,8 @@ ghost use Rattle.irp_script_reader.specs.Scripts.{ReadsScript};
 ghost use Rattle.irp_words.specs.Telling.{Fails, Prints};
 
 use crate::ending::Ending;
-use irp_advice::{Fault, Warning, faults, warnings};
-use irp_grammar::{Told, Untold, fault_lines, json, read_lines, words};
+use irp_advice::{Fault, Place, Warning, faults, warnings};
+use irp_grammar::{Said, Told, Untold, fault_lines, json, read_lines, words};
 use irp_script_reader::{ScriptFault, read_script};
 use irp_transcript_writer::{Out, put_all};
 use std::alloc::{AllocError, Global};
@@ -116,17 +116,23 @@ fn put_warning_lines(lines: &mut Vec<u8>, warnings: &[Warning]) -> Result<bool, 
     Ok(!warnings.is_empty())
 }
 
+/// `Warned` where there is a warning, else `Done`.
+fn warned_or_done(is_warned: bool) -> Ending {
+    if is_warned {
+        Ending::Warned
+    } else {
+        Ending::Done
+    }
+}
+
 /// Appends what is hardly meant in a script of JSON, and gives the ending: `Warned` where there is such.
 fn put_warnings(alloc: Global, lines: &mut Vec<u8>, text: &[u8]) -> Result<Ending, AllocError> {
     let Ok(script) = read_script(alloc, text) else {
         return Err(AllocError);
     };
     let warnings = warnings(alloc, text, &script)?;
-    if put_warning_lines(lines, warnings.as_slice())? {
-        Ok(Ending::Warned)
-    } else {
-        Ok(Ending::Done)
-    }
+    let is_warned = put_warning_lines(lines, warnings.as_slice())?;
+    Ok(warned_or_done(is_warned))
 }
 
 /// Appends what is wrong with a script of JSON, or else what is hardly meant, and gives the ending.
@@ -139,29 +145,73 @@ fn put_advice(alloc: Global, lines: &mut Vec<u8>, text: &[u8]) -> Result<Ending,
     }
 }
 
-/// Tells what is wrong with a script of JSON, or else what is hardly meant.
-fn tell_advice<O: Out>(alloc: Global, output: &mut O, text: &[u8]) -> Ending {
-    let mut lines = Vec::new(alloc);
-    let Ok(ending) = put_advice(alloc, &mut lines, text) else {
-        return Ending::NoMemory;
-    };
-    match put_all(output, lines.as_slice()) {
-        Ok(()) => ending,
-        Err(_) => Ending::Failed,
+/// The place in a text in words of the step that a warning is of. The warning was told of the JSON that the text says.
+fn place_in_words(said: &Said<'_>, warning: &Warning) -> Place {
+    match said.line_and_column(warning.section, warning.index) {
+        Some((line, column)) => Place { line, column },
+        None => warning.place,
     }
 }
 
-/// Tells what is wrong with a text, in words or in JSON. What is hardly meant in JSON is told too, and makes another
+/// Appends what is hardly meant in a script in words, each by its line there, and gives the ending: `Warned` where there
+/// is such.
+fn put_words_warnings(
+    alloc: Global,
+    lines: &mut Vec<u8>,
+    said: &Said<'_>,
+    told: &Told,
+) -> Result<Ending, AllocError> {
+    let warnings = warnings(alloc, told.text.as_bytes(), &told.script)?;
+    for warning in warnings.as_slice() {
+        warning.write_at(lines, place_in_words(said, warning))?;
+        lines.push(b'\n')?;
+    }
+    Ok(warned_or_done(!warnings.is_empty()))
+}
+
+/// Puts out the lines that were made, and gives the ending; want of memory where that kept them from being made.
+fn put_lines<O: Out>(output: &mut O, lines: &[u8], ending: Result<Ending, AllocError>) -> Ending {
+    match ending {
+        Ok(ending) => match put_all(output, lines) {
+            Ok(()) => ending,
+            Err(_) => Ending::Failed,
+        },
+        Err(_) => Ending::NoMemory,
+    }
+}
+
+/// Tells what is wrong with a script of JSON, or else what is hardly meant.
+fn tell_json_advice<O: Out>(alloc: Global, output: &mut O, text: &[u8]) -> Ending {
+    let mut lines = Vec::new(alloc);
+    let ending = put_advice(alloc, &mut lines, text);
+    put_lines(output, lines.as_slice(), ending)
+}
+
+/// Tells what is wrong with a script in words, or else what is hardly meant.
+fn tell_words_advice<O: Out>(alloc: Global, output: &mut O, text: &[u8]) -> Ending {
+    let Ok(said) = read_lines(alloc, text) else {
+        return Ending::NoMemory;
+    };
+    match json(alloc, &said) {
+        Ok(told) => {
+            let mut lines = Vec::new(alloc);
+            let ending = put_words_warnings(alloc, &mut lines, &said, &told);
+            put_lines(output, lines.as_slice(), ending)
+        }
+        Err(untold) => tell_untold(alloc, output, untold),
+    }
+}
+
+/// Tells what is wrong with a text, in words or in JSON, or else what is hardly meant. What is hardly meant makes another
 /// ending only where that is asked for.
 pub fn tell_faults<O: Out>(alloc: Global, output: &mut O, strict: bool, text: &[u8]) -> Ending {
-    if is_json(text) {
-        return match tell_advice(alloc, output, text) {
-            Ending::Warned if !strict => Ending::Done,
-            ending => ending,
-        };
-    }
-    match told_of(alloc, text) {
-        Ok(_) => Ending::Done,
-        Err(untold) => tell_untold(alloc, output, untold),
+    let ending = if is_json(text) {
+        tell_json_advice(alloc, output, text)
+    } else {
+        tell_words_advice(alloc, output, text)
+    };
+    match ending {
+        Ending::Warned if !strict => Ending::Done,
+        ending => ending,
     }
 }
