@@ -5,7 +5,6 @@ use crate::ending::Ending;
 use crate::found::{Found, found_of};
 use crate::groups::groups_of;
 use crate::input::read_up_to;
-use crate::labels::labels_of;
 use crate::names::value_names;
 use crate::never::{broken_by, told};
 use crate::table::{Columns, table};
@@ -28,11 +27,10 @@ const MOST_STEPS: u32 = 1_000_000;
 /// There are at most so many devices.
 const MOST_DEVICES: usize = 64;
 
-/// A script, its labels, and the outcomes of its orders.
+/// A script, and the outcomes of its orders.
 #[derive(Drop)]
 struct Explored {
     script: Script,
-    labels: Vec<String>,
     founds: Vec<Found>,
 }
 
@@ -88,7 +86,7 @@ fn condition_of(
     let names = value_names(alloc)?;
     let parts = explored.script.parts();
     let scope = Scope {
-        labels: explored.labels.as_slice(),
+        labels: parts.labels.as_slice(),
         steps: u32::try_from(parts.steps.as_slice().len()).unwrap_or(u32::MAX),
         locks: parts.locks,
         knows_replies: !by_ends,
@@ -115,7 +113,7 @@ fn judge(
         founds,
         &condition,
     )?;
-    let labels = explored.labels.as_slice();
+    let labels = explored.script.parts().labels.as_slice();
     let columns = Columns::of(alloc, &explored.script, labels, founds)?;
     Ok(told(alloc, &columns, founds, &broken)?)
 }
@@ -123,7 +121,7 @@ fn judge(
 /// The table of the outcomes.
 fn table_of(alloc: Global, explored: &Explored) -> Result<Vec<u8>, AllocError> {
     let founds = explored.founds.as_slice();
-    let labels = explored.labels.as_slice();
+    let labels = explored.script.parts().labels.as_slice();
     let columns = Columns::of(alloc, &explored.script, labels, founds)?;
     table(alloc, &columns, founds)
 }
@@ -160,13 +158,8 @@ fn show<O: Out>(
 /// Explores the orders of a script whose text this is.
 fn explored_of(alloc: Global, text: &[u8], order: &Order<'_>) -> Result<Explored, Ending> {
     let script = read_script(alloc, text)?;
-    let labels = labels_of(alloc, text)?;
     let founds = outcomes_of(alloc, &script, order)?;
-    Ok(Explored {
-        script,
-        labels,
-        founds,
-    })
+    Ok(Explored { script, founds })
 }
 
 /// Sends a text; then the program ends so.

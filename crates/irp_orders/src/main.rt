@@ -9,7 +9,6 @@ mod found;
 mod groups;
 mod help;
 mod input;
-mod labels;
 mod names;
 mod never;
 mod steps;
