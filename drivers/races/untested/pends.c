@@ -105,16 +105,16 @@ static NTSTATUS Pnp(PDEVICE_OBJECT DeviceObject, PIRP Irp)
     NTSTATUS status = IoAcquireRemoveLock(&ext->RemoveLock, Irp);
     if (!NT_SUCCESS(status))
         return Complete(Irp, status, 0);
-    if (minor == IRP_MN_SURPRISE_REMOVAL || minor == IRP_MN_REMOVE_DEVICE)
+    if (minor == IRP_MN_SURPRISE_REMOVAL || minor == IRP_MN_REMOVE_DEVICE) {
         EndReads(ext, STATUS_NO_SUCH_DEVICE, TRUE);
-    if (minor != IRP_MN_REMOVE_DEVICE) {
         Irp->IoStatus.Status = STATUS_SUCCESS;
+    }
+    if (minor != IRP_MN_REMOVE_DEVICE) {
         status = PassDown(DeviceObject, Irp);
         IoReleaseRemoveLock(&ext->RemoveLock, Irp);
         return status;
     }
     IoReleaseRemoveLockAndWait(&ext->RemoveLock, Irp);
-    Irp->IoStatus.Status = STATUS_SUCCESS;
     status = PassDown(DeviceObject, Irp);
     IoDetachDevice(ext->Lower);
     IoDeleteDevice(DeviceObject);
