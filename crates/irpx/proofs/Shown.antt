@@ -28,27 +28,7 @@ use Rattle.irp_script.specs.Working.{AtWork}
 use Rattle.irp_script.specs.declared.stop.Stop.{Stop}
 use Rattle.irp_script.proofs.Accounted.{accounted}
 use Rattle.irp_script.proofs.Numbers.{count_map}
-
--- ---- what is shown
-
--- the calls of each seat's entries are those of its own among these, in order: each once and no other, but for the
--- packets and the tokens that they name
-abbrev pub MakesCalls : ℕ → List Outcome → List Entry → Type 0
-MakesCalls seats outs entries =
-    (seat : ℕ) → seat < seats → calls_in (own_entries entries seat) ≡ calls_of seat outs
-
--- Some finishes of taken packets found no token. The word lines tell of these, and of acts on locks and slots: of no
--- step more often than it stands in the script. Where nothing stopped, they tell of each as often as it stands there,
--- and the entries are the calls of all other steps, the setup's and then the others
-pub record ShowsSteps (script : Script) (transcript : TranscriptValue) (stop : Option Stop) : Type 0 where
-  pub tokenless_first : Test
-  pub tokenless : Test
-  pub told : NoneMoreOften
-      (word_steps (outcomes tokenless script.steps)) (map told_by transcript.words)
-  pub all_told : stop ≡ None
-      → EachAsOften (word_steps (outcomes tokenless script.steps)) (map told_by transcript.words)
-  pub all_made : stop ≡ None → MakesCalls script.seats
-      (outcomes tokenless_first script.setup ++ outcomes tokenless script.steps) transcript.entries
+use Rattle.irpx.specs.Running.{MakesCalls, ShowsSteps}
 
 -- ---- no two new seats have one number
 

@@ -3,6 +3,7 @@ use Rattle.std.specs.Prelude.{
   ℕ,
   ◌≡◌,
   ◌⊎◌,
+  ◌<◌,
   ◌+◌,
   List,
   ◌++◌,
@@ -20,7 +21,8 @@ use Rattle.std.specs.Prelude.{
 }
 use Rattle.std.specs.Io.KnownBytes.{Consumes}
 use Rattle.std.specs.Option.{option_map}
-use Rattle.irp_types.specs.Histories.{IsLegal, CompletesOnce}
+use Rattle.irp_types.specs.declared.entry.Entry.{Entry}
+use Rattle.irp_types.specs.Histories.{IsLegal, CompletesOnce, own_entries}
 use Rattle.irp_types.specs.State.{Fixed, Tables, Entrance}
 use Rattle.irp_types.specs.declared.answer.CancelAnswer.{CancelAnswer}
 use Rattle.irp_types.specs.declared.answer.Plan.{Plan}
@@ -43,8 +45,11 @@ use Rattle.irp_script_reader.specs.declared.script.ScriptForm.{ScriptForm}
 use Rattle.irp_script_reader.specs.declared.script.ScriptForm.TheVariants as script_form
 use Rattle.irp_script.specs.Between.{hands_between}
 use Rattle.irp_script.specs.Behaviours.{cancel_rule_of}
+use Rattle.irp_script.specs.Made.{calls_in, calls_of}
+use Rattle.irp_script.specs.Numbers.{EachAsOften, NoneMoreOften}
+use Rattle.irp_script.specs.Outcomes.{Outcome, Test, outcomes}
 use Rattle.irp_script.specs.Told.{IsTold}
-use Rattle.irp_script.specs.Words.{AreInOrder}
+use Rattle.irp_script.specs.Words.{AreInOrder, told_by, word_steps}
 use Rattle.irp_transcript_writer.specs.Lines.{lines, text_of}
 use Rattle.irp_script.specs.Ran.{Ran}
 use Rattle.irp_script.specs.declared.stop.Stop.{Stop}
@@ -158,11 +163,31 @@ IsRunningFault (NoMemory Running) = Unit {0}
 IsRunningFault ReceiptsDiffer = Unit {0}
 IsRunningFault other = ⊥
 
--- a transcript of the run of a script with these tables, which comes of what so many workers ran. What it shows of each
--- step follows (`ran_shows` in proofs/Shown.antt)
+-- the calls of each seat's entries are those of its own among these, in order: each once and no other, but for the
+-- packets and the tokens that they name
+abbrev pub MakesCalls : ℕ → List Outcome → List Entry → Type 0
+MakesCalls seats outs entries =
+    (seat : ℕ) → seat < seats → calls_in (own_entries entries seat) ≡ calls_of seat outs
+
+-- Some finishes of taken packets found no token. The word lines tell of these, and of acts on locks and slots: of no
+-- step more often than it stands in the script. Where nothing stopped, they tell of each as often as it stands there,
+-- and the entries are the calls of all other steps, the setup's and then the others
+pub record ShowsSteps (script : Script) (transcript : TranscriptValue) (stop : Option Stop) : Type 0 where
+  pub tokenless_first : Test
+  pub tokenless : Test
+  pub told : NoneMoreOften
+      (word_steps (outcomes tokenless script.steps)) (map told_by transcript.words)
+  pub all_told : stop ≡ None
+      → EachAsOften (word_steps (outcomes tokenless script.steps)) (map told_by transcript.words)
+  pub all_made : stop ≡ None → MakesCalls script.seats
+      (outcomes tokenless_first script.setup ++ outcomes tokenless script.steps) transcript.entries
+
+-- a transcript of the run of a script with these tables, which shows the script's steps, and comes of what so many
+-- workers ran
 pub record IsRanBy (workers : ℕ) (script : Script) (tables : Tables) (transcript : TranscriptValue) (stop : Option Stop)
     : Type 0 where
   pub run : IsRun script tables transcript
+  pub shows : ShowsSteps script transcript stop
   pub ran : Ran workers script transcript stop
 
 -- what came of a script with these tables that so many workers were to run. To its end: the transcript of such a run

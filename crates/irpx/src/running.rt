@@ -19,6 +19,7 @@ ghost use Rattle.irpx.specs.Running.{
   AfterScript,
   HoldsScript,
   IsRanBy,
+  ShowsSteps,
   IsRun,
   IsRunningFault,
   NoScript,
@@ -188,6 +189,7 @@ fn session<A: Ask + Send + Drop, L: Session + Send + Sync, T: Threads + Wait + S
     requires may { AnswersSo (A.may_plan ask) (A.may_answer ask) (A.may_cancel ask) L.may }
     requires told { (asked : Asked) → ∥ L.may asked ∥₁ → ∥ IsTold script.now asked ∥₁ }
     ensures run { IfOk result (λ run. IsRun script.now (A.tables ask) run.transcript) }
+    ensures shows { IfOk result (λ run. ShowsSteps script.now run.transcript run.stop) }
     ensures ran { IfOk result (λ run. Ran workers script.now run.transcript run.stop) }
     ensures err { IfErr result IsRunningFault }
 {

@@ -26,4 +26,4 @@ returns g c =
     subst (λ (tables : Tables). AfterScript c.args.workers.number c.args.script.now tables (output_of (g.O.Out.gone c.args.output.now) (g.O.Out.failures c.args.output.now)) (output_of (g.O.Out.gone c.write_finished.new.output) (g.O.Out.failures c.write_finished.new.output)) c.write_finished.result)
     (all_added (λ (drivers : List (List Entrance)). and_drivers drivers c.args.store.tables) c.as_slice-drivers.result.now c.loop-driver.driver-index c.loop-driver-test.false c.loop-driver.store.tables c.loop-driver.invariant.0
     ∙ ap (λ (drivers : List (List Entrance)). and_drivers drivers c.args.store.tables) c.as_slice-drivers.ensures)
-    (c.write_finished.ensures c.args.workers.number c.args.script.now c.loop-driver.store.tables (record { run = c.in_ok-run.ensures.run; ran = c.in_ok-run.ensures.ran }))
+    (c.write_finished.ensures c.args.workers.number c.args.script.now c.loop-driver.store.tables (record { run = c.in_ok-run.ensures.run; shows = c.in_ok-run.ensures.shows; ran = c.in_ok-run.ensures.ran }))

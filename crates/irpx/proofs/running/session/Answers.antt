@@ -16,10 +16,11 @@ use Rattle.irp_script.specs.Told.{IsTold}
 use Rattle.irp_script.specs.Working.{RunsScript}
 use Rattle.irp_script.specs.declared.stop.Stop.{Stop}
 use Rattle.irp_script.proofs.Ran.{all_opened, closed_ran}
-use Rattle.irpx.specs.Running.{IsRun, run_transcript}
+use Rattle.irpx.specs.Running.{IsRun, ShowsSteps, run_transcript}
 use Rattle.irpx.specs.declared.running.Finished.{Finished}
 use Rattle.irpx.proofs.Ran.{slots_same}
 use Rattle.irpx.proofs.Runs.{closed_is_run}
+use Rattle.irpx.proofs.Shown.{ran_shows}
 use Rattle.irpx.proofs.running.session.Goals as goal
 
 -- what is answered in one way is answered in another
@@ -65,3 +66,8 @@ returns-clause-ran g c =
     (subst (λ (stop : Option Stop). Ran c.args.workers script closed stop) (sym ends.6)
     (closed_ran c.args.workers script pairs worked.seats.items ends.0 closed worked.stop opened chains ends.1 ends.3.own)))
     c.finish.ensures.ok
+
+pub returns-clause-shows : goal.returns-clause-shows
+returns-clause-shows g c =
+    IfOk-weaker c.finish.result _ (λ (run : Finished). ShowsSteps c.args.script.now run.transcript run.stop)
+    (λ run ran. ran_shows c.args.workers c.args.script.now run.transcript run.stop c.requires.workers ran) (returns-clause-ran g c)
