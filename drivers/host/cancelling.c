@@ -158,6 +158,9 @@ BOOLEAN WdmIoCancelIrp(PIRP Irp, WDM_SITE at)
        is for its driver to take back, as if this cancel came a moment later. */
     if (!p->cancel && p->asking && p->asking->kind == DISPATCH && p->asking->cancel)
         settle(p, false);
+    /* Another cancel's routine runs and hasn't decided: it came before this one, and leaves the packet so far. */
+    if (p->asking && p->asking->kind == CANCELLING)
+        settle(p, false);
     p->cancel = true;
     Irp->Cancel = TRUE;
     const bool routine = p->routine != NULL;
