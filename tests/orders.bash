@@ -82,8 +82,11 @@ a_cancel_against_a_completion|cancel(a) and status(a) == STATUS_SUCCESS|it holds
 a_removal_against_a_send|reply(5) == DeviceGone|it holds in 6 of 71 orders, 1 of 5 outcomes; one of them:
 a_hand_over_against_a_drain|held(lock 0) == 1 and removing(lock 0)|it holds in 38 of 143 orders, 1 of 5 outcomes; one of them:
 a_hand_over_against_a_drain|reply(5) == not_held and held(0) >= 1|it holds in 38 of 143 orders, 1 of 5 outcomes; one of them:
-a_reuse_against_a_late_cancel|reply(4) == true|it holds in 3 of 15 orders, 1 of 5 outcomes; one of them:
-a_reuse_against_a_late_cancel|current(a) < 2 and status(a) <= 0|it holds in 9 of 15 orders, 3 of 5 outcomes; one of them:
+a_reuse_against_a_late_cancel|reply(4) == true|it holds in 3 of 21 orders, 1 of 5 outcomes; one of them:
+a_reuse_against_a_late_cancel|current(a) < 2 and status(a) <= 0|it holds in 15 of 21 orders, 3 of 5 outcomes; one of them:
+an_allocation_after_two_frees|reply(5) == NoIrp|it holds in 1 of 1 orders, 1 of 1 outcomes; one of them:
+two_frees_against_an_allocation|reply(3) == NoIrp|it holds in 1 of 5 orders, 1 of 3 outcomes; one of them:
+a_look_between_a_reuse_and_its_label|reply(1) == Stale and reply(2) == Stale|it holds in 4 of 15 orders, 1 of 4 outcomes; one of them:
 END
 
 # Texts that are no conditions: the column, and what was expected there.
@@ -119,6 +122,13 @@ ended 'thirty-two nots' 2 '' 'it holds in 3 of 3 orders, 3 of 3 outcomes; one of
 run --ends "$examples"/a_cancel_against_a_completion.script
 meets 'by ends: status' [ "$status" -eq 0 ]
 meets 'by ends: orders' grep -q '^outcomes: [23], of 3 orders$' "$room/output"
+for script in two_preparations_of_one_packet a_look_between_a_reuse_and_its_label; do
+    # Without the heads no two outcomes are told alike.
+    run --ends "$examples/$script.script"
+    count=$(grep -c '^outcome ' "$room/output")
+    blocks=$(sed '1d; s/^outcome .*/;/' "$room/output" | tr -d '\n' | tr ';' '\n' | sed 1d | sort -u | wc -l)
+    meets "$script by ends: $count outcomes, $blocks told" [ "$count" -eq "$blocks" ]
+done
 run --ends --never 'live(a) and reply(0) == done' "$examples"/a_cancel_against_a_completion.script
 ended 'a reply by ends' 4 'irp_orders: condition refused: column 13: expected no reply and no deleted beside --ends, which leaves replies out'
 

@@ -2,10 +2,11 @@
 irpx prints.
 
 Usage: orders.py IRP_ORDERS IRPX COUNT RUNS SEED. Of the small scripts of the examples and of COUNT scripts made by chance
-the two have to tell as many orders for the same replies; each transcript that is shown has to be legal by the model, and
-its calls to change their seat as often as in the order of these replies that does so least often, or less often where the
-script has steps that aren't calls. Of
-each race, RUNS runs on as many workers as it has seats have to print one of the outcomes. Prints a line for each
+the two have to tell as many orders for the same outcomes: the same replies, and the same packets and devices at the end;
+each transcript that is shown has to be legal by the model, and its calls to change their seat as often as in the order of
+this outcome that does so least often, or less often where the script has steps that aren't calls. Of COUNT further scripts
+that free and allocate packets the same is compared, and, where one seat makes all their steps, the transcript that is
+shown with the one that irpx writes. Of each race, RUNS runs on as many workers as it has seats have to print one of the outcomes. Prints a line for each
 difference, and then how many were tried. Ends with status 0, or 1 where something differs.
 """
 
@@ -21,10 +22,11 @@ HERE = os.path.dirname(os.path.realpath(__file__))
 sys.path.append(os.path.join(HERE, "second_reading"))
 
 from cases_by_chance import base_script  # noqa: E402
-from json_texts import read_json  # noqa: E402
+from json_texts import compact, read_json  # noqa: E402
 from layouts import encode, text_of  # noqa: E402
-from orders_of_steps import changes_of, orders_of, replies_of  # noqa: E402
+from orders_of_steps import bound_by, changes_of, manager_end, orders_of, replies_of  # noqa: E402
 from runs import Tally, work  # noqa: E402
+from running import Runner  # noqa: E402
 from scripts import LOCK_STEPS, read_script  # noqa: E402
 from transcripts import check  # noqa: E402
 
@@ -69,11 +71,7 @@ def changes_in(transcript, script):
 
 def is_plain(script):
     """Returns whether each step is a call and one atomic step: no label is bound by another seat than names it."""
-    binders = set()
-    for step in script.steps:
-        label = step.get("as") or (step["do"] == "reuse" and step["irp"])
-        if isinstance(label, str):
-            binders.add((label, step["seat"]))
+    binders = {(bound_by(step), step["seat"]) for step in script.steps if bound_by(step) is not None}
     for step in script.steps:
         names = (step.get("irp"), step.get("as"))
         if step["do"] in ON_WORDS or any(label in names and seat != step["seat"] for label, seat in binders):
@@ -81,35 +79,51 @@ def is_plain(script):
     return True
 
 
+def end_in(transcript, script):
+    """Returns what a transcript leaves in a manager: the model makes its calls again."""
+    manager = Runner(script).manager
+    for line in lines_of(transcript):
+        if "call" in line:
+            call, told = dict(line["call"]), {}
+            if call["do"] == "delete":
+                told = {key: call.pop(key) for key in ("lock", "drained")}
+            manager.apply(call, lambda lock, told=told: told["drained"])
+    return manager_end(manager)
+
+
 def told(text, script):
-    """Returns how many orders the program tells for which replies, with the fewest changes of seat among the calls that
-    it shows for them; and what is wrong with its transcripts."""
+    """Returns for which replies, with what is left in the manager, the program tells how many orders, a number for each
+    outcome, each with the changes of seat among the calls that it shows; and what is wrong with its transcripts."""
     table = ended(IRP_ORDERS, text=text).decode()
     counts = [int(it) for it in re.findall(r"(?m)^outcome \d+: (\d+) of \d+ orders", table)]
     head = re.match(r"outcomes: (\d+), of (\d+) orders\n", table)
     if not head or [int(it) for it in head.groups()] != [len(counts), sum(counts)]:
         return None, f"the first line is {table.splitlines()[:1]}, and {len(counts)} outcomes follow"
-    found, fewest = collections.Counter(), {}
+    found = collections.defaultdict(list)
     for at, count in enumerate(counts):
         transcript = ended(IRP_ORDERS, "--show", str(at + 1), text=text)
         verdict = check(transcript)
         if not verdict.startswith("legal"):
             return None, f"the model judges the transcript of outcome {at + 1}: {verdict}"
-        replies = replies_in(transcript, script)
-        found[replies] += count
-        changes = changes_in(transcript, script)
-        fewest[replies] = min(fewest.get(replies, changes), changes)
-    return (found, fewest), None
+        outcome = replies_in(transcript, script), end_in(transcript, script)
+        found[outcome].append((count, changes_in(transcript, script)))
+    return found, None
 
 
 def differs(script, wanted, got):
-    """Returns what differs in the outcomes of a script, or None."""
-    if got[0] != wanted[0]:
-        return f"expected {sorted(wanted[0].values())} orders, got {sorted(got[0].values())}"
-    for replies, changes in got[1].items():
-        least = wanted[1][replies]
-        if changes > least or (is_plain(script) and changes != least):
-            return f"expected {least} changes of seat, got {changes}"
+    """Returns what differs in the outcomes of a script, or None. Those whose replies and packets are the same stand together:
+    other things tell them apart."""
+    together = collections.defaultdict(list)
+    for (replies, left, other), count in wanted[0].items():
+        together[replies, left].append((count, wanted[1][replies, left, other]))
+    counts = [{outcome: sorted(count for count, _ in told) for outcome, told in each.items()} for each in (together, got)]
+    if counts[0] != counts[1]:
+        return f"expected {sorted(counts[0].values())} orders, got {sorted(counts[1].values())}"
+    for outcome, told in got.items():
+        most = max(least for _, least in together[outcome])
+        for _, changes in told:
+            if changes > most or (is_plain(script) and len(told) == 1 and changes != most):
+                return f"expected {most} changes of seat, got {changes}"
     return None
 
 
@@ -144,6 +158,40 @@ def by_chance(seed, number):
     return compare(f"script {number} of seed {seed}", encode(text_of(script, rng, False)))
 
 
+def freeing_script(rng):
+    """Returns a small script that frees and allocates packets, names them by labels, and looks at them."""
+    labels = "abc"
+    seats = rng.choice((1, 2, 2, 2))
+    setup = [{"seat": 0, "do": "allocate", "size": 1, "as": label} for label in labels]
+    steps = []
+    for _ in range(rng.randrange(4, 7) if seats == 1 else rng.randrange(3, 6)):
+        do = rng.choice(("free", "free", "allocate", "allocate", "look", "reuse", "set_next"))
+        step = {"seat": rng.randrange(seats), "do": do}
+        if do == "allocate":
+            step |= {"size": rng.choice((1, 2)), "as": rng.choice(labels + "d")}
+        else:
+            step["irp"] = rng.choice(labels)
+        if do == "reuse":
+            step["status"] = rng.choice((0, 3221225473))
+        if do == "set_next":
+            step |= {"by": "o", "major": rng.choice((3, 4)), "word": 0}
+        steps.append(step)
+    return {"form": 1, "seats": seats, "locks": 1, "completions": [], "cancels": [], "dispatches": [], "drivers": [[]],
+            "setup": setup, "steps": steps}  # fmt: skip
+
+
+def by_freeing(seed, number):
+    """Compares a script that frees and allocates; and where one seat makes its steps, what it shows with what irpx writes."""
+    rng = random.Random(f"freeing {seed}:{number}")
+    script = freeing_script(rng)
+    name, text = f"freeing script {number} of seed {seed}", compact(script)
+    tally = compare(name, text)
+    if script["seats"] == 1:
+        is_same = ended(IRP_ORDERS, "--show", "1", text=text) == ended(IRPX, "run", text=text)
+        tally.note("shown", f"{name}: irpx writes another transcript", is_same)
+    return tally
+
+
 def race(name, text, runs):
     """Runs a script on as many workers as it has seats. Each run has to print an outcome. Returns the tally."""
     tally = Tally()
@@ -153,7 +201,7 @@ def race(name, text, runs):
     found, wrong = told(text, script)
     for number in range(runs):
         printed = ended(IRPX, "run", "--workers", str(script.seats), text=text)
-        is_found = found is not None and replies_in(printed, script) in found[0]
+        is_found = found is not None and (replies_in(printed, script), end_in(printed, script)) in found
         tally.note("races", f"{name}, run {number}: {wrong or 'no outcome has its replies'}", is_found)
     return tally
 
@@ -169,7 +217,7 @@ def main():
             tasks.append((compare, name, text))
         if name.startswith("orders/"):
             tasks.append((race, name, text, runs))
-    tasks += [(by_chance, seed, number) for number in range(count)]
+    tasks += [(one, seed, number) for number in range(count) for one in (by_chance, by_freeing)]
     tally = work(tasks, prepare, (irp_orders, irpx))
     tally.tell()
     return 1 if tally.wrong else 0

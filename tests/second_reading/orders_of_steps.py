@@ -23,12 +23,15 @@ class Stepper(Runner):
         self.begun = len(self.entries)
         # The locks whose removal a seat's own begin_remove found or set.
         self.removed = [set() for _ in range(script.seats)]
-        binders = collections.defaultdict(set)
+        # The seats whose steps bind each label, and those whose steps read it or bind it.
+        self.binders, self.namers = collections.defaultdict(set), collections.defaultdict(set)
         for step in script.steps:
-            label = step.get('as') or (step['do'] == 'reuse' and step['irp'])
-            if isinstance(label, str):
-                binders[label].add(step['seat'])
-        self.binders = binders
+            bound = bound_by(step)
+            if bound is not None:
+                self.binders[bound].add(step['seat'])
+            for label in (bound, step.get('irp')):
+                if isinstance(label, str):
+                    self.namers[label].add(step['seat'])
         self.seats = [self.seat(n) for n in range(script.seats)]
 
     def seat(self, number):
@@ -53,31 +56,28 @@ class Stepper(Runner):
         elif do == 'finish_taken' and (seat, step['slot']) not in self.tokens:
             self.word(step, place, 'no_token')
             yield
-        elif self.read_apart(step):
-            label = step['irp']
-            irp = self.labels.get(label, UNBOUND)
-            yield
-            before = self.labels.get(label)
-            reply = self.step(dict(step, irp=list(irp)), place) or self.entries[-1]['reply']
-            if do == 'reuse' and type(reply) is dict and 'irp' in reply:
-                yield
-                self.labels[label] = reply['irp']
-            elif before is not None:
-                self.labels[label] = before
-            yield
-        elif do == 'allocate' and self.binders[step['as']] - {seat}:
-            label = step['as']
-            before = self.labels.get(label)
-            self.step(step, place)
-            reply = self.entries[-1]['reply']
-            if type(reply) is dict and 'irp' in reply:
-                self.labels.pop(label) if before is None else self.labels.update({label: before})
-                yield
-                self.labels[label] = reply['irp']
-            yield
         else:
-            self.step(step, place)
+            yield from self.calls(step, place)
+
+    def calls(self, step, place):
+        """The atomic steps of a call: it reads its label, is made, and binds its label. Reading is one of its own where
+        another seat binds the label, binding where another seat reads it or binds it."""
+        bound, apart = bound_by(step), self.read_apart(step)
+        binds_apart = bound is not None and bool(self.namers[bound] - {step['seat']})
+        if apart:
+            step = dict(step, irp=list(self.labels.get(step['irp'], UNBOUND)))
             yield
+        before = self.labels.get(bound)
+        self.step(step, place)
+        reply = self.entries[-1]['reply'] if bound is not None else None
+        if type(reply) is dict and 'irp' in reply:
+            if binds_apart:
+                self.labels.pop(bound, None)
+                if before is not None:
+                    self.labels[bound] = before
+                yield
+            self.labels[bound] = reply['irp']
+        yield
 
     def acquire(self, step, place):
         locks, seat, lock = self.locks, step['seat'], step['lock']
@@ -150,6 +150,40 @@ class Stepper(Runner):
         return next(self.seats[seat], self) is not self
 
 
+def bound_by(step):
+    """Returns the label that a step binds where it succeeds, or None."""
+    label = step.get('as') or (step['do'] == 'reuse' and step['irp'])
+    return label if isinstance(label, str) else None
+
+
+def location_of(at):
+    return [at.device, at.major, at.word, at.routine and list(at.routine), at.context, at.flags, at.pending]
+
+
+def packet_of(p):
+    """Returns all of a live packet that a look, a send or another call could come to: its locations from the prepared one
+    or the current one up; none where it was completed."""
+    lowest = p.current if p.prepared == 'nothing' else p.current - 1
+    locations = [] if p.owner == 'ended' else [location_of(p.at[n]) for n in range(lowest, p.size + 1)]
+    return [p.slot, p.use, p.owner, p.current, p.status, p.information, p.pending_returned, p.cancel, p.cancel_routine,
+            p.prepared, p.slot_held, locations]
+
+
+def manager_end(manager):
+    """Returns what is left in a manager: its packets, and its devices with what each is attached to."""
+    devices = [list(facts) + [manager.lower(number)] for number, facts in enumerate(manager.devices)]
+    return compact([[packet_of(manager.live[slot]) for slot in sorted(manager.live)], devices])
+
+
+def other_end(stepper):
+    """Returns what else is left: labels, remove locks with who holds them, and cancel slots."""
+    locks, slots = stepper.locks, stepper.slots
+    holders = [[(seat, tag) for seat, held in enumerate(locks.held) for lock, tag in held if lock == number]
+               for number in range(len(locks.count))]
+    labels = sorted((label, list(irp)) for label, irp in stepper.labels.items())
+    return compact([labels, locks.count, locks.removed, holders, slots.flag, slots.content])
+
+
 def replies_of(lines, begun):
     """Returns what the steps behind `setup` were answered: of each seat its calls in order, and the word lines."""
     calls = [(e['seat'], e['call']['do'], e['reply']) for e in lines if 'call' in e][begun:]
@@ -163,8 +197,8 @@ def changes_of(seats):
 
 
 def orders_of(script, most):
-    """Returns how many orders end with which replies, and the fewest changes of seat among these; or None where there
-    are more orders than `most`."""
+    """Returns how many orders have which outcome, and the fewest changes of seat among these; or None where there are more
+    orders than `most`. An outcome is the replies, what is left in the manager, and what else is left."""
     lengths = collections.Counter(step['seat'] for step in script.steps)
     least = math.factorial(sum(lengths.values())) // math.prod(map(math.factorial, lengths.values()))
     if least > most:
@@ -188,9 +222,9 @@ def orders_of(script, most):
             ended = Stepper(script)
             for seat in path:
                 ended.makes(seat)
-            replies = replies_of(ended.lines()[1:], ended.begun)
-            found[replies] += 1
-            fewest[replies] = min(fewest.get(replies, len(path)), changes_of(path))
+            outcome = replies_of(ended.lines()[1:], ended.begun), manager_end(ended.manager), other_end(ended)
+            found[outcome] += 1
+            fewest[outcome] = min(fewest.get(outcome, len(path)), changes_of(path))
 
     follow([])
     return None if sum(found.values()) > most else (found, fewest)

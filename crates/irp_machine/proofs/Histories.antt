@@ -23,13 +23,13 @@ use Rattle.irp_machine.specs.declared.parts.Next.TheVariants.{Changes, Calls}
 use Rattle.irp_machine.specs.declared.parts.Planned.{Planned}
 use Rattle.irp_machine.specs.Calling.{IsApplied}
 use Rattle.irp_machine.specs.Endings.{end_of}
-use Rattle.irp_machine.specs.Machine.{RulesValue, Acts, ClosesIf, IsNext, Makes, StepsTo, act_of, has_ended, knows_of, seat_at, state_behind}
+use Rattle.irp_machine.specs.Machine.{RulesValue, Acts, allocates, ClosesIf, IsNext, Makes, StepsTo, act_of, has_ended, knows_of, seat_at, manager_behind}
 use Rattle.irp_machine.specs.Next.{called, next_of}
 use Rattle.irp_machine.specs.Openings.{MakesAll, Opens, begun, first_standing, rules_of, seats_of}
 use Rattle.irp_machine.specs.Orders.{IsOrder}
 use Rattle.irp_machine.specs.Replays.{IsActed, IsPlayed, IsSetUp, Plays, PlaysIn, Records, OrdersHaveHistories, ReplaysEndSo, told_end}
 use Rattle.irp_machine.specs.Settled.{steps_settled}
-use Rattle.irp_machine.specs.Standings.{StandingValue, after_change, with_state}
+use Rattle.irp_machine.specs.Standings.{StandingValue, after_change, with_manager}
 use Rattle.irp_machine.proofs.OneHeader.{header_once}
 use Rattle.irp_machine.proofs.Untold.{all_untold, end_untold, seats_begun, silent, untold}
 
@@ -37,15 +37,15 @@ use Rattle.irp_machine.proofs.Untold.{all_untold, end_untold, seats_begun, silen
 
 module _ (rules : RulesValue) (standing new : StandingValue) (seat : ℕ) (planned : Planned) (calling : Calling) (learned : List Learned) (applied : Applied) (change : Change)
     (same : learned ≡ (seat_at standing seat).learned)
-    (given : IsApplied rules.fixed rules.script (knows_of learned) standing.state calling.call applied new.state)
-    (rest : new ≡ with_state standing new.state)
+    (given : IsApplied rules.fixed rules.script (allocates rules.acts) (knows_of learned) standing.manager calling.call applied new.manager)
+    (rest : new ≡ with_manager standing new.manager)
     (is : change ≡ called planned calling applied.reply) where
-  own : IsApplied rules.fixed rules.script (knows_of (seat_at standing seat).learned) standing.state calling.call applied new.state
-  own = subst (λ (learned : List Learned). IsApplied rules.fixed rules.script (knows_of learned) standing.state calling.call applied new.state) same given
+  own : IsApplied rules.fixed rules.script (allocates rules.acts) (knows_of (seat_at standing seat).learned) standing.manager calling.call applied new.manager
+  own = subst (λ (learned : List Learned). IsApplied rules.fixed rules.script (allocates rules.acts) (knows_of learned) standing.manager calling.call applied new.manager) same given
 
   -- a call that was made is what comes next
   pub call_acted : Acts rules standing seat planned (Calls calling) new change
-  call_acted = (record { after = new.state; drained = applied.drained; reply = applied.reply; call = own.called; changes = is }, rest)
+  call_acted = (record { after = new.manager; drained = applied.drained; reply = applied.reply; call = own.called; changes = is }, rest)
 
   -- its entry
   abbrev entry_for : ℕ → List Asked → Entry
@@ -61,21 +61,21 @@ module _ (rules : RulesValue) (standing new : StandingValue) (seat : ℕ) (plann
 
   -- with its entry the history goes on
   pub call_recorded : (asked : List Asked) (number : ℕ) (old entries : List Entry) → HistoryGoesOn → asked ≡ applied.asked.items → number ≡ length old
-      → entries ≡ old ++ entry_for number asked ∷ [] → LeadsTo rules.fixed old standing.state
-      → IsActed rules standing seat planned (Calls calling) old new entries change × LeadsTo rules.fixed entries new.state
+      → entries ≡ old ++ entry_for number asked ∷ [] → LeadsTo rules.fixed old standing.manager.state
+      → IsActed rules standing seat planned (Calls calling) old new entries change × LeadsTo rules.fixed entries new.manager.state
   unfolding call_acted own
   call_recorded asked number old entries goes_on asked_is number_is grown leads =
       let entry = entry_for number asked in
       let called = own.called in
       let questions : asked ≡ called.asked = asked_is ∙ own.asked in
-      let at : IsEntryAt rules.fixed (length old) standing.state entry new.state = record {
+      let at : IsEntryAt rules.fixed (length old) standing.manager.state entry new.manager.state = record {
         numbered = number_is;
         lock = own.lock;
         undrained = undrained (knows_of (seat_at standing seat).learned) applied.lock applied.drained (called.noted ∙ ap (known_by (knows_of (seat_at standing seat).learned)) (sym own.lock));
-        step = subst (λ (asked : List Asked). Step rules.fixed standing.state applied.drained calling.call asked applied.reply new.state) (sym questions) called.step;
+        step = subst (λ (asked : List Asked). Step rules.fixed standing.manager.state applied.drained calling.call asked applied.reply new.manager.state) (sym questions) called.step;
       } in (
         (call_acted, (entry, record { caller = refl; call = refl; asked = questions; reply = refl; lock = own.lock; drained = refl }, grown)),
-        leads_more goes_on rules.fixed old entries standing.state new.state entry leads at grown,
+        leads_more goes_on rules.fixed old entries standing.manager.state new.manager.state entry leads at grown,
       )
 
 -- ---- steps
@@ -116,12 +116,12 @@ pub starts_once : (header : Header) (script : ScriptParts) (one other : Standing
 starts_once header script one other first second =
     let ended =
     all_settled (rules_of header script [] script.setup false) (first_standing header script) (seats_of script.setup) first.0 second.0 first.1 second.1 in
-    first.2 ∙ ap (λ (ended : StandingValue). begun header ended.state ended.labels) ended ∙ sym second.2
+    first.2 ∙ ap (λ (ended : StandingValue). begun header ended.manager ended.labels) ended ∙ sym second.2
 
 pub start_untold : (header : Header) (script : ScriptParts) (start : StandingValue) → Opens header script start → untold start ≡ start
 start_untold header script start opens =
     subst (λ (start : StandingValue). untold start ≡ start) (sym opens.2)
-    (ap (λ (seats : List SeatValue). record (begun header opens.0.state opens.0.labels) { seats = seats }) (seats_begun header.seats))
+    (ap (λ (seats : List SeatValue). record (begun header opens.0.manager opens.0.labels) { seats = seats }) (seats_begun header.seats))
 
 -- how an order closes
 closed_by : (rules : RulesValue) (standing : StandingValue) (end : End) (ended : Bool) → ClosesIf rules standing ended (Some end) → end ≡ end_of standing
@@ -134,18 +134,18 @@ module _ (header : Header) (script : ScriptParts) (start : StandingValue) (path 
   abbrev rules : RulesValue
   rules = rules_of header script script.steps script.steps true
 
-  began : start ≡ begun header played.ended.state played.ended.labels
+  began : start ≡ begun header played.ended.manager played.ended.labels
   began =
       let setting = rules_of header script [] script.setup false in
       let ended : opens.0 ≡ played.ended =
       all_settled setting (first_standing header script) (seats_of script.setup) opens.0 played.ended opens.1
       (all_made setting (first_standing header script) [] played.front (seats_of script.setup) played.ended played.setup) in
-      opens.2 ∙ ap (λ (ended : StandingValue). begun header ended.state ended.labels) ended
+      opens.2 ∙ ap (λ (ended : StandingValue). begun header ended.manager ended.labels) ended
 
   makes : MakesAll rules start path last
   makes =
       subst (λ (start : StandingValue). MakesAll rules start path last) (sym began)
-      (all_made rules (begun header played.ended.state played.ended.labels) played.front entries path last played.steps)
+      (all_made rules (begun header played.ended.manager played.ended.labels) played.front entries path last played.steps)
 
   played_ends : (tells : Bool) → IsOrder (rules_of header script script.steps script.steps tells) start path end → end ≡ told_end tells (end_of last)
   played_ends true order =
@@ -174,7 +174,7 @@ replays_end script tells outcomes k outcome transcript found at replay =
 
 pub set_up : (header : Header) (script : ScriptParts) (rules : RulesValue) (first ended start : StandingValue) (path : List ℕ) (old new : List Entry)
     → rules ≡ rules_of header script [] script.setup false → first ≡ first_standing header script → path ≡ seats_of script.setup
-    → Plays rules first old path ended new → start ≡ begun header ended.state ended.labels → IsSetUp header script old new start
+    → Plays rules first old path ended new → start ≡ begun header ended.manager ended.labels → IsSetUp header script old new start
 set_up header script given first ended start path old new is_rules is_first is_path plays begun =
     let setting = rules_of header script [] script.setup false in
     let by_rules = subst (λ (rules : RulesValue). Plays rules first old path ended new) is_rules plays in
@@ -187,7 +187,7 @@ set_up header script given first ended start path old new is_rules is_first is_p
 
 pub played_on : (header : Header) (script : ScriptParts) (path : List ℕ) (start last : StandingValue) (front entries : List Entry)
     → IsSetUp header script [] front start → Plays (rules_of header script script.steps script.steps true) start front path last entries
-    → LeadsTo (fixed_of header) entries last.state → IsPlayed header script true path last entries
+    → LeadsTo (fixed_of header) entries last.manager.state → IsPlayed header script true path last entries
 played_on header script path start last front entries setup plays history = record {
   ended = setup.ended;
   front = front;
@@ -206,9 +206,9 @@ opens_of header script entries start setup =
 module _ (goes_on : HistoryGoesOn) (rules : RulesValue) where
   -- what comes next can be recorded, and the history goes on
   next_recorded : (standing : StandingValue) (entries : List Entry) (seat : ℕ) (planned : Planned) (next : Next) (change : Change)
-      → (is : IsNext rules standing seat planned next change) → LeadsTo rules.fixed entries standing.state
+      → (is : IsNext rules standing seat planned next change) → LeadsTo rules.fixed entries standing.manager.state
       → (new : List Entry) × Records rules standing seat planned next change is entries new
-      × LeadsTo rules.fixed new (state_behind rules standing seat planned next change is)
+      × LeadsTo rules.fixed new (manager_behind rules standing seat planned next change is).state
   next_recorded standing entries seat planned (Changes one) change is leads = (entries, refl, leads)
   next_recorded standing entries seat planned (Calls calling) change one leads =
       let entry : Entry = record {
@@ -217,38 +217,38 @@ module _ (goes_on : HistoryGoesOn) (rules : RulesValue) where
         asked = one.call.asked;
         reply = one.reply;
         seat = seat;
-        lock = lock_of standing.state calling.call;
+        lock = lock_of standing.manager.state calling.call;
         drained = one.drained;
       } in
-      let at : IsEntryAt rules.fixed (length entries) standing.state entry one.after = record {
+      let at : IsEntryAt rules.fixed (length entries) standing.manager.state entry one.after.state = record {
         numbered = refl;
         lock = refl;
-        undrained = undrained (knows_of (seat_at standing seat).learned) (lock_of standing.state calling.call) one.drained one.call.noted;
+        undrained = undrained (knows_of (seat_at standing seat).learned) (lock_of standing.manager.state calling.call) one.drained one.call.noted;
         step = one.call.step;
       } in (
         entries ++ entry ∷ [],
         (entry, record { caller = refl; call = refl; asked = refl; reply = refl; lock = refl; drained = refl }, refl),
-        goes_on rules.fixed entries standing.state entry one.after leads at,
+        goes_on rules.fixed entries standing.manager.state entry one.after.state leads at,
       )
 
   step_recorded : (standing : StandingValue) (entries : List Entry) (seat : ℕ) (act : Option Planned) (after : StandingValue)
-      → StepsTo rules standing seat act (Some after) → LeadsTo rules.fixed entries standing.state
-      → (new : List Entry) × PlaysIn rules standing entries seat act after new × LeadsTo rules.fixed new after.state
+      → StepsTo rules standing seat act (Some after) → LeadsTo rules.fixed entries standing.manager.state
+      → (new : List Entry) × PlaysIn rules standing entries seat act after new × LeadsTo rules.fixed new after.manager.state
   step_recorded standing entries seat None after steps leads = absurd (none-some after (sym steps))
   step_recorded standing entries seat (Some planned) after steps leads =
       let next = next_of standing (seat_at standing seat) planned in
       let same : steps.0 ≡ after = sym (same_Some after steps.0 steps.1) in
       let made : Makes rules standing seat planned next after = subst (λ (new : StandingValue). Makes rules standing seat planned next new) same steps.2 in
       let recorded = next_recorded standing entries seat planned next made.0 made.1 leads in
-      let state = sym (ap (λ (after : StandingValue). after.state) made.2) in
+      let state = sym (ap (λ (after : StandingValue). after.manager.state) made.2) in
       (recorded.0, (made, recorded.1), subst (λ (state : StateValue). LeadsTo rules.fixed recorded.0 state) state recorded.2)
 
   -- steps that were made can be recorded
   pub all_recorded : (standing : StandingValue) (entries : List Entry) (path : List ℕ) (last : StandingValue)
-      → MakesAll rules standing path last → LeadsTo rules.fixed entries standing.state
-      → (new : List Entry) × Plays rules standing entries path last new × LeadsTo rules.fixed new last.state
+      → MakesAll rules standing path last → LeadsTo rules.fixed entries standing.manager.state
+      → (new : List Entry) × Plays rules standing entries path last new × LeadsTo rules.fixed new last.manager.state
   all_recorded standing entries [] last makes leads =
-      (entries, (makes, refl), subst (λ (standing : StandingValue). LeadsTo rules.fixed entries standing.state) makes leads)
+      (entries, (makes, refl), subst (λ (standing : StandingValue). LeadsTo rules.fixed entries standing.manager.state) makes leads)
   all_recorded standing entries (seat ∷ path) last makes leads =
       let step = step_recorded standing entries seat (act_of rules standing seat) makes.0 makes.1 leads in
       let rest = all_recorded makes.0 step.0 path last makes.2 step.2 in
@@ -259,9 +259,9 @@ orders_recorded goes_on header script tells start path end opens order =
     let setting = rules_of header script [] script.setup false in
     let rules = rules_of header script script.steps script.steps tells in
     let front = all_recorded goes_on setting (first_standing header script) [] (seats_of script.setup) opens.0 opens.1 (leads_none (fixed_of header)) in
-    let makes : MakesAll rules (begun header opens.0.state opens.0.labels) path order.0 =
+    let makes : MakesAll rules (begun header opens.0.manager opens.0.labels) path order.0 =
     subst (λ (start : StandingValue). MakesAll rules start path order.0) opens.2 order.1 in
-    let steps = all_recorded goes_on rules (begun header opens.0.state opens.0.labels) front.0 path order.0 makes front.2 in
+    let steps = all_recorded goes_on rules (begun header opens.0.manager opens.0.labels) front.0 path order.0 makes front.2 in
     let played : IsPlayed header script tells path order.0 steps.0 = record {
       ended = opens.0;
       front = front.0;

@@ -2,7 +2,6 @@ pub mod Accepted
 pub mod Counts
 pub mod Histories
 pub mod Later
-pub mod Lowest
 pub mod OneHeader
 pub mod Outcomes
 pub mod Plans

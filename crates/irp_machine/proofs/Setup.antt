@@ -34,7 +34,7 @@ use Rattle.irp_machine.specs.Headers.{IsHeaderOf}
 use Rattle.irp_machine.specs.Machine.{RulesValue, IsNext, StepsTo, act_of, seat_at}
 use Rattle.irp_machine.specs.Next.{after_call, binding, is_tokenless, naming, naming_at, next_by, next_of, packet_of, with_packet}
 use Rattle.irp_machine.specs.Openings.{IsStuck, first_standing, rules_of, seats_of}
-use Rattle.irp_machine.specs.Planning.{is_bound_elsewhere, own_acts, planned}
+use Rattle.irp_machine.specs.Planning.{is_bound_elsewhere, is_named_elsewhere, own_acts, planned}
 use Rattle.irp_machine.specs.Standings.{StandingValue, with_given}
 use Rattle.irp_machine.proofs.Stuck.{Stops, stops_of}
 use Rattle.irp_machine.proofs.Plans.{acts_at, left_first, left_rest, left_within, own_few}
@@ -98,6 +98,10 @@ module _ (rules : RulesValue) (standing : StandingValue) (seat : ℕ) (act : Pla
 none_elsewhere : (seat : ℕ) (label : Option ℕ) → is_bound_elsewhere [] seat label ≡ false
 none_elsewhere seat None = refl
 none_elsewhere seat (Some label) = refl
+
+none_named : (seat : ℕ) (label : Option ℕ) → is_named_elsewhere [] seat label ≡ false
+none_named seat None = refl
+none_named seat (Some label) = refl
 
 changed_seat : (seats : List SeatValue) (seat : ℕ) (after : SeatValue) → seat < length seats → get_or (with_item seat after seats) seat new_seat ≡ after
 changed_seat seats seat after below =
@@ -172,7 +176,7 @@ module _ (header : Header) (script : ScriptParts) (few : length script.setup < 2
 
       ends : Ends change
       ends =
-          next_ends setting standing step.seat act own (are.between step.seat seated) (none_elsewhere step.seat _) (none_elsewhere step.seat _) suits change steps.2.1
+          next_ends setting standing step.seat act own (are.between step.seat seated) (none_elsewhere step.seat _) (none_named step.seat _) suits change steps.2.1
 
       abbrev after : SeatValue
       after = after_step change act.step false own

@@ -29,7 +29,7 @@ use Rattle.irp_machine.specs.declared.parts.Next.TheVariants.{Changes, Calls}
 use Rattle.irp_machine.specs.declared.parts.Planned.{Planned}
 use Rattle.irp_machine.specs.Calling.{IsCalled}
 use Rattle.irp_machine.specs.Endings.{end_of, holds_of, holders_below, locks_below, replies_of, without_replies}
-use Rattle.irp_machine.specs.Machine.{RulesValue, Makes, StepsTo, act_of, knows_of, seat_at}
+use Rattle.irp_machine.specs.Machine.{RulesValue, allocates, Makes, StepsTo, act_of, knows_of, seat_at}
 use Rattle.irp_machine.specs.Next.{is_tokenless, naming_at, next_by, next_of, packet_of, with_packet, with_token}
 use Rattle.irp_machine.specs.Openings.{MakesAll}
 use Rattle.irp_machine.specs.Standings.{StandingValue, after_change, with_given, with_seat_changed}
@@ -195,10 +195,10 @@ makes_untold rules standing seat planned (Calls calling) new made =
         after = call.after;
         drained = call.drained;
         reply = call.reply;
-        call = subst (λ (knows : LockNo → Bool). IsCalled rules.fixed rules.script knows standing.state calling.call call.drained call.reply call.after) knows call.call;
+        call = subst (λ (knows : LockNo → Bool). IsCalled rules.fixed rules.script (allocates rules.acts) knows standing.manager calling.call call.drained call.reply call.after) knows call.call;
         changes = call.changes;
       },
-      ap untold made.2 ∙ after_untold seat made.0 planned.step rules.tells (record standing { state = call.after }),
+      ap untold made.2 ∙ after_untold seat made.0 planned.step rules.tells (record standing { manager = call.after }),
     )
 
 pub steps_untold : (rules : RulesValue) (standing : StandingValue) (seat : ℕ) (act : Option Planned) (new : StandingValue)

@@ -1,8 +1,15 @@
 -- How a script has ended.
-use Rattle.std.specs.Prelude.{ℕ, zero, suc, ◌==◌, if◌then◌else◌, List, [], ◌∷◌, ◌++◌, map, length, slice_index_or, Option}
+use Rattle.std.specs.Prelude.{ℕ, zero, suc, ◌+◌, ◌==◌, if◌then◌else◌, slice_get, List, [], ◌∷◌, ◌++◌, map, length, slice_index_or, Option}
 use Rattle.std.specs.List.{fold}
 use Rattle.std.specs.Option.{option_map}
+use Rattle.irp_types.specs.Packet.{PacketValue, found_location, size_of}
+use Rattle.irp_types.specs.Stacks.{DeviceFacts, DevicesValue, lower_of}
+use Rattle.irp_types.specs.Refusals.{has_ended}
+use Rattle.irp_types.specs.Standing.{lowest_location}
 use Rattle.irp_types.specs.State.{StateValue, LivePacket, live_at}
+use Rattle.irp_types.specs.declared.location.Location.{Location}
+use Rattle.irp_stack.specs.Records.{id}
+use Rattle.irp_machine.specs.declared.live_end.DeviceEnd.{DeviceEnd}
 use Rattle.irp_machine.specs.declared.live_end.LiveEnd.{LiveEnd}
 use Rattle.irp_machine.specs.declared.outcome.End.{End}
 use Rattle.irp_machine.specs.declared.outcome.Holder.{Holder}
@@ -18,22 +25,60 @@ use Rattle.irp_machine.specs.Standings.{StandingValue}
 
 -- ---- packets
 
--- the live packet of a slot, if there is one
-abbrev pub live_end : StateValue → ℕ → Option LiveEnd
-live_end state slot = option_map (λ (live : LivePacket). record {
+-- the contents of so many locations of a packet, from this number up, as far as there are any
+abbrev pub locations_from : PacketValue → ℕ → ℕ → List Location
+locations_from packet number zero = []
+locations_from packet number (suc count) =
+    with_more (found_location packet (number + count)) (locations_from packet number count)
+
+-- the locations that a send, a completion or a look could come to: those from the lowest up that counts; none of a
+-- packet that was completed
+abbrev pub locations_told : PacketValue → List Location
+locations_told packet =
+    locations_from packet (lowest_location packet) (if has_ended packet.owner then 0 else size_of packet)
+
+-- a live packet in its slot
+abbrev pub packet_end : ℕ → LivePacket → LiveEnd
+packet_end slot live = record {
   slot = slot;
   use_no = live.use_no;
   owner = live.packet.owner;
   current = live.packet.current;
   status = live.packet.status;
   information = live.packet.information;
+  pending_returned = live.packet.pending_returned;
   cancel = live.packet.cancel;
-}) (live_at state slot)
+  cancel_routine = live.packet.cancel_routine;
+  preparation = live.packet.preparation;
+  slot_held = live.packet.slot_held;
+  locations = locations_told live.packet;
+}
+
+-- the live packet of a slot, if there is one
+abbrev pub live_end : StateValue → ℕ → Option LiveEnd
+live_end state slot = option_map (λ (live : LivePacket). packet_end slot live) (live_at state slot)
 
 -- the live packets of the slots below this one
 abbrev pub packets_below : StateValue → ℕ → List LiveEnd
 packets_below state zero = []
 packets_below state (suc slot) = with_more (live_end state slot) (packets_below state slot)
+
+-- ---- devices
+
+-- a device by its number, if it was created
+abbrev pub device_end : DevicesValue → ℕ → Option DeviceEnd
+device_end devices device =
+    option_map (λ (facts : DeviceFacts). record {
+      driver = facts.driver;
+      lock = facts.lock;
+      live = facts.live;
+      lower = option_map id (lower_of devices device);
+    }) (slice_get devices.facts device)
+
+-- the devices below this number
+abbrev pub devices_below : DevicesValue → ℕ → List DeviceEnd
+devices_below devices zero = []
+devices_below devices (suc device) = with_more (device_end devices device) (devices_below devices device)
 
 -- ---- remove locks and cancel slots
 
@@ -65,12 +110,14 @@ replies_of seat = record { told = seat.told }
 
 -- ---- the end
 
--- what is told of the end of a script that stands so. A new packet gets the lowest slot that isn't live, so each live
--- packet's slot is below the number of the next use
+-- what is told of the end of a script that stands so. A new packet gets a slot that was freed or the first that never
+-- had one, so each live packet's slot is below the number of the next use. Which slots were freed in which order isn't
+-- told, nor the number of the next use
 abbrev pub end_of : StandingValue → End
 end_of standing = record {
   replies = map replies_of standing.seats;
-  packets = packets_below standing.state standing.state.next_use;
+  packets = packets_below standing.manager.state standing.manager.state.next_use;
+  devices = devices_below standing.manager.state.devices (length standing.manager.state.devices.facts);
   labels = standing.labels;
   locks = locks_below standing.words standing.seats (length standing.words);
   slots = map slot_end standing.slots;

@@ -1,5 +1,6 @@
 pub mod Asking
 pub mod Marks
+pub mod Alike
 pub mod Standings
 pub mod Next
 pub mod Calling

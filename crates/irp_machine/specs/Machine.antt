@@ -2,9 +2,11 @@
 use Rattle.std.specs.Prelude.{ℕ, zero, suc, ◌≡◌, ◌&&◌, Bool, true, false, not, nat_lt, List, length, slice_get, slice_index_or, Option, Some, None, is_some}
 use Rattle.std.specs.List.{list_any}
 use Rattle.std.specs.Option.{option_map, option_and_then}
-use Rattle.irp_types.specs.State.{StateValue, Fixed}
+use Rattle.irp_types.specs.State.{Fixed}
 use Rattle.irp_types.specs.declared.names.LockNo.{LockNo}
 use Rattle.irp_types.specs.declared.reply.Reply.{Reply}
+use Rattle.irp_script_reader.specs.declared.act.StepAct.{StepAct}
+use Rattle.irp_script_reader.specs.declared.act.StepAct.TheVariants.{Allocate}
 use Rattle.irp_script_reader.specs.declared.script.ScriptParts.{ScriptParts}
 use Rattle.irp_machine.specs.declared.parts.Calling.{Calling}
 use Rattle.irp_plain.specs.declared.parts.Change.{Change}
@@ -15,7 +17,7 @@ use Rattle.irp_machine.specs.declared.parts.Planned.{Planned}
 use Rattle.irp_machine.specs.declared.place.Place.{Place}
 use Rattle.irp_machine.specs.declared.place.Place.TheVariants.{Running, Over}
 use Rattle.irp_plain.specs.Seats.{SeatValue, new_seat, is_drained}
-use Rattle.irp_machine.specs.Standings.{StandingValue, after_change, with_state, standing_mark}
+use Rattle.irp_machine.specs.Standings.{ManagerValue, StandingValue, after_change, with_manager, standing_mark}
 use Rattle.irp_machine.specs.Next.{next_of, called}
 use Rattle.irp_machine.specs.Calling.{IsCalled}
 use Rattle.irp_machine.specs.declared.outcome.End.{End}
@@ -45,15 +47,27 @@ act_of rules standing seat =
 abbrev pub knows_of : List Learned → LockNo → Bool
 knows_of learned lock = list_any (is_drained lock.0) learned
 
--- a change is that of a call of a seat, which the manager answered, and this is its state then
+-- an act allocates a packet
+abbrev pub is_allocation : StepAct → Bool
+is_allocation (Allocate size label) = true
+is_allocation other = false
+
+abbrev pub is_allocating : Planned → Bool
+is_allocating planned = is_allocation planned.act
+
+-- some act of these seats allocates a packet
+abbrev pub allocates : List (List Planned) → Bool
+allocates acts = list_any (λ (own : List Planned). list_any is_allocating own) acts
+
+-- a change is that of a call of a seat, which the manager answered, and this is the manager then
 pub record IsCallOf (rules : RulesValue) (standing : StandingValue) (seat : ℕ) (planned : Planned) (calling : Calling)
     (change : Change) : Type 0 where
-  pub after : StateValue
+  pub after : ManagerValue
   pub drained : Bool
   pub reply : Reply
   pub call :
-      IsCalled rules.fixed rules.script (knows_of (seat_at standing seat).learned) standing.state calling.call drained reply
-      after
+      IsCalled rules.fixed rules.script (allocates rules.acts) (knows_of (seat_at standing seat).learned) standing.manager
+      calling.call drained reply after
   pub changes : change ≡ called planned calling reply
 
 -- a change is the one that comes next
@@ -61,12 +75,12 @@ abbrev pub IsNext : RulesValue → StandingValue → ℕ → Planned → Next �
 IsNext rules standing seat planned (Changes one) change = change ≡ one
 IsNext rules standing seat planned (Calls calling) change = IsCallOf rules standing seat planned calling change
 
--- the manager's state behind a change: a call's, or the one before
-abbrev pub state_behind :
+-- the manager behind a change: a call's, or the one before
+abbrev pub manager_behind :
     (rules : RulesValue) (standing : StandingValue) (seat : ℕ) (planned : Planned) (next : Next) (change : Change)
-    → IsNext rules standing seat planned next change → StateValue
-state_behind rules standing seat planned (Changes one) change is = standing.state
-state_behind rules standing seat planned (Calls calling) change call = call.after
+    → IsNext rules standing seat planned next change → ManagerValue
+manager_behind rules standing seat planned (Changes one) change is = standing.manager
+manager_behind rules standing seat planned (Calls calling) change call = call.after
 
 -- where the script stands behind a change that comes next
 abbrev pub stepped :
@@ -74,13 +88,13 @@ abbrev pub stepped :
     → IsNext rules standing seat planned next change → StandingValue
 stepped rules standing seat planned next change is =
     after_change seat change planned.step rules.tells
-    (with_state standing (state_behind rules standing seat planned next change is))
+    (with_manager standing (manager_behind rules standing seat planned next change is))
 
--- this change comes next, and beside it the manager's state changes
+-- this change comes next, and beside it the manager changes
 abbrev pub Acts : RulesValue → StandingValue → ℕ → Planned → Next → StandingValue → Change → Type 0
 Acts rules standing seat planned next new change =
     (is : IsNext rules standing seat planned next change)
-    × (new ≡ with_state standing (state_behind rules standing seat planned next change is))
+    × (new ≡ with_manager standing (manager_behind rules standing seat planned next change is))
 
 -- the next step of a seat in an act
 abbrev pub Makes : RulesValue → StandingValue → ℕ → Planned → Next → StandingValue → Type 0

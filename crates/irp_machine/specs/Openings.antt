@@ -1,6 +1,5 @@
 -- Where a script stands as the steps of its seats begin, and where these lead.
 use Rattle.std.specs.Prelude.{ℕ, ◌≡◌, Bool, false, List, [], ◌∷◌, ◌++◌, length, map, replicate, Some, None}
-use Rattle.irp_types.specs.State.{StateValue, opening_state}
 use Rattle.irp_types.specs.declared.names.IrpRef.{IrpRef}
 use Rattle.irp_transcript.specs.Headers.{fixed_of, slots_of}
 use Rattle.irp_transcript.specs.declared.header.Header.{Header}
@@ -11,9 +10,10 @@ use Rattle.irp_machine.specs.Machine.{RulesValue, StepsTo, act_of}
 use Rattle.irp_machine.specs.Next.{unbound}
 use Rattle.irp_machine.specs.Planning.{acts_below}
 use Rattle.irp_plain.specs.Seats.{new_seat}
-use Rattle.irp_machine.specs.Standings.{StandingValue}
+use Rattle.irp_machine.specs.Standings.{ManagerValue, StandingValue, opening_manager}
 
--- the rules of these steps of a script; labels that others of the rivals bind are read and bound alone
+-- the rules of these steps of a script; labels that others of the rivals bind are read alone, and those that others name
+-- are bound alone
 abbrev pub rules_of : Header → ScriptParts → List Step → List Step → Bool → RulesValue
 rules_of header script rivals steps tells = record {
   fixed = fixed_of header;
@@ -44,10 +44,10 @@ pub record IsStuck (rules : RulesValue) (old : StandingValue) (path : List ℕ) 
 abbrev pub empty_slot : Slot
 empty_slot = record { flag = false; content = 0; used = false; stands = false }
 
--- nobody has made a step yet; this is the manager's state, and the labels stand for this
-abbrev pub begun : Header → StateValue → List IrpRef → StandingValue
-begun header state labels = record {
-  state = state;
+-- nobody has made a step yet; this is the manager, and the labels stand for this
+abbrev pub begun : Header → ManagerValue → List IrpRef → StandingValue
+begun header manager labels = record {
+  manager = manager;
   labels = labels;
   words = replicate header.locks 0;
   slots = replicate (slots_of header.form) empty_slot;
@@ -56,16 +56,16 @@ begun header state labels = record {
 
 -- before the setup no label is bound
 abbrev pub first_standing : Header → ScriptParts → StandingValue
-first_standing header script = begun header opening_state (replicate (length script.labels) unbound)
+first_standing header script = begun header opening_manager (replicate (length script.labels) unbound)
 
 -- the seats of steps
 abbrev pub seats_of : List Step → List ℕ
 seats_of steps = map (λ (step : Step). step.seat) steps
 
--- the setup was made in the script's order; the manager's state and the labels stay, and all else begins anew
+-- the setup was made in the script's order; the manager and the labels stay, and all else begins anew
 abbrev pub Opens : Header → ScriptParts → StandingValue → Type 0
 Opens header script start =
     (ended : StandingValue)
     × MakesAll (rules_of header script [] script.setup false)
     (first_standing header script) (seats_of script.setup) ended
-    × (start ≡ begun header ended.state ended.labels)
+    × (start ≡ begun header ended.manager ended.labels)

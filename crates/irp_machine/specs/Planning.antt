@@ -1,11 +1,17 @@
 -- The acts of each seat of a script.
-use Rattle.std.specs.Prelude.{ℕ, zero, suc, ◌+◌, ◌==◌, ◌&&◌, Bool, false, not, if◌then◌else◌, List, [], ◌∷◌, ◌++◌, Option, Some, None}
+use Rattle.std.specs.Prelude.{ℕ, zero, suc, ◌+◌, ◌==◌, ◌&&◌, ◌||◌, Bool, false, not, if◌then◌else◌, List, [], ◌∷◌, ◌++◌, Option, Some, None}
 use Rattle.std.specs.List.{list_any}
 use Rattle.irp_script_reader.specs.declared.act.Named.{Named}
 use Rattle.irp_script_reader.specs.declared.act.Named.TheVariants.{Label, Irp}
 use Rattle.irp_script_reader.specs.declared.act.Step.{Step}
 use Rattle.irp_machine.specs.declared.parts.Planned.{Planned}
 use Rattle.irp_machine.specs.Next.{label_of, named_by}
+
+-- the label by which a packet is named, where it is
+abbrev pub label_by : Option Named → Option ℕ
+label_by None = None
+label_by (Some (Label label)) = Some label
+label_by (Some (Irp irp)) = None
 
 -- this is the label
 abbrev pub is_label : ℕ → Option ℕ → Bool
@@ -21,19 +27,23 @@ abbrev pub is_bound_elsewhere : List Step → ℕ → Option ℕ → Bool
 is_bound_elsewhere steps seat None = false
 is_bound_elsewhere steps seat (Some label) = list_any (binds_elsewhere seat label) steps
 
--- the label by which a packet is named, where it is
-abbrev pub label_by : Option Named → Option ℕ
-label_by None = None
-label_by (Some (Label label)) = Some label
-label_by (Some (Irp irp)) = None
+-- the step is another seat's and names the label: it reads it or binds it
+abbrev pub names_elsewhere : ℕ → ℕ → Step → Bool
+names_elsewhere seat label step =
+    (is_label label (label_of step.act) || is_label label (label_by (named_by step.act))) && not (step.seat == seat)
 
--- reading the label that names the packet is a step of its own
+-- another seat's step names the label of this seat's step
+abbrev pub is_named_elsewhere : List Step → ℕ → Option ℕ → Bool
+is_named_elsewhere steps seat None = false
+is_named_elsewhere steps seat (Some label) = list_any (names_elsewhere seat label) steps
+
+-- reading the label that names the packet is a step of its own: another seat binds it
 abbrev pub reads_alone : List Step → Step → Bool
 reads_alone steps step = is_bound_elsewhere steps step.seat (label_by (named_by step.act))
 
--- binding the label is a step of its own
+-- binding the label is a step of its own: another seat reads it or binds it
 abbrev pub binds_alone : List Step → Step → Bool
-binds_alone steps step = is_bound_elsewhere steps step.seat (label_of step.act)
+binds_alone steps step = is_named_elsewhere steps step.seat (label_of step.act)
 
 -- the act of a step
 abbrev pub planned : List Step → ℕ → Step → Planned
@@ -45,7 +55,7 @@ planned steps place step = record {
 }
 
 -- the acts of a seat among the rest of the steps, of which the first has this place; labels that others of the rivals
--- bind are read and bound alone
+-- bind are read alone, and those that others name are bound alone
 abbrev pub own_acts : List Step → List Step → ℕ → ℕ → List Planned
 own_acts rivals [] place seat = []
 own_acts rivals (step ∷ rest) place seat =

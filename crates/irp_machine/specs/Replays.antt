@@ -43,7 +43,7 @@ pub record TellsCall (rules : RulesValue) (standing : StandingValue) (seat : ℕ
   pub call : entry.call ≡ calling.call
   pub asked : entry.asked ≡ made.call.asked
   pub reply : entry.reply ≡ made.reply
-  pub lock : entry.lock ≡ lock_of standing.state calling.call
+  pub lock : entry.lock ≡ lock_of standing.manager.state calling.call
   pub drained : entry.drained ≡ made.drained
 
 -- what is recorded of a step: of a call its entry, behind the others; of any other step nothing
@@ -80,8 +80,8 @@ pub record IsPlayed (header : Header) (script : ScriptParts) (tells : Bool) (pat
       (first_standing header script) [] (seats_of script.setup) ended front
   pub steps :
       Plays (rules_of header script script.steps script.steps tells)
-      (begun header ended.state ended.labels) front path last entries
-  pub history : LeadsTo (fixed_of header) entries last.state
+      (begun header ended.manager ended.labels) front path last entries
+  pub history : LeadsTo (fixed_of header) entries last.manager.state
 
 -- ---- word lines
 
@@ -181,4 +181,4 @@ pub record IsSetUp (header : Header) (script : ScriptParts) (old new : List Entr
   pub setup :
       Plays (rules_of header script [] script.setup false)
       (first_standing header script) old (seats_of script.setup) ended new
-  pub begun : start ≡ begun header ended.state ended.labels
+  pub begun : start ≡ begun header ended.manager ended.labels

@@ -1,9 +1,8 @@
 -- In a place a seat has one next step at most.
-use Rattle.std.specs.Prelude.{ℕ, ◌≡◌, ◌<◌, ◌≤◌, ◌+◌, Bool, true, false, List, [], ◌∷◌, length, nat_lt, Option, Some, None, is_some}
+use Rattle.std.specs.Prelude.{ℕ, ◌≡◌, ◌≤◌, ◌+◌, Bool, true, false, List, [], ◌∷◌, length, nat_lt, Option, Some, None}
 use Rattle.std.specs.List.{AllByRecursion}
 use Rattle.std.specs.Option.{option_map}
-use Rattle.std.proofs.Common.{ap, sym, subst, ◌∙◌, refl, inl, inr, arith}
-use Rattle.std.proofs.lemmas.Bool.{cases_eq, cases_lt}
+use Rattle.std.proofs.Common.{ap, sym, subst, ◌∙◌, refl, arith}
 use Rattle.irp_types.specs.Calls.{Call}
 use Rattle.irp_types.specs.State.{StateValue, Fixed}
 use Rattle.irp_types.specs.Packet.{size_of}
@@ -29,11 +28,12 @@ use Rattle.irp_machine.specs.declared.parts.Planned.{Planned}
 use Rattle.irp_machine.specs.declared.place.Place.{Place}
 use Rattle.irp_machine.specs.declared.place.Place.TheVariants.{Running, Over}
 use Rattle.irp_machine.specs.Asking.{AreTold, plan_told, answer_told, cancel_told}
-use Rattle.irp_machine.specs.Standings.{StandingValue, after_change, with_state}
+use Rattle.irp_machine.specs.Standings.{ManagerValue, StandingValue, after_change, with_manager}
 use Rattle.irp_machine.specs.Next.{next_of, called}
-use Rattle.irp_machine.specs.Calling.{IsLowest, IsCalled}
+use Rattle.irp_machine.specs.Calling.{IsCalled}
+use Rattle.irp_plain.specs.Keeps.{freed_if}
 use Rattle.irp_machine.specs.declared.outcome.End.{End}
-use Rattle.irp_machine.specs.Machine.{RulesValue, IsCallOf, IsNext, Makes, StepsTo, ClosesIf, RunningSteps, PlaceSteps, act_of, has_ended, seat_at, knows_of, state_behind}
+use Rattle.irp_machine.specs.Machine.{RulesValue, allocates, IsCallOf, IsNext, Makes, StepsTo, ClosesIf, RunningSteps, PlaceSteps, act_of, has_ended, seat_at, knows_of, manager_behind}
 
 -- ---- calls
 
@@ -53,23 +53,6 @@ step_settled plan_of reply_of cancel_reply_of fixed old drained call asked other
     same_step plan_of reply_of cancel_reply_of unwinding same_descent fixed old drained call asked others reply other new
     another (first_refusal fixed old drained call) stands refl first second slots given answers
 
--- two slots that are the lowest ones are one
-lowest_below : (state : StateValue) (one other : ℕ) → IsLowest state one → IsLowest state other → one < other
-    → one ≡ other
-lowest_below state one other first second below =
-    let never : true ≡ false = sym (second.1 one below) ∙ ap is_some first.0 in
-    absurd (let no : ⊥ = cc in no)
-
-lowest_settled : (state : StateValue) (one other : ℕ) → IsLowest state one → IsLowest state other → one ≡ other
-lowest_settled state one other first second =
-    elim (cases_eq one other) as (λ _. one ≡ other) [
-      | inl same ↦ same
-      | inr apart ↦ elim (cases_lt one other) as (λ _. one ≡ other) [
-        | inl below ↦ lowest_below state one other first second below
-        | inr above ↦ sym (lowest_below state other one second first (omega (arith, apart, above)))
-      ]
-    ]
-
 -- what the script tells is one answer
 told_replies : (fixed : Fixed) (script : ScriptParts) (asked : List Asked) → AreTold fixed.tables script asked
     → AllByRecursion
@@ -82,26 +65,31 @@ told_replies fixed script (Completion id shown answer ∷ others) told =
 told_replies fixed script (Cancel id shown answer ∷ others) told =
     (told.0.told, told_replies fixed script others told.1)
 
-module _ (fixed : Fixed) (script : ScriptParts) where
+module _ (fixed : Fixed) (script : ScriptParts) (kept : Bool) where
   -- a call has one answer
-  pub called_settled : (knows : LockNo → Bool) (old : StateValue) (call : Call) (drained known : Bool)
-      (reply other : Reply) (new another : StateValue)
-      → IsCalled fixed script knows old call drained reply new
-      → IsCalled fixed script knows old call known other another
+  pub called_settled : (knows : LockNo → Bool) (old : ManagerValue) (call : Call) (drained known : Bool)
+      (reply other : Reply) (new another : ManagerValue)
+      → IsCalled fixed script kept knows old call drained reply new
+      → IsCalled fixed script kept knows old call known other another
       → (drained ≡ known) × (reply ≡ other) × (new ≡ another)
   called_settled knows old call drained known reply other new another one two =
       let same : drained ≡ known = one.noted ∙ sym two.noted in
-      let step : Step fixed old known call one.asked reply new =
-      subst (λ (drained : Bool). Step fixed old drained call one.asked reply new) same one.step in
+      let step : Step fixed old.state known call one.asked reply new.state =
+      subst (λ (drained : Bool). Step fixed old.state drained call one.asked reply new.state) same one.step in
       let slots : IsSameSlot call reply other =
-      λ size irp next is first second. lowest_settled old irp.slot next.slot (one.lowest size irp is first)
-      (two.lowest size next is second) in
+      λ size irp next is first second. one.slot size irp is first ∙ sym (two.slot size next is second) in
       let all =
       step_settled (plan_told fixed.tables script) (answer_told script)
-      (cancel_told fixed.tables script) fixed old known call one.asked two.asked reply other new another
+      (cancel_told fixed.tables script) fixed old.state known call one.asked two.asked reply other new.state another.state
       one.stands step two.step slots (told_replies fixed script one.asked one.told)
       (told_replies fixed script two.asked two.told) in
-      (same, all.1, all.2)
+      let freed : new.freed ≡ another.freed =
+      one.freed ∙ ap (λ (reply : Reply). freed_if kept call reply old.freed) all.1 ∙ sym two.freed in (
+        same,
+        all.1,
+        ap (λ (state : StateValue). record new { state = state }) all.2
+            ∙ ap (λ (freed : List ℕ). record another { freed = freed }) freed,
+      )
 
 -- ---- steps
 
@@ -111,14 +99,14 @@ module _ (rules : RulesValue) (standing : StandingValue) where
       → (two : IsCallOf rules standing seat planned calling other) → (change ≡ other) × (one.after ≡ two.after)
   call_settled seat planned calling change other one two =
       let same =
-      called_settled rules.fixed rules.script (knows_of (seat_at standing seat).learned) standing.state calling.call
+      called_settled rules.fixed rules.script (allocates rules.acts) (knows_of (seat_at standing seat).learned) standing.manager calling.call
       one.drained two.drained one.reply two.reply one.after two.after one.call two.call in
       (one.changes ∙ ap (λ (reply : Reply). called planned calling reply) same.1 ∙ sym two.changes, same.2)
 
   next_settled : (seat : ℕ) (planned : Planned) (next : Next) (change other : Change)
       → (one : IsNext rules standing seat planned next change) → (two : IsNext rules standing seat planned next other)
       → (change ≡ other)
-      × (state_behind rules standing seat planned next change one ≡ state_behind rules standing seat planned next other two)
+      × (manager_behind rules standing seat planned next change one ≡ manager_behind rules standing seat planned next other two)
   next_settled seat planned (Changes given) change other one two = (one ∙ sym two, refl)
   next_settled seat planned (Calls calling) change other one two =
       call_settled seat planned calling change other one two
@@ -127,10 +115,10 @@ module _ (rules : RulesValue) (standing : StandingValue) where
       → Makes rules standing seat planned next new → Makes rules standing seat planned next another → new ≡ another
   makes_settled seat planned next new another one two =
       let same = next_settled seat planned next one.0 two.0 one.1 two.1 in
-      let behind = state_behind rules standing seat planned next one.0 one.1 in
+      let behind = manager_behind rules standing seat planned next one.0 one.1 in
       one.2
-      ∙ ap (λ (change : Change). after_change seat change planned.step rules.tells (with_state standing behind)) same.0
-      ∙ ap (λ (state : StateValue). after_change seat two.0 planned.step rules.tells (with_state standing state)) same.1
+      ∙ ap (λ (change : Change). after_change seat change planned.step rules.tells (with_manager standing behind)) same.0
+      ∙ ap (λ (manager : ManagerValue). after_change seat two.0 planned.step rules.tells (with_manager standing manager)) same.1
       ∙ sym two.2
 
   pub steps_settled : (seat : ℕ) (act : Option Planned) (after other : Option StandingValue)

@@ -1,7 +1,7 @@
 -- Where a script stands between two atomic steps, and what a change makes of that.
-use Rattle.std.specs.Prelude.{ℕ, ◌≡◌, Bool, List, Option, Some, None, slice_index_or}
+use Rattle.std.specs.Prelude.{ℕ, ◌≡◌, Bool, List, [], Option, Some, None, slice_index_or}
 use Rattle.std.specs.List.{fold}
-use Rattle.irp_types.specs.State.{StateValue, Fixed, LivePacket}
+use Rattle.irp_types.specs.State.{StateValue, Fixed, LivePacket, opening_state}
 use Rattle.irp_types.specs.Standing.{StandingFacts}
 use Rattle.irp_types.specs.declared.names.IrpRef.{IrpRef}
 use Rattle.irp_manager.specs.ManagerStates.{state_of}
@@ -18,10 +18,22 @@ use Rattle.irp_machine.specs.declared.terms.Terms.{Terms}
 use Rattle.irp_machine.specs.Marks.{with_number, label_mark, slot_mark, seat_mark}
 use Rattle.irp_plain.specs.Seats.{SeatValue, new_seat, after_step, with_held}
 
--- the manager's state, what each label stands for, the words of the remove locks, the cancel slots, and the
--- seats
-pub record StandingValue : Type 0 where
+-- the manager's state; and the slots that were freed and have no packet since, the one that was freed last at the end
+pub record ManagerValue : Type 0 where
   pub state : StateValue
+  pub freed : List ℕ
+
+-- a manager that nobody has called
+abbrev pub opening_manager : ManagerValue
+opening_manager = record { state = opening_state; freed = [] }
+
+-- what a manager is, with these slots freed
+abbrev pub managed : ManagerState (List (Option LivePacket)) → List ℕ → ManagerValue
+managed manager freed = record { state = state_of live_of manager; freed = freed }
+
+-- the manager, what each label stands for, the words of the remove locks, the cancel slots, and the seats
+pub record StandingValue : Type 0 where
+  pub manager : ManagerValue
   pub labels : List IrpRef
   pub words : List ℕ
   pub slots : List Slot
@@ -63,23 +75,24 @@ with_given None seats = seats
 with_given (Some given) seats =
     with_item given.seat (with_held given.held (slice_index_or seats given.seat new_seat)) seats
 
--- where the script stands with another state of the manager
-abbrev pub with_state : StandingValue → StateValue → StandingValue
-with_state standing state = record standing { state = state }
+-- where the script stands with another manager
+abbrev pub with_manager : StandingValue → ManagerValue → StandingValue
+with_manager standing manager = record standing { manager = manager }
 
 -- where the script stands behind an atomic step of a seat that changes this
 abbrev pub after_change : ℕ → Change → ℕ → Bool → StandingValue → StandingValue
 after_change seat change step tells old = record {
-  state = old.state;
+  manager = old.manager;
   labels = with_label change.label old.labels;
   words = with_word change.word old.words;
   slots = with_slot change.slot old.slots;
   seats = with_given change.gives (with_seat_changed seat change step tells old.seats);
 }
 
--- the mark of a standing: behind its seats, labels, words and slots, one after another
+-- the mark of a standing: behind its seats, freed slots, labels, words and cancel slots, one after another
 abbrev pub standing_mark : StandingValue → ℕ
 standing_mark standing =
     let seats : ℕ = fold seat_mark 0 standing.seats in
-    let labels : ℕ = fold label_mark seats standing.labels in
+    let freed : ℕ = fold with_number seats standing.manager.freed in
+    let labels : ℕ = fold label_mark freed standing.labels in
     fold slot_mark (fold with_number labels standing.words) standing.slots

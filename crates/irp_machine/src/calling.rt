@@ -6,13 +6,15 @@ ghost use Rattle.irp_types.specs.Standing.{StandingFacts};
 ghost use Rattle.irp_transcript.specs.Headers.{fixed_of};
 ghost use Rattle.irp_manager.specs.ManagerStates.{Agrees, state_of};
 ghost use Rattle.irp_manager.specs.Slots.{live_of};
+ghost use Rattle.irp_machine.specs.Calling as calls;
 ghost use Rattle.irp_machine.specs.Calling.{IsApplied};
 ghost use Rattle.irp_machine.specs.Standings as spec;
+ghost use Rattle.irp_machine.specs.Standings.{managed};
 
 use crate::asker::ScriptAsker;
 use crate::terms::Terms;
 use irp_manager::{Applied, DrainNote, ManagerState};
-use irp_plain::PlainKeep;
+use irp_plain::{PlainKeep, next_slot, note_freed};
 use irp_transcript::Header;
 use irp_types::Call;
 use std::alloc::{AllocError, Global};
@@ -38,10 +40,28 @@ pub fn new_manager(alloc: Global, header: &Header) -> ManagerState<PlainKeep>
     ManagerState::with_limit(alloc, keep, header.locks, header.form.limit())
 }
 
-/// Makes a call with what the note knows.
+/// Whether a call is to get this slot, and it has a packet.
+fn is_taken(manager: &ManagerState<PlainKeep>, slot: usize, call: Call) -> bool
+    ensures { result ≡ calls.is_taken (state_of live_of manager.now) slot call }
+{
+    match call {
+        Call::Allocate { .. } => manager.live(slot).is_some(),
+        _ => false,
+    }
+}
+
+/// Makes a call with what the note knows, where these slots were freed and have no packet since, and notes which are then,
+/// where packets are allocated.
+///
+/// # Errors
+///
+/// `AllocError` where memory runs out. It would also be the answer where a new packet were to get a slot that is live, but
+/// no script comes to that.
 pub fn call<N: DrainNote>(
     asker: &ScriptAsker,
     manager: &mut ManagerState<PlainKeep>,
+    freed: &mut Vec<usize>,
+    allocates: bool,
     call: Call,
     note: &N,
 ) -> Result<Applied, AllocError>
@@ -49,12 +69,18 @@ pub fn call<N: DrainNote>(
         (state_of live_of manager.old) }
     requires agrees { Agrees (fixed_of asker.now.header.now) manager.old }
     ensures applied { IfOk result (λ applied.
-        IsApplied (fixed_of asker.now.header.now) asker.now.script.now (N.knows_drained note.now)
-        (state_of live_of manager.old) call applied (state_of live_of manager.new)) }
+        IsApplied (fixed_of asker.now.header.now) asker.now.script.now allocates
+        (N.knows_drained note.now) (managed manager.old freed.old.items) call applied
+        (managed manager.new freed.new.items)) }
     ensures stands { StandingFacts (fixed_of asker.now.header.now).tables.counts
         (state_of live_of manager.new) }
     ensures agrees { Agrees (fixed_of asker.now.header.now) manager.new }
 {
-    let applied = manager.apply(asker, call, note, None)?;
+    let slot = next_slot(freed, manager.packets());
+    if is_taken(manager, slot, call) {
+        return Err(AllocError);
+    }
+    let applied = manager.apply(asker, call, note, Some(slot))?;
+    note_freed(freed, allocates, call, applied.reply)?;
     Ok(applied)
 }

@@ -1,32 +1,98 @@
 //! How a script has ended.
 
-ghost use Rattle.std.specs.Prelude.{◌≡◌, ◌++◌, IfOk, OnOk, length, map};
+ghost use Rattle.std.specs.Prelude.{◌≡◌, ◌≤◌, ◌++◌, IfOk, OnOk, length, map};
 ghost use Rattle.irp_manager.specs.ManagerStates.{state_of};
 ghost use Rattle.irp_manager.specs.Slots.{live_of};
+ghost use Rattle.irp_types.specs.Standing.{lowest_location};
+ghost use Rattle.irp_plain.specs.Lists.{with_more};
 ghost use Rattle.irp_machine.specs.Endings as spec;
 
-use crate::live_end::LiveEnd;
+use crate::live_end::{DeviceEnd, LiveEnd};
 use crate::outcome::{End, Holder, LockEnd, Replies, SlotEnd};
 use crate::standing::Standing;
-use irp_manager::ManagerState;
+use irp_manager::{Live, ManagerState};
+use irp_packet::Packet;
 use irp_plain::{Held, PlainKeep, SeatState, Slot, push_if};
-use irp_types::Row;
+use irp_stack::Stacks;
+use irp_types::{DeviceId, Location, Owner, Preparation, Row};
 use std::alloc::{AllocError, Global};
 
-/// The live packet of a slot, if there is one.
-fn live_end(manager: &ManagerState<PlainKeep>, slot: usize) -> Option<LiveEnd>
-    ensures { result ≡ spec.live_end (state_of live_of manager.now) slot }
+/// The number of the current location, or of the one below it that was prepared.
+fn lowest_location(packet: &Packet) -> u32
+    ensures lowest { result ≡ lowest_location packet.now }
+    ensures few { result ≤ 33 }
 {
-    let live = manager.live(slot)?;
-    Some(LiveEnd {
+    match packet.preparation() {
+        Preparation::Nothing => packet.current(),
+        Preparation::Filled | Preparation::Skipped => packet.current() - 1,
+    }
+}
+
+/// The contents of so many locations of a packet, from this number up, as far as there are any.
+fn locations_from(
+    alloc: Global,
+    packet: &Packet,
+    number: u32,
+    count: u32,
+) -> Result<Vec<Location>, AllocError>
+    requires low { number ≤ 33 }
+    requires few { count ≤ 32 }
+    ensures { IfOk result (λ locations.
+        locations.items ≡ spec.locations_from packet.now number count) }
+{
+    let mut locations = Vec::new(alloc);
+    for above in 0..count {
+        push_if(&mut locations, packet.location(number + above))?;
+    }
+    Ok(locations)
+}
+
+/// The locations of a packet that a send, a completion or a look could come to.
+fn locations_told(alloc: Global, packet: &Packet) -> Result<Vec<Location>, AllocError>
+    ensures { IfOk result (λ locations. locations.items ≡ spec.locations_told packet.now) }
+{
+    let count = match packet.owner() {
+        Owner::Ended => 0,
+        Owner::Originator | Owner::Device(_) => packet.size(),
+    };
+    locations_from(alloc, packet, lowest_location(packet), count)
+}
+
+/// A live packet in its slot.
+fn packet_end(alloc: Global, slot: usize, live: &Live) -> Result<LiveEnd, AllocError>
+    ensures { IfOk result (λ end. end ≡ spec.packet_end slot live.now) }
+{
+    let packet = &live.packet;
+    Ok(LiveEnd {
         slot,
         use_no: live.use_no,
-        owner: live.packet.owner(),
-        current: live.packet.current(),
-        status: live.packet.status(),
-        information: live.packet.information(),
-        cancel: live.packet.cancel(),
+        owner: packet.owner(),
+        current: packet.current(),
+        status: packet.status(),
+        information: packet.information(),
+        pending_returned: packet.pending_returned(),
+        cancel: packet.cancel(),
+        cancel_routine: packet.cancel_routine(),
+        preparation: packet.preparation(),
+        slot_held: packet.slot_held(),
+        locations: Row::from_vec(locations_told(alloc, packet)?),
     })
+}
+
+/// Appends the live packet of a slot, if there is one.
+fn add_packet(
+    alloc: Global,
+    packets: &mut Vec<LiveEnd>,
+    manager: &ManagerState<PlainKeep>,
+    slot: usize,
+) -> Result<(), AllocError>
+    ensures { OnOk result (packets.new.items
+        ≡ with_more (spec.live_end (state_of live_of manager.now) slot) packets.old.items) }
+{
+    if let Some(live) = manager.live(slot) {
+        packets.push(packet_end(alloc, slot, live)?)?;
+    }
+    Ok(())
 }
 
 /// The live packets of the slots below this one.
@@ -40,9 +106,34 @@ fn packets_below(
 {
     let mut packets = Vec::new(alloc);
     for slot in 0..below {
-        push_if(&mut packets, live_end(manager, slot as usize))?;
+        add_packet(alloc, &mut packets, manager, slot as usize)?;
     }
     Ok(packets)
+}
+
+/// A device by its number, if it was created.
+fn device_end(stacks: &Stacks, device: DeviceId) -> Option<DeviceEnd>
+    ensures { result ≡ spec.device_end stacks.now.devices device.0 }
+{
+    let facts = stacks.facts(device)?;
+    Some(DeviceEnd {
+        driver: facts.driver,
+        lock: facts.lock,
+        live: facts.live,
+        lower: stacks.lower(device),
+    })
+}
+
+/// The devices, by their numbers.
+fn devices_of(alloc: Global, stacks: &Stacks) -> Result<Vec<DeviceEnd>, AllocError>
+    ensures { IfOk result (λ devices. devices.items
+        ≡ spec.devices_below stacks.now.devices (length stacks.now.devices.facts)) }
+{
+    let mut devices = Vec::new(alloc);
+    for device in 0..stacks.len() {
+        push_if(&mut devices, device_end(stacks, DeviceId(device)))?;
+    }
+    Ok(devices)
 }
 
 /// Appends a seat's references to a lock.
@@ -124,6 +215,7 @@ pub fn end_of(alloc: Global, standing: &Standing) -> Result<End, AllocError>
     Ok(End {
         replies: Row::from_vec(replies_of(alloc, seats)?),
         packets: Row::from_vec(packets),
+        devices: Row::from_vec(devices_of(alloc, manager.stacks())?),
         labels: Row::from_vec(standing.labels().to_vec(alloc)?),
         locks: Row::from_vec(locks_of(alloc, words, seats)?),
         slots: Row::from_vec(slots_of(alloc, standing.slots())?),

@@ -1,13 +1,14 @@
 //! The machine of a script.
 
 ghost use Rattle.std.specs.Prelude.{◌≡◌, ◌+◌, ◌<◌, ◌≤◌, IfOk, OnOk, length};
+ghost use Rattle.std.specs.List.{list_any};
 ghost use mathlib.Core.Logic.{◌↔◌};
 ghost use Rattle.irp_transcript.specs.Headers.{fixed_of};
 ghost use Rattle.irp_machine.specs.Calling.{IsApplied};
-ghost use Rattle.irp_machine.specs.Machine.{RulesValue, StepsTo, PlaceSteps, Acts, Makes, ClosesTo, act_of, has_ended, knows_of, place_mark, seat_at};
+ghost use Rattle.irp_machine.specs.Machine.{RulesValue, StepsTo, PlaceSteps, Acts, Makes, ClosesTo, act_of, allocates, is_allocating, has_ended, knows_of, place_mark, seat_at};
 ghost use Rattle.irp_machine.specs.declared.parts.Next.TheVariants.{Calls};
 ghost use Rattle.irp_machine.specs.Next.{next_of};
-ghost use Rattle.irp_machine.specs.Standings.{with_state};
+ghost use Rattle.irp_machine.specs.Standings.{with_manager};
 ghost use Rattle.irp_machine.specs.Settled.{moves_settled};
 
 use crate::asker::ScriptAsker;
@@ -23,6 +24,7 @@ use crate::standing::Standing;
 use irp_explore::Machine;
 use irp_manager::Applied;
 use irp_plain::{Change, Learned};
+use irp_script_reader::StepAct;
 use irp_types::Row;
 use std::alloc::{AllocError, Global};
 use std::marker::Model;
@@ -52,6 +54,20 @@ impl<'a> Model for ScriptMachine<'a> {
     } };
 
     ghost invariant = { λ own. length own.acts.items ≤ 64 };
+}
+
+/// Whether an act allocates a packet.
+fn is_allocating(planned: &Planned) -> bool
+    ensures { result ≡ is_allocating planned.now }
+{
+    matches!(planned.act, StepAct::Allocate { .. })
+}
+
+/// Whether some of these acts allocates a packet.
+fn row_allocates(acts: &Row<Planned>) -> bool
+    ensures { result ≡ list_any is_allocating acts.now }
+{
+    acts.as_slice().iter().any(|planned| is_allocating(planned))
 }
 
 impl<'a> ScriptMachine<'a> {
@@ -95,6 +111,13 @@ impl<'a> ScriptMachine<'a> {
         ended
     }
 
+    /// Whether some act allocates a packet.
+    fn allocates(&self) -> bool
+        ensures { result ≡ allocates self.now.acts }
+    {
+        self.acts.iter().any(|acts| row_allocates(acts))
+    }
+
     /// Makes a call of a seat that knows this of locks.
     pub fn call(
         &self,
@@ -103,14 +126,15 @@ impl<'a> ScriptMachine<'a> {
         calling: Calling,
     ) -> Result<Applied, AllocError>
         ensures applied { IfOk result (λ applied.
-            IsApplied self.now.fixed self.now.script (knows_of learned.now) next.old.state
-            calling.call applied next.new.state) }
-        ensures rest { OnOk result (next.new ≡ with_state next.old next.new.state) }
+            IsApplied self.now.fixed self.now.script (allocates self.now.acts)
+            (knows_of learned.now) next.old.manager calling.call applied next.new.manager) }
+        ensures rest { OnOk result (next.new ≡ with_manager next.old next.new.manager) }
     {
-        next.call(&self.asker, calling.call, &SeatNote { learned })
+        let allocates = self.allocates();
+        next.call(&self.asker, allocates, calling.call, &SeatNote { learned })
     }
 
-    /// Makes a call of a seat, and returns what it changes beside the manager's state.
+    /// Makes a call of a seat, and returns what it changes beside the manager.
     fn called(
         &self,
         next: &mut Standing,
@@ -127,7 +151,7 @@ impl<'a> ScriptMachine<'a> {
         Ok(called(planned, calling, applied.reply))
     }
 
-    /// Makes what the next step of a seat in this act makes of the manager's state, and returns what else it changes.
+    /// Makes what the next step of a seat in this act makes of the manager, and returns what else it changes.
     fn acted(
         &self,
         next: &mut Standing,

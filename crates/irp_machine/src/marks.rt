@@ -55,6 +55,14 @@ impl Marked for u64 {
     }
 }
 
+impl Marked for usize {
+    ghost marked = { spec.with_number };
+
+    fn mark_behind(&self, mark: u64) -> u64 {
+        with_number(mark, *self as u64)
+    }
+}
+
 impl Marked for IrpRef {
     ghost marked = { spec.label_mark };
 

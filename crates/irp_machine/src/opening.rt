@@ -38,7 +38,8 @@ fn new_seats(alloc: Global, seats: u32) -> Result<Vec<SeatState>, AllocError>
     Ok(all)
 }
 
-/// The machine of these steps of a script. Labels that others of the rivals bind are read and bound alone.
+/// The machine of these steps of a script. Labels that others of the rivals bind are read alone, and those that others
+/// name are bound alone.
 ///
 /// # Errors
 ///
@@ -88,7 +89,7 @@ pub fn first_standing(
 /// Where a script stands whose setup ended so: nobody has made a step.
 pub fn opened(alloc: Global, header: &Header, ended: Standing) -> Result<Standing, AllocError>
     ensures { IfOk result (λ standing.
-        standing ≡ spec.begun header.now ended.state ended.labels) }
+        standing ≡ spec.begun header.now ended.manager ended.labels) }
 {
     let words = Vec::from_elem(alloc, 0u64, header.locks as usize)?;
     let slots = Vec::from_elem(alloc, EMPTY, header.form.slots() as usize)?;

@@ -1,7 +1,7 @@
 //! How orders end, as it is told: this project's own rule. A file of its own, since definitions that clauses cite name
 //! these.
 
-use crate::live_end::LiveEnd;
+use crate::live_end::{DeviceEnd, LiveEnd};
 use irp_plain::Told;
 use irp_types::{IrpRef, Row};
 
@@ -43,6 +43,8 @@ pub struct End {
     pub replies: Row<Replies>,
     /// The live packets by rising slot.
     pub packets: Row<LiveEnd>,
+    /// The devices that were created, by their numbers.
+    pub devices: Row<DeviceEnd>,
     /// What each label stands for: a reference that is never live where it isn't bound.
     pub labels: Row<IrpRef>,
     pub locks: Row<LockEnd>,

@@ -2,13 +2,24 @@
 
 ghost use Rattle.std.specs.Prelude.{◌≡◌, ◌<◌, ◌^◌, IfOk, OnOk, length};
 ghost use Rattle.std.specs.List.{list_any};
+ghost use Rattle.irp_machine.specs.Next.{named_by};
 ghost use Rattle.irp_machine.specs.Planning as spec;
 
 use crate::next::{label_of, named_by};
 use crate::parts::Planned;
-use irp_script_reader::{Named, Step};
+use irp_script_reader::{Named, Step, StepAct};
 use irp_types::Row;
 use std::alloc::{AllocError, Global};
+
+/// The label by which an act names its packet, where it does.
+fn label_by(act: StepAct) -> Option<usize>
+    ensures { result ≡ spec.label_by (named_by act) }
+{
+    match named_by(act) {
+        Some(Named::Label(label)) => Some(label),
+        _ => None,
+    }
+}
 
 /// Whether a step is another seat's and binds a label.
 fn binds_elsewhere(step: Step, seat: u32, label: usize) -> bool
@@ -20,6 +31,15 @@ fn binds_elsewhere(step: Step, seat: u32, label: usize) -> bool
     }
 }
 
+/// Whether a step is another seat's and names a label: it reads it or binds it.
+fn names_elsewhere(step: Step, seat: u32, label: usize) -> bool
+    ensures { result ≡ spec.names_elsewhere seat label step }
+{
+    let binds = label_of(step.act) == Some(label);
+    let reads = label_by(step.act) == Some(label);
+    (binds || reads) && step.seat != seat
+}
+
 /// Whether another seat's step binds a label.
 fn is_bound_elsewhere(steps: &[Step], seat: u32, label: usize) -> bool
     ensures { result ≡ list_any (spec.binds_elsewhere seat label) steps.now }
@@ -27,13 +47,20 @@ fn is_bound_elsewhere(steps: &[Step], seat: u32, label: usize) -> bool
     steps.iter().any(|step| binds_elsewhere(*step, seat, label))
 }
 
+/// Whether another seat's step names a label.
+fn is_named_elsewhere(steps: &[Step], seat: u32, label: usize) -> bool
+    ensures { result ≡ list_any (spec.names_elsewhere seat label) steps.now }
+{
+    steps.iter().any(|step| names_elsewhere(*step, seat, label))
+}
+
 /// Whether reading the label that names the packet of a step is a step of its own.
 fn reads_alone(steps: &[Step], step: Step) -> bool
     ensures { result ≡ spec.reads_alone steps.now step }
 {
-    match named_by(step.act) {
-        Some(Named::Label(label)) => is_bound_elsewhere(steps, step.seat, label),
-        _ => false,
+    match label_by(step.act) {
+        Some(label) => is_bound_elsewhere(steps, step.seat, label),
+        None => false,
     }
 }
 
@@ -42,7 +69,7 @@ fn binds_alone(steps: &[Step], step: Step) -> bool
     ensures { result ≡ spec.binds_alone steps.now step }
 {
     match label_of(step.act) {
-        Some(label) => is_bound_elsewhere(steps, step.seat, label),
+        Some(label) => is_named_elsewhere(steps, step.seat, label),
         None => false,
     }
 }
@@ -59,7 +86,8 @@ fn planned(steps: &[Step], place: u32, step: Step) -> Planned
     }
 }
 
-/// The acts of a seat, in the order of the steps. Labels that others of the rivals bind are read and bound alone.
+/// The acts of a seat, in the order of the steps. Labels that others of the rivals bind are read alone, and those that
+/// others name are bound alone.
 fn acts_of_seat(
     alloc: Global,
     rivals: &[Step],
@@ -80,7 +108,8 @@ fn acts_of_seat(
     Ok(acts)
 }
 
-/// The acts of each of so many seats. Labels that others of the rivals bind are read and bound alone.
+/// The acts of each of so many seats. Labels that others of the rivals bind are read alone, and those that others name
+/// are bound alone.
 ///
 /// # Errors
 ///

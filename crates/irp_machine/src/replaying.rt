@@ -37,11 +37,11 @@ fn call_again(
     calling: Calling,
 ) -> Result<Change, AllocError>
     requires learned { learned.now ≡ (seat_at standing.old seat).learned }
-    requires leads { LeadsTo machine.now.fixed entries.old.items standing.old.state }
+    requires leads { LeadsTo machine.now.fixed entries.old.items standing.old.manager.state }
     ensures records { IfOk result (IsActed machine.now standing.old seat planned (Calls calling)
         entries.old.items standing.new entries.new.items) }
     ensures leads { OnOk result
-        (LeadsTo machine.now.fixed entries.new.items standing.new.state) }
+        (LeadsTo machine.now.fixed entries.new.items standing.new.manager.state) }
 {
     let number = entries.len() as u64;
     entries.reserve(1)?;
@@ -71,12 +71,12 @@ fn act_again(
 ) -> Result<Change, AllocError>
     requires there { seat < length before.now.seats }
     requires same { standing.old ≡ before.now }
-    requires leads { LeadsTo machine.now.fixed entries.old.items standing.old.state }
+    requires leads { LeadsTo machine.now.fixed entries.old.items standing.old.manager.state }
     ensures records { IfOk result (IsActed machine.now before.now seat planned
         (next_of before.now (seat_at before.now seat) planned) entries.old.items standing.new
         entries.new.items) }
     ensures leads { OnOk result
-        (LeadsTo machine.now.fixed entries.new.items standing.new.state) }
+        (LeadsTo machine.now.fixed entries.new.items standing.new.manager.state) }
 {
     let own = &before.seats()[seat as usize];
     match next_of(before, own, planned) {
@@ -99,11 +99,11 @@ fn play(
     standing: &mut Standing,
     seat: u32,
 ) -> Result<(), NotMade>
-    requires { LeadsTo machine.now.fixed entries.old.items standing.old.state }
+    requires { LeadsTo machine.now.fixed entries.old.items standing.old.manager.state }
     ensures plays { OnOk result (PlaysIn machine.now standing.old entries.old.items seat
         (act_of machine.now standing.old seat) standing.new entries.new.items) }
     ensures leads { OnOk result
-        (LeadsTo machine.now.fixed entries.new.items standing.new.state) }
+        (LeadsTo machine.now.fixed entries.new.items standing.new.manager.state) }
     ensures no_step { IfErr result (λ refusal. refusal ≡ NoStep
         → act_of machine.now standing.old seat ≡ None) }
 {
@@ -128,11 +128,11 @@ fn play_all(
     standing: &mut Standing,
     path: &[u32],
 ) -> Result<(), NotMade>
-    requires { LeadsTo machine.now.fixed entries.old.items standing.old.state }
+    requires { LeadsTo machine.now.fixed entries.old.items standing.old.manager.state }
     ensures plays { OnOk result (Plays machine.now standing.old entries.old.items path.now
         standing.new entries.new.items) }
     ensures leads { OnOk result
-        (LeadsTo machine.now.fixed entries.new.items standing.new.state) }
+        (LeadsTo machine.now.fixed entries.new.items standing.new.manager.state) }
     ensures no_step { IfErr result (λ refusal. refusal ≡ NoStep
         → IsStuck machine.now standing.old path.now) }
 {
@@ -154,7 +154,7 @@ fn play_setup(
     requires none { entries.old.items ≡ [] }
     ensures setup { IfOk result (IsSetUp header.now script.now [] entries.new.items) }
     ensures leads { IfOk result (λ start.
-        LeadsTo (fixed_of header.now) entries.new.items start.state) }
+        LeadsTo (fixed_of header.now) entries.new.items start.manager.state) }
 {
     let setup = script.setup.as_slice();
     let machine = machine_of(alloc, header, script, &[], setup, false)?;
@@ -197,12 +197,12 @@ fn play_path(
 ) -> Result<(), NotMade>
     requires headed { IsHeaderOf script.now header.now }
     requires sound { IsSound script.now }
-    requires leads { LeadsTo (fixed_of header.now) entries.old.items standing.old.state }
+    requires leads { LeadsTo (fixed_of header.now) entries.old.items standing.old.manager.state }
     ensures plays { OnOk result
         (Plays (rules_of header.now script.now script.now.steps script.now.steps true) standing.old
         entries.old.items path.now standing.new entries.new.items) }
     ensures leads { OnOk result
-        (LeadsTo (fixed_of header.now) entries.new.items standing.new.state) }
+        (LeadsTo (fixed_of header.now) entries.new.items standing.new.manager.state) }
     ensures no_step { IfErr result (λ refusal. refusal ≡ NoStep
         → IsStuck (rules_of header.now script.now script.now.steps script.now.steps true)
         standing.old path.now) }

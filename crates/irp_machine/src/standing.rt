@@ -2,12 +2,11 @@
 
 ghost use Rattle.std.specs.Prelude.{◌≡◌, IfOk, OnOk, true};
 ghost use mathlib.Core.Logic.{◌↔◌};
-ghost use Rattle.irp_types.specs.State.{opening_state};
 ghost use Rattle.irp_transcript.specs.Headers.{fixed_of};
 ghost use Rattle.irp_manager.specs.ManagerStates.{state_of};
 ghost use Rattle.irp_manager.specs.Slots.{live_of};
 ghost use Rattle.irp_machine.specs.Calling.{IsApplied};
-ghost use Rattle.irp_machine.specs.Standings.{StandsBy, after_change, with_state, with_word, with_slot, with_label, with_given, with_seat_changed, standing_mark, terms_of as told_terms};
+ghost use Rattle.irp_machine.specs.Standings.{StandsBy, after_change, managed, opening_manager, with_manager, with_word, with_slot, with_label, with_given, with_seat_changed, standing_mark, terms_of as told_terms};
 
 use crate::asker::ScriptAsker;
 use crate::calling::{self, new_manager, terms_of};
@@ -33,6 +32,8 @@ pub struct Standing {
     alloc: Global,
     terms: Terms,
     manager: Rc<ManagerState<PlainKeep>>,
+    /// The slots that were freed and have no packet since, the one that was freed last at the end.
+    freed: Vec<usize>,
     labels: Vec<IrpRef>,
     words: Vec<u64>,
     slots: Vec<Slot>,
@@ -40,9 +41,7 @@ pub struct Standing {
 }
 
 impl Model for Standing {
-    ghost use Rattle.irp_manager.specs.ManagerStates.{state_of};
-    ghost use Rattle.irp_manager.specs.Slots.{live_of};
-    ghost use Rattle.irp_machine.specs.Standings.{StandingValue, StandsBy};
+    ghost use Rattle.irp_machine.specs.Standings.{StandingValue, StandsBy, managed};
     ghost use Rattle.std.specs.Coded.{codes};
     ghost use Rattle.std.specs.FinMap as fin;
 
@@ -51,7 +50,7 @@ impl Model for Standing {
     ghost coded = { Prim.hlevel (codes, fin.code) };
 
     ghost view = { λ own. record {
-      state = state_of live_of own.manager.value;
+      manager = managed own.manager.value own.freed.items;
       labels = own.labels.items;
       words = own.words.items;
       slots = own.slots.items;
@@ -126,25 +125,29 @@ fn are_told(terms: Terms, asker: &ScriptAsker) -> bool
     terms == terms_of(asker.header())
 }
 
-/// A copy of a manager behind a call, which is made with what the note knows, and what the call was answered.
+/// A copy of a manager behind a call, which is made with what the note knows, and what the call was answered. The freed
+/// slots are changed by it.
 fn called_copy<N: DrainNote>(
     terms: Terms,
     manager: &ManagerState<PlainKeep>,
+    freed: &mut Vec<usize>,
     asker: &ScriptAsker,
+    allocates: bool,
     call: Call,
     note: &N,
 ) -> Result<(ManagerState<PlainKeep>, Applied), AllocError>
     requires { StandsBy terms manager.now }
     ensures applied { IfOk result (λ called.
-        IsApplied (fixed_of asker.now.header.now) asker.now.script.now (N.knows_drained note.now)
-        (state_of live_of manager.now) call called.1 (state_of live_of called.0)) }
+        IsApplied (fixed_of asker.now.header.now) asker.now.script.now allocates
+        (N.knows_drained note.now) (managed manager.now freed.old.items) call called.1
+        (managed called.0 freed.new.items)) }
     ensures stands { IfOk result (λ called. StandsBy terms called.0) }
 {
     if !are_told(terms, asker) {
         return Err(AllocError);
     }
     let mut copy = copy_of_manager(manager)?;
-    let applied = calling::call(asker, &mut copy, call, note)?;
+    let applied = calling::call(asker, &mut copy, freed, allocates, call, note)?;
     Ok((copy, applied))
 }
 
@@ -159,7 +162,7 @@ impl Standing {
         seats: Vec<SeatState>,
     ) -> Result<Standing, AllocError>
         ensures { IfOk result (λ standing. standing ≡ record {
-          state = opening_state;
+          manager = opening_manager;
           labels = labels.items;
           words = words.items;
           slots = slots.items;
@@ -170,6 +173,7 @@ impl Standing {
             alloc,
             terms: terms_of(header),
             manager: Rc::new(alloc, new_manager(alloc, header))?,
+            freed: Vec::new(alloc),
             labels,
             words,
             slots,
@@ -180,7 +184,7 @@ impl Standing {
     /// Where a script stands with this manager and these labels, and all else anew.
     pub fn begun(self, words: Vec<u64>, slots: Vec<Slot>, seats: Vec<SeatState>) -> Standing
         ensures { result ≡ record {
-          state = self.state;
+          manager = self.manager;
           labels = self.labels;
           words = words.items;
           slots = slots.items;
@@ -191,6 +195,7 @@ impl Standing {
             alloc: self.alloc,
             terms: self.terms,
             manager: self.manager,
+            freed: self.freed,
             labels: self.labels,
             words,
             slots,
@@ -206,6 +211,7 @@ impl Standing {
             alloc: self.alloc,
             terms: self.terms,
             manager: self.manager.clone()?,
+            freed: self.freed.clone()?,
             labels: self.labels.clone()?,
             words: self.words.clone()?,
             slots: self.slots.clone()?,
@@ -213,19 +219,20 @@ impl Standing {
         })
     }
 
-    /// The mark. The manager's state isn't in it: it seldom differs where seats are as far and were told the same.
+    /// The mark. The manager's state isn't in it, but for the freed slots: it seldom differs where seats are as far and were told the same.
     pub fn mark(&self) -> u64
         ensures { result ≡ standing_mark self.now }
     {
         let seats = mark_behind_all(0, &self.seats);
-        let labels = mark_behind_all(seats, &self.labels);
+        let freed = mark_behind_all(seats, &self.freed);
+        let labels = mark_behind_all(freed, &self.labels);
         let words = mark_behind_all(labels, &self.words);
         mark_behind_all(words, &self.slots)
     }
 
     /// The manager.
     pub fn manager(&self) -> &ManagerState<PlainKeep>
-        ensures { state_of live_of result.now ≡ self.now.state }
+        ensures { state_of live_of result.now ≡ self.now.manager.state }
     {
         &self.manager
     }
@@ -258,7 +265,7 @@ impl Standing {
         self.seats.as_slice()
     }
 
-    /// Makes a call of the manager with what the note knows.
+    /// Makes a call of the manager with what the note knows. It keeps which slots are freed where packets are allocated.
     ///
     /// # Errors
     ///
@@ -267,15 +274,25 @@ impl Standing {
     pub fn call<N: DrainNote>(
         &mut self,
         asker: &ScriptAsker,
+        allocates: bool,
         call: Call,
         note: &N,
     ) -> Result<Applied, AllocError>
         ensures applied { IfOk result (λ applied.
-            IsApplied (fixed_of asker.now.header.now) asker.now.script.now (N.knows_drained note.now)
-            self.old.state call applied self.new.state) }
-        ensures rest { OnOk result (self.new ≡ with_state self.old self.new.state) }
+            IsApplied (fixed_of asker.now.header.now) asker.now.script.now allocates
+            (N.knows_drained note.now) self.old.manager call applied self.new.manager) }
+        ensures rest { OnOk result (self.new ≡ with_manager self.old self.new.manager) }
     {
-        let called = called_copy(self.terms, &self.manager, asker, call, note)?;
+        let freed = &mut self.freed;
+        let called = called_copy(
+            self.terms,
+            &self.manager,
+            freed,
+            asker,
+            allocates,
+            call,
+            note,
+        )?;
         self.manager = Rc::new(self.alloc, called.0)?;
         Ok(called.1)
     }
@@ -304,6 +321,7 @@ impl Standing {
     {
         are_same(&self.seats, &other.seats)
             && is_same_manager(&self.manager, &other.manager)
+            && are_same(&self.freed, &other.freed)
             && are_labels(&self.labels, &other.labels)
             && are_same(&self.words, &other.words)
             && are_same(&self.slots, &other.slots)

@@ -12,13 +12,12 @@ use Rattle.irp_remove.proofs.Observing.{blank_observer, blank_stake}
 use Rattle.irp_plain.specs.Lists.{with_item}
 use Rattle.irp_plain.specs.declared.parts.Change.{Change}
 use Rattle.irp_plain.specs.declared.parts.Given.{Given}
-use Rattle.irp_types.specs.State.{StateValue}
 use Rattle.irp_machine.specs.declared.parts.Planned.{Planned}
 use Rattle.irp_machine.specs.Machine.{RulesValue, StepsTo, act_of, seat_at, stepped}
 use Rattle.irp_machine.specs.Next.{next_of}
 use Rattle.irp_machine.specs.Openings.{MakesAll, begun, rules_of}
 use Rattle.irp_plain.specs.Seats.{SeatValue, new_seat, after_step, with_held}
-use Rattle.irp_machine.specs.Standings.{StandingValue, after_change, with_given}
+use Rattle.irp_machine.specs.Standings.{ManagerValue, StandingValue, after_change, with_given}
 use Rattle.irp_machine_laws.specs.Hands.{HandsLand}
 use Rattle.irp_machine_laws.specs.LockLaws.{LockOpeningLaw, LockOrderLaw, Follows}
 use Rattle.irp_machine_laws.specs.LockTables.{LockTable, StandsFor, IsLearned, of_stake, one_each, holding_at, holds, trying_at, tries, busy_at, keeps_busy}
@@ -104,10 +103,10 @@ knows_nothing locks seat is = subst (λ (s : SeatValue). IsLearned locks s new_w
   drained_flags = long 64 false;
 })
 
-stands_fresh : (rules : RulesValue) (header : Header) (state : StateValue) (labels : List IrpRef) → header.locks ≤ 64 → header.seats < 64 → (idle : ℕ) → idle ≡ 4096
-    → StandsFor rules (begun header state labels) (record { locks = header.locks; observers = header.seats; stakes = idle })
+stands_fresh : (rules : RulesValue) (header : Header) (manager : ManagerValue) (labels : List IrpRef) → header.locks ≤ 64 → header.seats < 64 → (idle : ℕ) → idle ≡ 4096
+    → StandsFor rules (begun header manager labels) (record { locks = header.locks; observers = header.seats; stakes = idle })
     (record { words = replicate header.locks 0; homes = []; views = fresh header.seats idle })
-stands_fresh rules header state labels few_locks few_seats idle is =
+stands_fresh rules header manager labels few_locks few_seats idle is =
     let seats_long : length (replicate header.seats new_seat) ≡ header.seats = long header.seats new_seat in
     let of_stakes : (f : Rattle.irp_remove.specs.declared.views.Stage.Stage → ℕ) → total (of_stake f) (fresh header.seats idle) ≡ header.seats * 0 + idle * f Rattle.irp_remove.specs.declared.views.Stage.TheVariants.Idle =
     λ f. total_fresh (of_stake f) header.seats idle in
@@ -128,12 +127,12 @@ stands_fresh rules header state labels few_locks few_seats idle is =
     }
 
 pub lock_opening_law : LockOpeningLaw
-lock_opening_law rules header state labels few_locks few_seats = (
+lock_opening_law rules header manager labels few_locks few_seats = (
   record { locks = header.locks; observers = header.seats; stakes = 4096 },
   record { words = replicate header.locks 0; homes = []; views = fresh header.seats 4096 },
   refl,
   refl,
-  stands_fresh rules header state labels few_locks few_seats 4096 refl,
+  stands_fresh rules header manager labels few_locks few_seats 4096 refl,
 )
 
 -- ---- orders
@@ -188,7 +187,7 @@ pub lock_order_law : LockOrderLaw
 lock_order_law header script rivals steps tells start path new order =
     let rules : RulesValue = rules_of header script rivals steps tells in
     let opens = order.opens in
-    let opened = lock_opening_law rules header opens.0.state opens.0.labels order.few_locks order.few_seats in
+    let opened = lock_opening_law rules header opens.0.manager opens.0.labels order.few_locks order.few_seats in
     let key : Parties = opened.0 in
     let table : LockTable = opened.1 in
     let stands : StandsFor rules start key table = subst (λ (s : StandingValue). StandsFor rules s key table) (sym opens.2) opened.4 in

@@ -5,13 +5,12 @@ use Rattle.irp_script_reader.specs.declared.act.StepAct.{StepAct}
 use Rattle.irp_script_reader.specs.declared.act.StepAct.TheVariants as does
 use Rattle.irp_slots.specs.declared.views.Parties.{Parties}
 use Rattle.irp_plain.specs.declared.parts.Change.{Change}
-use Rattle.irp_types.specs.State.{StateValue}
 use Rattle.irp_machine.specs.declared.parts.Planned.{Planned}
 use Rattle.irp_plain.specs.Changes as change
-use Rattle.irp_machine.specs.Machine.{RulesValue, IsNext, seat_at, state_behind}
+use Rattle.irp_machine.specs.Machine.{RulesValue, IsNext, seat_at, manager_behind}
 use Rattle.irp_machine.specs.Next.{next_by, next_of, with_packet}
 use Rattle.irp_plain.specs.Seats.{SeatValue, new_seat}
-use Rattle.irp_machine.specs.Standings.{StandingValue, after_change, with_state}
+use Rattle.irp_machine.specs.Standings.{ManagerValue, StandingValue, after_change, with_manager}
 use Rattle.irp_machine_laws.specs.SlotLaws.{SlotStepLaw}
 use Rattle.irp_machine_laws.specs.SlotSteps.{IsStepAt}
 use Rattle.irp_machine_laws.specs.SlotTables.{SlotTable, StandsFor, published_by}
@@ -50,10 +49,10 @@ module _ (rules : RulesValue) (standing : StandingValue) (key : Parties) (table 
       (λ irp. subst (λ (act : StepAct). NextIs rules standing seat planned LeavesSlots (with_packet standing own act irp)) (sym act_is)
       (call_next rules standing seat planned own (does.Allocate size label) irp)) step next)
 
--- no table hangs on the manager's state
-beside : (rules : RulesValue) (standing : StandingValue) (key : Parties) (table : SlotTable) (state : StateValue) → StandsFor rules standing key table
-    → StandsFor rules (with_state standing state) key table
-beside rules standing key table state r = record {
+-- no table hangs on the manager
+beside : (rules : RulesValue) (standing : StandingValue) (key : Parties) (table : SlotTable) (manager : ManagerValue) → StandsFor rules standing key table
+    → StandsFor rules (with_manager standing manager) key table
+beside rules standing key table manager r = record {
   kept = r.kept;
   homes = r.homes;
   slots = r.slots;
@@ -65,5 +64,5 @@ pub slot_step_law : SlotStepLaw
 slot_step_law rules standing key table seat planned step r is next =
     let found = act_found rules.acts standing.seats seat planned is in
     let done = by_act rules standing key table r seat found.0 planned found.1 planned.act refl step next in
-    let state = state_behind rules standing seat planned (next_of standing (seat_at standing seat) planned) step next in
-    (done.0, done.1, beside rules (after_change seat step planned.step rules.tells standing) key done.0 state done.2)
+    let manager = manager_behind rules standing seat planned (next_of standing (seat_at standing seat) planned) step next in
+    (done.0, done.1, beside rules (after_change seat step planned.step rules.tells standing) key done.0 manager done.2)

@@ -159,7 +159,7 @@ module _ (slots askers : ℕ) (few_slots : slots ≤ 64) (few_askers : askers �
       }
 
 pub slot_opening_law : SlotOpeningLaw
-slot_opening_law rules header state labels few_slots few_seats =
+slot_opening_law rules header manager labels few_slots few_seats =
     let slots : ℕ = slots_of header.form in
     let key : Parties = fresh_key slots header.seats few_slots few_seats in
     let table : SlotTable = fresh slots header.seats few_slots few_seats in (
@@ -219,7 +219,7 @@ pub slot_order_law : SlotOrderLaw
 slot_order_law header script rivals steps tells start path new order =
     let rules : RulesValue = rules_of header script rivals steps tells in
     let opens = order.opens in
-    let opened = slot_opening_law rules header opens.0.state opens.0.labels order.few_slots order.few_seats in
+    let opened = slot_opening_law rules header opens.0.manager opens.0.labels order.few_slots order.few_seats in
     let key : Parties = opened.0 in
     let table : SlotTable = opened.1 in
     let stands : StandsFor rules start key table = subst (λ (s : StandingValue). StandsFor rules s key table) (sym opens.2) opened.4 in

@@ -1,7 +1,6 @@
 -- The machine's steps at remove locks are steps of the table of remove locks.
 use Rattle.std.specs.Prelude.{◌≡◌, ℕ, ◌%◌, ◌<◌, ◌≤◌, Bool, true, List, [], ◌∷◌, length, slice_index_or, Some}
 use Rattle.irp_types.specs.Limits.{most_locks, most_seats}
-use Rattle.irp_types.specs.State.{StateValue}
 use Rattle.irp_types.specs.declared.names.IrpRef.{IrpRef}
 use Rattle.irp_types.specs.declared.names.LockNo.{LockNo}
 use Rattle.irp_transcript.specs.declared.header.Header.{Header}
@@ -13,7 +12,7 @@ use Rattle.irp_machine.specs.declared.parts.Planned.{Planned}
 use Rattle.irp_machine.specs.Machine.{RulesValue, IsNext, act_of, knows_of, seat_at, stepped}
 use Rattle.irp_machine.specs.Next.{next_of}
 use Rattle.irp_machine.specs.Openings.{MakesAll, Opens, begun, rules_of}
-use Rattle.irp_machine.specs.Standings.{StandingValue}
+use Rattle.irp_machine.specs.Standings.{ManagerValue, StandingValue}
 use Rattle.irp_machine_laws.specs.Hands.{AreHandsWithin, HandsLand}
 use Rattle.irp_machine_laws.specs.LockSteps.{IsStepAt}
 use Rattle.irp_machine_laws.specs.LockTables.{LockTable, StandsFor, references}
@@ -33,10 +32,10 @@ LockStepLaw =
 -- as the steps of seats begin, a table stands for where the script stands
 abbrev pub LockOpeningLaw : Type 0
 LockOpeningLaw =
-    (rules : RulesValue) (header : Header) (state : StateValue) (labels : List IrpRef) → header.locks ≤ most_locks
+    (rules : RulesValue) (header : Header) (manager : ManagerValue) (labels : List IrpRef) → header.locks ≤ most_locks
     → header.seats < most_seats
     → (key : Parties) × (table : LockTable) × (key.locks ≡ header.locks) × (key.observers ≡ header.seats)
-    × StandsFor rules (begun header state labels) key table
+    × StandsFor rules (begun header manager labels) key table
 
 -- the next step of a seat, and what it is at a table
 pub record Makes (rules : RulesValue) (old : StandingValue) (seat : ℕ) (new : StandingValue)

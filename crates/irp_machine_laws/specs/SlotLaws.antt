@@ -1,7 +1,6 @@
 -- The machine's steps at cancel slots are steps of the table of cancel slots.
 use Rattle.std.specs.Prelude.{◌≡◌, ℕ, ◌<◌, ◌≤◌, Bool, false, List, [], ◌∷◌, slice_index_or, Some}
 use Rattle.irp_types.specs.Limits.{most_seats, most_slots}
-use Rattle.irp_types.specs.State.{StateValue}
 use Rattle.irp_types.specs.declared.names.IrpRef.{IrpRef}
 use Rattle.irp_transcript.specs.Headers.{slots_of}
 use Rattle.irp_transcript.specs.declared.header.Header.{Header}
@@ -13,7 +12,7 @@ use Rattle.irp_machine.specs.declared.parts.Planned.{Planned}
 use Rattle.irp_machine.specs.Machine.{RulesValue, IsNext, act_of, seat_at, stepped}
 use Rattle.irp_machine.specs.Next.{next_of}
 use Rattle.irp_machine.specs.Openings.{MakesAll, Opens, begun, empty_slot, rules_of}
-use Rattle.irp_machine.specs.Standings.{StandingValue}
+use Rattle.irp_machine.specs.Standings.{ManagerValue, StandingValue}
 use Rattle.irp_machine_laws.specs.Seats.{over_seats}
 use Rattle.irp_machine_laws.specs.SlotSteps.{IsStepAt}
 use Rattle.irp_machine_laws.specs.SlotTables.{SlotTable, StandsFor, finds, puts}
@@ -32,10 +31,10 @@ SlotStepLaw =
 -- as the steps of seats begin, a table stands for where the script stands
 abbrev pub SlotOpeningLaw : Type 0
 SlotOpeningLaw =
-    (rules : RulesValue) (header : Header) (state : StateValue) (labels : List IrpRef) → slots_of header.form ≤ most_slots
+    (rules : RulesValue) (header : Header) (manager : ManagerValue) (labels : List IrpRef) → slots_of header.form ≤ most_slots
     → header.seats ≤ most_seats
     → (key : Parties) × (table : SlotTable) × (key.slots ≡ slots_of header.form) × (key.cancellers ≡ header.seats)
-    × StandsFor rules (begun header state labels) key table
+    × StandsFor rules (begun header manager labels) key table
 
 -- the next step of a seat, and what it is at a table of so many slots
 pub record Makes (rules : RulesValue) (slots : ℕ) (old : StandingValue) (seat : ℕ) (new : StandingValue)

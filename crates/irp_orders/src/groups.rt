@@ -88,12 +88,7 @@ impl Pairs {
     /// Whether a packet has a partner among these that has come as far as it.
     fn has_partner(&mut self, one: &LiveEnd, others: &[LiveEnd]) -> Result<bool, AllocError> {
         for other in others {
-            let as_far = one.owner == other.owner
-                && one.current == other.current
-                && one.status == other.status
-                && one.information == other.information
-                && one.cancel == other.cancel;
-            if as_far && self.pair(one.use_no, other.use_no)? {
+            if has_come_as_far(one, other) && self.pair(one.use_no, other.use_no)? {
                 return Ok(true);
             }
         }
@@ -113,6 +108,20 @@ impl Pairs {
         }
         Ok(true)
     }
+}
+
+/// Whether two packets have come as far: all is equal but slot and use.
+fn has_come_as_far(one: &LiveEnd, other: &LiveEnd) -> bool {
+    one.owner == other.owner
+        && one.current == other.current
+        && one.status == other.status
+        && one.information == other.information
+        && one.pending_returned == other.pending_returned
+        && one.cancel == other.cancel
+        && one.cancel_routine == other.cancel_routine
+        && one.preparation == other.preparation
+        && one.slot_held == other.slot_held
+        && one.locations.as_slice() == other.locations.as_slice()
 }
 
 /// Whether two references are of one seat, with one tag.
@@ -149,6 +158,7 @@ fn are_alike(alloc: Global, one: &Found, other: &Found) -> Result<bool, AllocErr
             && pairs.labels(first, second)?
             && pairs.slots(first, second)?
             && are_same_locks(first.locks.as_slice(), second.locks.as_slice())
+            && first.devices.as_slice() == second.devices.as_slice()
             && pairs.packets(first, second)?,
     )
 }

@@ -2,6 +2,7 @@
 #![tactic(auto)]
 
 mod asked;
+mod differing;
 mod ending;
 mod ends;
 mod exploring;

@@ -1,20 +1,24 @@
 //! The table of outcomes.
 
-use crate::ends::{LiveWords, LockWords, SlotWords};
+use crate::differing::Differing;
+use crate::ends::{DeviceEndWords, LabelWords, LiveWords, LocationWords, LockWords, SlotWords};
 use crate::found::Found;
 use crate::steps::StepWords;
 use irp_listing::put_line;
+use irp_machine::LiveEnd;
 use irp_script_reader::{Script, Step};
+use irp_types::{IrpRef, Preparation};
 use std::alloc::{AllocError, Global};
 use std::fmt;
 
-/// What the table tells of each outcome: the steps whose answers differ, and the remove locks and cancel slots that some
-/// order leaves otherwise than untouched.
+/// What the table tells of each outcome: the steps whose answers differ, what else differs between ends, and the remove
+/// locks and cancel slots that some order leaves otherwise than untouched.
 #[derive(Drop)]
 pub struct Columns<'a> {
     pub script: &'a Script,
     pub labels: &'a [String],
     steps: Vec<bool>,
+    ends: Differing,
     locks: Vec<bool>,
     slots: Vec<bool>,
     /// How many orders there are.
@@ -90,6 +94,7 @@ impl<'a> Columns<'a> {
             script,
             labels,
             steps: differing(alloc, founds, parts.steps.as_slice().len())?,
+            ends: Differing::of(alloc, founds, labels.len())?,
             locks: touched_locks(alloc, founds, parts.locks as usize)?,
             slots: touched_slots(alloc, founds, parts.form.slots() as usize)?,
             orders: orders_of(founds),
@@ -185,6 +190,20 @@ fn put_step(
     put_further(alloc, out, &words)
 }
 
+/// Puts the locations of a live packet.
+fn put_locations(alloc: Global, out: &mut Vec<u8>, live: &LiveEnd) -> Result<(), AllocError> {
+    let mut number = match live.preparation {
+        Preparation::Nothing => u64::from(live.current),
+        Preparation::Filled | Preparation::Skipped => u64::from(live.current).saturating_sub(1),
+    };
+    for location in live.locations.as_slice() {
+        let location = *location;
+        put_further(alloc, out, &LocationWords { number, location })?;
+        number = number.saturating_add(1);
+    }
+    Ok(())
+}
+
 /// Puts the live packets.
 fn put_packets(
     alloc: Global,
@@ -195,11 +214,61 @@ fn put_packets(
     let end = &found.outcome.end;
     for live in end.packets.as_slice() {
         let words = LiveWords {
-            live: *live,
+            live,
+            facts: columns.ends.facts,
             labels: columns.labels,
             named: end.labels.as_slice(),
         };
         put_further(alloc, out, &words)?;
+        if columns.ends.facts.locations {
+            put_locations(alloc, out, live)?;
+        }
+    }
+    Ok(())
+}
+
+/// Whether a packet is among live ones.
+fn is_live(packets: &[LiveEnd], irp: IrpRef) -> bool {
+    packets
+        .iter()
+        .any(|live| live.slot == irp.slot && live.use_no == irp.use_no)
+}
+
+/// Puts the labels that stand for other packets in other outcomes, where they name no live one.
+fn put_labels(
+    alloc: Global,
+    out: &mut Vec<u8>,
+    columns: &Columns<'_>,
+    found: &Found,
+) -> Result<(), AllocError> {
+    let end = &found.outcome.end;
+    let named = columns.labels.iter().zip(end.labels.as_slice().iter());
+    for (place, (label, irp)) in named.enumerate() {
+        let differs = columns.ends.labels.get(place).copied() == Some(true);
+        if differs && !is_live(end.packets.as_slice(), *irp) {
+            let (label, irp) = (label.as_str(), *irp);
+            put_further(alloc, out, &LabelWords { label, irp })?;
+        }
+    }
+    Ok(())
+}
+
+/// Puts the devices that other outcomes leave in another state.
+fn put_devices(
+    alloc: Global,
+    out: &mut Vec<u8>,
+    columns: &Columns<'_>,
+    found: &Found,
+) -> Result<(), AllocError> {
+    for (number, device) in found.outcome.end.devices.as_slice().iter().enumerate() {
+        if columns.ends.devices.get(number).copied() == Some(true) {
+            let words = DeviceEndWords {
+                number,
+                device: *device,
+                tells_driver: columns.ends.drivers,
+            };
+            put_further(alloc, out, &words)?;
+        }
     }
     Ok(())
 }
@@ -259,6 +328,8 @@ pub fn put_outcome(
     put_line(out, text.as_str())?;
     put_steps(alloc, out, columns, found)?;
     put_packets(alloc, out, columns, found)?;
+    put_labels(alloc, out, columns, found)?;
+    put_devices(alloc, out, columns, found)?;
     put_locks(alloc, out, columns, found)?;
     put_slots(alloc, out, columns, found)
 }

@@ -1,5 +1,5 @@
 -- A list of places as the map of its live packets.
-use Rattle.std.proofs.Common.{ℕ, ◌≡◌, ◌≢◌, ◌<◌, ◌≤◌, inl, inr, List, [], ◌∷◌, ◌++◌, length, set, get_or, Option, Some, None, is_some, true, false, ap, sym, ◌∙◌, refl, arith}
+use Rattle.std.proofs.Common.{ℕ, ◌≡◌, ◌<◌, ◌≤◌, inl, inr, List, [], ◌∷◌, ◌++◌, length, set, get_or, Option, Some, None, ap, sym, ◌∙◌, refl, arith}
 use Rattle.std.proofs.lemmas.Bool.{cases_eq, cases_lt}
 use Rattle.std.proofs.lemmas.List.{get_or-set_same, get_or-set_other, get_or_append_left, get_or_push, length_push, get_or_read}
 use Rattle.std.proofs.Math.ListN.{get_or-eq_default}
@@ -7,9 +7,8 @@ use Rattle.std.specs.FinMap as fin
 use Rattle.irp_types.specs.State.{LivePacket}
 use Rattle.std.specs.Prelude.{OnSome}
 use Rattle.irp_manager.specs.Slots.{place_at, live_of}
-use Rattle.irp_plain.specs.Keeps.{IsLowestVacant}
 use Rattle.irp_manager.proofs.SlotMaps.{get-live}
-use Rattle.irp_manager.proofs.Maps.{get_inserted, get_kept, get_removed, get_left, same}
+use Rattle.irp_manager.proofs.Maps.{get_removed, get_left, same}
 
 -- nothing stands past the end
 nothing_past : (places : List (Option LivePacket)) (slot : ℕ) → length places ≤ slot → place_at places slot ≡ None
@@ -36,27 +35,6 @@ none_emptied places slot past = same _ _ (λ q.
       | inr other ↦ sym (get_left (live_of places) slot q other)
     ])
 
--- one more place
-pub pushed : (places : List (Option LivePacket)) (live : LivePacket) → live_of (places ++ Some live ∷ []) ≡ fin.insert (live_of places) (length places) live
-pushed places live = same _ _ (λ q.
-    let more = places ++ Some live ∷ [] in
-    let long = length_push places (Some live) in
-    elim (cases_eq q (length places)) as (λ _. fin.get (live_of (places ++ Some live ∷ [])) q ≡ fin.get (fin.insert (live_of places) (length places) live) q) [
-      | inl here ↦
-          get-live (places ++ Some live ∷ []) q ∙ get_or_push places (Some live) None q (sym here)
-          ∙ sym (get_inserted (live_of places) (length places) live) ∙ ap (λ q. fin.get (fin.insert (live_of places) (length places) live) q) (sym here)
-      | inr other ↦
-          get-live (places ++ Some live ∷ []) q ∙ elsewhere q other ∙ sym (get-live places q) ∙ sym (get_kept (live_of places) (length places) live q other)
-    ])
-  where
-    elsewhere : (q : ℕ) → q ≢ length places → place_at (places ++ Some live ∷ []) q ≡ place_at places q
-    elsewhere q other =
-        elim (cases_lt q (length places)) as (λ _. place_at (places ++ Some live ∷ []) q ≡ place_at places q) [
-          | inl below ↦ get_or_append_left places (Some live ∷ []) None q below
-          | inr above ↦
-              nothing_past (places ++ Some live ∷ []) q (omega (arith, above, other, length_push places (Some live))) ∙ sym (nothing_past places q above)
-        ]
-
 -- what stands at a place, seen as the map
 pub found_at : (places value : List (Option LivePacket)) → places ≡ value → (slot : ℕ) (place : Option LivePacket) → slot < length places → place ≡ get_or places slot place
     → place ≡ fin.get (live_of value) slot
@@ -67,17 +45,23 @@ pub none_at : (places value : List (Option LivePacket)) → places ≡ value →
 none_at places value same slot past =
     sym (nothing_past places slot past) ∙ sym (get-live places slot) ∙ ap (λ (places : List (Option LivePacket)). fin.get (live_of places) slot) same
 
--- the lowest vacant slot is at most the number of places
-pub lowest_within : (places : List (Option LivePacket)) (slot : ℕ) → IsLowestVacant places slot → slot ≤ length places
-lowest_within places slot lowest =
-    elim (cases_lt (length places) slot) as (λ _. slot ≤ length places) [
-      | inl past ↦
-          (let taken : true ≡ is_some (place_at places (length places)) = sym (lowest.1 (length places) past) in
-          let none = ap is_some (nothing_past places (length places) (omega arith)) in
-          let never : true ≡ false = taken ∙ none in
-          absurd (let no : ⊥ = cc in no))
-      | inr within ↦ within
+-- a vacant place at the end changes no packet
+pub grown : (places : List (Option LivePacket)) → live_of (places ++ None ∷ []) ≡ live_of places
+grown places = same _ _ (λ q. get-live (places ++ None ∷ []) q ∙ at q ∙ sym (get-live places q))
+  where
+    at : (q : ℕ) → place_at (places ++ None ∷ []) q ≡ place_at places q
+    at q = elim (cases_lt q (length places)) as (λ _. place_at (places ++ None ∷ []) q ≡ place_at places q) [
+      | inl below ↦ get_or_append_left places (None ∷ []) None q below
+      | inr above ↦ elim (cases_eq q (length places)) as (λ _. place_at (places ++ None ∷ []) q ≡ place_at places q) [
+        | inl here ↦ get_or_push places None None q (sym here) ∙ sym (nothing_past places q above)
+        | inr other ↦
+            nothing_past (places ++ None ∷ []) q (omega (arith, above, other, length_push places None)) ∙ sym (nothing_past places q above)
+      ]
     ]
+
+-- the slot behind all others isn't live
+pub vacant_end : (places : List (Option LivePacket)) → fin.get (live_of places) (length places) ≡ None
+vacant_end places = get-live places (length places) ∙ nothing_past places (length places) (omega arith)
 
 -- a fact that holds anyway
 pub on_some : {X : Type 0} (result : Option X) (P : Type 0) → P → OnSome result P

@@ -47,7 +47,7 @@ fn are_same_stacks(one: &Stacks, other: &Stacks) -> bool
 }
 
 /// Whether two locations are equal.
-fn is_same_location(one: Location, other: Location) -> bool
+pub(crate) fn is_same_location(one: Location, other: Location) -> bool
     ensures { (result ≡ true) ↔ (one ≡ other) }
 {
     one == other

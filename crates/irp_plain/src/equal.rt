@@ -3,11 +3,12 @@
 ghost use Rattle.std.specs.Prelude.{◌≡◌, true};
 ghost use mathlib.Core.Logic.{◌↔◌};
 
+use crate::alike::is_same_location;
 use crate::answered::{Answered, Told};
 use crate::parts::{Held, Learned, Slot, Stage, Taken};
 use crate::same::{Same, are_same};
 use crate::seat_state::SeatState;
-use irp_types::{IrpRef, Reply};
+use irp_types::{IrpRef, Location, Reply};
 
 /// Whether two lists of packets are equal.
 pub fn are_labels(one: &[IrpRef], other: &[IrpRef]) -> bool
@@ -55,6 +56,12 @@ fn is_answer(one: Answered, other: Answered) -> bool
         (Answered::Reply(one), Answered::Reply(other)) => is_reply(one, other),
         (Answered::Word(one), Answered::Word(other)) => one == other,
         _ => false,
+    }
+}
+
+impl Same for Location {
+    fn is_same(&self, other: &Location) -> bool {
+        is_same_location(*self, *other)
     }
 }
 

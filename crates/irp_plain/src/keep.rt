@@ -1,11 +1,10 @@
 //! A keep of live packets that can be copied and compared.
 
-ghost use Rattle.std.specs.Prelude.{◌≡◌, ◌<◌, ◌≤◌, ℕ, true, None, is_some, IfOk, [], length};
+ghost use Rattle.std.specs.Prelude.{◌≡◌, ◌<◌, ◌≤◌, ℕ, true, None, is_some, IfOk, OnErr, OnOk, [], length};
 ghost use mathlib.Core.Logic.{◌↔◌};
 ghost use Rattle.std.specs.FinMap as fin;
 ghost use Rattle.irp_types.specs.State.{LivePacket};
-ghost use Rattle.irp_manager.specs.Slots.{place_at, live_of};
-ghost use Rattle.irp_plain.specs.Keeps.{IsLowestVacant};
+ghost use Rattle.irp_manager.specs.Slots.{IsGranted, live_of};
 
 use irp_manager::{Keep, Live, has_packet};
 use irp_packet::Packet;
@@ -13,8 +12,8 @@ use irp_types::DeviceId;
 use std::alloc::{AllocError, Global};
 use std::marker::Model;
 
-/// Live packets in a list of places, a slot being a place. A new packet gets the lowest slot that isn't live, whatever
-/// was wished for (this project's own rule).
+/// Live packets in a list of places, a slot being a place. A new packet gets the slot that was wished for where it isn't
+/// live, and else one behind all others (this project's own rule).
 ///
 /// Contracts see it as the list of its places.
 #[derive(Drop)]
@@ -48,16 +47,38 @@ impl PlainKeep {
         self.places.len()
     }
 
-    /// The lowest slot that isn't live.
-    fn vacant(&self) -> usize
-        ensures { IsLowestVacant self.now result }
+    /// Whether a slot has a packet.
+    fn is_live(&self, slot: usize) -> bool
+        ensures { result ≡ is_some (fin.get (live_of self.now) slot) }
     {
-        for slot in 0..self.places.len() {
-            if self.places[slot].is_none() {
-                return slot;
-            }
+        self.get(slot).is_some()
+    }
+
+    /// The slot that is wished for where it isn't live, and else the one behind all others.
+    fn choose(&self, wish: Option<usize>) -> usize
+        ensures vacant { fin.get (live_of self.now) result ≡ None }
+        ensures granted { IsGranted (live_of self.now) wish result }
+    {
+        match wish {
+            Some(slot) if !self.is_live(slot) => slot,
+            _ => self.places.len(),
         }
-        self.places.len()
+    }
+
+    /// Adds vacant places until there is one of this slot.
+    ///
+    /// # Errors
+    ///
+    /// `AllocError` where a growth was refused. No packet changes then either.
+    #[tactic(auto, using(crate::proofs::KeepMaps::grown))]
+    fn reach(&mut self, slot: usize) -> Result<(), AllocError>
+        ensures same { live_of self.new ≡ live_of self.old }
+        ensures there { OnOk result (slot < length self.new) }
+    {
+        while self.places.len() <= slot {
+            self.places.push(None)?;
+        }
+        Ok(())
     }
 }
 
@@ -74,7 +95,7 @@ impl Clone for PlainKeep {
 impl Keep for PlainKeep {
     ghost live = { live_of };
 
-    ghost grants = { λ keep wish slot. IsLowestVacant keep slot };
+    ghost grants = { λ keep wish slot. IsGranted (live_of keep) wish slot };
 
     ghost gave_back = { λ old slot new. live_of new ≡ fin.remove (live_of old) slot };
 
@@ -123,17 +144,12 @@ impl Keep for PlainKeep {
     }
 
     fn insert(&mut self, wish: Option<usize>, size: u8, use_no: u64) -> Result<usize, AllocError> {
-        let _ = wish;
-        let slot = self.vacant();
-        let live = Live {
+        let slot = self.choose(wish);
+        self.reach(slot)?;
+        self.places[slot] = Some(Live {
             packet: Packet::of_size(size),
             use_no,
-        };
-        if slot < self.places.len() {
-            self.places[slot] = Some(live);
-        } else {
-            self.places.push(Some(live))?;
-        }
+        });
         Ok(slot)
     }
 }

@@ -7,6 +7,7 @@ mod alike;
 mod answered;
 mod changes;
 mod equal;
+mod freed;
 mod keep;
 mod lists;
 mod parts;
@@ -17,6 +18,7 @@ pub use alike::{copy_of_manager, is_same_manager};
 pub use answered::{Answered, Told};
 pub use changes::{bound, going, hand, on_lock, only, publish, request, told, withdraw};
 pub use equal::are_labels;
+pub use freed::{next_slot, note_freed};
 pub use keep::PlainKeep;
 pub use lists::{push_if, put_at};
 pub use parts::{

@@ -16,6 +16,12 @@ impl Same for u64 {
     }
 }
 
+impl Same for usize {
+    fn is_same(&self, other: &usize) -> bool {
+        *self == *other
+    }
+}
+
 /// Whether two lists have equal values in the same order.
 pub fn are_same<T: Same>(one: &[T], other: &[T]) -> bool
     ensures { (result ≡ true) ↔ (one.now ≡ other.now) }

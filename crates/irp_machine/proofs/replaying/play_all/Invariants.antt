@@ -14,5 +14,5 @@ invariant-loop-seat l = record {
       → Plays l.machine l.standing l.entries.items (drop l.seat-index l.path) last all
       → Plays l.machine l.fn.standing l.fn.entries.items l.path last all;
   stuck : Stops l.machine l.standing (drop l.seat-index l.path) → Stops l.machine l.fn.standing l.path;
-  leads : LeadsTo l.machine.fixed l.entries.items l.standing.state;
+  leads : LeadsTo l.machine.fixed l.entries.items l.standing.manager.state;
 }

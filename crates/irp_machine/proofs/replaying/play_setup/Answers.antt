@@ -17,8 +17,8 @@ pub play_all-requires : goal.play_all-requires
 play_all-requires c =
     let fixed = fixed_of c.args.header.now in
     let none = subst (λ (entries : List Entry). LeadsTo fixed entries opening_state) (sym c.requires.none) (leads_none fixed) in
-    let first = subst (λ (standing : StandingValue). LeadsTo fixed c.args.entries.now.items standing.state) (sym c.in_ok-standing.ensures) none in
-    subst (λ (rules : RulesValue). LeadsTo rules.fixed c.args.entries.now.items c.in_ok-standing.standing.state) (sym c.in_ok-machine.ensures.machine) first
+    let first = subst (λ (standing : StandingValue). LeadsTo fixed c.args.entries.now.items standing.manager.state) (sym c.in_ok-standing.ensures) none in
+    subst (λ (rules : RulesValue). LeadsTo rules.fixed c.args.entries.now.items c.in_ok-standing.standing.manager.state) (sym c.in_ok-machine.ensures.machine) first
 
 pub unreachable-requires : goal.unreachable-requires
 unreachable-requires c =
