@@ -276,7 +276,7 @@ int main(int argc, char **argv)
             if (scenarios[i].run != delete_in_flight)
                 take_down();
             write_transcript();
-            return forget();
+            _Exit(forget()); /* the host would tell that nobody called WdmFinish */
         }
     return argc < 2 ? 0 : 2;
 }
