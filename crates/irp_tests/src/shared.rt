@@ -52,13 +52,16 @@ fn learned<A: Ask, L: Session>(
     shared: &Shared<A, L>,
     seats: &mut [Seat<L>],
 ) -> Outcome {
-    let [first, second, ..] = seats else {
-        return Outcome::Wrong("there are no two seats");
+    let Some(second) = seats.get_mut(1) else {
+        return Outcome::Wrong("there is no second seat");
     };
-    match shared.call(rt, second, ALLOCATE, &KnowsNothing) {
-        Ok(receipt) => learn(first, &receipt),
-        Err(_) => return Outcome::Wrong("a call wasn't recorded"),
-    }
+    let Ok(receipt) = shared.call(rt, second, ALLOCATE, &KnowsNothing) else {
+        return Outcome::Wrong("a call wasn't recorded");
+    };
+    let Some(first) = seats.first_mut() else {
+        return Outcome::Wrong("there is no first seat");
+    };
+    learn(first, &receipt);
     number("entries that a seat has seen", first.seen(), 5)
 }
 
