@@ -3,6 +3,9 @@
 
 static const WDM_SITE nowhere;
 
+/* This thread, by its seat: under a schedule all threads have one `self`. */
+static PVOID me(void) { return (PVOID)(ULONG_PTR)(self.seat + 1); }
+
 VOID KeEnterCriticalRegion(VOID) { self.regions++; }
 
 VOID KeLeaveCriticalRegion(VOID)
@@ -32,7 +35,7 @@ static int reader(const ERESOURCE *r, bool may_be_new)
 {
     int room = -1;
     for (int i = 0; i < 32; i++) {
-        if (r->Readers[i].Count && r->Readers[i].Thread == (PVOID)&self)
+        if (r->Readers[i].Count && r->Readers[i].Thread == me())
             return i;
         if (!r->Readers[i].Count && room < 0)
             room = i;
@@ -43,7 +46,7 @@ static int reader(const ERESOURCE *r, bool may_be_new)
 /* Under G: takes the resource where that is possible now. */
 static BOOLEAN try_to_take(PERESOURCE r, BOOLEAN exclusive)
 {
-    const bool is_mine = r->Exclusive && r->Owner == (PVOID)&self;
+    const bool is_mine = r->Exclusive && r->Owner == me();
     const int mine = reader(r, true);
     if (is_mine) {
         r->Exclusive++;
@@ -51,14 +54,15 @@ static BOOLEAN try_to_take(PERESOURCE r, BOOLEAN exclusive)
     }
     if (exclusive ? r->Exclusive || r->Shared : r->Exclusive || mine < 0)
         return FALSE;
-    if (!exclusive && r->Waiting && !r->Readers[mine].Count)
-        return FALSE; /* who waits to have it alone goes first */
+    if (!exclusive && r->Shared && r->Waiting && !r->Readers[mine].Count)
+        return FALSE; /* who waits to have it alone goes before one more reader. A free resource is never refused, so
+                         whoever clears Changed is told by the next release. */
     if (exclusive) {
         r->Exclusive = 1;
-        r->Owner = (PVOID)&self;
+        r->Owner = me();
     } else {
         r->Shared++;
-        r->Readers[mine].Thread = (PVOID)&self;
+        r->Readers[mine].Thread = me();
         r->Readers[mine].Count++;
     }
     return TRUE;
@@ -90,7 +94,7 @@ VOID WdmExReleaseResource(PERESOURCE Resource, WDM_SITE at)
     Call c;
     enter_host(&c, "ExReleaseResourceLite", at);
     const int mine = reader(Resource, false);
-    if (Resource->Exclusive && Resource->Owner == (PVOID)&self)
+    if (Resource->Exclusive && Resource->Owner == me())
         Resource->Exclusive--;
     else if (mine >= 0) {
         Resource->Readers[mine].Count--;
@@ -113,7 +117,7 @@ NTSTATUS WdmExDeleteResource(PERESOURCE Resource, WDM_SITE at)
 
 BOOLEAN ExIsResourceAcquiredExclusiveLite(PERESOURCE Resource)
 {
-    return Resource->Exclusive && Resource->Owner == (PVOID)&self;
+    return Resource->Exclusive && Resource->Owner == me();
 }
 
 ULONG ExIsResourceAcquiredSharedLite(PERESOURCE Resource)
@@ -132,7 +136,7 @@ VOID ExConvertExclusiveToSharedLite(PERESOURCE Resource)
     const int mine = reader(Resource, true);
     Resource->Exclusive = 0;
     Resource->Shared += times;
-    Resource->Readers[mine].Thread = (PVOID)&self;
+    Resource->Readers[mine].Thread = me();
     Resource->Readers[mine].Count += times;
     set_event(&Resource->Changed);
     pthread_mutex_unlock(&host_lock);
