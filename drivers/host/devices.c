@@ -222,7 +222,6 @@ VOID WdmIoDeleteDevice(PDEVICE_OBJECT Device, WDM_SITE at)
     leave_host();
 }
 
-VOID IoInvalidateDeviceRelations(PDEVICE_OBJECT Device, DEVICE_RELATION_TYPE Type) { (void)Device, (void)Type; }
 VOID IoInvalidateDeviceState(PDEVICE_OBJECT Device) { (void)Device; }
 
 POWER_STATE PoSetPowerState(PDEVICE_OBJECT Device, POWER_STATE_TYPE Type, POWER_STATE State)

@@ -299,12 +299,13 @@ bool wait_for_host(bool (*done)(const void *), const void *context);
 void finish_work(void);
 void run_work(Frame *f, int driver);
 void work_done(void);
-bool workers_are_idle(void);
+bool workers_are_idle(void), plug_and_play_is_idle(void);
 bool has_work(int device);
 bool is_bottom(PDEVICE_OBJECT device);
 bool timers_armed(void);
 
 /* objects.c, mdl.c, start_io.c: what wdm_ob.h, wdm_mm.h and wdm_hw.h have */
+bool is_referenced(PVOID object);
 HANDLE new_handle(POBJECT_TYPE type, PVOID object);
 PVOID handle_object(HANDLE handle, POBJECT_TYPE type);
 void tell_references(void);

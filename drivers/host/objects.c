@@ -43,6 +43,15 @@ static LONG count_reference(PVOID object, LONG more, WDM_SITE at)
     return references[i].count;
 }
 
+/* Whether a reference to the object is left. Under G. */
+bool is_referenced(PVOID object)
+{
+    for (int i = 0; i < n_references; i++)
+        if (references[i].object == object)
+            return references[i].count > 0;
+    return false;
+}
+
 LONG_PTR WdmObReferenceObject(PVOID Object, WDM_SITE at)
 {
     Call c;

@@ -80,7 +80,8 @@ typedef DEVICE_CHANGE_COMPLETE_CALLBACK *PDEVICE_CHANGE_COMPLETE_CALLBACK;
 NTSTATUS IoReportTargetDeviceChange(PDEVICE_OBJECT Device, PVOID Notification);
 NTSTATUS IoReportTargetDeviceChangeAsynchronous(PDEVICE_OBJECT Device, PVOID Notification,
                                                 PDEVICE_CHANGE_COMPLETE_CALLBACK Callback, PVOID Context);
-VOID IoInvalidateDeviceRelations(PDEVICE_OBJECT Device, DEVICE_RELATION_TYPE Type);
+VOID WdmInvalidateRelations(PDEVICE_OBJECT Device, DEVICE_RELATION_TYPE Type, WDM_SITE at);
+#define IoInvalidateDeviceRelations(device, type) WdmInvalidateRelations((device), (type), WDM_HERE)
 VOID IoInvalidateDeviceState(PDEVICE_OBJECT Device);
 #define IoRequestDeviceEject(device) ((void)(device))
 #define IoAdjustPagingPathCount(count, more) ((void)((more) ? InterlockedIncrement(count) : InterlockedDecrement(count)))

@@ -33,6 +33,27 @@ VOID WdmUnloadDriver(PDRIVER_OBJECT Driver);
 PDEVICE_OBJECT WdmCreateBottom(BOOLEAN Late);
 
 /*
+ * The Plug and Play manager, on a thread of its own. WdmPlugIn starts a stack whose drivers are there, and asks it for its
+ * children; drivers come onto each of these, and it starts in turn. The manager asks again whenever a driver calls
+ * IoInvalidateDeviceRelations; what isn't reported any more is removed by surprise. WdmStopAndStart stops the stack with
+ * its children, and starts it again. WdmUnplug removes both, children first: where Surprise is FALSE it asks before, and
+ * takes a refusal for a surprise. Each waits until it is done; WdmSettlePlugAndPlay waits for what drivers asked for.
+ * Returns the status of IRP_MN_START_DEVICE.
+ */
+NTSTATUS WdmPlug(PDEVICE_OBJECT Pdo, WDM_SITE at);
+#define WdmPlugIn(pdo) WdmPlug((pdo), WDM_HERE)
+VOID WdmStopStart(PDEVICE_OBJECT Pdo, WDM_SITE at);
+#define WdmStopAndStart(pdo) WdmStopStart((pdo), WDM_HERE)
+VOID WdmTakeOut(PDEVICE_OBJECT Pdo, BOOLEAN Surprise, WDM_SITE at);
+#define WdmUnplug(pdo, surprise) WdmTakeOut((pdo), (surprise), WDM_HERE)
+VOID WdmSettlePlugAndPlay(VOID);
+/* Puts a driver onto each child whose device id has this text in it, above those that were named before. A child that no
+   driver takes gets one of the host's that passes all down. */
+VOID WdmPutOnChildren(const char *Id, PDRIVER_OBJECT Driver);
+/* The children of a bus that are started: their number, at most Most, with their device objects in Children. */
+ULONG WdmGetChildren(PDEVICE_OBJECT Pdo, PDEVICE_OBJECT *Children, ULONG Most);
+
+/*
  * A packet as the I/O manager makes it for a caller: its status goes to Iosb, Event is set at its end, then the host
  * frees it. Buffers of Length bytes are there by each method. PNP, POWER and SYSTEM_CONTROL start with
  * STATUS_NOT_SUPPORTED. Fill further parameters in by IoGetNextIrpStackLocation, and send it by IoCallDriver.

@@ -1,0 +1,121 @@
+/* plug_and_play_orders.c: the thread of the Plug and Play manager, and what it is told to do. The queue is under G. */
+#include "host.h"
+#include "plug_and_play.h"
+
+enum { MAX_ORDERS = 256 };
+typedef enum { LOOK_FOR_CHILDREN, PLUG_IN, STOP_AND_START, UNPLUG, SURPRISE } What;
+typedef struct { What what; PDEVICE_OBJECT pdo; PKEVENT done; NTSTATUS *status; } Order;
+
+static Condition orders_came = { &host_lock, PTHREAD_COND_INITIALIZER };
+static Order orders[MAX_ORDERS];
+static int n_orders;
+static bool runs, is_at_work;
+
+bool plug_and_play_is_idle(void) { return !n_orders && !is_at_work; }
+
+static bool has_order(const void *unused)
+{
+    (void)unused;
+    return n_orders > 0;
+}
+
+static Order next_order(void)
+{
+    const Wait w = { .ready = has_order, .on = &orders_came, .patience = IDLES, .what = "the Plug and Play manager's orders" };
+    Call c;
+    enter_host(&c, "the Plug and Play manager", (WDM_SITE){ 0 });
+    is_at_work = false;
+    tell_waiters(&host_settled);
+    touch(&n_orders, SYNCS);
+    wait_for(&w);
+    touch(&n_orders, SYNCS);
+    const Order order = orders[0];
+    memmove(orders, orders + 1, (size_t)--n_orders * sizeof *orders);
+    is_at_work = true;
+    leave_host();
+    return order;
+}
+
+static NTSTATUS carry_out(const Order *o)
+{
+    switch (o->what) {
+    case LOOK_FOR_CHILDREN: look_for_children(o->pdo); break;
+    case PLUG_IN: return plug_in(o->pdo);
+    case STOP_AND_START: stop_and_start(o->pdo); break;
+    case UNPLUG: unplug(o->pdo, false); break;
+    case SURPRISE: unplug(o->pdo, true); break;
+    }
+    return STATUS_SUCCESS;
+}
+
+static void *manage(void *unused)
+{
+    (void)unused;
+    for (;;) {
+        const Order o = next_order();
+        const NTSTATUS status = carry_out(&o);
+        if (o.status)
+            *o.status = status;
+        if (o.done)
+            KeSetEvent(o.done, IO_NO_INCREMENT, FALSE);
+    }
+    return NULL;
+}
+
+/* Under G. */
+static void put_order(What what, PDEVICE_OBJECT pdo, PKEVENT done, NTSTATUS *status)
+{
+    if (n_orders == MAX_ORDERS)
+        give_up("more than 256 orders for the Plug and Play manager");
+    orders[n_orders++] = (Order){ .what = what, .pdo = pdo, .done = done, .status = status };
+    touch(&n_orders, SYNCS);
+    if (!runs)
+        runs = !start_thread(manage, NULL, "Plug and Play manager", NULL, NULL);
+    tell_waiters(&orders_came);
+}
+
+/* The manager does it, and this thread waits. */
+static NTSTATUS have_done(const char *name, What what, PDEVICE_OBJECT pdo, WDM_SITE at)
+{
+    Call c;
+    KEVENT done;
+    NTSTATUS status = STATUS_SUCCESS;
+    learn_test(at.file);
+    WdmKeInitializeEvent(&done, NotificationEvent, FALSE);
+    enter_host(&c, name, at);
+    put_order(what, pdo, &done, &status);
+    leave_host();
+    WdmKeWaitForSingleObject(&done, NULL, at);
+    return status;
+}
+
+NTSTATUS WdmPlug(PDEVICE_OBJECT Pdo, WDM_SITE at) { return have_done("WdmPlugIn", PLUG_IN, Pdo, at); }
+VOID WdmStopStart(PDEVICE_OBJECT Pdo, WDM_SITE at) { have_done("WdmStopAndStart", STOP_AND_START, Pdo, at); }
+VOID WdmTakeOut(PDEVICE_OBJECT Pdo, BOOLEAN Surprise, WDM_SITE at)
+{
+    have_done("WdmUnplug", Surprise ? SURPRISE : UNPLUG, Pdo, at);
+}
+
+/* A test without the manager goes on without it. */
+VOID WdmInvalidateRelations(PDEVICE_OBJECT Device, DEVICE_RELATION_TYPE Type, WDM_SITE at)
+{
+    Call c;
+    enter_host(&c, "IoInvalidateDeviceRelations", at);
+    if (Type == BusRelations && runs)
+        put_order(LOOK_FOR_CHILDREN, Device, NULL, NULL);
+    leave_host();
+}
+
+static bool is_idle(const void *unused)
+{
+    (void)unused;
+    return plug_and_play_is_idle();
+}
+
+VOID WdmSettlePlugAndPlay(VOID)
+{
+    Call c;
+    enter_host(&c, "WdmSettlePlugAndPlay", (WDM_SITE){ 0 });
+    wait_for_host(is_idle, NULL);
+    leave_host();
+}

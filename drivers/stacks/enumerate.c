@@ -1,0 +1,237 @@
+/* enumerate.c: a bus driver whose two children the Plug and Play manager finds, starts, stops and removes. The bus loses
+   its second child and gets another one; at the end it is removed, or taken out by surprise. */
+#include "common.h"
+
+enum { MAX_CHILDREN = 4 };
+
+typedef enum { STARTED, STOPPED, GONE } STATE;
+typedef struct { BOOLEAN IsChild, IsPresent; STATE State; ULONG Number; PDEVICE_OBJECT Self, Bus; } CHILD, *PCHILD;
+typedef struct {
+    BOOLEAN IsChild;
+    PDEVICE_OBJECT Self, Lower, Pdo;
+    FAST_MUTEX Lock; /* guards what follows */
+    PDEVICE_OBJECT Children[MAX_CHILDREN];
+    ULONG Count, Made;
+} BUS, *PBUS;
+
+static PBUS TheBus;
+static BOOLEAN WasWrong; /* what the test saw */
+
+static VOID AddChild(PBUS Bus)
+{
+    PDEVICE_OBJECT device;
+    if (!NT_SUCCESS(IoCreateDevice(Bus->Self->DriverObject, sizeof(CHILD), NULL, FILE_DEVICE_UNKNOWN, 0, FALSE, &device)))
+        return;
+    PCHILD child = device->DeviceExtension;
+    *child = (CHILD){ .IsChild = TRUE, .IsPresent = TRUE, .State = STOPPED, .Self = device, .Bus = Bus->Self };
+    ExAcquireFastMutex(&Bus->Lock);
+    child->Number = ++Bus->Made;
+    Bus->Children[Bus->Count++] = device;
+    ExReleaseFastMutex(&Bus->Lock);
+    device->Flags &= ~(ULONG)DO_DEVICE_INITIALIZING;
+}
+
+static VOID ForgetChild(PBUS Bus, PDEVICE_OBJECT Device)
+{
+    ULONG i = 0;
+    ExAcquireFastMutex(&Bus->Lock);
+    while (i < Bus->Count && Bus->Children[i] != Device)
+        i++;
+    if (i < Bus->Count)
+        Bus->Children[i] = Bus->Children[--Bus->Count];
+    ExReleaseFastMutex(&Bus->Lock);
+}
+
+static NTSTATUS ReportChildren(PBUS Bus, PIRP Irp)
+{
+    PDEVICE_RELATIONS relations = ExAllocatePoolWithTag(PagedPool, sizeof(DEVICE_RELATIONS) +
+                                                        MAX_CHILDREN * sizeof(PDEVICE_OBJECT), 'sleR');
+    if (relations == NULL)
+        return Complete(Irp, STATUS_INSUFFICIENT_RESOURCES, 0);
+    relations->Count = 0;
+    ExAcquireFastMutex(&Bus->Lock);
+    for (ULONG i = 0; i < Bus->Count; i++)
+        if (((PCHILD)Bus->Children[i]->DeviceExtension)->IsPresent) {
+            ObReferenceObject(Bus->Children[i]);
+            relations->Objects[relations->Count++] = Bus->Children[i];
+        }
+    ExReleaseFastMutex(&Bus->Lock);
+    Irp->IoStatus.Status = STATUS_SUCCESS;
+    Irp->IoStatus.Information = (ULONG_PTR)relations;
+    return PassDown(Bus->Lower, Irp);
+}
+
+static NTSTATUS AnswerId(PCHILD Child, PIRP Irp)
+{
+    static const WCHAR id[] = L"TESTBUS\\Port\0";
+    const BUS_QUERY_ID_TYPE type = IoGetCurrentIrpStackLocation(Irp)->Parameters.QueryId.IdType;
+    if (type > BusQueryInstanceID)
+        return Complete(Irp, Irp->IoStatus.Status, 0);
+    PWSTR text = ExAllocatePoolWithTag(PagedPool, sizeof id, 'diSB');
+    if (text == NULL)
+        return Complete(Irp, STATUS_INSUFFICIENT_RESOURCES, 0);
+    RtlCopyMemory(text, id, sizeof id);
+    if (type == BusQueryInstanceID) {
+        text[0] = (WCHAR)('0' + Child->Number);
+        text[1] = 0;
+    }
+    return Complete(Irp, STATUS_SUCCESS, (ULONG_PTR)text);
+}
+
+static NTSTATUS RemoveChild(PCHILD Child, PIRP Irp)
+{
+    const BOOLEAN goes = !Child->IsPresent;
+    PDEVICE_OBJECT device = Child->Self;
+    Child->State = GONE;
+    if (goes)
+        ForgetChild(Child->Bus->DeviceExtension, device);
+    Complete(Irp, STATUS_SUCCESS, 0);
+    if (goes)
+        IoDeleteDevice(device);
+    return STATUS_SUCCESS;
+}
+
+static NTSTATUS ChildPnp(PCHILD Child, PIRP Irp)
+{
+    PIO_STACK_LOCATION stack = IoGetCurrentIrpStackLocation(Irp);
+    switch (stack->MinorFunction) {
+    case IRP_MN_START_DEVICE:
+        Child->State = STARTED;
+        return Complete(Irp, STATUS_SUCCESS, 0);
+    case IRP_MN_STOP_DEVICE:
+        Child->State = STOPPED;
+        return Complete(Irp, STATUS_SUCCESS, 0);
+    case IRP_MN_QUERY_STOP_DEVICE:
+    case IRP_MN_CANCEL_STOP_DEVICE:
+    case IRP_MN_QUERY_REMOVE_DEVICE:
+    case IRP_MN_CANCEL_REMOVE_DEVICE:
+        return Complete(Irp, STATUS_SUCCESS, 0);
+    case IRP_MN_SURPRISE_REMOVAL:
+        Child->State = GONE;
+        return Complete(Irp, STATUS_SUCCESS, 0);
+    case IRP_MN_QUERY_ID:
+        return AnswerId(Child, Irp);
+    case IRP_MN_QUERY_CAPABILITIES:
+        stack->Parameters.DeviceCapabilities.Capabilities->SurpriseRemovalOK = TRUE;
+        return Complete(Irp, STATUS_SUCCESS, 0);
+    case IRP_MN_REMOVE_DEVICE:
+        return RemoveChild(Child, Irp);
+    default:
+        return Complete(Irp, Irp->IoStatus.Status, Irp->IoStatus.Information);
+    }
+}
+
+/* The children that are left go with the bus. */
+static NTSTATUS RemoveBus(PBUS Bus, PIRP Irp)
+{
+    PDEVICE_OBJECT lower = Bus->Lower, self = Bus->Self;
+    while (Bus->Count)
+        IoDeleteDevice(Bus->Children[--Bus->Count]);
+    Irp->IoStatus.Status = STATUS_SUCCESS;
+    const NTSTATUS status = PassDown(lower, Irp);
+    IoDetachDevice(lower);
+    IoDeleteDevice(self);
+    return status;
+}
+
+static NTSTATUS BusPnp(PBUS Bus, PIRP Irp)
+{
+    PIO_STACK_LOCATION stack = IoGetCurrentIrpStackLocation(Irp);
+    if (stack->MinorFunction == IRP_MN_REMOVE_DEVICE)
+        return RemoveBus(Bus, Irp);
+    if (stack->MinorFunction == IRP_MN_QUERY_DEVICE_RELATIONS && stack->Parameters.QueryDeviceRelations.Type == BusRelations)
+        return ReportChildren(Bus, Irp);
+    if (stack->MinorFunction <= IRP_MN_CANCEL_STOP_DEVICE || stack->MinorFunction == IRP_MN_SURPRISE_REMOVAL)
+        Irp->IoStatus.Status = STATUS_SUCCESS;
+    return PassDown(Bus->Lower, Irp);
+}
+
+static NTSTATUS Pnp(PDEVICE_OBJECT DeviceObject, PIRP Irp)
+{
+    const PBUS bus = DeviceObject->DeviceExtension;
+    return bus->IsChild ? ChildPnp(DeviceObject->DeviceExtension, Irp) : BusPnp(bus, Irp);
+}
+
+/* A child that isn't started has nothing to read. */
+static NTSTATUS Read(PDEVICE_OBJECT DeviceObject, PIRP Irp)
+{
+    const PBUS bus = DeviceObject->DeviceExtension;
+    if (!bus->IsChild)
+        return PassDown(bus->Lower, Irp);
+    const PCHILD child = DeviceObject->DeviceExtension;
+    const BOOLEAN ready = child->State == STARTED;
+    return Complete(Irp, ready ? STATUS_SUCCESS : STATUS_DELETE_PENDING, ready ? child->Number : 0);
+}
+
+static NTSTATUS AddDevice(PDRIVER_OBJECT DriverObject, PDEVICE_OBJECT Pdo)
+{
+    PDEVICE_OBJECT device;
+    NTSTATUS status = IoCreateDevice(DriverObject, sizeof(BUS), NULL, FILE_DEVICE_BUS_EXTENDER, 0, FALSE, &device);
+    if (!NT_SUCCESS(status))
+        return status;
+    PBUS bus = TheBus = device->DeviceExtension;
+    bus->Self = device;
+    bus->Pdo = Pdo;
+    ExInitializeFastMutex(&bus->Lock);
+    bus->Lower = IoAttachDeviceToDeviceStack(device, Pdo);
+    device->Flags &= ~(ULONG)DO_DEVICE_INITIALIZING;
+    AddChild(bus);
+    AddChild(bus);
+    return STATUS_SUCCESS;
+}
+
+NTSTATUS DriverEntry(PDRIVER_OBJECT DriverObject, PUNICODE_STRING RegistryPath)
+{
+    UNREFERENCED_PARAMETER(RegistryPath);
+    DriverObject->MajorFunction[IRP_MJ_READ] = Read;
+    DriverObject->MajorFunction[IRP_MJ_PNP] = Pnp;
+    DriverObject->DriverExtension->AddDevice = AddDevice;
+    return STATUS_SUCCESS;
+}
+
+/* What the bus sees: its second child is pulled out, and another one is plugged in. */
+static VOID ChangeChildren(PBUS Bus)
+{
+    ExAcquireFastMutex(&Bus->Lock);
+    if (Bus->Count > 1)
+        ((PCHILD)Bus->Children[1]->DeviceExtension)->IsPresent = FALSE;
+    ExReleaseFastMutex(&Bus->Lock);
+    AddChild(Bus);
+    IoInvalidateDeviceRelations(Bus->Pdo, BusRelations);
+}
+
+static ULONG read_children(PDEVICE_OBJECT bottom)
+{
+    PDEVICE_OBJECT children[MAX_CHILDREN];
+    const ULONG n = WdmGetChildren(bottom, children, MAX_CHILDREN);
+    for (ULONG i = 0; i < n; i++)
+        WdmSend(IoGetAttachedDevice(children[i]), IRP_MJ_READ, 0, 16);
+    return n;
+}
+
+static void use(PDRIVER_OBJECT driver, BOOLEAN surprise)
+{
+    PDEVICE_OBJECT bottom = WdmCreateBottom(FALSE);
+    if (!NT_SUCCESS(WdmAddDevice(driver, bottom))) {
+        IoDeleteDevice(bottom);
+        return;
+    }
+    WdmPlugIn(bottom);
+    const ULONG first = read_children(bottom);
+    ChangeChildren(TheBus);
+    WdmSettlePlugAndPlay();
+    const ULONG second = read_children(bottom);
+    WdmStopAndStart(bottom);
+    WdmUnplug(bottom, surprise);
+    IoDeleteDevice(bottom);
+    WasWrong |= first != 2 || second != 2;
+}
+
+int main(void)
+{
+    PDRIVER_OBJECT driver = WdmLoadDriver("enumerate", DriverEntry);
+    use(driver, FALSE);
+    use(driver, TRUE);
+    WdmExpectEntries(852);
+    return WasWrong ? 1 : WdmFinish();
+}
