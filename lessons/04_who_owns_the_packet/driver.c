@@ -1,0 +1,56 @@
+/* A filter that remembers how long the last read was. */
+#include <wdm.h>
+
+typedef struct { PDEVICE_OBJECT Lower; } EXTENSION, *PEXTENSION;
+
+static volatile LONG LastLength;
+
+static NTSTATUS Read(PDEVICE_OBJECT DeviceObject, PIRP Irp)
+{
+    PEXTENSION ext = DeviceObject->DeviceExtension;
+    IoSkipCurrentIrpStackLocation(Irp);
+    const NTSTATUS status = IoCallDriver(ext->Lower, Irp);
+    InterlockedExchange(&LastLength, (LONG)Irp->IoStatus.Information);
+    return status;
+}
+
+static NTSTATUS PassDown(PDEVICE_OBJECT DeviceObject, PIRP Irp)
+{
+    PEXTENSION ext = DeviceObject->DeviceExtension;
+    IoSkipCurrentIrpStackLocation(Irp);
+    return IoCallDriver(ext->Lower, Irp);
+}
+
+static NTSTATUS Pnp(PDEVICE_OBJECT DeviceObject, PIRP Irp)
+{
+    PEXTENSION ext = DeviceObject->DeviceExtension;
+    const UCHAR minor = IoGetCurrentIrpStackLocation(Irp)->MinorFunction;
+    const NTSTATUS status = PassDown(DeviceObject, Irp);
+    if (minor == IRP_MN_REMOVE_DEVICE) {
+        IoDetachDevice(ext->Lower);
+        IoDeleteDevice(DeviceObject);
+    }
+    return status;
+}
+
+static NTSTATUS AddDevice(PDRIVER_OBJECT DriverObject, PDEVICE_OBJECT Pdo)
+{
+    PDEVICE_OBJECT device;
+    const NTSTATUS status = IoCreateDevice(DriverObject, sizeof(EXTENSION), NULL, FILE_DEVICE_UNKNOWN, 0, FALSE, &device);
+    if (!NT_SUCCESS(status))
+        return status;
+    ((PEXTENSION)device->DeviceExtension)->Lower = IoAttachDeviceToDeviceStack(device, Pdo);
+    device->Flags &= ~(ULONG)DO_DEVICE_INITIALIZING;
+    return STATUS_SUCCESS;
+}
+
+NTSTATUS DriverEntry(PDRIVER_OBJECT DriverObject, PUNICODE_STRING RegistryPath)
+{
+    UNREFERENCED_PARAMETER(RegistryPath);
+    for (int i = 0; i <= IRP_MJ_MAXIMUM_FUNCTION; i++)
+        DriverObject->MajorFunction[i] = PassDown;
+    DriverObject->MajorFunction[IRP_MJ_PNP] = Pnp;
+    DriverObject->MajorFunction[IRP_MJ_READ] = Read;
+    DriverObject->DriverExtension->AddDevice = AddDevice;
+    return STATUS_SUCCESS;
+}

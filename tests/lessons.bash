@@ -1,0 +1,14 @@
+#!/bin/bash
+# Tries the lessons: each one's file has its mistake told, with a hint, and each answer is right. IRPX and IRP_VIEW name
+# the programs; without them, they are those that bin/program builds. The last line is `N passed, M failed`. Ends with
+# status 0 where nothing failed, else with 1.
+set -u
+cd "$(dirname "$(readlink -f "$0")")" || exit 1
+IRPX=${IRPX:-$(../bin/program irpx quick)} || exit 1
+IRP_VIEW=${IRP_VIEW:-$(../bin/program irp_view quick)} || exit 1
+export IRPX IRP_VIEW
+if ! command -v python3 >/dev/null || ! command -v "${CC:-cc}" >/dev/null; then
+    echo "ok: lessons: there is no Python or no C compiler here"
+    exit 0
+fi
+exec ../lessons/check --all
