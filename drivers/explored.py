@@ -38,6 +38,16 @@ WRONG = [
      "for (int t = 2; t < MAX_THREADS; t++)", "race", "routine_late"),
     ("a racy access isn't a point", "hooks.c", "if (shared->is_point[", "if (!shared && shared->is_point[", "race",
      "plain_count"),
+    ("a device's names are touched by nobody", "properties.c",
+     """    hold_host("IoGetDeviceInterfaces", &names, READS);""", "    hold_host(\"IoGetDeviceInterfaces\", &n_names, READS);",
+     "race", "interface_seen"),
+    ("a device's properties are touched by nobody", "properties.c",
+     """    hold_host("IoSetDevicePropertyData", &properties, WRITES);""",
+     "    hold_host(\"IoSetDevicePropertyData\", &n_properties, WRITES);", "race", "property_seen"),
+    ("who takes from an interlocked list only reads it", "resources.c", """    hold_host("InterlockedPopEntrySList", Head, SYNCS);""",
+     "    hold_host(\"InterlockedPopEntrySList\", Head, READS);", "race", "buffer_taken"),
+    ("an MDL is locked without a touch", "mdl.c", """    enter_host(&c, "MmProbeAndLockPages", at);
+    touch_memory(Mdl, sizeof *Mdl, WRITES);""", """    enter_host(&c, "MmProbeAndLockPages", at);""", "race", "mdl_seen"),
     ("memory that was let go isn't told", "racing.c", "if (c->let_go && pc)", "if (c->let_go && pc && !by_schedule)", "race",
      "deleted_while_used"),
 ]

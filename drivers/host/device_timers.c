@@ -29,7 +29,7 @@ NTSTATUS IoInitializeTimer(PDEVICE_OBJECT Device, PIO_TIMER_ROUTINE Routine, PVO
     t->context = Context;
     KeInitializeTimerEx(&t->timer, NotificationTimer);
     t->dpc = (KDPC){ .Routine = device_timer, .Context = t, .HostDriver = Device->DriverObject->HostNumber };
-    pthread_mutex_lock(&host_lock);
+    hold_host("IoInitializeTimer", &device_timers, WRITES);
     t->next = device_timers;
     device_timers = t;
     pthread_mutex_unlock(&host_lock);
@@ -38,7 +38,7 @@ NTSTATUS IoInitializeTimer(PDEVICE_OBJECT Device, PIO_TIMER_ROUTINE Routine, PVO
 
 static DeviceTimer *timer_of(PDEVICE_OBJECT device)
 {
-    pthread_mutex_lock(&host_lock);
+    hold_host("a device's timer", &device_timers, READS);
     DeviceTimer *t = device_timers;
     while (t && t->device != device)
         t = t->next;

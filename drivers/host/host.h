@@ -281,6 +281,7 @@ int rules_stack_size(int device);
 /* threads.c, waits.c, work.c, work_items.c */
 void enter_host(Call *c, const char *name, WDM_SITE at);
 void enter_quietly(Call *c, const char *name, WDM_SITE at);
+void hold_host(const char *call, const void *object, Touch how);
 void leave_host(void);
 void let_driver_run(void);
 void driver_came_back(void);

@@ -22,6 +22,7 @@ NTSTATUS WdmIoConnectInterrupt(PKINTERRUPT *Interrupt, PKSERVICE_ROUTINE Routine
 {
     Call c;
     enter_host(&c, "IoConnectInterrupt", at);
+    touch(&connected, WRITES);
     struct _KINTERRUPT *i = host_memory(sizeof *i);
     if (i) {
         *i = (struct _KINTERRUPT){ Routine, Context, Vector, Irql > DISPATCH_LEVEL ? Irql : DISPATCH_LEVEL + 1,
@@ -37,6 +38,7 @@ VOID WdmIoDisconnectInterrupt(PKINTERRUPT Interrupt, WDM_SITE at)
 {
     Call c;
     enter_host(&c, "IoDisconnectInterrupt", at);
+    touch(&connected, WRITES);
     struct _KINTERRUPT **i = &connected;
     while (*i && *i != Interrupt)
         i = &(*i)->next;
@@ -94,8 +96,7 @@ BOOLEAN WdmRaiseInterrupt(ULONG Vector, WDM_SITE at)
     BOOLEAN is_taken = FALSE;
     int n = 0;
     learn_test(at.file);
-    pthread_mutex_lock(&host_lock);
-    touch(&host_lock, SYNCS);
+    hold_host("an interrupt", &connected, READS);
     for (struct _KINTERRUPT *i = connected; i && n < 16; i = i->next)
         if (i->vector == Vector)
             found[n++] = i;

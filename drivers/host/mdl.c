@@ -45,6 +45,7 @@ VOID WdmIoFreeMdl(PMDL Mdl, WDM_SITE at)
 {
     Call c;
     enter_host(&c, "IoFreeMdl", at);
+    touch_memory(Mdl, sizeof *Mdl, WRITES);
     if (Mdl->MdlFlags & MDL_PAGES_LOCKED)
         fault("MdlLocked", NULL, "an MDL is freed whose pages are locked since %s: call MmUnlockPages before",
               place(lock_of(Mdl)));
@@ -57,6 +58,7 @@ VOID WdmMmBuildMdlForNonPagedPool(PMDL Mdl, WDM_SITE at)
 {
     Call c;
     enter_host(&c, "MmBuildMdlForNonPagedPool", at);
+    touch_memory(Mdl, sizeof *Mdl, WRITES);
     if (Mdl->MdlFlags & MDL_PAGES_LOCKED)
         fault("MdlLocked", NULL, "an MDL is built whose pages are locked since %s", place(lock_of(Mdl)));
     Mdl->MdlFlags |= MDL_SOURCE_IS_NONPAGED_POOL | MDL_MAPPED_TO_SYSTEM_VA;
@@ -68,6 +70,7 @@ VOID WdmMmProbeAndLockPages(PMDL Mdl, LOCK_OPERATION Operation, WDM_SITE at)
 {
     Call c;
     enter_host(&c, "MmProbeAndLockPages", at);
+    touch_memory(Mdl, sizeof *Mdl, WRITES);
     if (Mdl->MdlFlags & (MDL_PAGES_LOCKED | MDL_SOURCE_IS_NONPAGED_POOL | MDL_PARTIAL))
         fault("MdlLocked", NULL, "the pages of an MDL are locked that was %s",
               Mdl->MdlFlags & MDL_PAGES_LOCKED ? "locked before" : "built for memory that needs no lock");
@@ -84,6 +87,7 @@ VOID WdmMmUnlockPages(PMDL Mdl, WDM_SITE at)
 {
     Call c;
     enter_host(&c, "MmUnlockPages", at);
+    touch_memory(Mdl, sizeof *Mdl, WRITES);
     if (!(Mdl->MdlFlags & MDL_PAGES_LOCKED))
         fault("MdlNotLocked", NULL, "the pages of an MDL are unlocked that aren't locked");
     Mdl->MdlFlags &= (CSHORT)~(MDL_PAGES_LOCKED | MDL_MAPPED_TO_SYSTEM_VA | MDL_WRITE_OPERATION);
@@ -96,6 +100,7 @@ PVOID WdmMmMapMdl(PMDL Mdl, WDM_SITE at)
 {
     Call c;
     enter_host(&c, "MmGetSystemAddressForMdlSafe", at);
+    touch_memory(Mdl, sizeof *Mdl, WRITES);
     if (!(Mdl->MdlFlags & (MDL_PAGES_LOCKED | MDL_SOURCE_IS_NONPAGED_POOL | MDL_PARTIAL)))
         fault("MdlNotLocked", NULL, "an MDL is mapped that was neither locked nor built");
     Mdl->MdlFlags |= MDL_MAPPED_TO_SYSTEM_VA;
@@ -108,6 +113,7 @@ VOID WdmMmUnmapLockedPages(PVOID Base, PMDL Mdl, WDM_SITE at)
 {
     Call c;
     enter_host(&c, "MmUnmapLockedPages", at);
+    touch_memory(Mdl, sizeof *Mdl, WRITES);
     if (!(Mdl->MdlFlags & MDL_MAPPED_TO_SYSTEM_VA) || Base != Mdl->MappedSystemVa)
         fault("MdlNotLocked", NULL, "an MDL is unmapped that isn't mapped there");
     Mdl->MdlFlags &= (CSHORT)~MDL_MAPPED_TO_SYSTEM_VA;
@@ -118,6 +124,8 @@ VOID WdmIoBuildPartialMdl(PMDL Source, PMDL Target, PVOID Address, ULONG Length,
 {
     Call c;
     enter_host(&c, "IoBuildPartialMdl", at);
+    touch_memory(Source, sizeof *Source, READS);
+    touch_memory(Target, sizeof *Target, WRITES);
     const PUCHAR begin = MmGetMdlVirtualAddress(Source), end = begin + Source->ByteCount;
     const ULONG length = Length ? Length : (ULONG)(end - (PUCHAR)Address);
     if (!(Source->MdlFlags & (MDL_PAGES_LOCKED | MDL_SOURCE_IS_NONPAGED_POOL | MDL_PARTIAL)))

@@ -27,6 +27,7 @@ static const char *object_name(PVOID object)
 static LONG count_reference(PVOID object, LONG more, WDM_SITE at)
 {
     int i = 0;
+    touch(object, WRITES);
     while (i < n_references && references[i].object != object)
         i++;
     if (i == n_references) {
@@ -84,8 +85,7 @@ PDEVICE_OBJECT WdmIoGetAttachedDeviceReference(PDEVICE_OBJECT Device, WDM_SITE a
 
 PDEVICE_OBJECT WdmIoGetLowerDeviceObject(PDEVICE_OBJECT Device, WDM_SITE at)
 {
-    pthread_mutex_lock(&host_lock);
-    touch(&host_lock, SYNCS);
+    hold_host("IoGetLowerDeviceObject", &devices, READS);
     const int lower = devices[Device->HostNumber].lower;
     pthread_mutex_unlock(&host_lock);
     if (lower < 0)
@@ -108,8 +108,7 @@ void tell_references(void)
 HANDLE new_handle(POBJECT_TYPE type, PVOID object)
 {
     int i = 0;
-    pthread_mutex_lock(&host_lock);
-    touch(&host_lock, SYNCS);
+    hold_host("a handle is made", &handles, SYNCS);
     while (i < MAX_HANDLES && handles[i].object)
         i++;
     if (i < MAX_HANDLES) {
@@ -123,8 +122,7 @@ HANDLE new_handle(POBJECT_TYPE type, PVOID object)
 PVOID handle_object(HANDLE handle, POBJECT_TYPE type)
 {
     const ULONG_PTR i = (ULONG_PTR)handle / 4 - 1;
-    pthread_mutex_lock(&host_lock);
-    touch(&host_lock, SYNCS);
+    hold_host("a handle is looked up", &handles, ACQUIRES);
     const bool is_good = i < MAX_HANDLES && (!type || !handles[i].type || handles[i].type == type);
     PVOID object = is_good ? handles[i].object : NULL;
     pthread_mutex_unlock(&host_lock);
@@ -135,6 +133,7 @@ NTSTATUS WdmZwClose(HANDLE Handle, WDM_SITE at)
 {
     Call c;
     enter_host(&c, "ZwClose", at);
+    touch(&handles, SYNCS);
     const ULONG_PTR i = (ULONG_PTR)Handle / 4 - 1;
     const bool is_open = i < MAX_HANDLES && handles[i].object;
     if (is_open)
@@ -169,7 +168,8 @@ HANDLE PsGetCurrentThreadId(VOID) { return (HANDLE)KeGetCurrentThread(); }
 static struct { UNICODE_STRING name; PKEVENT event; } named[64];
 static int n_named;
 
-static PKEVENT find_event(PUNICODE_STRING name)
+/* Under G. */
+static PKEVENT event_named(PUNICODE_STRING name)
 {
     for (int i = 0; i < n_named; i++)
         if (RtlEqualUnicodeString(&named[i].name, name, TRUE))
@@ -177,15 +177,30 @@ static PKEVENT find_event(PUNICODE_STRING name)
     return NULL;
 }
 
+static PKEVENT find_event(PUNICODE_STRING name)
+{
+    hold_host("a named event", &named, READS);
+    PKEVENT found = event_named(name);
+    pthread_mutex_unlock(&host_lock);
+    return found;
+}
+
+/* Returns the event of that name where there is one, else a new one. */
 static PKEVENT make_event(PUNICODE_STRING name, EVENT_TYPE type, BOOLEAN state)
 {
-    PKEVENT event = name ? find_event(name) : NULL;
-    if (event || !(event = host_memory(sizeof *event)))
+    PKEVENT event = host_memory(sizeof *event), other = NULL;
+    if (event)
+        WdmKeInitializeEvent(event, type, state);
+    if (!event || !name)
         return event;
-    WdmKeInitializeEvent(event, type, state);
-    if (name && n_named < 64 && copy_text(&named[n_named].name, name))
+    hold_host("a named event", &named, WRITES);
+    other = event_named(name);
+    if (!other && n_named < 64 && copy_text(&named[n_named].name, name))
         named[n_named++].event = event;
-    return event;
+    pthread_mutex_unlock(&host_lock);
+    if (other)
+        free_host_memory(event);
+    return other ? other : event;
 }
 
 NTSTATUS ZwCreateEvent(PHANDLE Handle, ACCESS_MASK Access, POBJECT_ATTRIBUTES Attributes, EVENT_TYPE Type,

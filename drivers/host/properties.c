@@ -25,7 +25,7 @@ static int find_name(PCUNICODE_STRING name)
 static NTSTATUS add_name(PCUNICODE_STRING name, PCUNICODE_STRING target, PDEVICE_OBJECT device)
 {
     NTSTATUS status = STATUS_OBJECT_NAME_COLLISION;
-    pthread_mutex_lock(&host_lock);
+    hold_host("a name is made", &names, WRITES);
     if (find_name(name) < 0 && n_names < MAX_NAMES) {
         Name *n = &names[n_names++];
         *n = (Name){ .device = device };
@@ -40,24 +40,28 @@ static NTSTATUS add_name(PCUNICODE_STRING name, PCUNICODE_STRING target, PDEVICE
 NTSTATUS WdmIoCreateNamedDevice(PDRIVER_OBJECT Driver, ULONG Extension, PUNICODE_STRING Name, DEVICE_TYPE Type,
                                 ULONG Characteristics, PDEVICE_OBJECT *Device, WDM_SITE at)
 {
-    if (Name && Name->Length) {
-        pthread_mutex_lock(&host_lock);
-        const int i = find_name(Name);
-        pthread_mutex_unlock(&host_lock);
-        if (i >= 0)
-            return STATUS_OBJECT_NAME_COLLISION;
-    }
+    const bool is_named = Name && Name->Length;
+    if (is_named && add_name(Name, NULL, NULL) == STATUS_OBJECT_NAME_COLLISION)
+        return STATUS_OBJECT_NAME_COLLISION;
     const NTSTATUS status = WdmIoCreateDevice(Driver, Extension, Type, Characteristics, Device, at);
-    if (NT_SUCCESS(status) && Name && Name->Length) {
+    if (!is_named)
+        return status;
+    hold_host("IoCreateDevice", &names, WRITES);
+    const int i = find_name(Name);
+    if (i >= 0 && NT_SUCCESS(status))
+        names[i].device = *Device;
+    else if (i >= 0)
+        names[i].name.Buffer = NULL;
+    pthread_mutex_unlock(&host_lock);
+    if (NT_SUCCESS(status))
         (*Device)->Flags |= DO_DEVICE_HAS_NAME;
-        add_name(Name, NULL, *Device);
-    }
     return status;
 }
 
 /* The device is gone: so is its name. Under G. */
 void forget_names(PDEVICE_OBJECT device)
 {
+    touch(&names, WRITES);
     for (int i = 0; i < n_names; i++)
         if (names[i].device == device && !names[i].class)
             names[i].name.Buffer = NULL;
@@ -68,6 +72,7 @@ NTSTATUS WdmIoCreateSymbolicLink(PUNICODE_STRING Link, PUNICODE_STRING Device, W
     Call c;
     const NTSTATUS status = Link && Device && Link->Length ? add_name(Link, Device, NULL) : STATUS_INVALID_PARAMETER;
     enter_host(&c, "IoCreateSymbolicLink", at);
+    touch(&names, READS);
     const int i = NT_SUCCESS(status) ? find_name(Link) : -1;
     if (i >= 0) {
         names[i].made = at;
@@ -88,7 +93,7 @@ NTSTATUS IoDeleteSymbolicLink(PUNICODE_STRING Link)
 {
     if (!Link || !Link->Length)
         return STATUS_INVALID_PARAMETER;
-    pthread_mutex_lock(&host_lock);
+    hold_host("IoDeleteSymbolicLink", &names, WRITES);
     const int i = find_name(Link);
     if (i >= 0)
         names[i].name.Buffer = NULL;
@@ -100,7 +105,7 @@ NTSTATUS IoDeleteSymbolicLink(PUNICODE_STRING Link)
 static PDEVICE_OBJECT device_named(PCUNICODE_STRING name)
 {
     PDEVICE_OBJECT device = NULL;
-    pthread_mutex_lock(&host_lock);
+    hold_host("a name is looked up", &names, READS);
     int i = find_name(name);
     for (int hops = 0; i >= 0 && !names[i].device && names[i].target.Buffer && hops < 8; hops++)
         i = find_name(&names[i].target);
@@ -143,7 +148,7 @@ NTSTATUS WdmIoRegisterDeviceInterface(PDEVICE_OBJECT Device, const GUID *Class, 
     RtlFreeUnicodeString(&class);
     RtlInitUnicodeString(&name, text);
     add_name(&name, NULL, Device);
-    pthread_mutex_lock(&host_lock);
+    hold_host("IoRegisterDeviceInterface", &names, WRITES);
     const int i = find_name(&name);
     if (i >= 0)
         names[i].class = Class;
@@ -151,14 +156,24 @@ NTSTATUS WdmIoRegisterDeviceInterface(PDEVICE_OBJECT Device, const GUID *Class, 
     return WdmRtlDuplicate(&name, Link, at);
 }
 
+/* Who is to be called, if anyone. */
+static Registration registration_at(int i)
+{
+    pthread_mutex_lock(&host_lock);
+    touch(&registrations, READS);
+    const Registration r = registrations[i];
+    pthread_mutex_unlock(&host_lock);
+    if (r.routine)
+        point("a notification", (WDM_SITE){ 0 });
+    return r;
+}
+
 /* Calls whoever wants to know of a device's interface. */
 static void tell_interface(const GUID *class, PUNICODE_STRING link, const GUID *event)
 {
     DEVICE_INTERFACE_CHANGE_NOTIFICATION change = { 1, sizeof change, *event, *class, link };
     for (int i = 0; i < 64; i++) {
-        pthread_mutex_lock(&host_lock);
-        const Registration r = registrations[i];
-        pthread_mutex_unlock(&host_lock);
+        const Registration r = registration_at(i);
         if (r.routine && r.category == EventCategoryDeviceInterfaceChange && !memcmp(&r.class, class, sizeof *class))
             r.routine(&change, r.context);
     }
@@ -168,7 +183,7 @@ NTSTATUS IoSetDeviceInterfaceState(PUNICODE_STRING Link, BOOLEAN Enable)
 {
     if (!Link || !Link->Buffer)
         return STATUS_INVALID_PARAMETER;
-    pthread_mutex_lock(&host_lock);
+    hold_host("IoSetDeviceInterfaceState", &names, WRITES);
     const int i = find_name(Link);
     const bool changes = i >= 0 && names[i].class && names[i].is_enabled != (Enable != 0);
     if (changes)
@@ -186,7 +201,7 @@ NTSTATUS WdmIoGetDeviceInterfaces(const GUID *Class, PDEVICE_OBJECT Device, ULON
     size_t used = 0;
     (void)Flags;
     PWSTR text = WdmAllocatePool(WDM_POOL_ZERO, (MAX_NAMES * 120 + 1) * sizeof(WCHAR), 0, at);
-    pthread_mutex_lock(&host_lock);
+    hold_host("IoGetDeviceInterfaces", &names, READS);
     for (int i = 0; text && i < n_names; i++)
         if (names[i].name.Buffer && names[i].class && names[i].is_enabled && (!Device || names[i].device == Device) &&
             !memcmp(names[i].class, Class, sizeof *Class)) {
@@ -204,7 +219,8 @@ NTSTATUS IoRegisterPlugPlayNotification(IO_NOTIFICATION_EVENT_CATEGORY Category,
 {
     int at = 0;
     (void)Driver;
-    pthread_mutex_lock(&host_lock);
+    hold_host("IoRegisterPlugPlayNotification", &registrations, WRITES);
+    touch(&names, READS);
     while (at < 64 && registrations[at].routine)
         at++;
     if (at < 64) {
@@ -229,7 +245,7 @@ NTSTATUS IoRegisterPlugPlayNotification(IO_NOTIFICATION_EVENT_CATEGORY Category,
 
 NTSTATUS IoUnregisterPlugPlayNotification(PVOID Entry)
 {
-    pthread_mutex_lock(&host_lock);
+    hold_host("IoUnregisterPlugPlayNotification", &registrations, WRITES);
     ((Registration *)Entry)->routine = NULL;
     pthread_mutex_unlock(&host_lock);
     return STATUS_SUCCESS;
@@ -238,9 +254,7 @@ NTSTATUS IoUnregisterPlugPlayNotification(PVOID Entry)
 NTSTATUS IoReportTargetDeviceChange(PDEVICE_OBJECT Device, PVOID Notification)
 {
     for (int i = 0; i < 64; i++) {
-        pthread_mutex_lock(&host_lock);
-        const Registration r = registrations[i];
-        pthread_mutex_unlock(&host_lock);
+        const Registration r = registration_at(i);
         if (r.routine && r.category == EventCategoryTargetDeviceChange && r.file && r.file->DeviceObject == Device)
             r.routine(Notification, r.context);
     }
@@ -271,7 +285,7 @@ static Property *find_property(PDEVICE_OBJECT device, DEVICE_REGISTRY_PROPERTY p
 static NTSTATUS set_property(Property wanted, const void *data)
 {
     NTSTATUS status = STATUS_INSUFFICIENT_RESOURCES;
-    pthread_mutex_lock(&host_lock);
+    hold_host("IoSetDevicePropertyData", &properties, WRITES);
     Property *p = find_property(wanted.device, wanted.property, wanted.is_keyed ? &wanted.key : NULL);
     if (!p && n_properties < MAX_NAMES)
         p = &properties[n_properties++];
@@ -313,7 +327,7 @@ static NTSTATUS read_property(const Property *p, ULONG room, PVOID to, PULONG ne
 NTSTATUS IoGetDeviceProperty(PDEVICE_OBJECT Device, DEVICE_REGISTRY_PROPERTY Property, ULONG Length, PVOID Buffer,
                              PULONG Needed)
 {
-    pthread_mutex_lock(&host_lock);
+    hold_host("IoGetDeviceProperty", &properties, READS);
     const NTSTATUS status = read_property(find_property(Device, Property, NULL), Length, Buffer, Needed);
     pthread_mutex_unlock(&host_lock);
     return status;
@@ -323,7 +337,7 @@ NTSTATUS IoGetDevicePropertyData(PDEVICE_OBJECT Device, const DEVPROPKEY *Key, L
                                  PVOID Data, PULONG Needed, PDEVPROPTYPE Type)
 {
     (void)Locale, (void)Flags;
-    pthread_mutex_lock(&host_lock);
+    hold_host("IoGetDevicePropertyData", &properties, READS);
     const Property *p = find_property(Device, 0, Key);
     if (p && Type)
         *Type = p->type;

@@ -46,6 +46,7 @@ static int reader(const ERESOURCE *r, bool may_be_new)
 /* Under G: takes the resource where that is possible now. */
 static BOOLEAN try_to_take(PERESOURCE r, BOOLEAN exclusive)
 {
+    touch(r, SYNCS);
     const bool is_mine = r->Exclusive && r->Owner == me();
     const int mine = reader(r, true);
     if (is_mine) {
@@ -81,7 +82,7 @@ BOOLEAN WdmExAcquireResource(PERESOURCE Resource, BOOLEAN Exclusive, BOOLEAN Wai
         waits = !taken && Wait && Exclusive;
         Resource->Waiting += waits;
         if (!taken)
-            KeClearEvent(&Resource->Changed);
+            clear_event(&Resource->Changed);
         leave_host();
         if (taken || !Wait)
             return taken;
@@ -93,6 +94,7 @@ VOID WdmExReleaseResource(PERESOURCE Resource, WDM_SITE at)
 {
     Call c;
     enter_host(&c, "ExReleaseResourceLite", at);
+    touch(Resource, SYNCS);
     const int mine = reader(Resource, false);
     if (Resource->Exclusive && Resource->Owner == me())
         Resource->Exclusive--;
@@ -109,6 +111,7 @@ NTSTATUS WdmExDeleteResource(PERESOURCE Resource, WDM_SITE at)
 {
     Call c;
     enter_host(&c, "ExDeleteResourceLite", at);
+    touch(Resource, WRITES);
     if (Resource->Exclusive || Resource->Shared)
         fault("Resource", NULL, "deleted while a thread has it");
     leave_host();
@@ -122,7 +125,7 @@ BOOLEAN ExIsResourceAcquiredExclusiveLite(PERESOURCE Resource)
 
 ULONG ExIsResourceAcquiredSharedLite(PERESOURCE Resource)
 {
-    pthread_mutex_lock(&host_lock);
+    hold_host("ExIsResourceAcquiredSharedLite", Resource, READS);
     const int mine = reader(Resource, false);
     const ULONG count = mine >= 0 ? (ULONG)Resource->Readers[mine].Count : 0;
     pthread_mutex_unlock(&host_lock);
@@ -131,7 +134,7 @@ ULONG ExIsResourceAcquiredSharedLite(PERESOURCE Resource)
 
 VOID ExConvertExclusiveToSharedLite(PERESOURCE Resource)
 {
-    pthread_mutex_lock(&host_lock);
+    hold_host("ExConvertExclusiveToSharedLite", Resource, SYNCS);
     const LONG times = Resource->Exclusive;
     const int mine = reader(Resource, true);
     Resource->Exclusive = 0;
@@ -158,7 +161,7 @@ VOID ExReInitializeRundownProtection(PEX_RUNDOWN_REF Ref) { ExInitializeRundownP
 
 BOOLEAN ExAcquireRundownProtection(PEX_RUNDOWN_REF Ref)
 {
-    pthread_mutex_lock(&host_lock);
+    hold_host("ExAcquireRundownProtection", Ref, SYNCS);
     const BOOLEAN is_there = !Ref->RunDown;
     Ref->Count += is_there;
     pthread_mutex_unlock(&host_lock);
@@ -169,6 +172,7 @@ VOID WdmExReleaseRundownProtection(PEX_RUNDOWN_REF Ref, WDM_SITE at)
 {
     Call c;
     enter_host(&c, "ExReleaseRundownProtection", at);
+    touch(Ref, SYNCS);
     if (!Ref->Count)
         fault("Rundown", NULL, "released more often than it was acquired");
     else if (!--Ref->Count && Ref->RunDown)
@@ -178,7 +182,7 @@ VOID WdmExReleaseRundownProtection(PEX_RUNDOWN_REF Ref, WDM_SITE at)
 
 VOID WdmExWaitForRundown(PEX_RUNDOWN_REF Ref, WDM_SITE at)
 {
-    pthread_mutex_lock(&host_lock);
+    hold_host("ExWaitForRundownProtectionRelease", Ref, SYNCS);
     Ref->RunDown = TRUE;
     const bool is_over = !Ref->Count;
     pthread_mutex_unlock(&host_lock);
@@ -192,7 +196,7 @@ VOID ExInitializeSListHead(PSLIST_HEADER Head) { *Head = (SLIST_HEADER){ 0 }; }
 
 PSLIST_ENTRY WdmPushEntrySList(PSLIST_HEADER Head, PSLIST_ENTRY Entry)
 {
-    pthread_mutex_lock(&host_lock);
+    hold_host("InterlockedPushEntrySList", Head, SYNCS);
     PSLIST_ENTRY first = Head->First;
     Entry->Next = first;
     Head->First = Entry;
@@ -203,7 +207,7 @@ PSLIST_ENTRY WdmPushEntrySList(PSLIST_HEADER Head, PSLIST_ENTRY Entry)
 
 PSLIST_ENTRY WdmPopEntrySList(PSLIST_HEADER Head)
 {
-    pthread_mutex_lock(&host_lock);
+    hold_host("InterlockedPopEntrySList", Head, SYNCS);
     PSLIST_ENTRY first = Head->First;
     if (first) {
         Head->First = first->Next;
@@ -215,14 +219,20 @@ PSLIST_ENTRY WdmPopEntrySList(PSLIST_HEADER Head)
 
 PSLIST_ENTRY ExInterlockedFlushSList(PSLIST_HEADER Head)
 {
-    pthread_mutex_lock(&host_lock);
+    hold_host("ExInterlockedFlushSList", Head, SYNCS);
     PSLIST_ENTRY first = Head->First;
     *Head = (SLIST_HEADER){ 0 };
     pthread_mutex_unlock(&host_lock);
     return first;
 }
 
-USHORT ExQueryDepthSList(PSLIST_HEADER Head) { return (USHORT)Head->Depth; }
+USHORT ExQueryDepthSList(PSLIST_HEADER Head)
+{
+    hold_host("ExQueryDepthSList", Head, READS);
+    const USHORT depth = (USHORT)Head->Depth;
+    pthread_mutex_unlock(&host_lock);
+    return depth;
+}
 
 PSINGLE_LIST_ENTRY ExInterlockedPushEntryList(PSINGLE_LIST_ENTRY Head, PSINGLE_LIST_ENTRY Entry, PKSPIN_LOCK Lock)
 {

@@ -239,8 +239,10 @@ Woken wait_by_schedule(const Wait *w)
     Thread *t = &threads[running];
     t->wait = *w;
     t->woken = READY;
-    if (w->ready(w->context))
+    if (w->ready(w->context)) {
+        passed(w->what, READY); /* as if it had waited: both come to the same */
         return READY;
+    }
     t->waits = true;
     t->place = (Place){ .what = w->what, .at = w->at };
     if (can_go_on(t)) {

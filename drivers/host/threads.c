@@ -95,6 +95,14 @@ void leave_host(void)
     pthread_mutex_unlock(&host_lock);
 }
 
+/* Takes G for a call that meets others in one object of the host's, and whose place isn't kept. */
+void hold_host(const char *call, const void *object, Touch how)
+{
+    point(call, (WDM_SITE){ 0 });
+    pthread_mutex_lock(&host_lock);
+    touch(object, how);
+}
+
 void let_driver_run(void) { pthread_mutex_unlock(&host_lock); }
 
 void driver_came_back(void)

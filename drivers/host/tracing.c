@@ -97,20 +97,29 @@ static struct { PDRIVER_OBJECT driver; PVOID id, data; } extensions[64];
 static struct { PDRIVER_OBJECT driver; PDRIVER_REINITIALIZE routine; PVOID context; } later[64];
 static int n_extensions, n_later;
 
-PVOID IoGetDriverObjectExtension(PDRIVER_OBJECT Driver, PVOID Id)
+static PVOID find_extension(PDRIVER_OBJECT driver, PVOID id)
 {
     for (int i = 0; i < n_extensions; i++)
-        if (extensions[i].driver == Driver && extensions[i].id == Id)
+        if (extensions[i].driver == driver && extensions[i].id == id)
             return extensions[i].data;
     return NULL;
+}
+
+PVOID IoGetDriverObjectExtension(PDRIVER_OBJECT Driver, PVOID Id)
+{
+    hold_host("IoGetDriverObjectExtension", &extensions, READS);
+    PVOID found = find_extension(Driver, Id);
+    pthread_mutex_unlock(&host_lock);
+    return found;
 }
 
 NTSTATUS WdmIoAllocateDriverObjectExtension(PDRIVER_OBJECT Driver, PVOID Id, ULONG Bytes, PVOID *Extension)
 {
     Call c;
     enter_host(&c, "IoAllocateDriverObjectExtension", nowhere);
-    const bool is_there = IoGetDriverObjectExtension(Driver, Id) != NULL;
-    *Extension = is_there || n_extensions == 64 ? NULL : calloc(1, Bytes ? Bytes : 1);
+    touch(&extensions, WRITES);
+    const bool is_there = find_extension(Driver, Id) != NULL;
+    *Extension = is_there || n_extensions == 64 ? NULL : host_memory(Bytes ? Bytes : 1);
     if (*Extension) {
         extensions[n_extensions].driver = Driver;
         extensions[n_extensions].id = Id;

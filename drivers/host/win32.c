@@ -57,7 +57,7 @@ static KMUTEX *mutex_of(CRITICAL_SECTION *section)
 {
     KMUTEX *mutex = NULL;
     bool is_new = false;
-    pthread_mutex_lock(&host_lock);
+    hold_host("a critical section", section, SYNCS);
     for (int i = 0; i < n_sections; i++)
         if (sections[i].section == section)
             mutex = sections[i].mutex;
@@ -94,7 +94,7 @@ NTSTATUS RtlInitializeCriticalSectionEx(CRITICAL_SECTION *Section, ULONG Spins, 
 
 NTSTATUS RtlDeleteCriticalSection(CRITICAL_SECTION *Section)
 {
-    pthread_mutex_lock(&host_lock);
+    hold_host("RtlDeleteCriticalSection", Section, SYNCS);
     for (int i = 0; i < n_sections; i++)
         if (sections[i].section == Section)
             sections[i--] = sections[--n_sections];

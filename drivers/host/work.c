@@ -217,6 +217,7 @@ BOOLEAN KeRemoveQueueDpc(PKDPC Dpc)
 {
     Call c;
     enter_host(&c, "KeRemoveQueueDpc", (WDM_SITE){ 0 });
+    touch(&timers, SYNCS);
     const BOOLEAN was = Dpc->Queued;
     for (int i = 0; was && i < n_dpcs; i++)
         if (dpcs[i] == Dpc) {
@@ -233,6 +234,7 @@ BOOLEAN WdmKeInsertQueueDpc(PKDPC Dpc, PVOID Argument1, PVOID Argument2, WDM_SIT
     Call c;
     enter_host(&c, "KeInsertQueueDpc", at);
     hands_over();
+    touch(&timers, SYNCS);
     const BOOLEAN queued = !Dpc->Queued;
     if (queued) {
         Dpc->Argument1 = Argument1;
@@ -257,12 +259,18 @@ static bool work_is_done(const void *context)
 }
 
 /* Under G: work items and deferred calls that are queued are waited for, as long as something goes on. */
-void finish_work(void) { wait_for_host(work_is_done, NULL); }
+void finish_work(void)
+{
+    wait_for_host(work_is_done, NULL);
+    touch(&timers, SYNCS);
+    after_work_items();
+}
 
 VOID KeFlushQueuedDpcs(VOID)
 {
     Call c;
     enter_host(&c, "KeFlushQueuedDpcs", (WDM_SITE){ 0 });
     wait_for_host(dpcs_are_done, NULL);
+    touch(&timers, SYNCS);
     leave_host();
 }

@@ -17,6 +17,9 @@ static Condition work_came = { &host_lock, PTHREAD_COND_INITIALIZER };
 static PIO_WORKITEM first_item, last_item, items; /* items: all that are there */
 static int n_workers, n_idle;
 
+/* For whoever has waited until no item is left. */
+void after_work_items(void) { touch(&first_item, SYNCS); }
+
 bool workers_are_idle(void) { return !first_item && n_idle == n_workers; }
 
 /* Idle workers are alike: the n-th of them is ready where n items are queued. */
@@ -74,6 +77,7 @@ static void *work(void *context)
         if (!first_item)
             last_item = NULL;
         item->queued = false;
+        touch(item, SYNCS);
         Frame f = { .kind = WORK, .fn = (void *)routine, .device = device->HostNumber, .settled = true };
         run_work(&f, device->DriverObject->HostNumber);
         routine(device, its);
@@ -101,6 +105,7 @@ VOID WdmIoQueueWorkItem(PIO_WORKITEM Item, PIO_WORKITEM_ROUTINE Routine, PVOID C
     Call c;
     enter_host(&c, "IoQueueWorkItem", at);
     hands_over();
+    touch(Item, SYNCS);
     if (Item->queued)
         fault("QueuedTwice", NULL, "the work item is in the queue already");
     else {
@@ -127,6 +132,7 @@ VOID WdmIoFreeWorkItem(PIO_WORKITEM Item, WDM_SITE at)
     Call c;
     enter_host(&c, "IoFreeWorkItem", at);
     PIO_WORKITEM *i = &items;
+    touch(Item, SYNCS);
     while (*i && *i != Item)
         i = &(*i)->next_made;
     if (!*i || Item->queued)
