@@ -31,7 +31,7 @@ static inline VOID AwaitChange(VOID)
     KeClearEvent(&changed);
 }
 
-static void *read_it(void *device)
+static void *send_read(void *device)
 {
     WdmSend(device, IRP_MJ_READ, 0, 4);
     return NULL;
@@ -46,7 +46,7 @@ static inline int ReadWhile(void *(*change)(void *), PDEVICE_OBJECT Device)
     KeInitializeEvent(&changed, NotificationEvent, FALSE);
     pthread_create(&one, NULL, do_nothing, NULL);
     pthread_create(&two, NULL, change, Device);
-    pthread_create(&three, NULL, read_it, Device);
+    pthread_create(&three, NULL, send_read, Device);
     pthread_join(one, NULL);
     pthread_join(two, NULL);
     pthread_join(three, NULL);
