@@ -16,7 +16,9 @@ DRIVER_FLAGS = ["-std=gnu11", "-fcommon", "-Wall", "-Wextra", "-Wno-multichar", 
                 "-Wno-unused-parameter", "-Werror=implicit-function-declaration"]
 
 
-OWN_TESTS = ["exercise.c", "overlaps.c"]  # the host's, where none is given: for a run, and for every order
+# The host's own tests, where none is given: for a run, and for every order.
+OWN_TESTS = [["exercise.c", "requests.c"], ["overlaps.c"]]
+OWN_FILES = [it for files in OWN_TESTS for it in files]
 
 
 class Stop(Exception):
@@ -158,7 +160,7 @@ def build(compiler, flags, named, library, folder, link_flags=(), libraries=(), 
         localize(made, name, keep - {"DriverEntry"})
     table = folder + "/drivers.c"
     write_table(table, drivers, len(drivers) == 1 and any("DriverEntry" in wanted for _, wanted in apart))
-    for source in (table, *(() if has_main else (f"{HERE}/host/{own_test}",))):
+    for source in (table, *(() if has_main else (f"{HERE}/host/{it}" for it in own_test))):
         made = f"{folder}/{len(objects)}_{stem(source)}.o"
         compiled(source, made)
         objects.append(made)

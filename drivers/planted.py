@@ -278,6 +278,13 @@ WRONG_HOSTS = [
      [("settling.c", "a->new_status = p->status = status;", "a->new_status = p->status = 1;")]),
 ]
 
+# What the host's own test finds in untested/mistakes.c: rules, each with the function that it is told of.
+MISTAKES = [("Touched", "in Write"), ("PoolOverrun", "in Write"), ("IrqlReturn", "in CancelWait"),
+            ("InformationTooLong", "in Control"), ("Mark", "ReadDone"), ("Status", "in Flush, dispatch for FLUSH_BUFFERS"),
+            ("NotOwner", "in Start"), ("Lost", "in Pnp, dispatch for PNP")]
+# Stacks that the host's own test is clean over. The others have no PnP, or want settings that their tests make.
+FOR_OWN_TEST = ["handover", "keyboard", "children", "policy", "power", "removal", "split", "serial", "shared", "late"]
+
 # The drivers of hostile/: what is told of each, beside the transcript. Each ends within its bound, and none is clean.
 STOPPED = "STOPPED: "
 HOSTILE = {

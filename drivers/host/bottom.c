@@ -4,7 +4,7 @@
 
 typedef struct {
     PDEVICE_OBJECT Self;
-    BOOLEAN Late;
+    ULONG Style, Failures;
     IO_CSQ Queue;
     LIST_ENTRY Waiting;
     KSPIN_LOCK Lock;
@@ -65,31 +65,61 @@ static VOID CompleteLater(PDEVICE_OBJECT DeviceObject, PVOID Context)
     KeDelayExecutionThread(KernelMode, FALSE, &moment);
     PIRP irp = IoCsqRemoveNextIrp(&ext->Queue, NULL);
     if (irp)
-        Complete(irp, STATUS_SUCCESS, LengthOf(irp));
+        IoCompleteRequest(irp, IO_NO_INCREMENT); /* with what stands in its IoStatus */
     IoFreeWorkItem(Context);
 }
 
-static NTSTATUS Any(PDEVICE_OBJECT DeviceObject, PIRP Irp)
+/* Completes it with this status: at once, or later. */
+static NTSTATUS End(PDEVICE_OBJECT DeviceObject, PIRP Irp, BOOLEAN Late, NTSTATUS Status, ULONG_PTR Information)
 {
     PBOTTOM ext = DeviceObject->DeviceExtension;
-    const UCHAR major = IoGetCurrentIrpStackLocation(Irp)->MajorFunction;
-    if (!ext->Late || (major != IRP_MJ_READ && major != IRP_MJ_WRITE && major != IRP_MJ_DEVICE_CONTROL))
-        return Complete(Irp, STATUS_SUCCESS, LengthOf(Irp));
+    if (!Late)
+        return Complete(Irp, Status, Information);
     PIO_WORKITEM item = IoAllocateWorkItem(DeviceObject);
     if (!item)
         return Complete(Irp, STATUS_INSUFFICIENT_RESOURCES, 0);
+    Irp->IoStatus.Status = Status;
+    Irp->IoStatus.Information = Information;
     IoCsqInsertIrp(&ext->Queue, Irp, NULL);
     IoQueueWorkItem(item, CompleteLater, DelayedWorkQueue, item);
     return STATUS_PENDING;
 }
 
+static BOOLEAN IsTransfer(UCHAR Major)
+{
+    return Major == IRP_MJ_READ || Major == IRP_MJ_WRITE || Major == IRP_MJ_DEVICE_CONTROL;
+}
+
+/* One that fails does so at once and later in turn, and lets files be opened and closed. */
+static NTSTATUS Any(PDEVICE_OBJECT DeviceObject, PIRP Irp)
+{
+    PBOTTOM ext = DeviceObject->DeviceExtension;
+    const UCHAR major = IoGetCurrentIrpStackLocation(Irp)->MajorFunction;
+    const BOOLEAN fails = (ext->Style & WDM_BOTTOM_FAILS) && major != IRP_MJ_CREATE && major != IRP_MJ_CLEANUP &&
+        major != IRP_MJ_CLOSE;
+    if (fails)
+        return End(DeviceObject, Irp, ext->Failures++ & 1, STATUS_IO_DEVICE_ERROR, 0);
+    return End(DeviceObject, Irp, (ext->Style & WDM_BOTTOM_LATE) && IsTransfer(major), STATUS_SUCCESS, LengthOf(Irp));
+}
+
+/* The device goes at once, whatever else is pended. */
 static NTSTATUS Pnp(PDEVICE_OBJECT DeviceObject, PIRP Irp)
 {
-    UNREFERENCED_PARAMETER(DeviceObject);
+    PBOTTOM ext = DeviceObject->DeviceExtension;
     const UCHAR minor = IoGetCurrentIrpStackLocation(Irp)->MinorFunction;
     const BOOLEAN done = minor <= IRP_MN_CANCEL_STOP_DEVICE || minor == IRP_MN_QUERY_CAPABILITIES ||
         minor == IRP_MN_SURPRISE_REMOVAL;
-    return Complete(Irp, done ? STATUS_SUCCESS : Irp->IoStatus.Status, Irp->IoStatus.Information);
+    const BOOLEAN fails = (ext->Style & WDM_BOTTOM_NO_START) && minor == IRP_MN_START_DEVICE;
+    return End(DeviceObject, Irp, (ext->Style & WDM_BOTTOM_PENDS_ALL) && minor != IRP_MN_REMOVE_DEVICE,
+               fails ? STATUS_UNSUCCESSFUL : done ? STATUS_SUCCESS : Irp->IoStatus.Status, Irp->IoStatus.Information);
+}
+
+static NTSTATUS Power(PDEVICE_OBJECT DeviceObject, PIRP Irp)
+{
+    PBOTTOM ext = DeviceObject->DeviceExtension;
+    const BOOLEAN fails = (ext->Style & WDM_BOTTOM_FAILS) &&
+        IoGetCurrentIrpStackLocation(Irp)->MinorFunction == IRP_MN_QUERY_POWER;
+    return End(DeviceObject, Irp, (ext->Style & WDM_BOTTOM_PENDS_ALL) != 0, fails ? STATUS_UNSUCCESSFUL : STATUS_SUCCESS, 0);
 }
 
 static NTSTATUS SystemControl(PDEVICE_OBJECT DeviceObject, PIRP Irp)
@@ -104,6 +134,7 @@ static NTSTATUS Entry(PDRIVER_OBJECT DriverObject, PUNICODE_STRING RegistryPath)
     for (int i = 0; i <= IRP_MJ_MAXIMUM_FUNCTION; i++)
         DriverObject->MajorFunction[i] = Any;
     DriverObject->MajorFunction[IRP_MJ_PNP] = Pnp;
+    DriverObject->MajorFunction[IRP_MJ_POWER] = Power;
     DriverObject->MajorFunction[IRP_MJ_SYSTEM_CONTROL] = SystemControl;
     return STATUS_SUCCESS;
 }
@@ -113,7 +144,9 @@ static PDRIVER_OBJECT driver;
 bool is_bottom(PDEVICE_OBJECT device);
 bool is_bottom(PDEVICE_OBJECT device) { return driver && device->DriverObject == driver; }
 
-PDEVICE_OBJECT WdmCreateBottom(BOOLEAN Late)
+PDEVICE_OBJECT WdmCreateBottom(BOOLEAN Late) { return WdmCreateBottomOf(Late ? WDM_BOTTOM_LATE : 0); }
+
+PDEVICE_OBJECT WdmCreateBottomOf(ULONG Style)
 {
     PDEVICE_OBJECT device = NULL;
     if (!driver)
@@ -122,7 +155,7 @@ PDEVICE_OBJECT WdmCreateBottom(BOOLEAN Late)
         return NULL;
     PBOTTOM ext = device->DeviceExtension;
     ext->Self = device;
-    ext->Late = Late;
+    ext->Style = Style;
     KeInitializeSpinLock(&ext->Lock);
     InitializeListHead(&ext->Waiting);
     IoCsqInitialize(&ext->Queue, Insert, Remove, PeekNext, Acquire, Release, CompleteCanceled);

@@ -140,11 +140,17 @@ static void run_cancel_routine(Packet *p, Entry *e, KIRQL irql)
         settle(p, true);
 }
 
-BOOLEAN WdmIoCancelIrp(PIRP Irp, WDM_SITE at)
+/* Where `if_there`, one that has ended is left alone. */
+static BOOLEAN cancel(PIRP Irp, bool if_there, WDM_SITE at)
 {
     Call c;
     Packet *p;
     const KIRQL irql = begin_cancel(&c, &p, Irp, at);
+    if (if_there && !lives(p)) {
+        release_cancel_lock(irql);
+        leave_host();
+        return FALSE;
+    }
     Entry *e = begin(CANCEL, p, ORIGINATOR);
     const char *no = rules_refusal(e);
     if (no) {
@@ -173,3 +179,6 @@ BOOLEAN WdmIoCancelIrp(PIRP Irp, WDM_SITE at)
     leave_host();
     return routine;
 }
+
+BOOLEAN WdmIoCancelIrp(PIRP Irp, WDM_SITE at) { return cancel(Irp, false, at); }
+BOOLEAN WdmCancelSent(PIRP Irp, WDM_SITE at) { return cancel(Irp, true, at); }

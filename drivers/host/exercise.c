@@ -1,96 +1,86 @@
 /*
  * exercise.c: the test that `run` takes where none is given. It puts the drivers, in their order, on a bottom device
  * of the host, starts them, sends what the I/O manager sends, cancels some of it, and removes the device. It does so
- * twice: over a bottom that completes at once, and over one that completes later, from another thread. A driver that
- * creates a device in DriverEntry gets the requests there.
+ * over several bottoms: one that completes at once, one that completes later, from another thread, one that pends PnP
+ * and power too, one that fails, and one that doesn't start. A driver that creates a device in DriverEntry gets the
+ * requests there. WDM_SHORT leaves out all but the first two, and most lengths.
  */
-#include "wdm_test.h"
+#include "requests.h"
 #include <pthread.h>
 #include <stdio.h>
 
 extern const struct { const char *name; PDRIVER_INITIALIZE entry; } wdm_drivers[];
 extern const int wdm_n_drivers;
 
-typedef struct { PIRP irp; KEVENT done; NTSTATUS status; } Request;
+enum { UNKNOWN_MINOR = 0x7f, PATIENT = 50, SHORTLY = 10 }; /* milliseconds before a request is cancelled */
 static PDEVICE_OBJECT top_of_threads;
-static ULONG controls[16];
-static int n_controls, rounds = 16;
+static PDRIVER_OBJECT loaded[64];
+static int rounds = 16;
+static BOOLEAN is_short;
 
-static NTSTATUS keep(PDEVICE_OBJECT device, PIRP irp, PVOID context)
-{
-    Request *r = context;
-    (void)device;
-    r->status = irp->IoStatus.Status;
-    KeSetEvent(&r->done, IO_NO_INCREMENT, FALSE);
-    return STATUS_MORE_PROCESSING_REQUIRED;
-}
-
-/* Sends a request; one that is cancelled before, where `cancelled`. Returns FALSE where there is no memory for it. */
-static BOOLEAN start(Request *r, PDEVICE_OBJECT top, UCHAR major, ULONG length, ULONG code, BOOLEAN cancelled)
-{
-    r->status = STATUS_PENDING;
-    KeInitializeEvent(&r->done, NotificationEvent, FALSE);
-    r->irp = WdmBuildIrp(top, major, 0, length, NULL, NULL);
-    if (!r->irp)
-        return FALSE;
-    if (major == IRP_MJ_DEVICE_CONTROL)
-        IoGetNextIrpStackLocation(r->irp)->Parameters.DeviceIoControl.IoControlCode = code;
-    IoSetCompletionRoutine(r->irp, keep, r, TRUE, TRUE, TRUE);
-    if (cancelled)
-        IoCancelIrp(r->irp);
-    IoCallDriver(top, r->irp);
-    return TRUE;
-}
-
-/* Waits for a request, and cancels it where it isn't done after some milliseconds. */
-static void finish(Request *r, int milliseconds)
-{
-    LARGE_INTEGER limit = { .QuadPart = -10000LL * milliseconds };
-    if (KeWaitForSingleObject(&r->done, Executive, KernelMode, FALSE, &limit) == STATUS_TIMEOUT) {
-        IoCancelIrp(r->irp);
-        KeWaitForSingleObject(&r->done, Executive, KernelMode, FALSE, NULL);
-    }
-    IoFreeIrp(r->irp);
-}
-
-static void request(PDEVICE_OBJECT top, UCHAR major, ULONG length, ULONG code, int milliseconds)
-{
-    Request r;
-    if (start(&r, top, major, length, code, FALSE))
-        finish(&r, milliseconds);
-}
+static What control(int i, ULONG length) { return (What){ IRP_MJ_DEVICE_CONTROL, length, controls[i] }; }
+static What transfer(UCHAR major, ULONG length) { return (What){ major, length, 0 }; }
 
 /* Requests that meet: a read and each control are on their way while others come. */
 static void use_overlapped(PDEVICE_OBJECT top)
 {
     Request first;
-    if (start(&first, top, IRP_MJ_READ, 16, 0, FALSE)) {
-        request(top, IRP_MJ_WRITE, 16, 0, 50);
-        finish(&first, 50);
+    if (start_request(&first, top, transfer(IRP_MJ_READ, 16), KEPT)) {
+        make_request(top, transfer(IRP_MJ_WRITE, 16), PLAIN, PATIENT);
+        end_request(&first, PATIENT);
     }
-    if (start(&first, top, IRP_MJ_READ, 32, 0, TRUE))
-        finish(&first, 50);
     for (int i = 0; i < n_controls; i++) {
-        if (!start(&first, top, IRP_MJ_DEVICE_CONTROL, 16, controls[i], FALSE))
+        if (!start_request(&first, top, control(i, 16), PLAIN))
             continue;
         for (int j = 0; j < n_controls; j++)
             if (j != i)
-                request(top, IRP_MJ_DEVICE_CONTROL, 16, controls[j], 5);
-        finish(&first, 5);
+                make_request(top, control(j, 16), PLAIN, 5);
+        end_request(&first, 5);
     }
 }
 
-static void use(PDEVICE_OBJECT top)
+/* Buffers that are short, odd and large. */
+static void use_lengths(PDEVICE_OBJECT top)
+{
+    static const ULONG lengths[] = { 1, 17, 4095, 65536 };
+    for (size_t n = 0; n < ARRAYSIZE(lengths); n++) {
+        make_request(top, transfer(IRP_MJ_READ, lengths[n]), PLAIN, SHORTLY);
+        make_request(top, transfer(IRP_MJ_WRITE, lengths[n]), PLAIN, SHORTLY);
+        for (int i = 0; i < n_controls; i++)
+            make_request(top, control(i, lengths[n]), PLAIN, SHORTLY);
+    }
+}
+
+/* Cancels before a request is sent, while it is on its way, and after it was completed. */
+static void use_cancels(PDEVICE_OBJECT top)
+{
+    static const How hows[] = { CANCELLED_BEFORE, CANCELLED_AT_ONCE, CANCELLED_AFTER };
+    for (size_t n = 0; n < ARRAYSIZE(hows); n++) {
+        make_request(top, transfer(IRP_MJ_READ, 32), hows[n], SHORTLY);
+        make_request(top, transfer(IRP_MJ_WRITE, 32), hows[n], SHORTLY);
+        for (int i = 0; i < n_controls; i++)
+            make_request(top, control(i, 32), hows[n], SHORTLY);
+    }
+}
+
+static void use(PDEVICE_OBJECT top, BOOLEAN finds)
 {
     WdmSend(top, IRP_MJ_CREATE, 0, 0);
-    request(top, IRP_MJ_READ, 16, 0, 50);
-    request(top, IRP_MJ_WRITE, 16, 0, 50);
-    request(top, IRP_MJ_READ, 0, 0, 50);
+    make_request(top, transfer(IRP_MJ_READ, 16), PLAIN, PATIENT);
+    make_request(top, transfer(IRP_MJ_WRITE, 16), PLAIN, PATIENT);
+    make_request(top, transfer(IRP_MJ_READ, 0), PLAIN, PATIENT);
+    if (finds)
+        find_controls(top);
     for (int i = 0; i < n_controls; i++)
-        request(top, IRP_MJ_DEVICE_CONTROL, 16, controls[i], 50);
+        make_request(top, control(i, 16), PLAIN, PATIENT);
     use_overlapped(top);
-    request(top, IRP_MJ_DEVICE_CONTROL, 16, CTL_CODE(FILE_DEVICE_UNKNOWN, 0x7ff, METHOD_BUFFERED, FILE_ANY_ACCESS), 50);
-    request(top, IRP_MJ_FLUSH_BUFFERS, 0, 0, 50);
+    if (!is_short)
+        use_lengths(top);
+    use_cancels(top);
+    make_request(top, (What){ IRP_MJ_INTERNAL_DEVICE_CONTROL, 16, 0x7ff << 2 }, PLAIN, PATIENT);
+    for (int i = 0; i < 2; i++) /* a bottom that fails does so at once, and later */
+        make_request(top, transfer(IRP_MJ_FLUSH_BUFFERS, 0), PLAIN, PATIENT);
+    make_request(top, transfer(IRP_MJ_SHUTDOWN, 0), PLAIN, PATIENT);
 }
 
 static void close_it(PDEVICE_OBJECT top)
@@ -99,41 +89,16 @@ static void close_it(PDEVICE_OBJECT top)
     WdmSend(top, IRP_MJ_CLOSE, 0, 0);
 }
 
-static NTSTATUS power(PDEVICE_OBJECT top, UCHAR minor, DEVICE_POWER_STATE state)
-{
-    IO_STATUS_BLOCK iosb;
-    KEVENT ended;
-    KeInitializeEvent(&ended, NotificationEvent, FALSE);
-    PIRP irp = WdmBuildIrp(top, IRP_MJ_POWER, minor, 0, &iosb, &ended);
-    PIO_STACK_LOCATION next = IoGetNextIrpStackLocation(irp);
-    next->Parameters.Power.Type = DevicePowerState;
-    next->Parameters.Power.State.DeviceState = state;
-    PoCallDriver(top, irp);
-    KeWaitForSingleObject(&ended, Executive, KernelMode, FALSE, NULL);
-    return iosb.Status;
-}
-
-static NTSTATUS ask_capabilities(PDEVICE_OBJECT top)
-{
-    DEVICE_CAPABILITIES capabilities = { .Size = sizeof capabilities, .Version = 1 };
-    IO_STATUS_BLOCK iosb;
-    KEVENT ended;
-    KeInitializeEvent(&ended, NotificationEvent, FALSE);
-    PIRP irp = WdmBuildIrp(top, IRP_MJ_PNP, IRP_MN_QUERY_CAPABILITIES, 0, &iosb, &ended);
-    IoGetNextIrpStackLocation(irp)->Parameters.DeviceCapabilities.Capabilities = &capabilities;
-    IoCallDriver(top, irp);
-    KeWaitForSingleObject(&ended, Executive, KernelMode, FALSE, NULL);
-    return iosb.Status;
-}
-
 static void *use_often(void *number)
 {
     static const UCHAR majors[] = { IRP_MJ_READ, IRP_MJ_WRITE, IRP_MJ_DEVICE_CONTROL, IRP_MJ_DEVICE_CONTROL };
+    static const How hows[] = { PLAIN, PLAIN, PLAIN, KEPT, CANCELLED_AT_ONCE, CANCELLED_BEFORE };
     unsigned chance = (unsigned)(intptr_t)number + 1;
     for (int i = 0; i < rounds; i++) {
         const UCHAR major = majors[rand_r(&chance) % 4];
         const ULONG code = n_controls ? controls[rand_r(&chance) % (unsigned)n_controls] : 0;
-        request(top_of_threads, major, 8 + (ULONG)i, code, 1 + rand_r(&chance) % 5);
+        const How how = hows[rand_r(&chance) % ARRAYSIZE(hows)];
+        make_request(top_of_threads, (What){ major, 8 + (ULONG)i, code }, how, 1 + rand_r(&chance) % 5);
     }
     return NULL;
 }
@@ -148,62 +113,105 @@ static void use_by_threads(PDEVICE_OBJECT top, int threads)
         pthread_join(t[i], NULL);
 }
 
-static void use_stack(PDRIVER_OBJECT *loaded, BOOLEAN late, int threads)
+/* A device is asked whether it may stop, stops and starts; it is asked whether it may go, and stays. */
+static void stop_and_start(PDEVICE_OBJECT top)
 {
-    PDEVICE_OBJECT bottom = WdmCreateBottom(late), top;
+    WdmSend(top, IRP_MJ_PNP, IRP_MN_QUERY_STOP_DEVICE, 0);
+    WdmSend(top, IRP_MJ_PNP, IRP_MN_CANCEL_STOP_DEVICE, 0);
+    if (NT_SUCCESS(WdmSend(top, IRP_MJ_PNP, IRP_MN_QUERY_STOP_DEVICE, 0))) {
+        WdmSend(top, IRP_MJ_PNP, IRP_MN_STOP_DEVICE, 0);
+        WdmSend(top, IRP_MJ_PNP, IRP_MN_START_DEVICE, 0);
+    } else
+        WdmSend(top, IRP_MJ_PNP, IRP_MN_CANCEL_STOP_DEVICE, 0);
+    WdmSend(top, IRP_MJ_PNP, IRP_MN_QUERY_REMOVE_DEVICE, 0);
+    WdmSend(top, IRP_MJ_PNP, IRP_MN_CANCEL_REMOVE_DEVICE, 0);
+}
+
+/* The device is gone while a read and a write are under way; who has it open closes it, and only then it is removed. */
+static void remove_by_surprise(PDEVICE_OBJECT top)
+{
+    Request read, write;
+    const BOOLEAN reads = start_request(&read, top, transfer(IRP_MJ_READ, 16), PLAIN);
+    const BOOLEAN writes = start_request(&write, top, transfer(IRP_MJ_WRITE, 16), KEPT);
+    WdmSend(top, IRP_MJ_PNP, IRP_MN_SURPRISE_REMOVAL, 0);
+    if (reads)
+        end_request(&read, PATIENT);
+    if (writes)
+        end_request(&write, PATIENT);
+    close_it(top);
+    WdmSend(top, IRP_MJ_PNP, IRP_MN_REMOVE_DEVICE, 0);
+}
+
+static void remove_in_order(PDEVICE_OBJECT top)
+{
+    close_it(top);
+    set_power(top, IRP_MN_QUERY_POWER, PowerDeviceD3);
+    set_power(top, IRP_MN_SET_POWER, PowerDeviceD3);
+    if (!NT_SUCCESS(WdmSend(top, IRP_MJ_PNP, IRP_MN_QUERY_REMOVE_DEVICE, 0))) {
+        WdmSend(top, IRP_MJ_PNP, IRP_MN_CANCEL_REMOVE_DEVICE, 0);
+        WdmSend(top, IRP_MJ_PNP, IRP_MN_SURPRISE_REMOVAL, 0);
+    }
+    WdmSend(top, IRP_MJ_PNP, IRP_MN_REMOVE_DEVICE, 0);
+}
+
+static void use_started(PDEVICE_OBJECT top, ULONG style, int threads)
+{
+    ask_capabilities(top);
+    WdmSend(top, IRP_MJ_PNP, IRP_MN_QUERY_PNP_DEVICE_STATE, 0);
+    WdmSend(top, IRP_MJ_PNP, UNKNOWN_MINOR, 0); /* a request that no driver knows */
+    WdmSend(top, IRP_MJ_SYSTEM_CONTROL, IRP_MN_REGINFO, 0);
+    set_power(top, IRP_MN_SET_POWER, PowerDeviceD0);
+    use(top, !style);
+    if (threads > 1)
+        use_by_threads(top, threads);
+    if (!style && !is_short)
+        stop_and_start(top);
+    if (style == WDM_BOTTOM_LATE)
+        remove_by_surprise(top);
+    else
+        remove_in_order(top);
+}
+
+static void use_stack(ULONG style, int threads)
+{
+    PDEVICE_OBJECT bottom = WdmCreateBottomOf(style), top;
     if (!bottom)
         return;
     for (int i = 0; i < wdm_n_drivers; i++)
         if (loaded[i] && loaded[i]->DriverExtension->AddDevice)
             WdmAddDevice(loaded[i], bottom);
     top = IoGetAttachedDevice(bottom);
-    if (top == bottom) {
-        IoDeleteDevice(bottom);
-        return;
-    }
-    WdmSend(top, IRP_MJ_PNP, IRP_MN_START_DEVICE, 0);
-    ask_capabilities(top);
-    WdmSend(top, IRP_MJ_PNP, IRP_MN_QUERY_PNP_DEVICE_STATE, 0);
-    WdmSend(top, IRP_MJ_PNP, 0x7f, 0); /* a request that no driver knows */
-    WdmSend(top, IRP_MJ_SYSTEM_CONTROL, IRP_MN_REGINFO, 0);
-    power(top, IRP_MN_SET_POWER, PowerDeviceD0);
-    use(top);
-    if (threads > 1)
-        use_by_threads(top, threads);
-    close_it(top);
-    power(top, IRP_MN_QUERY_POWER, PowerDeviceD3);
-    power(top, IRP_MN_SET_POWER, PowerDeviceD3);
-    WdmSend(top, IRP_MJ_PNP, late ? IRP_MN_SURPRISE_REMOVAL : IRP_MN_QUERY_REMOVE_DEVICE, 0);
-    WdmSend(top, IRP_MJ_PNP, IRP_MN_REMOVE_DEVICE, 0);
+    if (top != bottom && NT_SUCCESS(WdmSend(top, IRP_MJ_PNP, IRP_MN_START_DEVICE, 0)))
+        use_started(top, style, threads);
+    else if (top != bottom)
+        WdmSend(top, IRP_MJ_PNP, IRP_MN_REMOVE_DEVICE, 0);
     IoDeleteDevice(bottom);
 }
 
-static void read_controls(const char *text)
+/* A driver that made its device in DriverEntry. */
+static void use_device(PDEVICE_OBJECT device, int threads)
 {
-    char *end;
-    while (text && *text && n_controls < 16) {
-        controls[n_controls++] = (ULONG)strtoul(text, &end, 0);
-        text = *end ? end + 1 : end;
-    }
+    use(device, TRUE);
+    if (threads > 1)
+        use_by_threads(device, threads);
+    close_it(device);
 }
 
 int main(void)
 {
-    PDRIVER_OBJECT loaded[64] = { NULL };
+    static const ULONG styles[] = { 0, WDM_BOTTOM_LATE, WDM_BOTTOM_LATE | WDM_BOTTOM_PENDS_ALL, WDM_BOTTOM_FAILS,
+                                    WDM_BOTTOM_NO_START };
     const char *number = getenv("WDM_THREADS");
     const int threads = number ? atoi(number) : 1;
-    read_controls(getenv("WDM_CONTROLS"));
+    is_short = getenv("WDM_SHORT") != NULL;
+    read_controls();
     for (int i = 0; i < wdm_n_drivers && i < 64; i++)
         loaded[i] = WdmLoadDriver(wdm_drivers[i].name, wdm_drivers[i].entry);
-    use_stack(loaded, FALSE, threads);
-    use_stack(loaded, TRUE, threads);
+    for (size_t i = 0; i < (is_short ? 2 : ARRAYSIZE(styles)); i++)
+        use_stack(styles[i], threads);
     for (int i = 0; i < wdm_n_drivers && i < 64; i++) {
-        if (loaded[i] && loaded[i]->DeviceObject && !loaded[i]->DriverExtension->AddDevice) {
-            use(loaded[i]->DeviceObject);
-            if (threads > 1)
-                use_by_threads(loaded[i]->DeviceObject, threads);
-            close_it(loaded[i]->DeviceObject);
-        }
+        if (loaded[i] && loaded[i]->DeviceObject && !loaded[i]->DriverExtension->AddDevice)
+            use_device(loaded[i]->DeviceObject, threads);
         if (loaded[i])
             WdmUnloadDriver(loaded[i]);
     }

@@ -174,6 +174,7 @@ static void write_summary(size_t entries)
         fprintf(f, "stopped %s\n", stopped_by);
     fprintf(f, "allocations %d\n%s", n_allocations, memory_was_refused() ? "refused 1\n" : "");
     tell_expected(f);
+    tell_unreached(f);
     fclose(f);
 }
 

@@ -33,6 +33,9 @@ void tell_threads_left(int driver);
 void tell_links_left(int driver);
 int driver_of_file(const char *file);
 
+/* reached.c */
+void tell_unreached(FILE *out);
+
 /* own_memory.c, stack_blocks.c */
 void remember_blocks(Packet *p);
 void check_blocks(const Frame *f);

@@ -31,6 +31,11 @@ VOID WdmUnloadDriver(PDRIVER_OBJECT Driver);
  * marks READ and WRITE pending and completes them from a thread of the host, unless they are cancelled before.
  */
 PDEVICE_OBJECT WdmCreateBottom(BOOLEAN Late);
+/* The same in a style of these: LATE as above; PENDS_ALL pends PNP, but for REMOVE_DEVICE, and POWER too; FAILS completes
+   all but CREATE, CLEANUP, CLOSE and PNP with STATUS_IO_DEVICE_ERROR, every other one later, and refuses QUERY_POWER;
+   NO_START fails START_DEVICE. */
+enum { WDM_BOTTOM_LATE = 1, WDM_BOTTOM_PENDS_ALL = 2, WDM_BOTTOM_FAILS = 4, WDM_BOTTOM_NO_START = 8 };
+PDEVICE_OBJECT WdmCreateBottomOf(ULONG Style);
 
 /*
  * The Plug and Play manager, on a thread of its own. WdmPlugIn starts a stack whose drivers are there, and asks it for its
@@ -62,6 +67,11 @@ PIRP WdmBuild(PDEVICE_OBJECT Top, UCHAR Major, UCHAR Minor, ULONG Length, PIO_ST
               WDM_SITE at);
 #define WdmBuildIrp(top, major, minor, length, iosb, event) \
     WdmBuild((top), (major), (minor), (length), (iosb), (event), WDM_HERE)
+
+/* Cancels a packet of WdmBuild that was sent, as the I/O manager cancels what an ending thread has asked for: nothing
+   happens where it has ended. Returns whether a cancel routine was called. */
+BOOLEAN WdmCancelSent(PIRP Irp, WDM_SITE at);
+#define WdmCancelRequest(irp) WdmCancelSent((irp), WDM_HERE)
 
 /* Builds, sends and waits. Returns the packet's final status. Code is the control code of DEVICE_CONTROL. */
 NTSTATUS WdmSendAndWait(PDEVICE_OBJECT Top, UCHAR Major, UCHAR Minor, ULONG Length, ULONG Code, WDM_SITE at);

@@ -158,7 +158,8 @@ static NTSTATUS ToasterControlDone(PDEVICE_OBJECT DeviceObject, PIRP Irp, PVOID 
     PIRP control = Context;
     PFDO_EXTENSION ext = control->Tail.Overlay.DriverContext[0];
     UNREFERENCED_PARAMETER(DeviceObject);
-    control->IoStatus = Irp->IoStatus;
+    control->IoStatus.Status = Irp->IoStatus.Status;
+    control->IoStatus.Information = 0; /* what was written down there isn't for its buffer */
     IoFreeIrp(Irp);
     IoCompleteRequest(control, IO_NO_INCREMENT);
     IoReleaseRemoveLock(&ext->RemoveLock, control);

@@ -70,6 +70,7 @@ NTSTATUS DriverEntry(PDRIVER_OBJECT DriverObject, PUNICODE_STRING RegistryPath)
     UNREFERENCED_PARAMETER(RegistryPath);
     DriverObject->MajorFunction[IRP_MJ_READ] = Read;
     DriverObject->MajorFunction[IRP_MJ_PNP] = Pnp;
+    DriverObject->DriverExtension->AddDevice = AddDevice;
     return STATUS_SUCCESS;
 }
 

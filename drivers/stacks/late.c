@@ -11,8 +11,9 @@ static VOID Idle(PVOID Context)
 
 static NTSTATUS Read(PDEVICE_OBJECT DeviceObject, PIRP Irp)
 {
+    const ULONG length = IoGetCurrentIrpStackLocation(Irp)->Parameters.Read.Length;
     UNREFERENCED_PARAMETER(DeviceObject);
-    Complete(Irp, STATUS_SUCCESS, 1);
+    Complete(Irp, STATUS_SUCCESS, length ? 1 : 0);
     KeSetEvent(&completed, IO_NO_INCREMENT, FALSE);
     Pause(300);
     return STATUS_SUCCESS;

@@ -53,6 +53,8 @@ static NTSTATUS Control(PDEVICE_OBJECT DeviceObject, PIRP Irp)
     KEVENT event;
     if (stack->Parameters.DeviceIoControl.IoControlCode != IOCTL_ASK_BELOW)
         return PassDown(ext->Lower, Irp);
+    if (stack->Parameters.DeviceIoControl.OutputBufferLength < sizeof answer)
+        return Complete(Irp, STATUS_BUFFER_TOO_SMALL, 0);
     KeInitializeEvent(&event, NotificationEvent, FALSE);
     PIRP own = IoBuildDeviceIoControlRequest(IOCTL_ASK_BELOW, ext->Lower, &question, sizeof question, &answer,
                                              sizeof answer, FALSE, &event, &iosb);
@@ -88,6 +90,7 @@ NTSTATUS DriverEntry(PDRIVER_OBJECT DriverObject, PUNICODE_STRING RegistryPath)
         DriverObject->MajorFunction[i] = Pass;
     DriverObject->MajorFunction[IRP_MJ_POWER] = Power;
     DriverObject->MajorFunction[IRP_MJ_DEVICE_CONTROL] = Control;
+    DriverObject->DriverExtension->AddDevice = AddDevice;
     return STATUS_SUCCESS;
 }
 

@@ -155,6 +155,7 @@ NTSTATUS DriverEntry(PDRIVER_OBJECT DriverObject, PUNICODE_STRING RegistryPath)
     DriverObject->MajorFunction[IRP_MJ_READ] = Read;
     DriverObject->MajorFunction[IRP_MJ_POWER] = Power;
     DriverObject->MajorFunction[IRP_MJ_PNP] = Pnp;
+    DriverObject->DriverExtension->AddDevice = AddDevice;
     return STATUS_SUCCESS;
 }
 

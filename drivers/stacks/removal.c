@@ -90,6 +90,7 @@ static NTSTATUS Pnp(PDEVICE_OBJECT DeviceObject, PIRP Irp)
 {
     PEXTENSION ext = DeviceObject->DeviceExtension;
     const UCHAR minor = IoGetCurrentIrpStackLocation(Irp)->MinorFunction;
+    const BOOLEAN is_handled = minor <= IRP_MN_CANCEL_STOP_DEVICE || minor == IRP_MN_SURPRISE_REMOVAL;
     NTSTATUS status = IoAcquireRemoveLock(&ext->RemoveLock, Irp);
     if (!NT_SUCCESS(status))
         return Complete(Irp, status, 0);
@@ -106,7 +107,7 @@ static NTSTATUS Pnp(PDEVICE_OBJECT DeviceObject, PIRP Irp)
     }
     if (minor == IRP_MN_SURPRISE_REMOVAL)
         KeSetEvent(&ext->Work, IO_NO_INCREMENT, FALSE);
-    Irp->IoStatus.Status = STATUS_SUCCESS;
+    Irp->IoStatus.Status = is_handled ? STATUS_SUCCESS : Irp->IoStatus.Status;
     status = PassDown(ext->Lower, Irp);
     IoReleaseRemoveLock(&ext->RemoveLock, Irp);
     return status;
@@ -157,6 +158,7 @@ NTSTATUS DriverEntry(PDRIVER_OBJECT DriverObject, PUNICODE_STRING RegistryPath)
     DriverObject->MajorFunction[IRP_MJ_READ] = Read;
     DriverObject->MajorFunction[IRP_MJ_WRITE] = Write;
     DriverObject->MajorFunction[IRP_MJ_PNP] = Pnp;
+    DriverObject->DriverExtension->AddDevice = AddDevice;
     return STATUS_SUCCESS;
 }
 

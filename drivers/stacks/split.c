@@ -1,9 +1,10 @@
 /* split.c: a disk-like driver. A write goes down in pieces, in one packet of the driver's own that is used again. */
 #include "common.h"
 
-enum { PIECE = 8 };
+/* Each piece may be sent under the routine of the one before, so there are only so many of them. */
+enum { PIECE = 8, MOST_PIECES = 16 };
 typedef struct { PDEVICE_OBJECT Self, Lower; } EXTENSION, *PEXTENSION;
-typedef struct { PIRP Whole; PEXTENSION Ext; ULONG Left; ULONG_PTR Written; } TRANSFER;
+typedef struct { PIRP Whole; PEXTENSION Ext; ULONG Left, Piece; ULONG_PTR Written; } TRANSFER;
 
 static IO_COMPLETION_ROUTINE PieceDone;
 
@@ -11,7 +12,7 @@ static VOID SendPiece(PIRP Own, TRANSFER *t)
 {
     PIO_STACK_LOCATION next = IoGetNextIrpStackLocation(Own);
     next->MajorFunction = IRP_MJ_WRITE;
-    next->Parameters.Write.Length = min(t->Left, PIECE);
+    next->Parameters.Write.Length = min(t->Left, t->Piece);
     next->Parameters.Write.ByteOffset.QuadPart = (LONGLONG)t->Written;
     IoSetCompletionRoutine(Own, PieceDone, t, TRUE, TRUE, TRUE);
     IoCallDriver(t->Ext->Lower, Own);
@@ -24,7 +25,7 @@ static NTSTATUS PieceDone(PDEVICE_OBJECT DeviceObject, PIRP Irp, PVOID Context)
     UNREFERENCED_PARAMETER(DeviceObject);
     if (NT_SUCCESS(status)) {
         t->Written += Irp->IoStatus.Information;
-        t->Left -= min(t->Left, PIECE);
+        t->Left -= min(t->Left, t->Piece);
         if (t->Left) {
             IoReuseIrp(Irp, STATUS_SUCCESS);
             SendPiece(Irp, t);
@@ -45,9 +46,14 @@ static NTSTATUS Write(PDEVICE_OBJECT DeviceObject, PIRP Irp)
         return Complete(Irp, STATUS_SUCCESS, 0);
     TRANSFER *t = ExAllocatePoolWithTag(NonPagedPool, sizeof *t, 'tilS');
     PIRP own = IoAllocateIrp(ext->Lower->StackSize, FALSE);
-    if (!t || !own)
+    if (!t || !own) {
+        if (own)
+            IoFreeIrp(own);
+        if (t)
+            ExFreePoolWithTag(t, 'tilS');
         return Complete(Irp, STATUS_INSUFFICIENT_RESOURCES, 0);
-    *t = (TRANSFER){ Irp, ext, length, 0 };
+    }
+    *t = (TRANSFER){ Irp, ext, length, max(PIECE, (length + MOST_PIECES - 1) / MOST_PIECES), 0 };
     IoMarkIrpPending(Irp);
     SendPiece(own, t);
     return STATUS_PENDING;
@@ -77,6 +83,7 @@ NTSTATUS DriverEntry(PDRIVER_OBJECT DriverObject, PUNICODE_STRING RegistryPath)
     for (int i = 0; i <= IRP_MJ_MAXIMUM_FUNCTION; i++)
         DriverObject->MajorFunction[i] = Pass;
     DriverObject->MajorFunction[IRP_MJ_WRITE] = Write;
+    DriverObject->DriverExtension->AddDevice = AddDevice;
     return STATUS_SUCCESS;
 }
 

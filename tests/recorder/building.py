@@ -39,7 +39,7 @@ def compile_all(sources, folder, flags):
 
 
 def host_objects(folder):
-    names = sorted(it for it in os.listdir(DRIVERS + "/host") if it.endswith(".c") and it not in ("exercise.c", "overlaps.c"))
+    names = sorted(it for it in os.listdir(DRIVERS + "/host") if it.endswith(".c") and it not in ("exercise.c", "requests.c", "overlaps.c"))
     return compile_all([f"{DRIVERS}/host/{it}" for it in names], folder + "/host", HOST_COMPILER)
 
 

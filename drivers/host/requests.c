@@ -1,0 +1,135 @@
+/* requests.c: one request of the host's own test, and which control codes a stack knows. */
+#include "requests.h"
+#include <stdlib.h>
+
+enum { MOST_CONTROLS = 48, NOT_KNOWN = CTL_CODE(FILE_DEVICE_UNKNOWN, 0x7ff, METHOD_BUFFERED, FILE_ANY_ACCESS) };
+ULONG controls[MOST_CONTROLS];
+int n_controls;
+
+static NTSTATUS keep(PDEVICE_OBJECT device, PIRP irp, PVOID context)
+{
+    Request *r = context;
+    (void)device;
+    r->result = irp->IoStatus;
+    KeSetEvent(&r->done, IO_NO_INCREMENT, FALSE);
+    return STATUS_MORE_PROCESSING_REQUIRED;
+}
+
+BOOLEAN start_request(Request *r, PDEVICE_OBJECT top, What what, How how)
+{
+    const BOOLEAN kept = (how & (KEPT | CANCELLED_AFTER)) != 0;
+    r->how = how;
+    r->result = (IO_STATUS_BLOCK){ .Status = STATUS_PENDING };
+    KeInitializeEvent(&r->done, NotificationEvent, FALSE);
+    r->irp = WdmBuildIrp(top, what.major, 0, what.length, kept ? NULL : &r->result, kept ? NULL : &r->done);
+    if (!r->irp)
+        return FALSE;
+    if (what.major == IRP_MJ_DEVICE_CONTROL || what.major == IRP_MJ_INTERNAL_DEVICE_CONTROL)
+        IoGetNextIrpStackLocation(r->irp)->Parameters.DeviceIoControl.IoControlCode = what.code;
+    if (kept)
+        IoSetCompletionRoutine(r->irp, keep, r, TRUE, TRUE, TRUE);
+    if (how & CANCELLED_BEFORE)
+        IoCancelIrp(r->irp);
+    IoCallDriver(top, r->irp);
+    return TRUE;
+}
+
+NTSTATUS end_request(Request *r, int milliseconds)
+{
+    const BOOLEAN kept = (r->how & (KEPT | CANCELLED_AFTER)) != 0;
+    LARGE_INTEGER limit = { .QuadPart = r->how & CANCELLED_AT_ONCE ? 0 : -10000LL * milliseconds };
+    if (KeWaitForSingleObject(&r->done, Executive, KernelMode, FALSE, &limit) == STATUS_TIMEOUT) {
+        WdmCancelRequest(r->irp);
+        KeWaitForSingleObject(&r->done, Executive, KernelMode, FALSE, NULL);
+    }
+    if (r->how & CANCELLED_AFTER)
+        IoCancelIrp(r->irp);
+    if (kept)
+        IoFreeIrp(r->irp);
+    return r->result.Status;
+}
+
+NTSTATUS make_request(PDEVICE_OBJECT top, What what, How how, int milliseconds)
+{
+    Request r;
+    return start_request(&r, top, what, how) ? end_request(&r, milliseconds) : STATUS_INSUFFICIENT_RESOURCES;
+}
+
+NTSTATUS set_power(PDEVICE_OBJECT top, UCHAR minor, DEVICE_POWER_STATE state)
+{
+    IO_STATUS_BLOCK iosb;
+    KEVENT ended;
+    KeInitializeEvent(&ended, NotificationEvent, FALSE);
+    PIRP irp = WdmBuildIrp(top, IRP_MJ_POWER, minor, 0, &iosb, &ended);
+    PIO_STACK_LOCATION next = IoGetNextIrpStackLocation(irp);
+    next->Parameters.Power.Type = DevicePowerState;
+    next->Parameters.Power.State.DeviceState = state;
+    PoCallDriver(top, irp);
+    KeWaitForSingleObject(&ended, Executive, KernelMode, FALSE, NULL);
+    return iosb.Status;
+}
+
+NTSTATUS ask_capabilities(PDEVICE_OBJECT top)
+{
+    DEVICE_CAPABILITIES capabilities = { .Size = sizeof capabilities, .Version = 1 };
+    IO_STATUS_BLOCK iosb;
+    KEVENT ended;
+    KeInitializeEvent(&ended, NotificationEvent, FALSE);
+    PIRP irp = WdmBuildIrp(top, IRP_MJ_PNP, IRP_MN_QUERY_CAPABILITIES, 0, &iosb, &ended);
+    IoGetNextIrpStackLocation(irp)->Parameters.DeviceCapabilities.Capabilities = &capabilities;
+    IoCallDriver(top, irp);
+    KeWaitForSingleObject(&ended, Executive, KernelMode, FALSE, NULL);
+    return iosb.Status;
+}
+
+static void add_control(ULONG code)
+{
+    for (int i = 0; i < n_controls; i++)
+        if (controls[i] == code)
+            return;
+    if (n_controls < MOST_CONTROLS)
+        controls[n_controls++] = code;
+}
+
+static const char *next_code(const char *text, ULONG *code)
+{
+    char *end;
+    *code = (ULONG)strtoul(text, &end, 0);
+    return *end ? end + 1 : end;
+}
+
+void read_controls(void)
+{
+    ULONG code;
+    for (const char *at = getenv("WDM_CONTROLS"); at && *at;) {
+        at = next_code(at, &code);
+        add_control(code);
+    }
+}
+
+static NTSTATUS answer_to(PDEVICE_OBJECT top, ULONG code)
+{
+    return make_request(top, (What){ IRP_MJ_DEVICE_CONTROL, 0, code }, PLAIN, 20);
+}
+
+static BOOLEAN is_refused(NTSTATUS status)
+{
+    return status == STATUS_INVALID_DEVICE_REQUEST || status == STATUS_NOT_SUPPORTED;
+}
+
+void find_controls(PDEVICE_OBJECT top)
+{
+    const NTSTATUS usual = answer_to(top, NOT_KNOWN);
+    ULONG code;
+    for (const char *at = getenv("WDM_CANDIDATES"); at && *at;) {
+        at = next_code(at, &code);
+        if (!is_refused(answer_to(top, code)))
+            add_control(code);
+    }
+    for (ULONG i = 0; i < 16; i++) {
+        code = CTL_CODE(FILE_DEVICE_UNKNOWN, 0x800 + i / 4, i % 4, FILE_ANY_ACCESS);
+        const NTSTATUS status = answer_to(top, code);
+        if (!is_refused(status) && status != usual)
+            add_control(code);
+    }
+}

@@ -1,0 +1,63 @@
+"""The host's own test: it finds mistakes off the usual way, tells what never ran, and is silent over right drivers."""
+
+import os
+import re
+import subprocess
+
+import planted
+
+HERE = os.path.dirname(os.path.abspath(__file__))
+MISTAKES = HERE + "/untested/mistakes.c"
+NO_COMPLAINT = None
+
+
+def run(bench, *words):
+    """Returns what `run` prints, and its exit status."""
+    made = subprocess.run([HERE + "/run", "--irpx", bench.irpx, *words], capture_output=True, text=True, check=False)
+    return made.stdout + made.stderr, made.returncode
+
+
+def line_of(function):
+    """Returns the place of a function of mistakes.c, as it is told."""
+    with open(MISTAKES, encoding="utf-8") as it:
+        number = next(n for n, line in enumerate(it, 1) if re.match(rf"static NTSTATUS {function}\(.*[^;]$", line))
+    return f"{function} (mistakes.c:{number})"
+
+
+def mistakes(bench):
+    """Gives a complaint for each mistake that isn't told, and for what never ran."""
+    said, _ = run(bench, MISTAKES)
+    for rule, function in planted.MISTAKES:
+        told = re.search(rf"^host: FAULT {rule}\b.*{re.escape(function)}\b", said, re.M)
+        yield f"the host's own test finds {rule} {function}", NO_COMPLAINT if told else said[-1500:]
+    said, status = run(bench, "--coverage", "--cflag=-DRIGHT", MISTAKES)
+    number = line_of("Volume").split(":")[1][:-1]
+    wanted = [rf"^never ran   {re.escape(line_of('Volume'))}$", "^never came  QUERY_VOLUME_INFORMATION to Volume$",
+              rf"^lines       mistakes\.c:.*\b{number}\b"]
+    missing = [it for it in wanted if not re.search(it, said, re.M)]
+    yield "the host's own test over a right driver tells what never ran", \
+        f"status {status}, no {missing}: {said[-1500:]}" if status or missing else NO_COMPLAINT
+
+
+def silent(bench, name):
+    """Gives a complaint where the host's own test isn't clean over a stack, whose own test is left out."""
+    with open(f"{HERE}/stacks/{name}.c", encoding="utf-8") as it:
+        text = it.read()
+    source = f"{bench.folder('own test')}/its_{name}.c"
+    text = text.replace("int main(void)", "static int __attribute__((unused)) its_main(void)")
+    with open(source, "w", encoding="utf-8") as it:
+        it.write(text.replace('"common.h"', f'"{HERE}/stacks/common.h"'))
+    said, status = run(bench, source)
+    yield f"the host's own test over stack {name}", NO_COMPLAINT if not status else said[-900:]
+
+
+def samples(bench):
+    """Gives a complaint where the host's own test isn't clean over the samples."""
+    said, status = run(bench, *(f"{HERE}/samples/{it}.c" for it in ("bus", "toaster", "filter")))
+    yield "the host's own test over the samples", NO_COMPLAINT if not status else said[-900:]
+
+
+def tests(bench):
+    """Returns the tests: of each a name, and a call that gives names and complaints."""
+    return [("own test, mistakes", lambda: mistakes(bench)), ("own test, samples", lambda: samples(bench)),
+            *((f"own test, stack {it}", lambda it=it: silent(bench, it)) for it in planted.FOR_OWN_TEST)]

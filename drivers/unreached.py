@@ -1,0 +1,148 @@
+"""Tells what of the drivers' code never ran: by the compiler's own counts (gcov), and by what the host has recorded.
+
+With gcc each function and line of a driver has a count, which `gcov` reads. Where the compiler's counts can't be read,
+that is said."""
+
+import glob
+import json
+import os
+import re
+import subprocess
+import tempfile
+
+HERE = os.path.dirname(os.path.abspath(__file__))
+FLAGS = ["--coverage", "-fno-early-inlining"]  # else a function that is inlined everywhere has no count
+LINK_FLAGS = ["--coverage", "-Wl,-u,__gcov_dump"]
+MOST_NAMES = 12  # of a kind, where all lines aren't asked for
+
+
+def is_able(compiler):
+    """Whether the compiler counts, and `gcov` reads what it counts."""
+    made = subprocess.run([compiler, "--version"], capture_output=True, text=True, check=False)
+    return made.returncode == 0 and "clang" not in made.stdout and reader(compiler) is not None
+
+
+def reader(compiler):
+    """Returns the `gcov` of this compiler, or None."""
+    made = subprocess.run([compiler, "-print-prog-name=gcov"], capture_output=True, text=True, check=False)
+    tool = made.stdout.strip()
+    tried = subprocess.run([tool, "--version"], capture_output=True, check=False) if tool else None
+    return tool if tried and tried.returncode == 0 else None
+
+
+def forget(folder):
+    """Takes the counts of an earlier run away."""
+    for path in glob.glob(f"{folder}/parts/*.gcda"):
+        os.remove(path)
+
+
+class Function:
+    """A function of a driver, and how often it ran."""
+
+    def __init__(self, name, line, count):
+        self.name, self.line, self.count = name, line, count
+
+
+class File:
+    """What ran of one source file. A file may be counted in several parts."""
+
+    def __init__(self, path):
+        self.path, self.functions, self.lines = path, {}, {}
+
+    def add(self, counted):
+        for it in counted["functions"]:
+            name = it["name"].split(".")[0]
+            known = self.functions.setdefault(name, Function(name, it["start_line"], 0))
+            known.count += it["execution_count"]
+        for it in counted["lines"]:
+            self.lines[it["line_number"]] = self.lines.get(it["line_number"], 0) + it["count"]
+
+    def place(self, line):
+        return f"{os.path.basename(self.path)}:{line}"
+
+
+def is_a_drivers(path):
+    """Whether a source file isn't one of the interface, of the host or of the system."""
+    return not os.path.abspath(path).startswith((HERE + "/include/", HERE + "/host/", "/usr/"))
+
+
+def read(compiler, folder):
+    """Returns the files that were counted, the host's and the interface's left out."""
+    notes = sorted(glob.glob(f"{folder}/parts/*.gcno"))
+    words = [reader(compiler), "--json-format", "--stdout", *notes]
+    made = subprocess.run(words, capture_output=True, text=True, cwd=folder, check=False)
+    files = {}
+    for text in made.stdout.splitlines():
+        at = json.loads(text)
+        for it in at["files"]:
+            path = os.path.join(at["current_working_directory"], it["file"])
+            if is_a_drivers(path):
+                files.setdefault(path, File(path)).add(it)
+    return [files[it] for it in sorted(files)]
+
+
+def ranges(numbers):
+    """Returns `3-5, 9` for 3, 4, 5, 9."""
+    found = []
+    for n in sorted(numbers):
+        if found and found[-1][1] == n - 1:
+            found[-1][1] = n
+        else:
+            found.append([n, n])
+    return ", ".join(str(a) if a == b else f"{a}-{b}" for a, b in found)
+
+
+def some(names):
+    more = len(names) - MOST_NAMES
+    return ", ".join(names[:MOST_NAMES]) + (f" and {more} more" if more > 0 else "")
+
+
+def told(files, unreached, with_lines):
+    """Returns the lines that tell it. `unreached` are the host's own: pairs of what and of whom."""
+    functions = {name: it for file in files for name, it in file.functions.items()}
+    named = [f"{it.name} ({file.place(it.line)})" for file in files
+             for it in sorted(file.functions.values(), key=lambda it: it.line) if not it.count and it.name != "main"]
+    majors = [f"{rest} to {name}" for kind, name, rest in unreached if kind == "uncame" and name in functions]
+    errors = [name for kind, name, _ in unreached if kind == "unmet" and name in functions]
+    found = [f"never ran   {some(named)}"] if named else []
+    found += [f"never came  {some(majors)}"] if majors else []
+    found += [f"no error    was met by {some(errors)}"] if errors else []
+    for file in files if with_lines else []:
+        missed = [n for n, count in file.lines.items() if not count]
+        found.append(f"lines       {file.place(ranges(missed)) if missed else os.path.basename(file.path) + ': all'} "
+                     f"({len(missed)} of {len(file.lines)} never ran)")
+    return found
+
+
+CONTROL = re.compile(r"\b0[xX][0-9a-fA-F]{5,8}\b")
+
+
+def candidates(compiler, flags, sources):
+    """Returns the control codes that may stand in the sources: macros of CTL_CODE that they name, and such numbers."""
+    found = []
+    for source in sources:
+        with open(source, encoding="utf-8", errors="replace") as it:
+            text = it.read()
+        found += [int(it, 16) for it in CONTROL.findall(text)]
+        found += macros(compiler, flags, source, text)
+    return [it for it in dict.fromkeys(found) if 1 << 16 < it < 1 << 32 and it >> 16 != 0xC000][:40]
+
+
+def macros(compiler, flags, source, text):
+    """Returns the values of the macros of CTL_CODE that a source names."""
+    words = [compiler, *flags, "-E", "-dM", source]
+    made = subprocess.run(words, capture_output=True, text=True, errors="replace", check=False)
+    bodies = dict(re.findall(r"^#define (\w+) (.*)$", made.stdout, re.M))
+    codes = [it for it in set(re.findall(r"\w+", text)) if "CTL_CODE" in bodies.get(it, "") and it != "CTL_CODE"]
+    if not codes:
+        return []
+    values = f"static const unsigned wdm_codes[] = {{ {', '.join(sorted(codes))} }};\n"
+    given = f'#include "{os.path.abspath(source)}"\n__attribute__((used, section(".wdm_codes"))) {values}'
+    with tempfile.TemporaryDirectory() as room:
+        words = [compiler, *flags, "-w", "-O0", "-x", "c", "-", "-c", "-o", room + "/codes.o"]
+        made = subprocess.run(words, input=given, capture_output=True, text=True, errors="replace", check=False)
+        words = ["objcopy", "-O", "binary", "--only-section=.wdm_codes", room + "/codes.o", room + "/codes"]
+        if made.returncode or subprocess.run(words, capture_output=True, check=False).returncode:
+            return []
+        with open(room + "/codes", "rb") as it:
+            return list(memoryview(it.read()).cast("I"))
