@@ -3,7 +3,9 @@
  *
  * The interface is one question: the call, not yet in the history; the answer is the refusal's name or NULL. So a
  * program that keeps the state by itself can answer in its place: it gets each settled entry, and this question before
- * a call. The shadow, which is all that is read here, would then stay for what the host itself has to know.
+ * a call. The shadow, which is all that is read here, would then stay for what the host itself has to know. The proved
+ * irp_live isn't that program: it takes only final entries, and here a settled one may still change, since the reply of
+ * a send comes when it returns.
  */
 #include "host.h"
 
