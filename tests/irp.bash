@@ -1,0 +1,47 @@
+#!/bin/bash
+# Tries `bin/irp`: each word runs the program that it names, with the words behind it, its input and its exit status; other
+# words are refused. Each failure has a line of its own. Ends with status 0 where all was as expected, else with 1.
+set -u
+cd "$(dirname "$(readlink -f "$0")")" || exit 1
+room=$(mktemp -d) || exit 1
+trap 'rm -rf "$room"' EXIT
+tried=0
+wrong=0
+example=../examples/practice/completed_twice
+
+# Checks that `irp` with the words $3.. and the input $2 ends with status $1, and that its output has the text of `has`.
+gives() {
+    local status=$1 input=$2
+    shift 2
+    tried=$((tried + 1))
+    ../bin/irp "$@" <"$input" >"$room/output" 2>&1
+    local ended=$?
+    if [ "$ended" -eq "$status" ] && grep -qF -- "$has" "$room/output"; then return; fi
+    wrong=$((wrong + 1))
+    echo "failed: irp $*: status $ended, $(head -c 200 "$room/output")"
+}
+
+has='"do":"complete"'
+gives 0 "$example.words" words json
+../bin/irp words json "$example.words" >"$room/script"
+gives 0 "$room/script" run
+../bin/irp run <"$room/script" >"$room/transcript"
+has='legal 8'
+gives 0 "$room/transcript" check
+has='refused: Ended'
+gives 0 "$room/transcript" text
+has='1 of 1 orders'
+gives 0 "$room/script" orders
+has='differs in'
+gives 2 ../examples/why/completed_twice.transcript why
+has='Usage: irp WORD'
+gives 0 /dev/null --help
+gives 0 /dev/null run --help
+has='drivers/run'
+gives 0 /dev/null help
+has='is none of its words'
+gives 4 /dev/null ran
+has='a lesson and a file are wanted'
+gives 2 /dev/null lesson
+echo "tried: $tried $wrong one command"
+[ "$wrong" -eq 0 ]
