@@ -1,5 +1,6 @@
 /* bottom.c: a bottom device of the host's own, as WdmCreateBottom says. It is written as a driver. */
 #include <wdm.h>
+#include "bottom_answers.h"
 #include "wdm_test.h"
 
 typedef struct {
@@ -110,8 +111,9 @@ static NTSTATUS Pnp(PDEVICE_OBJECT DeviceObject, PIRP Irp)
     const BOOLEAN done = minor <= IRP_MN_CANCEL_STOP_DEVICE || minor == IRP_MN_QUERY_CAPABILITIES ||
         minor == IRP_MN_SURPRISE_REMOVAL;
     const BOOLEAN fails = (ext->Style & WDM_BOTTOM_NO_START) && minor == IRP_MN_START_DEVICE;
-    return End(DeviceObject, Irp, (ext->Style & WDM_BOTTOM_PENDS_ALL) && minor != IRP_MN_REMOVE_DEVICE,
-               fails ? STATUS_UNSUCCESSFUL : done ? STATUS_SUCCESS : Irp->IoStatus.Status, Irp->IoStatus.Information);
+    const NTSTATUS status = fails ? STATUS_UNSUCCESSFUL : done ? STATUS_SUCCESS : BottomAnswer(DeviceObject, Irp);
+    return End(DeviceObject, Irp, (ext->Style & WDM_BOTTOM_PENDS_ALL) && minor != IRP_MN_REMOVE_DEVICE, status,
+               Irp->IoStatus.Information);
 }
 
 static NTSTATUS Power(PDEVICE_OBJECT DeviceObject, PIRP Irp)

@@ -12,9 +12,10 @@
 extern const struct { const char *name; PDRIVER_INITIALIZE entry; } wdm_drivers[];
 extern const int wdm_n_drivers;
 
-enum { UNKNOWN_MINOR = 0x7f, PATIENT = 50, SHORTLY = 10 }; /* milliseconds before a request is cancelled */
+enum { UNKNOWN_MINOR = 0x7f, MAX_CHILDREN = 16, PATIENT = 50, SHORTLY = 10 }; /* milliseconds before a request is cancelled */
 static PDEVICE_OBJECT top_of_threads;
 static PDRIVER_OBJECT loaded[64];
+static BOOLEAN is_on_children[64];
 static int rounds = 16;
 static BOOLEAN is_short;
 
@@ -113,78 +114,82 @@ static void use_by_threads(PDEVICE_OBJECT top, int threads)
         pthread_join(t[i], NULL);
 }
 
-/* A device is asked whether it may stop, stops and starts; it is asked whether it may go, and stays. */
-static void stop_and_start(PDEVICE_OBJECT top)
+/* A device is asked whether it may stop, and goes on; it stops and starts, with its children; it is asked whether it may
+   go, and stays. */
+static void stop_and_start(PDEVICE_OBJECT bottom, PDEVICE_OBJECT top)
 {
     WdmSend(top, IRP_MJ_PNP, IRP_MN_QUERY_STOP_DEVICE, 0);
     WdmSend(top, IRP_MJ_PNP, IRP_MN_CANCEL_STOP_DEVICE, 0);
-    if (NT_SUCCESS(WdmSend(top, IRP_MJ_PNP, IRP_MN_QUERY_STOP_DEVICE, 0))) {
-        WdmSend(top, IRP_MJ_PNP, IRP_MN_STOP_DEVICE, 0);
-        WdmSend(top, IRP_MJ_PNP, IRP_MN_START_DEVICE, 0);
-    } else
-        WdmSend(top, IRP_MJ_PNP, IRP_MN_CANCEL_STOP_DEVICE, 0);
+    WdmStopAndStart(bottom);
     WdmSend(top, IRP_MJ_PNP, IRP_MN_QUERY_REMOVE_DEVICE, 0);
     WdmSend(top, IRP_MJ_PNP, IRP_MN_CANCEL_REMOVE_DEVICE, 0);
 }
 
 /* The device is gone while a read and a write are under way; who has it open closes it, and only then it is removed. */
-static void remove_by_surprise(PDEVICE_OBJECT top)
+static void remove_by_surprise(PDEVICE_OBJECT bottom, PDEVICE_OBJECT top)
 {
     Request read, write;
     const BOOLEAN reads = start_request(&read, top, transfer(IRP_MJ_READ, 16), PLAIN);
     const BOOLEAN writes = start_request(&write, top, transfer(IRP_MJ_WRITE, 16), KEPT);
-    WdmSend(top, IRP_MJ_PNP, IRP_MN_SURPRISE_REMOVAL, 0);
+    WdmSurprise(bottom);
     if (reads)
         end_request(&read, PATIENT);
     if (writes)
         end_request(&write, PATIENT);
     close_it(top);
-    WdmSend(top, IRP_MJ_PNP, IRP_MN_REMOVE_DEVICE, 0);
+    WdmRemove(bottom);
 }
 
-static void remove_in_order(PDEVICE_OBJECT top)
+static void remove_in_order(PDEVICE_OBJECT bottom, PDEVICE_OBJECT top)
 {
     close_it(top);
     set_power(top, IRP_MN_QUERY_POWER, PowerDeviceD3);
     set_power(top, IRP_MN_SET_POWER, PowerDeviceD3);
-    if (!NT_SUCCESS(WdmSend(top, IRP_MJ_PNP, IRP_MN_QUERY_REMOVE_DEVICE, 0))) {
-        WdmSend(top, IRP_MJ_PNP, IRP_MN_CANCEL_REMOVE_DEVICE, 0);
-        WdmSend(top, IRP_MJ_PNP, IRP_MN_SURPRISE_REMOVAL, 0);
-    }
-    WdmSend(top, IRP_MJ_PNP, IRP_MN_REMOVE_DEVICE, 0);
+    WdmUnplug(bottom, FALSE);
 }
 
-static void use_started(PDEVICE_OBJECT top, ULONG style, int threads)
+/* The children that a bus has reported are used as it is, one behind the other. */
+static void use_children(PDEVICE_OBJECT bottom)
 {
-    ask_capabilities(top);
-    WdmSend(top, IRP_MJ_PNP, IRP_MN_QUERY_PNP_DEVICE_STATE, 0);
+    PDEVICE_OBJECT children[MAX_CHILDREN];
+    const ULONG n = WdmGetChildren(bottom, children, MAX_CHILDREN);
+    for (ULONG i = 0; i < n; i++) {
+        use(IoGetAttachedDevice(children[i]), FALSE);
+        close_it(IoGetAttachedDevice(children[i]));
+    }
+}
+
+static void use_started(PDEVICE_OBJECT bottom, ULONG style, int threads)
+{
+    PDEVICE_OBJECT top = IoGetAttachedDevice(bottom);
     WdmSend(top, IRP_MJ_PNP, UNKNOWN_MINOR, 0); /* a request that no driver knows */
     WdmSend(top, IRP_MJ_SYSTEM_CONTROL, IRP_MN_REGINFO, 0);
     set_power(top, IRP_MN_SET_POWER, PowerDeviceD0);
     use(top, !style);
+    use_children(bottom);
     if (threads > 1)
         use_by_threads(top, threads);
     if (!style && !is_short)
-        stop_and_start(top);
+        stop_and_start(bottom, top);
     if (style == WDM_BOTTOM_LATE)
-        remove_by_surprise(top);
+        remove_by_surprise(bottom, top);
     else
-        remove_in_order(top);
+        remove_in_order(bottom, top);
 }
 
 static void use_stack(ULONG style, int threads)
 {
-    PDEVICE_OBJECT bottom = WdmCreateBottomOf(style), top;
+    PDEVICE_OBJECT bottom = WdmCreateBottomOf(style);
     if (!bottom)
         return;
     for (int i = 0; i < wdm_n_drivers; i++)
-        if (loaded[i] && loaded[i]->DriverExtension->AddDevice)
+        if (loaded[i] && loaded[i]->DriverExtension->AddDevice && !is_on_children[i])
             WdmAddDevice(loaded[i], bottom);
-    top = IoGetAttachedDevice(bottom);
-    if (top != bottom && NT_SUCCESS(WdmSend(top, IRP_MJ_PNP, IRP_MN_START_DEVICE, 0)))
-        use_started(top, style, threads);
-    else if (top != bottom)
-        WdmSend(top, IRP_MJ_PNP, IRP_MN_REMOVE_DEVICE, 0);
+    const BOOLEAN is_stack = IoGetAttachedDevice(bottom) != bottom;
+    if (is_stack && NT_SUCCESS(WdmPlugIn(bottom)))
+        use_started(bottom, style, threads);
+    else if (is_stack)
+        WdmRemove(bottom);
     IoDeleteDevice(bottom);
 }
 
@@ -205,8 +210,10 @@ int main(void)
     const int threads = number ? atoi(number) : 1;
     is_short = getenv("WDM_SHORT") != NULL;
     read_controls();
-    for (int i = 0; i < wdm_n_drivers && i < 64; i++)
+    for (int i = 0; i < wdm_n_drivers && i < 64; i++) {
         loaded[i] = WdmLoadDriver(wdm_drivers[i].name, wdm_drivers[i].entry);
+        is_on_children[i] = loaded[i] && WdmGoesOnChildren(wdm_drivers[i].name, loaded[i]);
+    }
     for (size_t i = 0; i < (is_short ? 2 : ARRAYSIZE(styles)); i++)
         use_stack(styles[i], threads);
     for (int i = 0; i < wdm_n_drivers && i < 64; i++) {

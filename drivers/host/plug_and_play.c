@@ -26,6 +26,23 @@ VOID WdmPutOnChildren(const char *Id, PDRIVER_OBJECT Driver)
     placed[n_placed++].driver = Driver;
 }
 
+/* WDM_ON has NAME=ID for each driver that `run --on` names. */
+BOOLEAN WdmGoesOnChildren(const char *Name, PDRIVER_OBJECT Driver)
+{
+    const size_t n = strlen(Name);
+    const char *text = getenv("WDM_ON");
+    while (text && *text) {
+        const char *id = strchr(text, '='), *end = id ? strchr(id, ';') : NULL;
+        if (id && (size_t)(id - text) == n && !strncmp(text, Name, n)) {
+            char *own = end ? strndup(id + 1, (size_t)(end - id - 1)) : strdup(id + 1);
+            WdmPutOnChildren(own ? own : "", Driver);
+            return TRUE;
+        }
+        text = end ? end + 1 : NULL;
+    }
+    return FALSE;
+}
+
 static int node_of(PDEVICE_OBJECT pdo)
 {
     for (int i = 0; i < MAX_NODES; i++)
@@ -130,19 +147,27 @@ static void call_off(int node)
     with_children(node, call_off);
 }
 
-/* Where a driver doesn't agree the device is taken out all the same, by surprise. */
-void unplug(PDEVICE_OBJECT pdo, bool surprised)
+void unplug(PDEVICE_OBJECT pdo)
 {
     const int node = node_of(pdo);
-    if (node < 0)
-        return;
-    if (!surprised && !agrees(node)) {
+    if (node >= 0 && !agrees(node)) {
         call_off(node);
-        surprised = true;
-    }
-    if (surprised)
         surprise(node);
-    remove_node(node);
+    }
+}
+
+void take_by_surprise(PDEVICE_OBJECT pdo)
+{
+    const int node = node_of(pdo);
+    if (node >= 0)
+        surprise(node);
+}
+
+void remove_all(PDEVICE_OBJECT pdo)
+{
+    const int node = node_of(pdo);
+    if (node >= 0)
+        remove_node(node);
 }
 
 static void stop(int node)

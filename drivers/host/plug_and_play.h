@@ -19,7 +19,10 @@ PDEVICE_RELATIONS ask_relations(PDEVICE_OBJECT pdo, bool *answered);
 
 /* plug_and_play.c: the devices that are known. All on the manager's thread. */
 NTSTATUS plug_in(PDEVICE_OBJECT pdo);
-void unplug(PDEVICE_OBJECT pdo, bool surprised);
+/* The device is asked whether it may go; where a driver doesn't agree, it is taken by surprise. */
+void unplug(PDEVICE_OBJECT pdo);
+void take_by_surprise(PDEVICE_OBJECT pdo);
+void remove_all(PDEVICE_OBJECT pdo);
 void look_for_children(PDEVICE_OBJECT pdo);
 void stop_and_start(PDEVICE_OBJECT pdo);
 

@@ -3,7 +3,7 @@
 #include "plug_and_play.h"
 
 enum { MAX_ORDERS = 256 };
-typedef enum { LOOK_FOR_CHILDREN, PLUG_IN, STOP_AND_START, UNPLUG, SURPRISE } What;
+typedef enum { LOOK_FOR_CHILDREN, PLUG_IN, STOP_AND_START, UNPLUG, SURPRISE, REMOVE_ALL } What;
 typedef struct { What what; PDEVICE_OBJECT pdo; PKEVENT done; NTSTATUS *status; } Order;
 
 static Condition orders_came = { &host_lock, PTHREAD_COND_INITIALIZER };
@@ -42,8 +42,9 @@ static NTSTATUS carry_out(const Order *o)
     case LOOK_FOR_CHILDREN: look_for_children(o->pdo); break;
     case PLUG_IN: return plug_in(o->pdo);
     case STOP_AND_START: stop_and_start(o->pdo); break;
-    case UNPLUG: unplug(o->pdo, false); break;
-    case SURPRISE: unplug(o->pdo, true); break;
+    case UNPLUG: unplug(o->pdo); break;
+    case SURPRISE: take_by_surprise(o->pdo); break;
+    case REMOVE_ALL: remove_all(o->pdo); break;
     }
     return STATUS_SUCCESS;
 }
@@ -91,9 +92,12 @@ static NTSTATUS have_done(const char *name, What what, PDEVICE_OBJECT pdo, WDM_S
 
 NTSTATUS WdmPlug(PDEVICE_OBJECT Pdo, WDM_SITE at) { return have_done("WdmPlugIn", PLUG_IN, Pdo, at); }
 VOID WdmStopStart(PDEVICE_OBJECT Pdo, WDM_SITE at) { have_done("WdmStopAndStart", STOP_AND_START, Pdo, at); }
+VOID WdmGone(PDEVICE_OBJECT Pdo, WDM_SITE at) { have_done("WdmSurprise", SURPRISE, Pdo, at); }
+VOID WdmRemoved(PDEVICE_OBJECT Pdo, WDM_SITE at) { have_done("WdmRemove", REMOVE_ALL, Pdo, at); }
 VOID WdmTakeOut(PDEVICE_OBJECT Pdo, BOOLEAN Surprise, WDM_SITE at)
 {
     have_done("WdmUnplug", Surprise ? SURPRISE : UNPLUG, Pdo, at);
+    have_done("WdmUnplug", REMOVE_ALL, Pdo, at);
 }
 
 /* A test without the manager goes on without it. */

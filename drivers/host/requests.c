@@ -69,19 +69,6 @@ NTSTATUS set_power(PDEVICE_OBJECT top, UCHAR minor, DEVICE_POWER_STATE state)
     return iosb.Status;
 }
 
-NTSTATUS ask_capabilities(PDEVICE_OBJECT top)
-{
-    DEVICE_CAPABILITIES capabilities = { .Size = sizeof capabilities, .Version = 1 };
-    IO_STATUS_BLOCK iosb;
-    KEVENT ended;
-    KeInitializeEvent(&ended, NotificationEvent, FALSE);
-    PIRP irp = WdmBuildIrp(top, IRP_MJ_PNP, IRP_MN_QUERY_CAPABILITIES, 0, &iosb, &ended);
-    IoGetNextIrpStackLocation(irp)->Parameters.DeviceCapabilities.Capabilities = &capabilities;
-    IoCallDriver(top, irp);
-    KeWaitForSingleObject(&ended, Executive, KernelMode, FALSE, NULL);
-    return iosb.Status;
-}
-
 static void add_control(ULONG code)
 {
     for (int i = 0; i < n_controls; i++)

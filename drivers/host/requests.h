@@ -19,9 +19,8 @@ NTSTATUS end_request(Request *r, int milliseconds);
 /* Both. */
 NTSTATUS make_request(PDEVICE_OBJECT top, What what, How how, int milliseconds);
 
-/* The same of power and of PNP, which aren't cancelled. */
+/* The same of power, which isn't cancelled. */
 NTSTATUS set_power(PDEVICE_OBJECT top, UCHAR minor, DEVICE_POWER_STATE state);
-NTSTATUS ask_capabilities(PDEVICE_OBJECT top);
 
 /* The control codes that are sent: those of WDM_CONTROLS, and from `find_controls` on those of WDM_CANDIDATES, which stand
    in the drivers' source, and usual ones: all that aren't answered as a code is that nobody knows. */

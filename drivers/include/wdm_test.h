@@ -51,10 +51,17 @@ VOID WdmStopStart(PDEVICE_OBJECT Pdo, WDM_SITE at);
 #define WdmStopAndStart(pdo) WdmStopStart((pdo), WDM_HERE)
 VOID WdmTakeOut(PDEVICE_OBJECT Pdo, BOOLEAN Surprise, WDM_SITE at);
 #define WdmUnplug(pdo, surprise) WdmTakeOut((pdo), (surprise), WDM_HERE)
+/* A removal by surprise in two steps, between which requests come back and files are closed. */
+VOID WdmGone(PDEVICE_OBJECT Pdo, WDM_SITE at);
+#define WdmSurprise(pdo) WdmGone((pdo), WDM_HERE)
+VOID WdmRemoved(PDEVICE_OBJECT Pdo, WDM_SITE at);
+#define WdmRemove(pdo) WdmRemoved((pdo), WDM_HERE)
 VOID WdmSettlePlugAndPlay(VOID);
 /* Puts a driver onto each child whose device id has this text in it, above those that were named before. A child that no
    driver takes gets one of the host's that passes all down. */
 VOID WdmPutOnChildren(const char *Id, PDRIVER_OBJECT Driver);
+/* Whether `run --on` says so of the driver of this name; then it is put there. */
+BOOLEAN WdmGoesOnChildren(const char *Name, PDRIVER_OBJECT Driver);
 /* The children of a bus that are started: their number, at most Most, with their device objects in Children. */
 ULONG WdmGetChildren(PDEVICE_OBJECT Pdo, PDEVICE_OBJECT *Children, ULONG Most);
 

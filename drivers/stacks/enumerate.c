@@ -159,8 +159,9 @@ static NTSTATUS Read(PDEVICE_OBJECT DeviceObject, PIRP Irp)
     if (!bus->IsChild)
         return PassDown(bus->Lower, Irp);
     const PCHILD child = DeviceObject->DeviceExtension;
-    const BOOLEAN ready = child->State == STARTED;
-    return Complete(Irp, ready ? STATUS_SUCCESS : STATUS_DELETE_PENDING, ready ? child->Number : 0);
+    if (child->State != STARTED)
+        return Complete(Irp, STATUS_DELETE_PENDING, 0);
+    return Complete(Irp, STATUS_SUCCESS, min(child->Number, IoGetCurrentIrpStackLocation(Irp)->Parameters.Read.Length));
 }
 
 static NTSTATUS AddDevice(PDRIVER_OBJECT DriverObject, PDEVICE_OBJECT Pdo)

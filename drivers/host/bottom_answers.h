@@ -1,0 +1,11 @@
+/* bottom_answers.h: what the host's bottom device answers to questions of Plug and Play. */
+#ifndef DRIVERS_BOTTOM_ANSWERS_H
+#define DRIVERS_BOTTOM_ANSWERS_H
+
+#include <wdm.h>
+
+/* Puts the answer into the packet's Information, where the question has one. Returns the packet's new status: its own
+   where the device doesn't know the request. */
+NTSTATUS BottomAnswer(PDEVICE_OBJECT DeviceObject, PIRP Irp);
+
+#endif
