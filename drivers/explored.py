@@ -62,6 +62,8 @@ class Options:
         self.seeds = self.threads = self.controls = self.transcript = self.patience = self.part = self.shake = None
         self.page_ends = self.routines_high = self.refuse = None
         self.args, self.timeout, self.settings, self.minutes, self.processes = "", 100, {}, 2, 1
+        with open(source, encoding="utf-8") as it:
+            self.one_processor = ". On one processor:" in it.readline()
 
 
 class Explored:

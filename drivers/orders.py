@@ -3,6 +3,8 @@
 The program explores itself (host/explore.c), and leaves a report of lines with a key and values. Here the failing schedule
 is made shorter and run again, distinct transcripts are judged, and all is told."""
 
+import concurrent.futures
+import math
 import os
 import re
 import shutil
@@ -63,6 +65,8 @@ class Report:
 def settings_of(options, seed=None):
     """Returns what the environment of a run by a schedule says besides."""
     made = {"WDM_ROUNDS": str(options.rounds)} if options.every_order or options.schedule else {}
+    if getattr(options, "one_processor", False):
+        made["WDM_ONE_PROCESSOR"] = "1"
     if getattr(options, "scenario", None):
         made["WDM_SCENARIO"] = options.scenario
     if options.schedule:
@@ -72,21 +76,37 @@ def settings_of(options, seed=None):
     return made
 
 
-def explore(options, program, folder, settings):
-    """Has the orders made. Returns the report."""
+def explore(options, program, folder, settings, tells=False):
+    """Has the orders made, and tells before about how many there are. Returns the report."""
     orders, path = folder + "/orders", folder + "/report"
     shutil.rmtree(orders, ignore_errors=True)
     os.makedirs(orders)
     setting = dict(os.environ, **settings, WDM_EXPLORE=str(options.preemptions), WDM_REPORT=path,
                    WDM_ORDERS=orders, WDM_SECONDS=str(int(options.minutes * 60)))
     setting.setdefault("WDM_CLASSES", folder + "/classes")
+    words = fixed([program, *options.args.split()])
     if options.processes:
         setting["WDM_PROCESSES"] = str(options.processes)
     if options.part:
         part, _, parts = options.part.partition("/")
         setting.update(WDM_PART=str(int(part) - 1), WDM_PARTS=parts)
-    subprocess.run(fixed([program, *options.args.split()]), env=setting, stdout=subprocess.DEVNULL, check=False)
+    if tells:
+        subprocess.run(words, env=dict(setting, WDM_EXPLORE="-1"), stdout=subprocess.DEVNULL, check=False)
+        tell_estimate(Report(path), options.preemptions)
+    subprocess.run(words, env=setting, stdout=subprocess.DEVNULL, check=False)
     return Report(path)
+
+
+def estimate(free, priced, bound):
+    """Returns about how many runs there are at most: each set of so many of the first run's other choices."""
+    return (1 + free) * sum(math.comb(priced, many) for many in range(bound + 1))
+
+
+def tell_estimate(report, most):
+    free, priced = (int(it) for it in report.facts.get("first", "0 0").split())
+    runs = "; ".join(f"{plural(estimate(free, priced, it), 'run')} with {it}" for it in range(1, most + 1))
+    print(f"the usual order has {plural(free + priced, 'other choice')}: at most about {runs} (estimated)")
+    sys.stdout.flush()
 
 
 def write_result(report, options, folder):
@@ -112,6 +132,13 @@ def bound_words(bound):
         f"every order with at most {plural(bound, 'preemption')} or early timer{'s' if bound > 1 else ''}"
 
 
+def covered_words(it):
+    """What a round that was stopped covers."""
+    share = 100 * it["begun"] / it["expected"] if it["expected"] else 0
+    before = f"all with {it['bound'] - 1}, " if it["bound"] else ""
+    return f"{before}about {min(share, 99):.0f} % of those with {it['bound']} (estimated)"
+
+
 def tell_rounds(report, part):
     """What was covered, and never more."""
     for it in report.finished():
@@ -122,10 +149,8 @@ def tell_rounds(report, part):
         elif report.facts.get("ended") == "failed":
             print(f"stopped at a failure: {plural(it['runs'], 'run')} with at most {plural(it['bound'], 'preemption')}, {seconds}")
         else:
-            share = 100 * it["begun"] / it["expected"] if it["expected"] else 0
             why = "the table of states is full" if report.facts.get("ended") == "full" else "time is up"
-            print(f"stopped, since {why}: {plural(it['runs'], 'run')} with at most {plural(it['bound'], 'preemption')}, "
-                  f"about {min(share, 99):.0f} % of those (estimated), {seconds}")
+            print(f"stopped, since {why}: {covered_words(it)}, {plural(it['runs'], 'run')}, {seconds}")
 
 
 def tell_small(report):
@@ -145,10 +170,11 @@ def tell_places(report, with_lines):
 
 
 def tell_outcomes(report):
-    for classes, text in sorted(report.outcomes, reverse=True)[:20]:
-        print(f"outcome     {text} ({plural(classes, 'class')} of orders)")
-    if len(report.outcomes) > 20:
-        print(f"            and {len(report.outcomes) - 20} outcomes more")
+    """What each packet ended with, as bin/irp_orders tells outcomes."""
+    whole = sum(classes for classes, _ in report.outcomes)
+    print(f"outcomes: {len(report.outcomes)}, of {plural(whole, 'class')} of orders")
+    for at, (classes, text) in enumerate(sorted(report.outcomes, reverse=True)[:20], 1):
+        print(f"outcome {at}: {classes:,} of {plural(whole, 'class')} of orders ({100 * classes / whole:.1f} %)\n    {text}")
 
 
 def first_fault(run):
@@ -168,22 +194,26 @@ def shorter(schedule, try_it):
     return ",".join(([places] if places else []) + deviations) or "usual"
 
 
+def verdict_of(irpx, path):
+    with open(path, encoding="utf-8") as it:
+        made = subprocess.run([irpx, "check"], stdin=it, capture_output=True, text=True, check=False)
+    return made.stdout.strip() or made.stderr.strip()
+
+
 def judge(options, irpx, folder, quiet=False):
-    """Has distinct transcripts judged. Returns the first that isn't legal, with its verdict, or None."""
+    """Has distinct transcripts judged, each, or as many as --judge says. Returns the first that isn't legal, with its
+    verdict, or None."""
     orders = folder + "/orders"
     names = sorted((it for it in os.listdir(orders) if it.isdigit()), key=int)
-    step = max(1, -(-len(names) // options.judge)) if options.judge else len(names) + 1
+    step = max(1, -(-len(names) // options.judge)) if options.judge else 1
     chosen = names[::step]
-    for name in chosen:
-        with open(f"{orders}/{name}", encoding="utf-8") as it:
-            made = subprocess.run([irpx, "check"], stdin=it, capture_output=True, text=True, check=False)
-        said = made.stdout.strip() or made.stderr.strip()
-        if not said.startswith("legal "):
-            with open(f"{orders}/{name}.schedule", encoding="utf-8") as it:
-                return it.read(), said
+    with concurrent.futures.ThreadPoolExecutor(options.processes or os.cpu_count()) as pool:
+        for name, said in zip(chosen, pool.map(lambda it: verdict_of(irpx, f"{orders}/{it}"), chosen)):
+            if not said.startswith("legal "):
+                with open(f"{orders}/{name}.schedule", encoding="utf-8") as it:
+                    return it.read(), said
     if not quiet:
-        print(f"judged      {len(chosen)} of {plural(len(names), 'distinct transcript')}: "
-              f"{'legal' if chosen else 'none'}")
+        print(f"judged: {plural(len(chosen), 'distinct transcript')}{f' of {len(names)}' if step > 1 else ''}, legal")
     return None
 
 

@@ -46,7 +46,7 @@ static void write_file(const char *name, const char *ending, const char *text, s
 static void keep_transcript(const char *text, size_t length)
 {
     char name[40];
-    if (!getenv("WDM_ORDERS") || !put_in(shared->transcripts, hash_of(text, length)))
+    if (!getenv("WDM_ORDERS") || !put_in(shared->transcripts, normal_hash(text)))
         return;
     snprintf(name, sizeof name, "%lu", shared->n_transcripts++);
     write_file(name, "", text, length);
@@ -111,7 +111,7 @@ void hand_in(const char *text, size_t length, size_t entries)
 {
     if (is_exploring && entries < expected_entries())
         is_short = true;
-    if (!is_exploring || (!footprints && !put_in(shared->classes, hash_of(text, length))))
+    if (!is_exploring || (!footprints && !put_in(shared->classes, normal_hash(text))))
         return;
     shared->n_classes++;
     count_outcome();

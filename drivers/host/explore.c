@@ -1,7 +1,7 @@
 /*
  * explore.c: makes every order within a bound, or one that is given, from before `main` on.
  *
- * WDM_EXPLORE is the most preemptions, WDM_SCHEDULE a schedule, WDM_CHANCE a seed. `run` sets them, and reads the report.
+ * WDM_EXPLORE is the most preemptions (-1: only the run by the usual order), WDM_SCHEDULE a schedule, WDM_CHANCE a seed. `run` sets them, and reads the report.
  */
 #include "explore.h"
 #include <fcntl.h>
@@ -132,8 +132,9 @@ static void show_progress(void)
     if (!isatty(2) || now - shown < 0.5)
         return;
     shown = now;
-    fprintf(stderr, "\r%d preemptions: %lu runs, %lu of about %lu first steps, %.0f s ", shared->bound, shared->runs,
-            shared->begun, expected, now - began);
+    const unsigned long share = expected ? shared->begun * 100 / expected : 0;
+    fprintf(stderr, "\r%d preemptions: %lu runs, about %lu %%, %.0f s ", shared->bound, shared->runs,
+            share < 99 ? share : 99, now - began);
 }
 
 /* Waits for the first process of a round, and so for all. */
@@ -238,9 +239,25 @@ static void end_exploration(Ended ended)
     _exit(statuses[ended]);
 }
 
+/* The run by the usual order alone, for an estimate. Returns in its process. */
+static void run_first(void)
+{
+    shared->only_first = true;
+    run_round(0);
+    if (is_child)
+        return;
+    fprintf(report, "first %lu %lu\n", shared->free_choices, shared->priced_choices);
+    fclose(report);
+    _exit(0);
+}
+
 /* Returns in the processes that go on into `main`. */
 static void explore_all(int most)
 {
+    if (most < 0) {
+        run_first();
+        return;
+    }
     for (int bound = 0; bound <= most;) {
         const Ended ended = run_round(bound);
         if (is_child)

@@ -30,12 +30,13 @@ typedef struct {
 typedef struct {
     /* set by the explorer before a round */
     int bound, processes, part, parts; /* parts 0: all */
-    bool reduces;
+    bool reduces, only_first;  /* only_first: the run by the usual order, whose other choices are counted */
     size_t n_slots;            /* of `states`: a power of two */
     _Atomic uint64_t *states;  /* of each a hash, and in its lowest byte one more than the cost that was left */
     /* by all */
     _Atomic int order;
     _Atomic int busy;          /* processes that run, and don't wait for others */
+    unsigned long free_choices, priced_choices; /* of that run */
     _Atomic unsigned long runs, cut, beyond, begun; /* beyond: choices that cost more than the bound; begun: that cost it */
     _Atomic unsigned long most_decisions, most_points, n_states, n_classes, n_transcripts;
     _Atomic int n_racy;
@@ -73,6 +74,9 @@ bool goes_by_chance(void);
 /* story.c */
 const char *schedule_text(const Schedule *s);
 bool read_schedule(const char *text, Schedule *s);
+
+/* normal.c */
+uint64_t normal_hash(const char *text);
 
 /* ending.c: how a run ended, and what is kept of it. */
 bool wants_transcript(void);

@@ -11,7 +11,6 @@ enum { MOST_CHILDREN = 64, MOST_SECONDS = 10 };
 bool is_exploring;
 static int spent;     /* preemptions and early timers of this run so far */
 static bool has_turn; /* it counts among those that run; else the one that forked it does, and waits */
-static int n_first;   /* how many other choices the run by the usual order had */
 
 /* Processes that this one forked and that run beside it. */
 static struct { pid_t pid; Deviation last; int cost; } children[MOST_CHILDREN];
@@ -139,20 +138,26 @@ static bool fork_for(Deviation last, int cost)
     return false;
 }
 
-/* Whether another choice of the usual run belongs to this part of the exploration. */
-static bool is_in_part(void)
+/* Runs with one deviation are made in each part, whole; a run with more belongs to a part by its first two. */
+static bool is_in_each_part(void) { return shared->parts && followed.n < 2; }
+
+static bool is_in_part(uint32_t step, int choice)
 {
-    return !shared->parts || followed.n || n_first++ % shared->parts == shared->part;
+    if (!shared->parts || followed.n != 1)
+        return true;
+    const uint64_t first = followed.at[0].step * MAX_THREADS + followed.at[0].choice;
+    const uint64_t both = (first << 32 | (step * MAX_THREADS + (unsigned)choice)) * 0x9E3779B97F4A7C15u;
+    return (int)((both >> 40) % (unsigned)shared->parts) == shared->part;
 }
 
-static bool is_to_be_made(const Choices *c, int choice, uint64_t state)
+static bool is_to_be_made(const Choices *c, uint32_t step, int choice, uint64_t state)
 {
     const int cost = spent + price_of(c, choice);
     if (cost > shared->bound) {
         shared->beyond++;
         return false;
     }
-    if (!is_in_part())
+    if (!is_in_part(step, choice))
         return false;
     shared->begun += cost == shared->bound && cost > spent;
     return !shared->reduces || claim(state, choice, shared->bound - cost);
@@ -166,19 +171,30 @@ static void end_cut(void)
     _exit(0);
 }
 
+static void count_choices(const Choices *c)
+{
+    for (int t = 0; t < MAX_THREADS; t++)
+        if (t != c->usual && can_choose(c, t))
+            ++*(price_of(c, t) ? &shared->priced_choices : &shared->free_choices);
+}
+
 /* Makes each other choice in a process of its own. Returns what this process, or a new one, goes on with. */
 int explore_choices(const Choices *c, uint32_t step)
 {
     const uint64_t state = shared->reduces ? state_of_run() : 0;
+    if (shared->only_first) {
+        count_choices(c);
+        return c->usual;
+    }
     if (shared->order != GOES_ON)
         end_cut();
     for (int t = 0; t < MAX_THREADS; t++)
-        if (t != c->usual && can_choose(c, t) && is_to_be_made(c, t, state) &&
+        if (t != c->usual && can_choose(c, t) && is_to_be_made(c, step, t, state) &&
             fork_for((Deviation){ step, (uint8_t)t }, spent + price_of(c, t))) {
             note_site(c->place, c->may_stay);
             return t;
         }
-    if (shared->reduces && !claim(state, c->usual, shared->bound - spent))
+    if (shared->reduces && !is_in_each_part() && !claim(state, c->usual, shared->bound - spent))
         end_cut();
     note_site(c->place, false);
     return c->usual;

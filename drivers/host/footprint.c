@@ -120,6 +120,13 @@ void time_passed_for(int thread, const LONGLONG *clock)
         step(thread, object_of(clock), clock, true);
 }
 
+/* This thread goes on because time has passed, for whomever. */
+void clock_read_by(int thread, const LONGLONG *clock)
+{
+    if (footprints)
+        step(thread, object_of(clock), clock, false);
+}
+
 void passed(const char *what, int line)
 {
     if (footprints)

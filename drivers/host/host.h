@@ -301,6 +301,7 @@ void finish_work(void);
 void run_work(Frame *f, int driver);
 void work_done(void);
 bool workers_are_idle(void), plug_and_play_is_idle(void);
+void after_work_items(void);
 bool has_work(int device);
 bool is_bottom(PDEVICE_OBJECT device);
 bool timers_armed(void);

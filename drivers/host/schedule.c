@@ -3,7 +3,7 @@
 #include <sys/mman.h>
 #include <ucontext.h>
 
-enum { STACK = 256 * 1024, MOST_STUCK = 50 };
+enum { STACK = 256 * 1024, MOST_STUCK = 50, MOST_SPINS = 100 };
 static const uintptr_t STACKS = 0x210000000000; /* the same in each run: what lies on a stack counts by its address */
 typedef struct {
     ucontext_t context;
@@ -68,12 +68,34 @@ static bool can_go_on(const Thread *t)
     return !t->ended && (!t->waits || (end && end <= clock_now) || is_over(t));
 }
 
+/* With WDM_ONE_PROCESSOR a deferred call preempts whoever it comes to, who goes on once it has returned; and nobody below
+   DISPATCH_LEVEL goes on while somebody is there. */
+bool is_one_processor(void)
+{
+    static int is_so = -1;
+    if (is_so < 0)
+        is_so = getenv("WDM_ONE_PROCESSOR") != NULL;
+    return is_so > 0;
+}
+
+static KIRQL level_at(int t) { return t == running ? self.irql : threads[t].self.irql; }
+static bool is_high(int t) { return level_at(t) >= DISPATCH_LEVEL && !threads[t].ended; }
+
+/* Of those, the ones that the one processor lets go on: all, or where a thread is at DISPATCH_LEVEL, only that one. */
+static uint32_t let_go_on(uint32_t ready)
+{
+    uint32_t high = 0;
+    for (int i = 0; i < n_threads; i++)
+        high |= (uint32_t)is_high(i) << i;
+    return high ? ready & high : ready;
+}
+
 static uint32_t all_ready(void)
 {
     uint32_t ready = 0;
     for (int i = 0; i < n_threads; i++)
         ready |= (uint32_t)can_go_on(&threads[i]) << i;
-    return ready;
+    return is_one_processor() ? let_go_on(ready) : ready;
 }
 
 /* Who goes on first where time passes, or NOBODY. */
@@ -82,7 +104,8 @@ static int first_by_time(uint32_t ready)
     int first = NOBODY;
     LONGLONG least = 0;
     for (int i = 0; i < n_threads; i++) {
-        const LONGLONG end = ready >> i & 1 ? 0 : deadline_of(&threads[i]);
+        const bool may = !is_one_processor() || let_go_on(1u << i);
+        const LONGLONG end = ready >> i & 1 || !may ? 0 : deadline_of(&threads[i]);
         if (end && (first == NOBODY || end < least)) {
             first = i;
             least = end;
@@ -212,6 +235,8 @@ static void choose(Stop stop)
         let_time_pass(chosen);
     if (t->waits && t->woken != STUCK)
         t->woken = is_over(t) ? READY : TIME_UP;
+    if (t->waits && t->woken == TIME_UP && !by_time)
+        clock_read_by(chosen, &clock_now); /* time passed for another one */
     t->waits = false;
     if (chosen != running || by_time)
         remember_switch(&c, chosen, &t->place);
@@ -232,7 +257,24 @@ void point_by_schedule(const char *what, WDM_SITE at, const void *pc)
         stop_at(AT_POINT, (Place){ what, at, pc });
 }
 
-void yield_by_schedule(const char *what) { stop_at(AT_YIELD, (Place){ .what = what }); }
+/* On one processor a thread at DISPATCH_LEVEL waits for nobody below it. */
+static void tell_spinning(const char *what)
+{
+    static int n_spins;
+    if (!is_one_processor() || !is_high(running) || n_spins++ < MOST_SPINS)
+        return;
+    Call here = { .name = what }, *const calls = self.calls;
+    self.calls = &here;
+    fault("Stuck", NULL, "it waits at DISPATCH_LEVEL for what another thread does, which this processor doesn't let go on");
+    self.calls = calls;
+    give_up("no thread can go on");
+}
+
+void yield_by_schedule(const char *what)
+{
+    tell_spinning(what);
+    stop_at(AT_YIELD, (Place){ .what = what });
+}
 
 Woken wait_by_schedule(const Wait *w)
 {
@@ -247,6 +289,8 @@ Woken wait_by_schedule(const Wait *w)
     t->place = (Place){ .what = w->what, .at = w->at };
     if (can_go_on(t)) {
         t->waits = false;
+        touch(&clock_now, READS);
+        passed(w->what, TIME_UP);
         return TIME_UP;
     }
     choose(AT_WAIT);

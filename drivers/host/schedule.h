@@ -17,6 +17,7 @@ typedef enum { AT_POINT, AT_YIELD, AT_WAIT, AT_END } Stop;
 extern bool by_schedule;
 int current_thread(void);
 LONGLONG virtual_now(void);
+bool is_one_processor(void);
 void begin_schedule(void);
 Woken wait_by_schedule(const Wait *w);
 void point_by_schedule(const char *what, WDM_SITE at, const void *pc);
@@ -63,6 +64,7 @@ uint64_t state_of_run(void);
 void passed(const char *what, int line);
 void thread_born(int parent, int child);
 void time_passed_for(int thread, const LONGLONG *clock);
+void clock_read_by(int thread, const LONGLONG *clock);
 uint64_t next_name(void);
 
 /* racing.c: which plain accesses race, by what happened before what; and memory that was let go. */

@@ -107,8 +107,11 @@ void let_driver_run(void) { pthread_mutex_unlock(&host_lock); }
 
 void driver_came_back(void)
 {
+    const Frame *f = self.frames;
     point("the return to the host", self.calls ? self.calls->at : (WDM_SITE){ 0 });
     pthread_mutex_lock(&host_lock);
+    if (f && f->p) /* what the routine leaves undecided is decided now; else somebody has by now */
+        touch(f->p->irp, f->settled ? READS : WRITES);
     __atomic_add_fetch(&host_activity, 1, __ATOMIC_SEQ_CST);
 }
 

@@ -1,12 +1,18 @@
-/* work.c: timers and deferred calls, on one thread of the host. All of it is under G. */
-#include "host.h"
+/*
+ * work.c: timers and deferred calls. All of it is under G.
+ *
+ * One thread of the host is the clock, and runs deferred calls. Under a schedule there is another one for what is queued
+ * while a deferred call runs: another processor, on which it may run at once.
+ */
+#include "schedule.h"
 
-enum { MAX_DPCS = 256 };
+enum { MAX_DPCS = 256, MAX_PROCESSORS = 2 };
 static Condition clock_changed = { &host_lock, PTHREAD_COND_INITIALIZER };
 static PKTIMER timers;
 static PKDPC dpcs[MAX_DPCS];
 static int n_dpcs;
-static bool clock_runs, dpc_runs;
+static int n_processors, n_running; /* threads for deferred calls, and calls that run */
+static bool idles[MAX_PROCESSORS];
 static _Atomic int n_armed; /* timers that will go off once */
 
 bool timers_armed(void) { return n_armed > 0; }
@@ -106,10 +112,13 @@ static void ring(void)
     }
 }
 
-static bool has_dpc(const void *context)
+/* Idle threads are alike: the n-th of them is ready where n deferred calls are queued. */
+static bool has_dpc(const void *number)
 {
-    (void)context;
-    return n_dpcs > 0;
+    int before = 0;
+    for (int i = 0; i < (int)(intptr_t)number; i++)
+        before += idles[i];
+    return n_dpcs > before;
 }
 
 /* When the next timer is due, or 0. */
@@ -123,33 +132,60 @@ static LONGLONG next_due(const void *context)
     return next;
 }
 
-static const Wait until_due = { .ready = has_dpc, .deadline = next_due, .on = &clock_changed, .patience = IDLES,
-                                .what = "the clock" };
+/* Only the clock waits for timers. */
+static Wait until_due(int number)
+{
+    return (Wait){ .ready = has_dpc, .deadline = number ? NULL : next_due, .context = (void *)(intptr_t)number,
+                   .on = &clock_changed, .patience = IDLES, .what = number ? "deferred calls" : "the clock" };
+}
 
-static void *run_clock(void *context)
+static void run_dpc(void)
+{
+    PKDPC d = dpcs[0];
+    PKDEFERRED_ROUTINE routine = d->Routine;
+    PVOID its = d->Context, one = d->Argument1, two = d->Argument2;
+    memmove(dpcs, dpcs + 1, (size_t)--n_dpcs * sizeof *dpcs);
+    d->Queued = FALSE;
+    n_running++;
+    Frame f = { .kind = WORK, .fn = (void *)routine, .device = NOBODY, .settled = true, .irql = DISPATCH_LEVEL };
+    run_work(&f, d->HostDriver);
+    routine(d, its, one, two);
+    work_done();
+    n_running--;
+    tell_waiters(&host_settled);
+}
+
+static void *run_dpcs(void *number);
+
+/* Starts a thread for deferred calls where all that there are run one, or where there is none. */
+static void start_processor(void)
+{
+    const bool is_clock = !n_processors, is_wanted = by_schedule && n_dpcs + n_running > n_processors;
+    const Wait first = until_due(n_processors);
+    if ((is_clock || (is_wanted && n_processors < MAX_PROCESSORS && !is_one_processor())) &&
+        !start_thread(run_dpcs, (void *)(intptr_t)n_processors, is_clock ? "the clock" : "deferred calls", NULL, &first))
+        idles[n_processors++] = true;
+}
+
+static void *run_dpcs(void *number)
 {
     Call c;
-    (void)context;
+    const bool is_clock = !number;
+    bool *const is_idle = &idles[(intptr_t)number];
+    const Wait w = until_due((int)(intptr_t)number);
     enter_host(&c, "the clock", (WDM_SITE){ 0 });
     for (;;) {
+        *is_idle = false;
         touch(&timers, SYNCS);
-        ring();
+        if (is_clock)
+            ring();
         if (n_dpcs) {
-            PKDPC d = dpcs[0];
-            PKDEFERRED_ROUTINE routine = d->Routine;
-            PVOID its = d->Context, one = d->Argument1, two = d->Argument2;
-            memmove(dpcs, dpcs + 1, (size_t)--n_dpcs * sizeof *dpcs);
-            d->Queued = FALSE;
-            dpc_runs = true;
-            Frame f = { .kind = WORK, .fn = (void *)routine, .device = NOBODY, .settled = true,
-                        .irql = DISPATCH_LEVEL };
-            run_work(&f, d->HostDriver);
-            routine(d, its, one, two);
-            work_done();
-            dpc_runs = false;
-            tell_waiters(&host_settled);
-        } else
-            wait_for(&until_due);
+            start_processor();
+            run_dpc();
+        } else {
+            *is_idle = true;
+            wait_for(&w);
+        }
     }
     return NULL;
 }
@@ -157,8 +193,7 @@ static void *run_clock(void *context)
 static void start_clock(void)
 {
     touch(&timers, SYNCS);
-    if (!clock_runs)
-        clock_runs = !start_thread(run_clock, NULL, "the clock", NULL, &until_due);
+    start_processor();
     tell_waiters(&clock_changed);
 }
 
@@ -250,7 +285,7 @@ BOOLEAN WdmKeInsertQueueDpc(PKDPC Dpc, PVOID Argument1, PVOID Argument2, WDM_SIT
 static bool dpcs_are_done(const void *context)
 {
     (void)context;
-    return !n_dpcs && !dpc_runs;
+    return !n_dpcs && !n_running;
 }
 
 static bool work_is_done(const void *context)

@@ -123,16 +123,17 @@ int main(void)
     PDRIVER_OBJECT below = WdmLoadDriver("below", LowerEntry), driver = WdmLoadDriver("direct", DriverEntry);
     PFILE_OBJECT one = WdmOpenFile(upper), two = WdmOpenFile(upper);
     WdmUseFile(one);
-    for (int i = 0; i < 3; i++)
+    const LONG rounds = (LONG)WdmRounds(3);
+    for (LONG i = 0; i < rounds; i++)
         WdmControl(upper, FILL, 4096 * 3);
     WdmUseFile(two);
     const NTSTATUS refused = WdmControl(upper, FILL + 1, 16);
-    const BOOLEAN is_right = counts(one, 3) && counts(two, 1) && refused == STATUS_INVALID_DEVICE_REQUEST &&
+    const BOOLEAN is_right = counts(one, rounds) && counts(two, 1) && refused == STATUS_INVALID_DEVICE_REQUEST &&
         wcslen(L"abc") == 3;
     WdmCloseFile(two);
     WdmCloseFile(one);
     WdmUnloadDriver(driver);
     IoDeleteDevice(below->DeviceObject);
-    WdmExpectEntries(20);
+    WdmExpectEntries(5 * (size_t)rounds + 5);
     return WdmFinish() || !is_right;
 }

@@ -166,8 +166,10 @@ NTSTATUS DriverEntry(PDRIVER_OBJECT DriverObject, PUNICODE_STRING RegistryPath)
     return STATUS_SUCCESS;
 }
 
-int main(void)
+/* handover [WAY]: where WdmRounds makes fewer rounds than there are ways, those from this one on. */
+int main(int argc, char **argv)
 {
+    const ULONG rounds = WdmRounds(3 * WAYS), first = argc > 1 ? (ULONG)atoi(argv[1]) : 0;
     PDRIVER_OBJECT driver = WdmLoadDriver("handover", DriverEntry);
     PDEVICE_OBJECT bottom = WdmCreateBottom(FALSE);
     if (!NT_SUCCESS(AddDevice(driver, bottom)))
@@ -175,14 +177,14 @@ int main(void)
     PDEVICE_OBJECT top = IoGetAttachedDevice(bottom);
     PEXTENSION ext = top->DeviceExtension;
     WdmDeclareRule(ReadDone, "keeper");
-    for (ULONG i = 0; i < 3 * WAYS; i++) {
+    for (ULONG i = 0; i < rounds; i++) {
         REQUEST r;
-        Start(&r, top, IRP_MJ_READ, i + WAYS);
+        Start(&r, top, IRP_MJ_READ, first + i + WAYS);
         Finish(&r);
     }
     InterlockedIncrement(&ext->Stops);
     KeSetEvent(&ext->Came, IO_NO_INCREMENT, FALSE);
     Pause(10);
-    WdmExpectEntries(3 * WAYS * 5);
+    WdmExpectEntries(rounds * 5);
     return WdmFinish();
 }

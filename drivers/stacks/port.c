@@ -123,7 +123,8 @@ int main(void)
     WdmSetRegistry(L"\\Registry\\Machine\\System\\CurrentControlSet\\Services\\port", L"Most", REG_DWORD, &(ULONG){ 2 }, 4);
     PDRIVER_OBJECT driver = WdmLoadDriver("port", DriverEntry);
     PDEVICE_OBJECT port = driver->DeviceObject;
-    for (int i = 0; i < 4; i++) {
+    const ULONG rounds = WdmRounds(4);
+    for (ULONG i = 0; i < rounds; i++) {
         Start(&first, port, IRP_MJ_READ, 2);
         Start(&second, port, IRP_MJ_READ, 1);
         Start(&third, port, IRP_MJ_READ, 9);
@@ -133,6 +134,6 @@ int main(void)
         finish_by_bytes(port, &third);
     }
     WdmUnloadDriver(driver);
-    WdmExpectEntries(20);
+    WdmExpectEntries(5 * rounds);
     return WdmFinish();
 }

@@ -83,7 +83,7 @@ static PDEVICE_OBJECT device;
 
 static void *use(void *context)
 {
-    for (int i = 0; i < 8; i++)
+    for (ULONG i = 0; i < WdmRounds(8); i++)
         WdmSend(device, context && i % 2 ? IRP_MJ_READ : IRP_MJ_WRITE, 0, 4);
     return NULL;
 }
@@ -91,6 +91,7 @@ static void *use(void *context)
 int main(void)
 {
     pthread_t threads[3];
+    const ULONG rounds = WdmRounds(8), writes = rounds + 2 * ((rounds + 1) / 2);
     PDRIVER_OBJECT driver = WdmLoadDriver("shared", DriverEntry);
     device = driver->DeviceObject;
     for (int i = 0; i < 3; i++)
@@ -99,6 +100,6 @@ int main(void)
         pthread_join(threads[i], NULL);
     const ULONG total = ((PEXTENSION)device->DeviceExtension)->Total;
     WdmUnloadDriver(driver);
-    WdmExpectEntries(40);
-    return WdmFinish() || total != 64;
+    WdmExpectEntries(5 * rounds);
+    return WdmFinish() || total != 4 * writes;
 }
