@@ -18,7 +18,8 @@ DRIVER_FLAGS = ["-std=gnu11", "-fcommon", "-Wall", "-Wextra", "-Wno-multichar", 
 
 # The host's own tests, where none is given: for a run, and for every order.
 OWN_TESTS = [["exercise.c", "requests.c"], ["overlaps.c"]]
-OWN_FILES = [it for files in OWN_TESTS for it in files]
+NAMED_TESTS = "named_tests.c"  # the host's `main` for tests that a file has by WDM_TEST
+OWN_FILES = [NAMED_TESTS, *(it for files in OWN_TESTS for it in files)]
 
 
 class Stop(Exception):
@@ -41,6 +42,11 @@ def has(source, function):
     return re.search(r"\b" + function + r"\s*\([^;{}]*\)\s*\{", text) is not None
 
 
+def has_tests(source):
+    with open(source, encoding="utf-8", errors="replace") as it:
+        return re.search(r"^WDM_TEST\(\w+\)", it.read(), re.M) is not None
+
+
 def stem(path):
     return re.sub(r"\W", "_", os.path.splitext(os.path.basename(path.rstrip("/")))[0])
 
@@ -57,7 +63,8 @@ def files_of(named):
 
 
 def find_sources(named):
-    """Returns the drivers, each with its name and files, and the other files; and whether one of these has `main`."""
+    """Returns the drivers, each with its name and files, and the other files; and what the test is: "main" where a file
+    has that, "tests" where one has tests by name, or ""."""
     drivers, others = [], []
     for it in named:
         files = files_of(it)
@@ -70,11 +77,12 @@ def find_sources(named):
             others += [file for file in files if file not in entries]
     with_main = [file for _, files in drivers for file in files if has(file, "main")]
     with_main += [file for file in others if has(file, "main")]
-    if not drivers and not with_main:
+    kind = "main" if with_main else "tests" if any(has_tests(file) for file in others) else ""
+    if not drivers and not kind:
         raise Stop("no file defines DriverEntry, and none defines main")
-    if len(drivers) == 1 and not with_main:
-        return [(drivers[0][0], drivers[0][1] + others)], [], False
-    return drivers, others, bool(with_main)
+    if len(drivers) == 1 and not kind:
+        return [(drivers[0][0], drivers[0][1] + others)], [], kind
+    return drivers, others, kind
 
 
 def symbols_of(path):
@@ -120,6 +128,11 @@ def localize(made, name, keep):
     os.remove(listed)
 
 
+def objects_of_drivers(named, folder):
+    """Returns the objects that `build` left there, one for each driver."""
+    return [f"{folder}/{number}_{name}.o" for number, (name, _) in enumerate(find_sources(named)[0])]
+
+
 def write_table(path, drivers, has_alias):
     with open(path, "w", encoding="utf-8") as it:
         it.write('#include "wdm_test.h"\n')
@@ -135,7 +148,7 @@ def write_table(path, drivers, has_alias):
 
 def build(compiler, flags, named, library, folder, link_flags=(), libraries=(), own_test=OWN_TESTS[0]):
     """Returns the program. The objects that it is linked of lie in the folder, the drivers' parts below it."""
-    drivers, others, has_main = find_sources(list(libraries) + list(named))
+    drivers, others, kind = find_sources(list(libraries) + list(named))
     names = [name for name, _ in drivers]
     if len(set(names)) != len(names):
         raise Stop("two drivers have the same name: " + ", ".join(sorted({it for it in names if names.count(it) > 1})))
@@ -160,7 +173,8 @@ def build(compiler, flags, named, library, folder, link_flags=(), libraries=(), 
         localize(made, name, keep - {"DriverEntry"})
     table = folder + "/drivers.c"
     write_table(table, drivers, len(drivers) == 1 and any("DriverEntry" in wanted for _, wanted in apart))
-    for source in (table, *(() if has_main else (f"{HERE}/host/{it}" for it in own_test))):
+    added = {"main": [], "tests": [NAMED_TESTS], "": own_test}
+    for source in (table, *(f"{HERE}/host/{it}" for it in added[kind])):
         made = f"{folder}/{len(objects)}_{stem(source)}.o"
         compiled(source, made)
         objects.append(made)

@@ -1,31 +1,64 @@
-"""`run --verify`: the same program in many runs, each of which takes one thing away from its luck: pages end where
-blocks end, routines run high, an allocation fails. They are one plan: counted first, the cheap ones first, each fault
-told once, with the command that makes its run again."""
+"""`run --verify`, and its parts: the same program in many runs, each of which takes one thing away from its luck: pages
+end where blocks end, routines run high, drivers below pend, an allocation fails, a request is cancelled at one call. They
+are one plan: counted first, the cheap ones first, each fault told once, with the command that makes its best run again."""
 
 import concurrent.futures
 import copy
 import os
 import re
 import shlex
+import subprocess
 import sys
 import time
+
+import reporting
+
+SEEDS_OF_REFUSALS = 4
+FLAGS = ["-finstrument-functions", f"-finstrument-functions-exclude-file-list={os.path.dirname(os.path.abspath(__file__))}/include/"]
+# What is told of memory is told best where pages end with blocks: at the line itself.
+MEMORY = ("PoolOverrun", "WrittenAfterFree", "UsedAfterFree")
+
+
+# The parts of a plan that can be had alone, and what each does.
+PARTS = {"low_memory": "each allocation fails, alone and with all behind it",
+         "force_pending": "between any two drivers a device of the host's pends all that passes",
+         "cancel_everywhere": "each request is cancelled at each call that a driver makes meanwhile"}
 
 
 class Kind:
     """Runs of one kind: the flags that `run` takes for each of them."""
 
-    def __init__(self, name, flags):
-        self.name, self.flags = name, flags
+    def __init__(self, name, part, flags):
+        self.name, self.part, self.flags = name, part, flags
         self.made = self.bad = 0
+        self.seconds = 0.0
 
 
-def plan_of(facts):
+def cancels_of(places):
+    """Returns flags for each place at which a request is on its way: the first of its kind, and all others."""
+    firsts, others, seen = [], [], set()
+    for line in places:
+        at, _, what = line.partition(" ")
+        (others if what in seen else firsts).append({"cancel": at})
+        seen.add(what)
+    return firsts, others
+
+
+def plan_of(facts, places):
     """Returns the kinds of runs, by what the first run counted."""
     allocations = range(1, int(facts.get("allocations", 0)) + 1)
-    return [Kind("blocks at pages' ends", [{"page_ends": 1}]),
-            Kind("routines at DISPATCH_LEVEL", [{"routines_high": 1}]),
-            Kind("one allocation refused", [{"refuse": str(n)} for n in allocations]),
-            Kind("all refused from one on", [{"refuse": f"{n}+"} for n in allocations])]
+    attached = range(1, int(facts.get("attached", 0)) + 1)
+    firsts, others = cancels_of(places)
+    below = [{"pend": str(n)} for n in attached] + ([{"pend": "all"}] if len(attached) > 1 else [])
+    seeds = range(1, SEEDS_OF_REFUSALS + 1) if allocations else []
+    return [Kind("blocks at pages' ends", None, [{"page_ends": 1}]),
+            Kind("routines at DISPATCH_LEVEL", None, [{"routines_high": 1}]),
+            Kind("drivers below that pend", "force_pending", below),
+            Kind("one allocation refused", "low_memory", [{"refuse": str(n)} for n in allocations]),
+            Kind("all refused from one on", "low_memory", [{"refuse": f"{n}+"} for n in allocations]),
+            Kind("some refused, by a seed", "low_memory", [{"refuse": f"s{n}"} for n in seeds]),
+            Kind("a cancel at each call", "cancel_everywhere", firsts),
+            Kind("a cancel at each call of each request", "cancel_everywhere", others)]
 
 
 def words_of(flags):
@@ -33,8 +66,16 @@ def words_of(flags):
     return " ".join(f"--{key.replace('_', '-')}" + ("" if value == 1 else f" {value}") for key, value in flags.items())
 
 
+def rule_of(line):
+    found = re.match(r"host: (?:FAULT )?(\w+)", line)
+    return found[1] if found else "no fault of the host"
+
+
 def key_of(line):
-    """Returns what makes a fault the same one in another run: its rule and its place."""
+    """Returns what makes a fault the same one in another run: its rule and its place; of memory, the block."""
+    block = re.search(r"allocated at ([\w.]+:\d+)", line)
+    if rule_of(line) in MEMORY and block:
+        return "memory", block[1]
     found = re.match(r"host: (?:FAULT )?(\S+?):? .*?([\w.]+:\d+)", line)
     return found.groups() if found else re.sub(r"\d+", "N", line)
 
@@ -54,61 +95,118 @@ class Verification:
 
     def __init__(self, options, make_run):
         self.options, self.make_run, self.numbers = options, make_run, iter(range(1 << 30))
-        self.faults, self.until, self.left_out = {}, time.monotonic() + 60 * options.minutes, 0
+        self.faults, self.ran, self.cases = {}, set(), []
+        self.began, self.left_out = time.monotonic(), []
+        self.until = self.began + 60 * options.minutes
+        self.made = self.planned = 0
 
     def one(self, flags):
-        """Returns a run with these flags, or None where the time is over."""
-        if time.monotonic() > self.until:
+        """Returns a run with these flags and how long it took, or None where the time is over."""
+        began = time.monotonic()
+        if began > self.until:
             return None
         options = copy.copy(self.options)
         for key, value in flags.items():
             setattr(options, key, value)
-        return self.make_run(options, next(self.numbers))
+        return self.make_run(options, next(self.numbers)), time.monotonic() - began
 
-    def take(self, kind, flags, run):
-        if run is None:
-            self.left_out += 1
+    def take(self, kind, flags, made):
+        if made is None:
+            self.left_out.append(kind.name)
             return
+        run, seconds = made
         kind.made += 1
+        kind.seconds += seconds
+        self.made += 1
+        self.ran |= run.ran
         found = complaints_of(run)
         kind.bad += bool(found)
+        self.cases.append(reporting.Case(words_of(flags) or kind.name, seconds, found))
         for line in found:
-            if key_of(line) not in self.faults:
-                self.faults[key_of(line)] = True
-                self.tell(line, flags)
+            known = self.faults.get(key_of(line))
+            if known is None or (rule_of(line) in MEMORY and "page_ends" in flags):
+                self.faults[key_of(line)] = [line, flags, kind.name, time.monotonic() - self.began, False]
 
-    def tell(self, line, flags):
-        named = [it for it in self.options.source]
-        again = ["run", *([words_of(flags)] if flags else []), *map(shlex.quote, named)]
-        for key in ("threads", "controls"):
-            if getattr(self.options, key):
-                again.insert(1, f"--{key} {getattr(self.options, key)}")
-        if self.options.args:
-            again.insert(1, f"--args {shlex.quote(self.options.args)}")
-        print(f"{line}\n  again with  {' '.join(again)}", flush=True)
+    def again(self, flags):
+        """Returns the command that makes a run again."""
+        words = ["run"]
+        for key in ("threads", "controls", "args", "test"):
+            if getattr(self.options, key, None):
+                words.append(f"--{key} {shlex.quote(str(getattr(self.options, key)))}")
+        words += [f"--cflag={shlex.quote(it)}" for it in self.options.cflag]
+        return " ".join([*words, *([words_of(flags)] if flags else []), *map(shlex.quote, self.options.source)])
 
-    def all_of(self, kind, pool):
-        for n, (flags, run) in enumerate(zip(kind.flags, pool.map(self.one, kind.flags)), 1):
-            self.take(kind, flags, run)
-            if sys.stderr.isatty():
-                sys.stderr.write(f"\r{kind.name}: {n} of {len(kind.flags)} \x1b[K")
+    def tell_found(self):
+        """Tells the faults that weren't told."""
+        for fault in self.faults.values():
+            line, flags, _, seconds, is_told = fault
+            if not is_told:
+                print(f"{line}\n  again with  {self.again(flags)}\n  found       after {seconds:.1f} s", flush=True)
+                fault[4] = True
+
+    def progress(self, kind):
+        if sys.stderr.isatty():
+            spent = time.monotonic() - self.began
+            left = min(spent / max(self.made, 1) * (self.planned - self.made), self.until - time.monotonic())
+            sys.stderr.write(f"\r{self.made} of {self.planned} runs, {len(self.faults)} faults, about {left:.0f} s more: "
+                             f"{kind.name} \x1b[K")
+
+    def all_of(self, kinds, pool):
+        """Makes the runs of these kinds, and tells what they found."""
+        for kind in kinds:
+            for flags, made in zip(kind.flags, pool.map(self.one, kind.flags)):
+                self.take(kind, flags, made)
+                self.progress(kind)
+                if kind.part:
+                    self.tell_found()
         if sys.stderr.isatty():
             sys.stderr.write("\r\x1b[K")
+        self.tell_found()
 
 
-def verify(options, make_run):
-    """Makes all runs, and sums up. `make_run(options, number)` gives a judged run. Returns the exit status."""
+def functions_of(objects):
+    """Returns the functions that drivers define, by their names."""
+    said = subprocess.run(["nm", *objects], capture_output=True, text=True, check=False).stdout
+    return {words[2].split(".")[0] for words in map(str.split, said.splitlines())
+            if len(words) == 3 and words[1] in "tT" and not words[2].endswith("_DriverEntry")}
+
+
+def chosen(kinds, options):
+    """Returns the kinds that are asked for: all by --verify, else those of the parts that are named."""
+    return [it for it in kinds if it.flags and (options.verify or (it.part and getattr(options, it.part)))]
+
+
+def sum_up(found, kinds, functions):
+    """Prints the runs of each kind, the faults by rule, and what never ran."""
+    made = ", ".join(f"{it.made} {it.name}" + (f" ({it.bad} bad)" if it.bad else "") for it in kinds)
+    rules = {}
+    for line, *_ in found.faults.values():
+        rules[rule_of(line)] = rules.get(rule_of(line), 0) + 1
+    print(f"runs        {made}")
+    if rules:
+        print("faults      " + ", ".join(f"{n} {rule}" for rule, n in sorted(rules.items())))
+    never = sorted(functions - found.ran)
+    if never and found.ran:
+        print("never ran   " + ", ".join(never))
+    if found.left_out:
+        left = ", ".join(f"{found.left_out.count(it)} {it}" for it in dict.fromkeys(found.left_out))
+        print(f"not made    {left}: give more --minutes")
+    print(f"verify: {found.made} runs, {len(found.faults)} faults; " + ("NOT CLEAN" if found.faults else "clean"))
+
+
+def verify(options, make_run, objects):
+    """Makes all runs, and sums up. `make_run(options, number)` gives a judged run. Returns the exit status, and a case
+    for each run."""
     found = Verification(options, make_run)
-    plain = Kind("plain", [{}])
-    first = found.one({})
+    plain = Kind("plain", None, [{}])
+    first = found.one({"cancel": "count"})
     found.take(plain, {}, first)
-    kinds = plan_of(first.facts)
-    print(f"verify: {1 + sum(len(it.flags) for it in kinds)} runs", flush=True)
+    kinds = chosen(plan_of(first[0].facts, first[0].places), options)
+    found.planned = 1 + sum(len(it.flags) for it in kinds)
+    print(f"verify: {found.planned} runs", flush=True)
     with concurrent.futures.ThreadPoolExecutor(options.processes or os.cpu_count()) as pool:
-        for kind in kinds:
-            found.all_of(kind, pool)
-    made = ", ".join(f"{it.made} {it.name}" + (f" ({it.bad} bad)" if it.bad else "") for it in [plain, *kinds])
-    print(f"verify: {made}; {len(found.faults)} faults"
-          + (f"; {found.left_out} runs weren't made: give more --minutes" if found.left_out else "")
-          + ("; clean" if not found.faults else "; NOT CLEAN"))
-    return 1 if found.faults else 0
+        cheap = [it for it in kinds if not it.part]
+        found.all_of(cheap, pool)
+        found.all_of([it for it in kinds if it.part], pool)
+    sum_up(found, [plain, *kinds], functions_of(objects))
+    return (1 if found.faults else 0), found.cases

@@ -82,17 +82,20 @@ static bool may_be_cancelled(const void *packet)
     return !p->unwinding || (p->asking && is_this_thread(p->asking->thread));
 }
 
-/* Enters the host for a cancel, with the cancel spin lock: a packet on its way up is cancelled once it is up. */
-static KIRQL begin_cancel(Call *c, Packet **p, PIRP irp, WDM_SITE at)
+static bool is_over(const Packet *p, uint64_t use) { return use && (!lives(p) || p->use != use); }
+
+/* Enters the host for a cancel, with the cancel spin lock: a packet on its way up is cancelled once it is up. The packet
+   is known by its pointer, or by its use: then it may be over. */
+static KIRQL begin_cancel(Call *c, Packet **p, PIRP irp, uint64_t use, WDM_SITE at)
 {
     KIRQL irql;
     for (;;) {
         WdmIoAcquireCancelSpinLock(&irql, at);
         enter_quietly(c, "IoCancelIrp", at);
-        *p = find(irp);
+        *p = use ? *p : find(irp);
         const Wait w = { .ready = may_be_cancelled, .context = *p, .on = &host_settled, .patience = DEADLOCK,
                          .what = "IoCancelIrp", .at = at };
-        if (may_be_cancelled(*p))
+        if (is_over(*p, use) || may_be_cancelled(*p))
             return irql;
         release_cancel_lock(irql);
         if (wait_for(&w) == STUCK)
@@ -140,23 +143,14 @@ static void run_cancel_routine(Packet *p, Entry *e, KIRQL irql)
         settle(p, true);
 }
 
-/* Where `if_there`, one that has ended is left alone. */
-static BOOLEAN cancel(PIRP Irp, bool if_there, WDM_SITE at)
+/* Under G and the cancel spin lock, which it gives back. */
+static BOOLEAN cancel(Packet *p, KIRQL irql)
 {
-    Call c;
-    Packet *p;
-    const KIRQL irql = begin_cancel(&c, &p, Irp, at);
-    if (if_there && !lives(p)) {
-        release_cancel_lock(irql);
-        leave_host();
-        return FALSE;
-    }
     Entry *e = begin(CANCEL, p, ORIGINATOR);
     const char *no = rules_refusal(e);
     if (no) {
         release_cancel_lock(irql);
         refuse(e, no);
-        leave_host();
         return FALSE;
     }
     cancel_ridden(p->rides);
@@ -168,7 +162,7 @@ static BOOLEAN cancel(PIRP Irp, bool if_there, WDM_SITE at)
     if (p->asking && p->asking->kind == CANCELLING)
         settle(p, false);
     p->cancel = true;
-    Irp->Cancel = TRUE;
+    p->irp->Cancel = TRUE;
     const bool routine = p->routine != NULL;
     if (routine)
         run_cancel_routine(p, e, irql);
@@ -176,9 +170,41 @@ static BOOLEAN cancel(PIRP Irp, bool if_there, WDM_SITE at)
         release_cancel_lock(irql);
         answered(e, CANCELLED, 0);
     }
+    return routine;
+}
+
+BOOLEAN WdmIoCancelIrp(PIRP Irp, WDM_SITE at)
+{
+    Call c;
+    Packet *p;
+    const KIRQL irql = begin_cancel(&c, &p, Irp, 0, at);
+    const BOOLEAN routine = cancel(p, irql);
     leave_host();
     return routine;
 }
 
-BOOLEAN WdmIoCancelIrp(PIRP Irp, WDM_SITE at) { return cancel(Irp, false, at); }
-BOOLEAN WdmCancelSent(PIRP Irp, WDM_SITE at) { return cancel(Irp, true, at); }
+/* The same of a packet that may be over by now: then nothing is done. */
+BOOLEAN cancel_if_alive(Packet *p, uint64_t use, WDM_SITE at)
+{
+    Call c;
+    const KIRQL irql = begin_cancel(&c, &p, NULL, use, at);
+    const bool is_late = is_over(p, use);
+    if (is_late)
+        release_cancel_lock(irql);
+    const BOOLEAN routine = !is_late && cancel(p, irql);
+    leave_host();
+    return routine;
+}
+
+BOOLEAN WdmCancelSent(PIRP Irp, WDM_SITE at)
+{
+    Call c;
+    Packet *p;
+    const KIRQL irql = begin_cancel(&c, &p, Irp, 0, at);
+    const bool is_there = lives(p);
+    if (!is_there)
+        release_cancel_lock(irql);
+    const BOOLEAN routine = is_there && cancel(p, irql);
+    leave_host();
+    return routine;
+}

@@ -57,3 +57,17 @@ void broken(const char *rule, const Packet *p, const char *how, ...)
     const Check *c = check_named(rule);
     fault(rule, p, "%s. Remedy: %s (WDK: %s)", text, c->remedy, c->page);
 }
+
+/* What a test holds to be true. Where the run takes memory or a request away it may be otherwise. */
+BOOLEAN WdmChecked(BOOLEAN Holds, const char *Text, WDM_SITE at)
+{
+    Call c;
+    learn_test(at.file);
+    enter_quietly(&c, "WDM_CHECK", at);
+    if (!Holds && (memory_was_refused() || was_cancelled_there()))
+        note("a check", "%s in %s: %s doesn't hold", place(at), at.function, Text);
+    else if (!Holds)
+        fault("Check", NULL, "%s doesn't hold", Text);
+    leave_host();
+    return Holds;
+}

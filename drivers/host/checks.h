@@ -69,10 +69,27 @@ void check_sending(const Packet *p, int by);
 
 /* low_memory.c */
 extern int n_allocations;
+bool is_hosts_file(const char *file);
 bool memory_is_refused(const char *what, WDM_SITE at);
 bool memory_was_refused(void);
 void tell_refused(void);
 void end_without_driver(PDRIVER_OBJECT driver);
+
+/* between.c: a device of the host's that pends all. */
+bool is_between(PDEVICE_OBJECT device);
+int count_attached(void);
+void put_between(PDEVICE_OBJECT target, WDM_SITE at);
+void take_from_between(PDEVICE_OBJECT device);
+
+/* cancel_at.c: a request that is cancelled at a call of a driver. */
+void request_sent(Packet *p);
+void cancel_at(const char *name, WDM_SITE at);
+void waits_now(void);
+bool was_cancelled_there(void);
+void tell_cancelled_there(void);
+void write_cancel_places(FILE *out);
+BOOLEAN cancel_if_alive(Packet *p, uint64_t use, WDM_SITE at); /* cancelling.c */
+void write_ran(FILE *out); /* ran.c */
 
 /* kernel.c: spin locks, which take G and give it back themselves. */
 KIRQL take_spin_lock(PKSPIN_LOCK lock, LockKind kind, const char *name, WDM_SITE at);

@@ -37,6 +37,7 @@ NTSTATUS WdmIoCreateDevice(PDRIVER_OBJECT Driver, ULONG Extension, DEVICE_TYPE T
 PDEVICE_OBJECT WdmIoAttachDevice(PDEVICE_OBJECT Device, PDEVICE_OBJECT Target, WDM_SITE at)
 {
     Call c;
+    put_between(Target, at);
     enter_host(&c, "IoAttachDeviceToDeviceStack", at);
     touch(&devices, WRITES);
     const int d = device_number(Device);
@@ -175,6 +176,7 @@ VOID WdmIoDetachDevice(PDEVICE_OBJECT Lower, WDM_SITE at)
             delete_late(d);
     }
     leave_host();
+    take_from_between(Lower);
 }
 
 /* The dispatch of a REMOVE of the device that runs on this thread, or NULL. */
@@ -192,7 +194,7 @@ void delete_after(int d)
         delete_late(d);
 }
 
-/* The host's own bottom device goes when its work items are done, as a driver waits for its own. */
+/* The host's own devices go when their work items are done, as a driver waits for its own. */
 static bool is_at_rest(const void *device)
 {
     const Device *d = device;
@@ -210,7 +212,7 @@ VOID WdmIoDeleteDevice(PDEVICE_OBJECT Device, WDM_SITE at)
         if (lives(packets[i]))
             touch(packets[i]->irp, READS);
     const int d = device_number(Device);
-    if (is_bottom(Device)) {
+    if (is_bottom(Device) || is_between(Device)) {
         wait_for_host(is_at_rest, &devices[d]);
         touch(&devices[d].running, SYNCS);
     }

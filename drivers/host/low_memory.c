@@ -24,18 +24,18 @@ static bool is_chosen(int n)
     return wanted > 0 && (n == wanted || (n > wanted && wish[strlen(wish) - 1] == '+'));
 }
 
-/* The host's own drivers are never refused. */
-static bool is_of_host(const char *file)
+/* Whether a call is made by the host's own code, or its own drivers: they are never refused, for one. */
+bool is_hosts_file(const char *file)
 {
     const size_t n = strlen(__FILE__) - strlen("low_memory.c");
-    return !strncmp(file, __FILE__, n);
+    return !file || !strncmp(file, __FILE__, n);
 }
 
 /* Under G: whether this allocation of a driver fails. Packets and MDLs that a test asks for by itself don't count. */
 bool memory_is_refused(const char *what, WDM_SITE at)
 {
     const bool may_be_a_test = !self.frames && !self.is_driver && self.driver == NOBODY && has_test(at.file);
-    if (!at.file || is_of_host(at.file) || (may_be_a_test && !strncmp(what, "IoAllocate", 10)))
+    if (is_hosts_file(at.file) || (may_be_a_test && !strncmp(what, "IoAllocate", 10)))
         return false;
     if (!is_chosen(++n_allocations))
         return false;

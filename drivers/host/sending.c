@@ -184,8 +184,10 @@ NTSTATUS WdmIoCallDriver(PDEVICE_OBJECT Target, PIRP Irp, WDM_SITE at)
         check_dispatch_level(p, raw_at(p, p->skipped ? p->current : p->current - 1)->MajorFunction, d);
     Frame *f = dispatching(p);
     NTSTATUS answer;
-    if (lives(p) && p->owner == ORIGINATOR)
+    if (lives(p) && p->owner == ORIGINATOR) {
         give_mdl(p);
+        request_sent(p);
+    }
     const uint64_t use = p->use;
     if (lives(p))
         check_sending(p, by);

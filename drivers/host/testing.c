@@ -172,7 +172,10 @@ static void write_summary(size_t entries)
     fprintf(f, "entries %zu\nwanted %zu\nfaults %d\nnotes %d\n", entries, expected_entries(), n_faults, n_notes);
     if (stopped_by)
         fprintf(f, "stopped %s\n", stopped_by);
-    fprintf(f, "allocations %d\n%s", n_allocations, memory_was_refused() ? "refused 1\n" : "");
+    fprintf(f, "allocations %d\nattached %d\n%s", n_allocations, count_attached(),
+            memory_was_refused() || was_cancelled_there() || getenv("WDM_PEND") ? "disturbed 1\n" : "");
+    write_cancel_places(f);
+    write_ran(f);
     tell_expected(f);
     tell_unreached(f);
     fclose(f);
@@ -195,6 +198,7 @@ static size_t write_out(void)
     tell_block_touches();
     check_pool();
     tell_refused();
+    tell_cancelled_there();
     tell_repeats();
     const size_t n = write_transcript(out);
     if (n < n_history)

@@ -66,6 +66,7 @@ void enter_host(Call *c, const char *name, WDM_SITE at)
 {
     if (!by_schedule || is_point(name))
         point(name, at);
+    cancel_at(name, at);
     enter_quietly(c, name, at);
 }
 

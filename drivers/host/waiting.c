@@ -67,6 +67,7 @@ static Woken wait_really(const Wait *w)
     bool counts = false;
     pthread_once(&settings_once, read_settings);
     while (!w->ready(w->context)) {
+        waits_now();
         const LONGLONG until = w->deadline ? w->deadline(w->context) : 0;
         if (until && until <= now_in_100ns()) {
             woken = TIME_UP;

@@ -125,6 +125,25 @@ VOID WdmDeclareRule(PIO_COMPLETION_ROUTINE Routine, const char *Rule);
 ULONG WdmRounds(ULONG Usual);
 
 /*
+ * A test by name, and what it holds to be true: a file without `main` may have several of them.
+ *     WDM_TEST(reads_what_was_written) { .. WDM_CHECK(WdmSend(top, IRP_MJ_READ, 0, 16) == STATUS_SUCCESS); }
+ * `run` runs each alone; after it WdmFinish is called. A check that fails is a fault, and the test goes on; where the run
+ * refuses memory or cancels a request, it is a note. Its value says whether it holds.
+ */
+typedef struct WDM_NAMED { const char *Name; VOID (*Run)(VOID); struct WDM_NAMED *Next; } WDM_NAMED;
+VOID WdmAddTest(WDM_NAMED *Test);
+#define WDM_TEST(name) \
+    static VOID name(VOID); \
+    __attribute__((constructor)) static void wdm_add_##name(void) \
+    { \
+        static WDM_NAMED test = { #name, name, NULL }; \
+        WdmAddTest(&test); \
+    } \
+    static VOID name(VOID)
+BOOLEAN WdmChecked(BOOLEAN Holds, const char *Text, WDM_SITE at);
+#define WDM_CHECK(...) WdmChecked((__VA_ARGS__) ? TRUE : FALSE, #__VA_ARGS__, WDM_HERE)
+
+/*
  * Waits for the sends and the work items that aren't done, writes the transcript, and tells a summary. Returns 0 where
  * the host saw no fault and the run has the entries that were expected, else 2: the exit status for `main`.
  */

@@ -1,0 +1,119 @@
+/*
+ * between.c: forced pending. With WDM_PEND=all, a device of the host's stands between any two devices of drivers; with
+ * WDM_PEND=N only below the N-th one that a driver attaches. What passes through it is marked pending, and completed
+ * later, from another thread. It is written as a driver.
+ */
+#include <wdm.h>
+#include "host.h"
+
+typedef struct { PDEVICE_OBJECT Self, Lower; } BETWEEN, *PBETWEEN;
+typedef struct { PIO_WORKITEM Item; PIRP Irp; } LATE, *PLATE;
+
+static VOID CompleteLate(PDEVICE_OBJECT DeviceObject, PVOID Context)
+{
+    PLATE late = Context;
+    UNREFERENCED_PARAMETER(DeviceObject);
+    IoFreeWorkItem(late->Item);
+    IoCompleteRequest(late->Irp, IO_NO_INCREMENT);
+    free(late);
+}
+
+static NTSTATUS LowerIsDone(PDEVICE_OBJECT DeviceObject, PIRP Irp, PVOID Context)
+{
+    PLATE late = Context;
+    UNREFERENCED_PARAMETER(DeviceObject);
+    late->Irp = Irp;
+    IoQueueWorkItem(late->Item, CompleteLate, DelayedWorkQueue, late);
+    return STATUS_MORE_PROCESSING_REQUIRED;
+}
+
+static NTSTATUS Pend(PDEVICE_OBJECT DeviceObject, PIRP Irp)
+{
+    PBETWEEN ext = DeviceObject->DeviceExtension;
+    PLATE late = malloc(sizeof *late);
+    if (late && !(late->Item = IoAllocateWorkItem(DeviceObject))) {
+        free(late);
+        late = NULL;
+    }
+    if (!late) {
+        IoSkipCurrentIrpStackLocation(Irp);
+        return IoCallDriver(ext->Lower, Irp);
+    }
+    IoMarkIrpPending(Irp);
+    IoCopyCurrentIrpStackLocationToNext(Irp);
+    IoSetCompletionRoutine(Irp, LowerIsDone, late, TRUE, TRUE, TRUE);
+    IoCallDriver(ext->Lower, Irp);
+    return STATUS_PENDING;
+}
+
+static VOID Leave(PBETWEEN Ext)
+{
+    PDEVICE_OBJECT lower = Ext->Lower;
+    Ext->Lower = NULL;
+    IoDetachDevice(lower);
+    IoDeleteDevice(Ext->Self);
+}
+
+static NTSTATUS Pnp(PDEVICE_OBJECT DeviceObject, PIRP Irp)
+{
+    PBETWEEN ext = DeviceObject->DeviceExtension;
+    if (IoGetCurrentIrpStackLocation(Irp)->MinorFunction != IRP_MN_REMOVE_DEVICE)
+        return Pend(DeviceObject, Irp);
+    IoSkipCurrentIrpStackLocation(Irp);
+    const NTSTATUS status = IoCallDriver(ext->Lower, Irp);
+    Leave(ext);
+    return status;
+}
+
+static NTSTATUS BetweenEntry(PDRIVER_OBJECT DriverObject, PUNICODE_STRING RegistryPath)
+{
+    UNREFERENCED_PARAMETER(RegistryPath);
+    for (int i = 0; i <= IRP_MJ_MAXIMUM_FUNCTION; i++)
+        DriverObject->MajorFunction[i] = Pend;
+    DriverObject->MajorFunction[IRP_MJ_PNP] = Pnp;
+    return STATUS_SUCCESS;
+}
+
+static PDRIVER_OBJECT driver;
+static int n_attached;
+
+bool is_between(PDEVICE_OBJECT device) { return driver && device->DriverObject == driver; }
+
+/* How many devices drivers attached so far. */
+int count_attached(void) { return n_attached; }
+
+/* Whether this call, by a driver, gets a device of the host's between it and what is below. */
+static bool is_chosen(PDEVICE_OBJECT target, WDM_SITE at)
+{
+    const char *wish = getenv("WDM_PEND");
+    pthread_mutex_lock(&host_lock);
+    const bool is_drivers = !is_hosts_file(at.file) && devices[target->HostNumber].live;
+    const int n = n_attached += is_drivers;
+    pthread_mutex_unlock(&host_lock);
+    return wish && is_drivers && (!strcmp(wish, "all") || atoi(wish) == n);
+}
+
+/* Before a device is attached. */
+void put_between(PDEVICE_OBJECT target, WDM_SITE at)
+{
+    PDEVICE_OBJECT device;
+    if (!is_chosen(target, at))
+        return;
+    if (!driver)
+        driver = WdmLoadDriver("between", BetweenEntry);
+    if (!NT_SUCCESS(IoCreateDevice(driver, sizeof(BETWEEN), NULL, target->DeviceType, target->Characteristics, FALSE,
+                                   &device)))
+        return;
+    PBETWEEN ext = device->DeviceExtension;
+    ext->Self = device;
+    ext->Lower = IoAttachDeviceToDeviceStack(device, target);
+    device->Flags |= ext->Lower->Flags & (DO_BUFFERED_IO | DO_DIRECT_IO | DO_POWER_PAGABLE);
+    device->Flags &= ~(ULONG)DO_DEVICE_INITIALIZING;
+}
+
+/* After a device was detached from this one, which goes if no removal has come this way. */
+void take_from_between(PDEVICE_OBJECT device)
+{
+    if (is_between(device) && ((PBETWEEN)device->DeviceExtension)->Lower)
+        Leave(device->DeviceExtension);
+}
