@@ -8,10 +8,10 @@
 #include <unistd.h>
 
 enum { MAX_REQUESTS = 512, MAX_PLACES = 8192, MOMENT = 100, MOST_MOMENTS = 500 }; /* MOMENT: microseconds */
-typedef struct { Packet *p; uint64_t use; int calls; UCHAR major; } Request;
+typedef struct { Packet *p; uint64_t use; int calls; UCHAR major; } Sent;
 typedef struct { int request, call; UCHAR major; WDM_SITE at; const char *name; } CancelPlace;
 
-static Request requests[MAX_REQUESTS];
+static Sent requests[MAX_REQUESTS];
 static CancelPlace *places;
 static int n_requests, n_places, wanted_request, wanted_call;
 static bool counts;
@@ -48,10 +48,10 @@ void request_sent(Packet *p)
         return;
     const UCHAR major = raw_at(p, p->current - 1)->MajorFunction;
     if (!is_cancelled_never(major))
-        requests[n_requests++] = (Request){ .p = p, .use = p->use, .major = major };
+        requests[n_requests++] = (Sent){ .p = p, .use = p->use, .major = major };
 }
 
-static bool is_on_its_way(const Request *r) { return lives(r->p) && r->p->use == r->use && r->p->current <= r->p->size; }
+static bool is_on_its_way(const Sent *r) { return lives(r->p) && r->p->use == r->use && r->p->current <= r->p->size; }
 
 static void *run_cancel(void *context)
 {
@@ -78,7 +78,7 @@ static bool is_the_place(const char *name, WDM_SITE at)
     bool found = false;
     pthread_mutex_lock(&host_lock);
     for (int i = 0; i < n_requests; i++) {
-        Request *r = &requests[i];
+        Sent *r = &requests[i];
         if (!is_on_its_way(r))
             continue;
         r->calls++;

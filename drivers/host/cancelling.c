@@ -82,20 +82,30 @@ static bool may_be_cancelled(const void *packet)
     return !p->unwinding || (p->asking && is_this_thread(p->asking->thread));
 }
 
-static bool is_over(const Packet *p, uint64_t use) { return use && (!lives(p) || p->use != use); }
+/* A packet and its use: it may be over by now. */
+typedef struct { Packet *p; uint64_t use; } Request;
+static bool is_over(const Request *r) { return r && (!lives(r->p) || r->p->use != r->use); }
+
+/* The packet that stands in for it, in its memory. */
+static Packet *rider_of(Packet *p)
+{
+    while (p->rider)
+        p = p->rider;
+    return p;
+}
 
 /* Enters the host for a cancel, with the cancel spin lock: a packet on its way up is cancelled once it is up. The packet
-   is known by its pointer, or by its use: then it may be over. */
-static KIRQL begin_cancel(Call *c, Packet **p, PIRP irp, uint64_t use, WDM_SITE at)
+   is known by its pointer, or as a request. */
+static KIRQL begin_cancel(Call *c, Packet **p, PIRP irp, const Request *r, WDM_SITE at)
 {
     KIRQL irql;
     for (;;) {
         WdmIoAcquireCancelSpinLock(&irql, at);
         enter_quietly(c, "IoCancelIrp", at);
-        *p = use ? *p : find(irp);
+        *p = r ? rider_of(r->p) : find(irp);
         const Wait w = { .ready = may_be_cancelled, .context = *p, .on = &host_settled, .patience = DEADLOCK,
                          .what = "IoCancelIrp", .at = at };
-        if (is_over(*p, use) || may_be_cancelled(*p))
+        if (is_over(r) || may_be_cancelled(*p))
             return irql;
         release_cancel_lock(irql);
         if (wait_for(&w) == STUCK)
@@ -177,7 +187,7 @@ BOOLEAN WdmIoCancelIrp(PIRP Irp, WDM_SITE at)
 {
     Call c;
     Packet *p;
-    const KIRQL irql = begin_cancel(&c, &p, Irp, 0, at);
+    const KIRQL irql = begin_cancel(&c, &p, Irp, NULL, at);
     const BOOLEAN routine = cancel(p, irql);
     leave_host();
     return routine;
@@ -186,9 +196,10 @@ BOOLEAN WdmIoCancelIrp(PIRP Irp, WDM_SITE at)
 /* The same of a packet that may be over by now: then nothing is done. */
 BOOLEAN cancel_if_alive(Packet *p, uint64_t use, WDM_SITE at)
 {
+    const Request r = { p, use };
     Call c;
-    const KIRQL irql = begin_cancel(&c, &p, NULL, use, at);
-    const bool is_late = is_over(p, use);
+    const KIRQL irql = begin_cancel(&c, &p, NULL, &r, at);
+    const bool is_late = is_over(&r);
     if (is_late)
         release_cancel_lock(irql);
     const BOOLEAN routine = !is_late && cancel(p, irql);
@@ -200,7 +211,7 @@ BOOLEAN WdmCancelSent(PIRP Irp, WDM_SITE at)
 {
     Call c;
     Packet *p;
-    const KIRQL irql = begin_cancel(&c, &p, Irp, 0, at);
+    const KIRQL irql = begin_cancel(&c, &p, Irp, NULL, at);
     const bool is_there = lives(p);
     if (!is_there)
         release_cancel_lock(irql);

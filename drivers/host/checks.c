@@ -35,6 +35,12 @@ static const Check checks[] = {
     { "RemoveFailed", "rule PnpRemove", "Rules for Handling Plug and Play IRPs", "succeed, and pass it down" },
     { "PnpStatusChanged", "0xC9", "Rules for Handling Plug and Play IRPs", "leave the status of what isn't handled" },
     { "NotPassedDown", "0xC9", "Rules for Handling Plug and Play IRPs", "pass it down, whatever is done with it here" },
+    { "MutexKept", "0x4000008A", "Introduction to Mutex Objects", "release it on each way out" },
+    { "UsedInFreedMemory", "0xCC", "Special Pool", "free the memory, or delete the device, once nobody uses it" },
+    { "StartedEarly", "rule StartDevice", "Starting a Device in a Function Driver",
+      "pass IRP_MN_START_DEVICE down first, and wait until it is back" },
+    { "NextPowerIrp", "no stop code", "Calling PoStartNextPowerIrp",
+      "call it before the packet is passed on, completed, or its routine returns" },
     { "LockInFreedMemory", "0xC4/0x1006", "Deadlock Detection", "give it back before the memory goes" },
 };
 

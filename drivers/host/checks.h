@@ -41,8 +41,10 @@ typedef struct Block {
     size_t size, room; /* room: how many bytes lie behind it, as a fence */
     ULONG tag;
     int driver;
-    bool paged, freed, in_pages, is_buffer;
+    bool paged, freed, in_pages, is_buffer, unprobed;
     WDM_SITE allocated, released;
+    const Packet *packet; /* for which it was allocated, where a routine of one runs, and that packet's use */
+    uint64_t use;
 } Block;
 Block *new_block(size_t size, ULONG tag, bool zero, WDM_SITE at);
 void free_block(Block *b, WDM_SITE at);
@@ -52,8 +54,21 @@ void check_pool(void);
 void tell_pool_leaks(int driver, bool is_unloaded);
 bool get_pages(Block *b);
 void close_pages(Block *b);
+void close_until_probed(Block *b);
+void probed(const void *address);
 bool touched_block(void *address, void *instruction);
 void tell_block_touches(void);
+
+/* used.c, starting.c */
+void check_used(const void *object, const char *kind);
+Block *freed_block_of(const void *address); /* pool.c */
+void open_pages(Block *b);                  /* pages.c */
+Block *block_in_pages(const void *address);
+void check_started(void);
+void check_started_below(const Packet *p, const IO_STACK_LOCATION *next, int device);
+void check_next_power(const Packet *p, int by, bool has_routine);
+void check_power_routine(const Packet *p, int by);
+bool waited_in(const void *from, size_t size, WDM_SITE *at); /* waits.c */
 
 /* gone.c: timers, deferred calls and locks in memory that goes. */
 void check_gone(const void *from, size_t size, const char *what);

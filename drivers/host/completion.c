@@ -20,6 +20,8 @@ static void copy_out(const Packet *p)
 static void end(Packet *p, Entry *e)
 {
     PKEVENT event = p->event_is_gone ? NULL : p->irp->UserEvent;
+    if (p->bytes && p->bytes->unprobed)
+        open_pages(p->bytes);
     if (p->writes_back)
         copy_out(p);
     p->owner = ENDED;
@@ -83,6 +85,7 @@ static bool ask_routine(Packet *p, Entry *e, int j, Location l)
         return false;
     }
     Asked *a = &e->asked[f.i];
+    check_power_routine(p, device);
     p->asking = NULL;
     a->plan = CONTINUE;
     a->mark = mark_of(p, &f, l.pending, had);
@@ -222,6 +225,8 @@ VOID WdmIoCompleteRequest(PIRP Irp, WDM_SITE at)
     const bool good = rules_completable(status);
     if (live)
         check_completion(p, by, status, information);
+    if (live)
+        check_next_power(p, by, false);
     Frame *f = live && p->asking && p->asking->device == by ? p->asking : NULL, *mine = on_top(p);
     if (live && mine && mine->kind == DISPATCH && good) {
         mine->finished = true;

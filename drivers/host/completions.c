@@ -27,6 +27,13 @@ static void check_information(const Packet *p, const IO_STACK_LOCATION *l, ULONG
                (unsigned long)information, major_name(l->MajorFunction), (unsigned long)room);
 }
 
+/* What a driver says of a request that it doesn't handle. Of Plug and Play it leaves the status as it came. */
+static bool is_unhandled(ULONG status)
+{
+    return status == (ULONG)STATUS_NOT_SUPPORTED || status == (ULONG)STATUS_NOT_IMPLEMENTED ||
+        status == (ULONG)STATUS_INVALID_DEVICE_REQUEST;
+}
+
 /* Whether a device that stands on another one has to pass the request on, whatever it does itself. */
 static bool has_to_go_down(UCHAR minor)
 {
@@ -37,13 +44,18 @@ static bool has_to_go_down(UCHAR minor)
 static void check_pnp(const Packet *p, const IO_STACK_LOCATION *l, int by, ULONG status)
 {
     const Frame *f = on_top(p);
-    const bool good = NT_SUCCESS(status) || status == (ULONG)STATUS_NOT_SUPPORTED;
+    const ULONG came = p->at[p->current].came;
+    const bool good = NT_SUCCESS(status) || is_unhandled(status);
+    const bool is_first = f && f->kind == DISPATCH && !f->sent, is_last = devices[by].lower < 0;
     if (l->MinorFunction == IRP_MN_REMOVE_DEVICE && !NT_SUCCESS(status))
         broken("RemoveFailed", p, "IRP_MN_REMOVE_DEVICE is completed with %#x", status);
-    else if (is_unknown(l->MinorFunction) && status != p->status)
+    else if (is_unknown(l->MinorFunction) && status != came)
         broken("PnpStatusChanged", p, "a request that the driver can't know (minor %#x) came with %#x, and is completed "
-               "with %#x", l->MinorFunction, p->status, status);
-    else if (f && f->kind == DISPATCH && !f->sent && devices[by].lower >= 0 && good && has_to_go_down(l->MinorFunction))
+               "with %#x", l->MinorFunction, came, status);
+    else if (is_unhandled(status) && status != came && (is_first || is_last))
+        broken("PnpStatusChanged", p, "minor %#x isn't handled, came with %#x, and is completed with %#x", l->MinorFunction,
+               came, status);
+    else if (is_first && !is_last && good && (has_to_go_down(l->MinorFunction) || is_unhandled(status)))
         broken("NotPassedDown", p, "%s completes minor %#x, and the drivers below haven't seen it", who(by),
                l->MinorFunction);
 }
@@ -70,8 +82,12 @@ void check_sending(const Packet *p, int by)
     if (!f || f->major != IRP_MJ_PNP || on_top(p) != f)
         return;
     const UCHAR minor = raw_at((Packet *)p, p->current)->MinorFunction;
-    const ULONG status = (ULONG)p->irp->IoStatus.Status;
-    if (is_unknown(minor) && p->asking == f && status != p->status)
+    const ULONG status = (ULONG)p->irp->IoStatus.Status, came = p->at[p->current].came;
+    if (!is_unknown(minor) && p->asking == f && status != came && !NT_SUCCESS(status) &&
+        status != (ULONG)STATUS_NOT_SUPPORTED)
+        broken("PnpStatusChanged", p, "minor %#x came with %#x, and is passed down with the failure %#x", minor, came,
+               status);
+    if (is_unknown(minor) && p->asking == f && status != came)
         broken("PnpStatusChanged", p, "a request that the driver can't know (minor %#x) came with %#x, and is passed "
-               "down with %#x", minor, p->status, status);
+               "down with %#x", minor, came, status);
 }

@@ -133,6 +133,7 @@ static void delete_now(int d, const Frame *mine)
         refuse(e, no);
     else {
         tell_running(d, mine);
+        tell_work_queued(d);
         devices[d].live = false;
         take_off_list(devices[d].raw);
         let_go_of(devices[d].raw->DeviceExtension, devices[d].raw->HostExtensionSize, "the extension of a device",

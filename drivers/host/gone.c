@@ -10,5 +10,8 @@ void check_gone(const void *from, size_t size, const char *what)
     while ((dpc = take_dpc_in(from, size)))
         broken("DpcInFreedMemory", NULL, "the deferred call %s is queued since %s, in the %s",
                function_name((void *)dpc->Routine), place(dpc->HostQueued), what);
+    WDM_SITE at;
+    if (waited_in(from, size, &at))
+        broken("UsedInFreedMemory", NULL, "a thread waits since %s, for an object in the %s", place(at), what);
     forget_locks(from, size, what);
 }

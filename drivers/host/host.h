@@ -134,6 +134,7 @@ typedef struct {
     uint64_t word;
     Setting *set;
     bool pending, real;     /* the pending bit; whether the driver's own code has set it */
+    ULONG came;             /* the status with which the packet came here */
     bool came_back, told;   /* its dispatch has returned; a fault of its answer was told */
     NTSTATUS answer;        /* what it returned */
     Entry *by;              /* the entry whose plan set the routine, and the plan's place in it */
@@ -303,6 +304,7 @@ void work_done(void);
 bool workers_are_idle(void), plug_and_play_is_idle(void);
 void after_work_items(void);
 bool has_work(int device);
+void tell_work_queued(int device);
 bool is_bottom(PDEVICE_OBJECT device);
 bool timers_armed(void);
 

@@ -23,6 +23,7 @@ NTSTATUS WdmIoConnectInterrupt(PKINTERRUPT *Interrupt, PKSERVICE_ROUTINE Routine
     Call c;
     enter_host(&c, "IoConnectInterrupt", at);
     touch(&connected, WRITES);
+    check_started();
     struct _KINTERRUPT *i = host_memory(sizeof *i);
     if (i) {
         *i = (struct _KINTERRUPT){ Routine, Context, Vector, Irql > DISPATCH_LEVEL ? Irql : DISPATCH_LEVEL + 1,

@@ -34,6 +34,7 @@ KIRQL take_spin_lock(PKSPIN_LOCK lock, LockKind kind, const char *name, WDM_SITE
     Call c;
     enter_host(&c, name, at);
     const KIRQL old = self.irql;
+    check_used(lock, "spin lock");
     const bool has_it = lock_wanted(lock, kind);
     leave_host();
     if (!has_it) {
@@ -131,6 +132,7 @@ VOID WdmExAcquireFastMutex(PFAST_MUTEX Mutex, WDM_SITE at)
 {
     Call c;
     enter_host(&c, "ExAcquireFastMutex", at);
+    check_used(Mutex, "fast mutex");
     const bool has_it = lock_wanted(Mutex, FAST_LOCK);
     leave_host();
     if (has_it)

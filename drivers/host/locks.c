@@ -217,17 +217,19 @@ void tell_locks_kept(const Frame *f)
     Holds *mine = &of_seat[self.seat];
     for (int i = mine->n - 1; i >= 0; i--) {
         const Hold h = mine->held[i];
-        if (h.frame != f || h.kind == MUTEX_OBJECT)
+        if (h.frame != f)
             continue;
         const Call c = { .up = self.calls, .name = "still held where the routine returns", .at = h.at };
         self.calls = (Call *)&c;
-        broken("LockKept", NULL, "the %s was taken here, and %s returns with it", lock_kind(h.kind),
+        broken(h.kind == MUTEX_OBJECT ? "MutexKept" : "LockKept", NULL, "the %s was taken here, and %s returns with it", lock_kind(h.kind),
                f ? what_runs(f) : "a thread");
         self.calls = c.up;
         take_out(mine, &mine->held[i]);
         touch(h.lock, SYNCS);
         if (is_spin(&h))
             __atomic_store_n((PKSPIN_LOCK)h.lock, 0, __ATOMIC_SEQ_CST);
+        else if (h.kind == MUTEX_OBJECT)
+            release_object((DISPATCHER_HEADER *)h.lock);
         else
             release_object(&((PFAST_MUTEX)h.lock)->Mutex.Header);
         self.irql = h.before;

@@ -71,6 +71,7 @@ VOID WdmMmProbeAndLockPages(PMDL Mdl, LOCK_OPERATION Operation, WDM_SITE at)
     Call c;
     enter_host(&c, "MmProbeAndLockPages", at);
     touch_memory(Mdl, sizeof *Mdl, WRITES);
+    probed(MmGetMdlVirtualAddress(Mdl));
     if (Mdl->MdlFlags & (MDL_PAGES_LOCKED | MDL_SOURCE_IS_NONPAGED_POOL | MDL_PARTIAL))
         fault("MdlLocked", NULL, "the pages of an MDL are locked that was %s",
               Mdl->MdlFlags & MDL_PAGES_LOCKED ? "locked before" : "built for memory that needs no lock");
@@ -150,6 +151,11 @@ void give_mdl(Packet *p)
     const ULONG method = METHOD_FROM_CTL_CODE(next->Parameters.DeviceIoControl.IoControlCode);
     const bool is_control =
         next->MajorFunction == IRP_MJ_DEVICE_CONTROL || next->MajorFunction == IRP_MJ_INTERNAL_DEVICE_CONTROL;
+    if (next->MajorFunction == IRP_MJ_DEVICE_CONTROL && method == METHOD_NEITHER && p->bytes) {
+        if (!next->Parameters.DeviceIoControl.Type3InputBuffer)
+            next->Parameters.DeviceIoControl.Type3InputBuffer = p->bytes->bytes;
+        close_until_probed(p->bytes);
+    }
     if (!is_control || (method != METHOD_IN_DIRECT && method != METHOD_OUT_DIRECT))
         return;
     const ULONG length = next->Parameters.DeviceIoControl.OutputBufferLength;
@@ -174,7 +180,8 @@ void tell_locked_mdls(void)
 
 VOID ProbeForRead(const VOID *Address, SIZE_T Length, ULONG Alignment)
 {
-    (void)Address, (void)Length, (void)Alignment;
+    (void)Length, (void)Alignment;
+    probed(Address);
 }
 
 VOID ProbeForWrite(PVOID Address, SIZE_T Length, ULONG Alignment) { ProbeForRead(Address, Length, Alignment); }

@@ -9,7 +9,7 @@ enum { MAX_PAGES = 1 << 18, MAX_TOUCHES = 64, FENCED = 0xFD };
 static char *arena;
 static int next_page;
 static Block *block_at[MAX_PAGES];
-static struct { Block *block; void *by; long offset; } touches[MAX_TOUCHES];
+static struct { Block *block; void *by; long offset; bool unprobed; } touches[MAX_TOUCHES];
 static _Atomic int n_touches;
 static int n_told;
 
@@ -49,6 +49,38 @@ static char *first_page(const Block *b) { return (char *)((uintptr_t)b->bytes & 
 
 void close_pages(Block *b) { mprotect(first_page(b), (size_t)(b->bytes + b->size + b->room - first_page(b)), PROT_NONE); }
 
+/* So that what is told once isn't told again. */
+void open_pages(Block *b)
+{
+    if (b->in_pages)
+        mprotect(first_page(b), (size_t)(b->bytes + b->size + b->room - first_page(b)), PROT_READ | PROT_WRITE);
+    b->unprobed = false;
+}
+
+/* The buffer of a METHOD_NEITHER control, as a caller's address: nobody may touch it before it is probed. */
+void close_until_probed(Block *b)
+{
+    if (!b->in_pages)
+        return;
+    b->unprobed = true;
+    close_pages(b);
+}
+
+/* The block whose pages the address lies in, or NULL. */
+Block *block_in_pages(const void *address)
+{
+    const char *at = address;
+    return arena && at >= arena && at < arena + (size_t)next_page * PAGE ? block_at[(size_t)(at - arena) / PAGE] : NULL;
+}
+
+/* The address was probed, or its pages are locked. */
+void probed(const void *address)
+{
+    Block *b = block_in_pages(address);
+    if (b && b->unprobed)
+        open_pages(b);
+}
+
 /* In the handler of a bad access: whether it is one of these pages. The page is opened, so that the run goes on. */
 bool touched_block(void *address, void *instruction)
 {
@@ -61,7 +93,10 @@ bool touched_block(void *address, void *instruction)
         touches[i].block = block_at[page];
         touches[i].by = instruction;
         touches[i].offset = at - block_at[page]->bytes;
+        touches[i].unprobed = block_at[page]->unprobed;
     }
+    if (block_at[page]->unprobed)
+        open_pages(block_at[page]);
     return !mprotect(arena + page * PAGE, PAGE, PROT_READ | PROT_WRITE);
 }
 
@@ -80,7 +115,9 @@ void tell_block_touches(void)
         Frame *const frames = self.frames;
         self.calls = (Call *)&here;
         self.frames = NULL;
-        if (b->freed && offset < (long)b->size)
+        if (touches[n_told].unprobed)
+            note("a METHOD_NEITHER pointer", "%s: used before ProbeForRead, ProbeForWrite or MmProbeAndLockPages", where);
+        else if (b->freed && offset < (long)b->size)
             broken("UsedAfterFree", NULL, "byte %ld of the %s, which was freed at %s", offset, block_text(b),
                    place(b->released));
         else

@@ -7,7 +7,7 @@
  */
 #include "host.h"
 
-enum { FENCE = 16, FRESH = 0xCD, FENCED = 0xFD, FREED = 0xDD, MAX_KEPT = 4096, MAX_KEPT_BYTES = 1 << 25, BUCKETS = 4096 };
+enum { FENCE = 16, FRESH = 0xCD, FENCED = 0xFD, FREED = 0xDD, MAX_KEPT = 4096, MAX_KEPT_BYTES = 1 << 25, BUCKETS = 4096, MANY = 100 };
 #if defined(__SANITIZE_ADDRESS__) || defined(__SANITIZE_THREAD__)
 enum { IS_PLAIN = 1 };
 #else
@@ -16,7 +16,7 @@ enum { IS_PLAIN = 0 };
 
 static Block *buckets[BUCKETS], *oldest, *newest; /* all blocks; freed ones that are kept */
 static size_t n_kept, kept_bytes;
-static struct { WDM_SITE at; int live; bool told; } places[256];
+static struct { WDM_SITE at; int made, live; bool told; } places[256];
 static int n_places;
 
 static Block **bucket_of(const void *bytes) { return &buckets[((uintptr_t)bytes >> 4) % BUCKETS]; }
@@ -93,6 +93,18 @@ static bool get_memory(Block *b)
     char *area = IS_PLAIN ? malloc(b->size ? b->size : 1) : host_memory(b->size + 2 * FENCE);
     b->bytes = area && !IS_PLAIN ? area + FENCE : area;
     return area != NULL;
+}
+
+/* The freed block that the address lies in, or NULL. */
+Block *freed_block_of(const void *address)
+{
+    Block *b = block_in_pages(address);
+    if (b)
+        return b->freed ? b : NULL;
+    for (b = oldest; b; b = b->younger)
+        if ((const char *)address >= b->bytes && (const char *)address < b->bytes + b->size)
+            return b;
+    return NULL;
 }
 
 /* A block, or NULL. Under G. */
@@ -173,7 +185,19 @@ void free_block(Block *b, WDM_SITE at)
         let_oldest_go();
 }
 
-/* How many blocks of this place aren't freed. A hundred of them are a note. */
+static bool is_packet_over(const Block *b) { return b->packet && (b->packet->use != b->use || !lives(b->packet)); }
+
+/* How many blocks of this place aren't freed, and the packets are over for which they were allocated. */
+static int count_orphans(WDM_SITE at)
+{
+    int n = 0;
+    for (int i = 0; i < BUCKETS; i++)
+        for (const Block *b = buckets[i]; b; b = b->next)
+            n += !b->freed && b->allocated.file == at.file && b->allocated.line == at.line && is_packet_over(b);
+    return n;
+}
+
+/* How many blocks of this place aren't freed. A hundred of them whose packets are over are a note. */
 static void count_place(WDM_SITE at, int change)
 {
     int i = 0;
@@ -184,11 +208,14 @@ static void count_place(WDM_SITE at, int change)
     if (i == n_places)
         return;
     places[i].live += change;
-    if (places[i].live == 100 && !places[i].told) {
-        places[i].told = true;
-        note("pool", "100 blocks that were allocated at %s aren't freed: is each of them freed at its packet's end?",
-             place(at));
-    }
+    places[i].made += change > 0;
+    if (change < 0 || places[i].told || places[i].live <= MANY || places[i].live % 10)
+        return;
+    const int orphans = count_orphans(at);
+    places[i].told = orphans >= MANY;
+    if (places[i].told)
+        note("pool", "of %d blocks that were allocated at %s, %d aren't freed, and their packets have ended", places[i].made,
+             place(at), orphans);
 }
 
 PVOID WdmAllocatePool(ULONG Kind, SIZE_T Bytes, ULONG Tag, WDM_SITE at)
@@ -200,6 +227,8 @@ PVOID WdmAllocatePool(ULONG Kind, SIZE_T Bytes, ULONG Tag, WDM_SITE at)
     Block *b = memory_is_refused(c.name, at) ? NULL : new_block(Bytes, Tag, Kind & WDM_POOL_ZERO, at);
     if (b) {
         b->paged = Kind & WDM_POOL_PAGED;
+        b->packet = self.frames ? self.frames->p : NULL;
+        b->use = b->packet ? b->packet->use : 0;
         count_place(at, 1);
     }
     leave_host();

@@ -47,6 +47,7 @@ static int lock_of(PIO_REMOVE_LOCK lock)
 {
     if (lock->HostBound != TRUE)
         give_up("a remove lock is used before IoInitializeRemoveLock");
+    check_used(lock, "remove lock");
     touch(&locks[lock->HostNumber], strcmp(self.calls->name, "IoReleaseRemoveLockAndWait") ? MEETS : SYNCS);
     return lock->HostNumber;
 }

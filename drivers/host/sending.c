@@ -65,6 +65,7 @@ NTSTATUS enter_device(Packet *p, int d, Entry *e)
     p->kept_by = NULL;
     put_back(p);
     l->device = d;
+    l->came = (ULONG)p->irp->IoStatus.Status;
     raw_at(p, p->current)->DeviceObject = devices[d].raw;
     prepare_nothing(p);
     PDRIVER_DISPATCH fn = devices[d].raw->DriverObject->MajorFunction[l->major];
@@ -191,6 +192,10 @@ NTSTATUS WdmIoCallDriver(PDEVICE_OBJECT Target, PIRP Irp, WDM_SITE at)
     const uint64_t use = p->use;
     if (lives(p))
         check_sending(p, by);
+    if (lives(p) && (p->skipped || p->current > 1))
+        check_started_below(p, raw_at(p, p->skipped ? p->current : p->current - 1), d);
+    if (lives(p))
+        check_next_power(p, by, !p->skipped && p->want);
     if (lives(p) && p->owner != ENDED && (f || p->owner == by))
         p->sites.sent = at;
     if (f && devices[by].lower == d && !f->cancel && (p->skipped ? !f->marked : is_same_below(p))) {

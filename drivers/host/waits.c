@@ -105,6 +105,7 @@ LONG WdmKeReleaseMutex(PKMUTEX m, WDM_SITE at)
 {
     Call c;
     enter_host(&c, "KeReleaseMutex", at);
+    check_used(m, "mutex");
     hands_over();
     lock_given_back(m, MUTEX_OBJECT);
     leave_host();
@@ -115,6 +116,7 @@ LONG WdmKeSetEvent(PKEVENT e, WDM_SITE at)
 {
     Call c;
     enter_host(&c, "KeSetEvent", at);
+    check_used(e, "event");
     hands_over();
     leave_host();
     return change(&e->Header, 1, false);
@@ -185,6 +187,37 @@ static bool may_idle(const Objects *o)
     return self.is_driver && !has_packet() && !o->until;
 }
 
+/* What the threads wait for, under W. */
+static struct { const Objects *objects; WDM_SITE at; } waiting[MAX_SEATS];
+
+/* Whether a thread waits for something in this memory that isn't there; and since where. */
+bool waited_in(const void *from, size_t size, WDM_SITE *at)
+{
+    bool found = false;
+    pthread_mutex_lock(&wait_lock);
+    for (int seat = 0; seat < MAX_SEATS; seat++) {
+        const Objects *o = waiting[seat].objects;
+        bool lies_there = false;
+        for (ULONG i = 0; o && i < o->n; i++)
+            lies_there |= (const char *)o->objects[i] >= (const char *)from &&
+                (const char *)o->objects[i] < (const char *)from + size;
+        if (lies_there && first_ready(o) < 0) {
+            *at = waiting[seat].at;
+            found = true;
+        }
+    }
+    pthread_mutex_unlock(&wait_lock);
+    return found;
+}
+
+static void note_waiting(const Objects *o, WDM_SITE at)
+{
+    if (self.seat < 0)
+        return;
+    waiting[self.seat].objects = o;
+    waiting[self.seat].at = at;
+}
+
 /* Returns which object ended the wait, or -1 where its time is up. */
 static int await_objects(const Objects *o, WDM_SITE at)
 {
@@ -192,11 +225,13 @@ static int await_objects(const Objects *o, WDM_SITE at)
                      .object = o->n ? o->objects[0] : NULL, .patience = may_idle(o) ? IDLES : HANGS, .at = at,
                      .what = o->n ? "KeWaitForSingleObject" : "KeDelayExecutionThread" };
     pthread_mutex_lock(&wait_lock);
+    note_waiting(o, at);
     while (wait_for(&w) == STUCK) {
         pthread_mutex_unlock(&wait_lock);
         hang(at);
         pthread_mutex_lock(&wait_lock);
     }
+    note_waiting(NULL, at);
     const int ready = take_ready(o);
     pthread_mutex_unlock(&wait_lock);
     return ready;

@@ -208,6 +208,7 @@ BOOLEAN WdmKeSetTimer(PKTIMER Timer, LARGE_INTEGER DueTime, LONG Period, PKDPC D
 {
     Call c;
     enter_host(&c, "KeSetTimer", at);
+    check_used(Timer, "timer");
     hands_over();
     const BOOLEAN was = Timer->Armed;
     if (was)
@@ -268,6 +269,7 @@ BOOLEAN WdmKeInsertQueueDpc(PKDPC Dpc, PVOID Argument1, PVOID Argument2, WDM_SIT
 {
     Call c;
     enter_host(&c, "KeInsertQueueDpc", at);
+    check_used(Dpc, "deferred call");
     hands_over();
     touch(&timers, SYNCS);
     const BOOLEAN queued = !Dpc->Queued;

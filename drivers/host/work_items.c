@@ -100,15 +100,37 @@ PIO_WORKITEM WdmIoAllocateWorkItem(PDEVICE_OBJECT Device, WDM_SITE at)
     return item;
 }
 
+static bool is_item(const struct _IO_WORKITEM *item)
+{
+    PIO_WORKITEM i = items;
+    while (i && i != item)
+        i = i->next_made;
+    return i != NULL;
+}
+
+/* A device is deleted. Windows keeps it until its queued work items have run, so that is a note. */
+void tell_work_queued(int device)
+{
+    for (PIO_WORKITEM i = first_item; i; i = i->next)
+        if (i->device->HostNumber == device)
+            note("a work item", "%s is deleted while its work item %s is in the queue, which was allocated at %s", who(device),
+                 function_name((void *)i->routine), place(i->made));
+}
+
 VOID WdmIoQueueWorkItem(PIO_WORKITEM Item, PIO_WORKITEM_ROUTINE Routine, PVOID Context, WDM_SITE at)
 {
     Call c;
     enter_host(&c, "IoQueueWorkItem", at);
     hands_over();
     touch(Item, SYNCS);
-    if (Item->queued)
+    const bool is_there = is_item(Item);
+    if (!is_there)
+        broken("UsedInFreedMemory", NULL, "this is no work item any more");
+    else if (Item->device && !devices[Item->device->HostNumber].live)
+        broken("UsedInFreedMemory", NULL, "the work item is of %s, which is deleted", who(Item->device->HostNumber));
+    if (is_there && Item->queued)
         fault("QueuedTwice", NULL, "the work item is in the queue already");
-    else {
+    else if (is_there) {
         Item->routine = Routine;
         Item->context = Context;
         Item->queued = true;

@@ -134,7 +134,12 @@ VOID WdmIoSetNextIrpStackLocation(PIRP Irp, WDM_SITE at);
 #define IoCompleteRequest(irp, boost) ((void)(boost), WdmIoCompleteRequest((irp), WDM_HERE))
 #define IofCompleteRequest IoCompleteRequest
 #define IoForwardIrpSynchronously(target, irp) WdmIoForwardIrpSynchronously((target), (irp), WDM_HERE)
-#define PoStartNextPowerIrp(irp) ((void)(irp))
+VOID WdmPoStartNext(PIRP Irp, WDM_SITE at);
+#define PoStartNextPowerIrp(irp) WdmPoStartNext((irp), WDM_HERE)
+VOID WdmIsOld(const char *File); /* of a driver for a Windows before Vista, which has to call it */
+#if defined(NTDDI_VERSION) && NTDDI_VERSION < 0x06000000
+__attribute__((constructor)) static void wdm_is_old(void) { WdmIsOld(__BASE_FILE__); }
+#endif
 #define IoSizeOfIrp(n) ((USHORT)(sizeof(IRP) + (n) * sizeof(IO_STACK_LOCATION)))
 typedef VOID REQUEST_POWER_COMPLETE(PDEVICE_OBJECT DeviceObject, UCHAR Minor, POWER_STATE State, PVOID Context,
                                     PIO_STATUS_BLOCK Iosb);

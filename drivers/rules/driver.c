@@ -2,7 +2,9 @@
    case is to be wrong. */
 #include "rules.h"
 
-static const CASE_ROW *const tables[] = { LockCases, LevelCases, PoolCases, PacketCases };
+static const CASE_ROW *const tables[] = { LockCases, LevelCases, PoolCases, PacketCases, ObjectCases, PowerCases };
+
+VOID UsesAfterwards(PEXTENSION Ext);
 
 /* Returns the name of the n-th case, or NULL. */
 const char *RulesName(ULONG n);
@@ -16,7 +18,11 @@ static const CASE_ROW *Find(ULONG n)
 }
 
 /* For what a test sends beside its controls. */
-VOID RulesSetPnp(PEXTENSION Ext, ULONG n) { Ext->Pnp = Find(n)->Pnp; }
+VOID RulesSetPnp(PEXTENSION Ext, ULONG n)
+{
+    Ext->Pnp = Find(n)->Pnp;
+    Ext->Power = Find(n)->Power;
+}
 
 const char *RulesName(ULONG n)
 {
@@ -60,16 +66,25 @@ static NTSTATUS Control(PDEVICE_OBJECT DeviceObject, PIRP Irp)
 
 static NTSTATUS Pass(PDEVICE_OBJECT DeviceObject, PIRP Irp) { return PassDown(DeviceObject->DeviceExtension, Irp); }
 
+static NTSTATUS Power(PDEVICE_OBJECT DeviceObject, PIRP Irp)
+{
+    PEXTENSION ext = DeviceObject->DeviceExtension;
+    return ext->Power ? ext->Power(ext, Irp, ext->Wrong) : PassDown(ext, Irp);
+}
+
 static NTSTATUS Pnp(PDEVICE_OBJECT DeviceObject, PIRP Irp)
 {
     PEXTENSION ext = DeviceObject->DeviceExtension;
     const UCHAR minor = IoGetCurrentIrpStackLocation(Irp)->MinorFunction;
     if (ext->Pnp && (minor != IRP_MN_REMOVE_DEVICE || (ext->Wrong && !ext->Step)))
         return ext->Pnp(ext, Irp, ext->Wrong);
+    if (minor == IRP_MN_REMOVE_DEVICE && NT_SUCCESS(IoAcquireRemoveLock(&ext->RemoveLock, Irp)))
+        IoReleaseRemoveLockAndWait(&ext->RemoveLock, Irp);
     NTSTATUS status = PassDown(ext, Irp);
     if (minor == IRP_MN_REMOVE_DEVICE) {
         IoDetachDevice(ext->Lower);
         IoDeleteDevice(DeviceObject); /* told: TimerInFreedMemory_Device */
+        UsesAfterwards(ext);
     }
     return status;
 }
@@ -90,6 +105,8 @@ static NTSTATUS AddDevice(PDRIVER_OBJECT DriverObject, PDEVICE_OBJECT Pdo)
     ExInitializeFastMutex(&ext->Mutex);
     KeInitializeEvent(&ext->Event, NotificationEvent, FALSE);
     KeInitializeTimer(&ext->Timer);
+    KeInitializeMutex(&ext->Plain, 0);
+    IoInitializeRemoveLock(&ext->RemoveLock, 'kcoL', 0, 0);
     ext->Lower = IoAttachDeviceToDeviceStack(device, Pdo);
     device->Flags &= ~(ULONG)DO_DEVICE_INITIALIZING;
     return STATUS_SUCCESS;
@@ -102,6 +119,7 @@ NTSTATUS DriverEntry(PDRIVER_OBJECT DriverObject, PUNICODE_STRING RegistryPath)
         DriverObject->MajorFunction[i] = Pass;
     DriverObject->MajorFunction[IRP_MJ_DEVICE_CONTROL] = Control;
     DriverObject->MajorFunction[IRP_MJ_PNP] = Pnp;
+    DriverObject->MajorFunction[IRP_MJ_POWER] = Power;
     DriverObject->DriverExtension->AddDevice = AddDevice;
     DriverObject->DriverUnload = Unload;
     return STATUS_SUCCESS;

@@ -139,8 +139,8 @@ static NTSTATUS AsksAtDispatch(PEXTENSION Ext, PIRP Irp, BOOLEAN Wrong)
 }
 
 const CASE_ROW LevelCases[] = {
-    { "IrqlTooHigh", WaitsInDeferredCall, NULL }, { "UnderSpinLock_Delay", DelaysUnderLock, NULL },
-    { "IrqlTooHigh_FastMutex", MutexAtDispatch, NULL }, { "IrqlTooHigh_PagedCode", PagedUnderLock, NULL },
-    { "IrqlTooHigh_Routine", RoutineWaits, NULL }, { "IrqlTooLow", AtDpcLevel, NULL }, { "IrqlReturn", StaysRaised, NULL },
-    { "RaiseLower", RaisesDown, NULL }, { "ForwardedAtBadIrql", AsksAtDispatch, NULL }, { NULL, NULL, NULL },
+    { "IrqlTooHigh", WaitsInDeferredCall, NULL, NULL }, { "UnderSpinLock_Delay", DelaysUnderLock, NULL, NULL },
+    { "IrqlTooHigh_FastMutex", MutexAtDispatch, NULL, NULL }, { "IrqlTooHigh_PagedCode", PagedUnderLock, NULL, NULL },
+    { "IrqlTooHigh_Routine", RoutineWaits, NULL, NULL }, { "IrqlTooLow", AtDpcLevel, NULL, NULL }, { "IrqlReturn", StaysRaised, NULL, NULL },
+    { "RaiseLower", RaisesDown, NULL, NULL }, { "ForwardedAtBadIrql", AsksAtDispatch, NULL, NULL }, { NULL, NULL, NULL, NULL },
 };

@@ -184,10 +184,10 @@ static NTSTATUS HandsOver(PEXTENSION Ext, PIRP Irp, BOOLEAN Wrong)
 }
 
 const CASE_ROW LockCases[] = {
-    { "SelfDeadlock", TakenTwice, NULL }, { "SelfDeadlock_FastMutex", MutexTwice, NULL },
-    { "LockOrder", TwoOrders, NULL }, { "LockOrder_CancelLock", TwoOrdersOfCancelLock, NULL },
-    { "WrongThread", OtherThread, NULL }, { "LockKept", Kept, NULL }, { "LockKept_Thread", KeptByThread, NULL },
-    { "NotAcquired", NeverTaken, NULL }, { "InitializedHeld", InitializedAgain, NULL },
-    { "UnderSpinLock", CompletesUnderLock, NULL }, { "UnderSpinLock_CancelLock", CompletesUnderCancelLock, NULL },
-    { "UnderSpinLock_Send", SendsUnderLock, NULL }, { "WrongIrql", HandsOver, NULL }, { NULL, NULL, NULL },
+    { "SelfDeadlock", TakenTwice, NULL, NULL }, { "SelfDeadlock_FastMutex", MutexTwice, NULL, NULL },
+    { "LockOrder", TwoOrders, NULL, NULL }, { "LockOrder_CancelLock", TwoOrdersOfCancelLock, NULL, NULL },
+    { "WrongThread", OtherThread, NULL, NULL }, { "LockKept", Kept, NULL, NULL }, { "LockKept_Thread", KeptByThread, NULL, NULL },
+    { "NotAcquired", NeverTaken, NULL, NULL }, { "InitializedHeld", InitializedAgain, NULL, NULL },
+    { "UnderSpinLock", CompletesUnderLock, NULL, NULL }, { "UnderSpinLock_CancelLock", CompletesUnderCancelLock, NULL, NULL },
+    { "UnderSpinLock_Send", SendsUnderLock, NULL, NULL }, { "WrongIrql", HandsOver, NULL, NULL }, { NULL, NULL, NULL, NULL },
 };

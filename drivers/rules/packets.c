@@ -86,8 +86,8 @@ static NTSTATUS AsksForRemoval(PEXTENSION Ext, PIRP Irp, BOOLEAN Wrong)
 }
 
 const CASE_ROW PacketCases[] = {
-    { "TouchedAfterSend", TouchesLate, NULL }, { "InformationTooLong", SaysTooMuch, NULL },
-    { "NotPassedDown", NULL, StartsAlone }, { "PnpStatusChanged", NULL, ChangesUnknown },
-    { "PnpStatusChanged_Completed", NULL, FailsUnknown }, { "RemoveFailed", AsksForRemoval, FailsRemoval },
-    { NULL, NULL, NULL },
+    { "TouchedAfterSend", TouchesLate, NULL, NULL }, { "InformationTooLong", SaysTooMuch, NULL, NULL },
+    { "NotPassedDown", NULL, StartsAlone, NULL }, { "PnpStatusChanged", NULL, ChangesUnknown, NULL },
+    { "PnpStatusChanged_Completed", NULL, FailsUnknown, NULL }, { "RemoveFailed", AsksForRemoval, FailsRemoval, NULL },
+    { NULL, NULL, NULL, NULL },
 };

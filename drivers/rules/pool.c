@@ -151,10 +151,10 @@ static NTSTATUS FreesLock(PEXTENSION Ext, PIRP Irp, BOOLEAN Wrong)
 }
 
 const CASE_ROW PoolCases[] = {
-    { "PoolLeak", Leaks, NULL }, { "FreedTwice", FreesTwice, NULL }, { "WrongTag", OtherTag, NULL }, { "NotPool", FreesMiddle, NULL },
-    { "WrittenAfterFree", WritesLate, NULL }, { "UsedAfterFree_PageEnds", WritesLate, NULL }, { "PoolOverrun", WritesBeyond, NULL },
-    { "PoolOverrun_PageEnds", WritesBeyondBuffer, NULL }, { "ZeroBytes", AsksForNothing, NULL },
-    { "IrqlTooHigh_PagedPool", PagedUnderLock, NULL }, { "TimerInFreedMemory", FreesTimer, NULL },
-    { "TimerInFreedMemory_Device", LeavesTimer, NULL }, { "DpcInFreedMemory", FreesDeferredCall, NULL },
-    { "LockInFreedMemory", FreesLock, NULL }, { NULL, NULL, NULL },
+    { "PoolLeak", Leaks, NULL, NULL }, { "FreedTwice", FreesTwice, NULL, NULL }, { "WrongTag", OtherTag, NULL, NULL }, { "NotPool", FreesMiddle, NULL, NULL },
+    { "WrittenAfterFree", WritesLate, NULL, NULL }, { "UsedAfterFree_PageEnds", WritesLate, NULL, NULL }, { "PoolOverrun", WritesBeyond, NULL, NULL },
+    { "PoolOverrun_PageEnds", WritesBeyondBuffer, NULL, NULL }, { "ZeroBytes", AsksForNothing, NULL, NULL },
+    { "IrqlTooHigh_PagedPool", PagedUnderLock, NULL, NULL }, { "TimerInFreedMemory", FreesTimer, NULL, NULL },
+    { "TimerInFreedMemory_Device", LeavesTimer, NULL, NULL }, { "DpcInFreedMemory", FreesDeferredCall, NULL, NULL },
+    { "LockInFreedMemory", FreesLock, NULL, NULL }, { NULL, NULL, NULL, NULL },
 };

@@ -15,12 +15,16 @@ typedef struct EXTENSION {
     BOOLEAN Wrong;
     LONG Step;
     NTSTATUS (*Pnp)(struct EXTENSION *Ext, PIRP Irp, BOOLEAN Wrong);
+    NTSTATUS (*Power)(struct EXTENSION *Ext, PIRP Irp, BOOLEAN Wrong);
+    KMUTEX Plain;
+    IO_REMOVE_LOCK RemoveLock;
+    PKINTERRUPT Interrupt;
 } EXTENSION, *PEXTENSION;
 
-/* A case is the dispatch of DEVICE_CONTROL, or of PNP, for its packet. */
+/* A case is the dispatch of DEVICE_CONTROL, of PNP or of POWER, for its packet. */
 typedef NTSTATUS CASE(PEXTENSION Ext, PIRP Irp, BOOLEAN Wrong);
-typedef struct { const char *Name; CASE *Run, *Pnp; } CASE_ROW;
-extern const CASE_ROW LockCases[], LevelCases[], PoolCases[], PacketCases[];
+typedef struct { const char *Name; CASE *Run, *Pnp, *Power; } CASE_ROW;
+extern const CASE_ROW LockCases[], LevelCases[], PoolCases[], PacketCases[], ObjectCases[], PowerCases[];
 
 NTSTATUS Done(PIRP Irp);
 NTSTATUS PassDown(PEXTENSION Ext, PIRP Irp);

@@ -17,8 +17,10 @@ static void run_case(ULONG n, BOOLEAN wrong)
     RulesSetPnp(top->DeviceExtension, n);
     WdmSend(top, IRP_MJ_PNP, IRP_MN_START_DEVICE, 0);
     WdmSend(top, IRP_MJ_PNP, 0x7f, 0); /* a request that no driver knows */
+    WdmSend(top, IRP_MJ_PNP, IRP_MN_QUERY_INTERFACE, 0);
     WdmControl(top, n << 2, 16);
     WdmControl(top, n << 2, 16);
+    WdmSend(top, IRP_MJ_POWER, IRP_MN_SET_POWER, 0);
     WdmSend(top, IRP_MJ_PNP, IRP_MN_REMOVE_DEVICE, 0);
     IoDeleteDevice(bottom);
     WdmUnloadDriver(driver);

@@ -1,0 +1,34 @@
+/* used.c: objects of the kernel that are used in memory which has gone: a freed pool block, a deleted device's extension. */
+#include "host.h"
+
+static int gone_device(const void *object)
+{
+    for (int i = 0; i < n_devices; i++) {
+        const char *from = devices[i].extension;
+        if (!devices[i].live && (const char *)object >= from && (const char *)object < from + devices[i].extension_size)
+            return i;
+    }
+    return NOBODY;
+}
+
+/* Whether a work item of the device runs on this thread: while it does, the device's memory stays. */
+static bool runs_item_of(int device)
+{
+    for (const Frame *f = self.frames; f; f = f->up)
+        if (f->kind == WORK && f->device == device)
+            return true;
+    return false;
+}
+
+/* Under G: a call uses this object. */
+void check_used(const void *object, const char *kind)
+{
+    Block *b = freed_block_of(object);
+    const int d = b ? NOBODY : gone_device(object);
+    if (b) {
+        broken("UsedInFreedMemory", NULL, "the %s lies in the %s, which was freed at %s", kind, block_text(b),
+               place(b->released));
+        open_pages(b);
+    } else if (d >= 0 && !runs_item_of(d))
+        broken("UsedInFreedMemory", NULL, "the %s lies in the extension of %s, which is deleted", kind, who(d));
+}

@@ -1,0 +1,64 @@
+/* power.c: power packets of a driver for Windows XP, which has to ask for the next one; and answers to requests of Plug and
+   Play that a driver doesn't handle. */
+#define NTDDI_VERSION 0x05010000
+#include "rules.h"
+
+static NTSTATUS PassesPower(PEXTENSION Ext, PIRP Irp, BOOLEAN Wrong)
+{
+    if (!Wrong)
+        PoStartNextPowerIrp(Irp);
+    IoSkipCurrentIrpStackLocation(Irp);
+    return PoCallDriver(Ext->Lower, Irp); /* told: NextPowerIrp */
+}
+
+static NTSTATUS Powered(PDEVICE_OBJECT DeviceObject, PIRP Irp, PVOID Context)
+{
+    PEXTENSION ext = Context;
+    UNREFERENCED_PARAMETER(DeviceObject);
+    if (!ext->Wrong)
+        PoStartNextPowerIrp(Irp);
+    if (Irp->PendingReturned)
+        IoMarkIrpPending(Irp);
+    return STATUS_CONTINUE_COMPLETION;
+}
+
+static NTSTATUS PassesPowerWithRoutine(PEXTENSION Ext, PIRP Irp, BOOLEAN Wrong)
+{
+    UNREFERENCED_PARAMETER(Wrong);
+    IoCopyCurrentIrpStackLocationToNext(Irp);
+    IoSetCompletionRoutine(Irp, Powered, Ext, TRUE, TRUE, TRUE);
+    return PoCallDriver(Ext->Lower, Irp); /* told: NextPowerIrp_Routine */
+}
+
+static NTSTATUS Refuses(PEXTENSION Ext, PIRP Irp, UCHAR Minor, NTSTATUS Status)
+{
+    if (IoGetCurrentIrpStackLocation(Irp)->MinorFunction != Minor)
+        return PassDown(Ext, Irp);
+    Irp->IoStatus.Status = Status;
+    IoCompleteRequest(Irp, IO_NO_INCREMENT); /* told: PnpStatusChanged_Unhandled */ /* told: NotPassedDown_Unhandled */
+    return Status;
+}
+
+static NTSTATUS SaysInvalid(PEXTENSION Ext, PIRP Irp, BOOLEAN Wrong)
+{
+    return Wrong ? Refuses(Ext, Irp, IRP_MN_QUERY_INTERFACE, STATUS_INVALID_DEVICE_REQUEST) : PassDown(Ext, Irp);
+}
+
+static NTSTATUS KeepsQuestion(PEXTENSION Ext, PIRP Irp, BOOLEAN Wrong)
+{
+    return Wrong ? Refuses(Ext, Irp, IRP_MN_QUERY_INTERFACE, STATUS_NOT_SUPPORTED) : PassDown(Ext, Irp);
+}
+
+static NTSTATUS PassesFailure(PEXTENSION Ext, PIRP Irp, BOOLEAN Wrong)
+{
+    if (Wrong && IoGetCurrentIrpStackLocation(Irp)->MinorFunction == IRP_MN_QUERY_INTERFACE)
+        Irp->IoStatus.Status = STATUS_UNSUCCESSFUL;
+    IoSkipCurrentIrpStackLocation(Irp);
+    return IoCallDriver(Ext->Lower, Irp); /* told: PnpStatusChanged_Passed */
+}
+
+const CASE_ROW PowerCases[] = {
+    { "NextPowerIrp", NULL, NULL, PassesPower }, { "NextPowerIrp_Routine", NULL, NULL, PassesPowerWithRoutine },
+    { "PnpStatusChanged_Unhandled", NULL, SaysInvalid, NULL }, { "NotPassedDown_Unhandled", NULL, KeepsQuestion, NULL },
+    { "PnpStatusChanged_Passed", NULL, PassesFailure, NULL }, { NULL, NULL, NULL, NULL },
+};
