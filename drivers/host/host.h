@@ -304,6 +304,7 @@ void work_done(void);
 bool workers_are_idle(void), plug_and_play_is_idle(void);
 void after_work_items(void);
 bool has_work(int device);
+void after_work_items(void);
 void tell_work_queued(int device);
 bool is_bottom(PDEVICE_OBJECT device);
 bool timers_armed(void);

@@ -195,7 +195,7 @@ static NTSTATUS StartDevice(PDEVICE_EXTENSION Extension, PIRP Irp)
         KeWaitForSingleObject(&event, Executive, KernelMode, FALSE, NULL);
         status = Irp->IoStatus.Status;
     }
-    if (NT_SUCCESS(status)) {
+    if (NT_SUCCESS(status) && Extension->Kept == NULL) {
         Extension->Kept = ExAllocatePoolWithTag(NonPagedPool, 256, MAILBOX_TAG);
         if (Extension->Kept == NULL)
             status = STATUS_INSUFFICIENT_RESOURCES;
