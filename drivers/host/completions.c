@@ -63,7 +63,7 @@ static void check_pnp(const Packet *p, const IO_STACK_LOCATION *l, int by, ULONG
 /* A device that has the packet completes it. */
 void check_completion(const Packet *p, int by, ULONG status, uint64_t information)
 {
-    if (by < 0 || p->skipped || p->current > p->size || p->at[p->current].device != by)
+    if (by < 0 || p->skipped || p->current > p->size || p->at[p->current].device != by || is_between(devices[by].raw))
         return;
     const IO_STACK_LOCATION *l = raw_at((Packet *)p, p->current);
     check_information(p, l, status, information);

@@ -45,12 +45,15 @@ static VOID StartIo(PDEVICE_OBJECT DeviceObject, PIRP Irp)
     WISH wish = { ext, IoGetCurrentIrpStackLocation(Irp)->Parameters.Read.Length };
     KIRQL irql;
     IoAcquireCancelSpinLock(&irql);
-    if (Irp->Cancel) { /* its cancel routine has it */
-        IoReleaseCancelSpinLock(irql);
+    const BOOLEAN is_mine = IoSetCancelRoutine(Irp, NULL) != NULL, is_cancelled = Irp->Cancel;
+    IoReleaseCancelSpinLock(irql);
+    if (!is_mine) /* its cancel routine has it */
+        return;
+    if (is_cancelled) { /* before it was started, so that its cancel routine never runs */
+        IoStartNextPacket(DeviceObject, TRUE);
+        Complete(Irp, STATUS_CANCELLED, 0);
         return;
     }
-    IoSetCancelRoutine(Irp, NULL);
-    IoReleaseCancelSpinLock(irql);
     KeSynchronizeExecution(ext->Interrupt, SetLeft, &wish);
 }
 
