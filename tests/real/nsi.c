@@ -34,10 +34,12 @@ NTSTATUS WdmUnixCall(unsigned code, void *parameters)
 
 static PIRP victim;
 
+/* Cancels once the cancel routine is set: a cancel before that is a case of its own. */
 static VOID cancel_victim(PVOID context)
 {
     UNREFERENCED_PARAMETER(context);
-    IoCancelIrp(victim);
+    if (victim->CancelRoutine)
+        IoCancelIrp(victim);
     PsTerminateSystemThread(STATUS_SUCCESS);
 }
 
