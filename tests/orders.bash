@@ -114,7 +114,7 @@ live(a) and|12|not, a parenthesis, or reply, owner, status, information, current
 END
 deep=$(printf 'not %.0s' $(seq 33))
 run --never "${deep}live(a)" "$examples"/a_cancel_against_a_completion.script
-meets 'thirty-three nots' grep -q 'at most 32 parentheses and nots within each other' "$room/errors"
+ended 'thirty-three nots' 4 'irp_orders: condition refused: column 129: expected at most 32 parentheses and nots within each other'
 run --never "${deep#not }live(a)" "$examples"/a_cancel_against_a_completion.script
 ended 'thirty-two nots' 2 '' 'it holds in 3 of 3 orders, 3 of 3 outcomes; one of them:'
 

@@ -1,3 +1,4 @@
+pub mod Faults
 pub mod Formulas
 pub mod Grammar
 pub mod Holding

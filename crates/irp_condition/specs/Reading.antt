@@ -1,5 +1,5 @@
 -- What stands at the front of a condition's tokens, with the tokens behind it: facts, values and comparisons.
-use Rattle.std.specs.Prelude.{ℕ, ◌≡◌, ◌&&◌, Bool, true, false, not, if◌then◌else◌, List, [], ◌∷◌, Option, Some, None, Result, Ok, Err, codes, string_bytes, String}
+use Rattle.std.specs.Prelude.{ℕ, ◌&&◌, Bool, true, false, not, if◌then◌else◌, List, [], ◌∷◌, Option, Some, None, codes, string_bytes, String}
 use Rattle.std.specs.Borrow.{Bor}
 use Rattle.std.specs.List.{position}
 use Rattle.std.specs.Option.{unwrap_or}
@@ -8,33 +8,23 @@ use Rattle.irp_condition.specs.declared.condition.Comparison.{Comparison}
 use Rattle.irp_condition.specs.declared.condition.Fact.{Fact}
 use Rattle.irp_condition.specs.declared.condition.Fact.TheVariants as fact
 use Rattle.irp_condition.specs.declared.condition.Term.TheVariants as term
-use Rattle.irp_condition.specs.declared.fault.Unread.{Unread}
-use Rattle.irp_condition.specs.declared.fault.Unread.TheVariants.{Fault, NoMemory}
+use Rattle.irp_condition.specs.declared.fault.Expected.{Expected}
+use Rattle.irp_condition.specs.declared.fault.Expected.TheVariants as expected
 use Rattle.irp_condition.specs.declared.naming.Name.{Name}
 use Rattle.irp_condition.specs.declared.naming.Name.TheVariants as name
 use Rattle.irp_condition.specs.declared.naming.Sort.{Sort}
 use Rattle.irp_condition.specs.declared.naming.Sort.TheVariants as sort
-use Rattle.irp_condition.specs.declared.scope.Scope.{Scope}
+use Rattle.irp_condition.specs.declared.reading.Reader.{Reader}
 use Rattle.irp_condition.specs.declared.tokens.Kind.{Kind}
 use Rattle.irp_condition.specs.declared.tokens.Kind.TheVariants.{Word, Sign, Open, Close}
 use Rattle.irp_condition.specs.declared.tokens.Token.{Token}
 use Rattle.irp_condition.specs.declared.value.Value.{Value}
 use Rattle.irp_condition.specs.declared.value.Value.TheVariants as value
 use Rattle.irp_types.specs.declared.location.Owner.TheVariants as owner
+use Rattle.irp_condition.specs.Faults.{Found, found, missing, ◌>>◌, expect, or_found, fault_at}
 use Rattle.irp_condition.specs.Formulas.{Formula, true_of, compares}
 use Rattle.irp_condition.specs.Naming.{name_of, comparison_of, sort_of, needs_replies}
-use Rattle.irp_condition.specs.Words.{◌>>=◌, or_else, below, number_of, device_named, value_named}
-
--- what was answered, so viewed, is what is read, unless memory ran out
-abbrev pub Gives : {A B : Type 0} → (A → B) → Result A Unread → Option B → Type 0
-Gives view (Ok answer) read = read ≡ Some (view answer)
-Gives view (Err (Fault fault)) read = read ≡ None
-Gives view (Err NoMemory) read = Unit {0}
-
--- something else was expected
-abbrev pub IsFault : Unread → Type 0
-IsFault (Fault fault) = Unit {0}
-IsFault NoMemory = ⊥
+use Rattle.irp_condition.specs.Words.{◌>>=◌, below, number_of, device_named, value_named}
 
 -- what was read, and the tokens behind it
 abbrev pub with_rest : {A : Type 0} → A × Bor (List Token) → A × List Token
@@ -82,41 +72,43 @@ past_word word tokens = unwrap_or (behind_word word tokens) tokens
 -- ---- what a fact is of
 
 -- a number below this one
-abbrev pub number_at : ℕ → List Token → Option (ℕ × List Token)
-number_at bound tokens =
-    word_at tokens >>= λ found. number_of found.0 >>= below bound >>= λ number. Some (number, found.1)
+abbrev pub number_at : Reader → ℕ → Expected → List Token → Found (ℕ × List Token)
+number_at reader bound expected tokens =
+    expect reader expected tokens
+    (word_at tokens >>= λ read. number_of read.0 >>= below bound >>= λ number. Some (number, read.1))
 
 -- the same, with a noun before it or without
-abbrev pub number_below : List ℕ → ℕ → List Token → Option (ℕ × List Token)
-number_below noun bound tokens = number_at bound (past_word noun tokens)
+abbrev pub number_below : Reader → List ℕ → ℕ → Expected → List Token → Found (ℕ × List Token)
+number_below reader noun bound expected tokens = number_at reader bound expected (past_word noun tokens)
 
 -- a device, as D2, device 2 or 2
-abbrev pub device_at : List Token → Option (ℕ × List Token)
-device_at tokens =
-    or_else (word_at tokens >>= λ found. device_named found.0 >>= λ device. Some (device, found.1))
-    (number_below (codes "device") 64 tokens)
+abbrev pub device_at : Reader → List Token → Found (ℕ × List Token)
+device_at reader tokens =
+    or_found (word_at tokens >>= λ read. device_named read.0 >>= λ device. Some (device, read.1))
+    (number_below reader (codes "device") 64 expected.Device tokens)
 
 -- the place of a label, of which a script has at most 4096
 abbrev pub place_of : {Z : Type 0} → List (String Z) → List ℕ → Option ℕ
 place_of labels word = position (λ label. bytes_eq (string_bytes label) word) labels >>= below 4096
 
 -- a label: its place
-abbrev pub label_at : Scope → List Token → Option (ℕ × List Token)
-label_at scope tokens =
-    word_at tokens >>= λ found. place_of scope.labels.now found.0 >>= λ place. Some (place, found.1)
+abbrev pub label_at : Reader → List Token → Found (ℕ × List Token)
+label_at reader tokens =
+    expect reader expected.Label tokens
+    (word_at tokens >>= λ read. place_of reader.scope.labels.now read.0 >>= λ place. Some (place, read.1))
 
 -- what a fact of this name is of, as it stands between the parentheses
-abbrev pub subject_at : Scope → Name → List Token → Option (ℕ × List Token)
-subject_at scope name.Reply tokens = number_below (codes "step") scope.steps tokens
-subject_at scope name.Owner tokens = label_at scope tokens
-subject_at scope name.Status tokens = label_at scope tokens
-subject_at scope name.Information tokens = label_at scope tokens
-subject_at scope name.Current tokens = label_at scope tokens
-subject_at scope name.Live tokens = label_at scope tokens
-subject_at scope name.Cancel tokens = label_at scope tokens
-subject_at scope name.Deleted tokens = device_at tokens
-subject_at scope name.Held tokens = number_below (codes "lock") scope.locks tokens
-subject_at scope name.Removing tokens = number_below (codes "lock") scope.locks tokens
+abbrev pub subject_at : Reader → Name → List Token → Found (ℕ × List Token)
+subject_at reader name.Reply tokens = number_below reader (codes "step") reader.scope.steps expected.Step tokens
+subject_at reader name.Owner tokens = label_at reader tokens
+subject_at reader name.Status tokens = label_at reader tokens
+subject_at reader name.Information tokens = label_at reader tokens
+subject_at reader name.Current tokens = label_at reader tokens
+subject_at reader name.Live tokens = label_at reader tokens
+subject_at reader name.Cancel tokens = label_at reader tokens
+subject_at reader name.Deleted tokens = device_at reader tokens
+subject_at reader name.Held tokens = number_below reader (codes "lock") reader.scope.locks expected.Lock tokens
+subject_at reader name.Removing tokens = number_below reader (codes "lock") reader.scope.locks expected.Lock tokens
 
 -- the fact of this name
 abbrev pub fact_of : Name → ℕ → Fact
@@ -131,21 +123,21 @@ fact_of name.Deleted place = fact.Deleted place
 fact_of name.Held place = fact.Held place
 fact_of name.Removing place = fact.Removing place
 
--- the name that a fact begins with; without the replies there is none of what only they tell
-abbrev pub name_at : Scope → List Token → Option (Name × List Token)
-name_at scope tokens = do
-  found ← word_at tokens
-  name ← name_of found.0
-  if needs_replies name && not scope.knows_replies then None else Some (name, found.1)
+-- the name that a fact begins with; without the replies none is expected of what only they tell
+abbrev pub name_at : Reader → List Token → Found (Name × List Token)
+name_at reader tokens =
+    expect reader expected.Condition tokens (word_at tokens >>= λ read. name_of read.0 >>= λ name. Some (name, read.1))
+    >> λ named. if needs_replies named.0 && not reader.scope.knows_replies
+    then missing (fault_at reader expected.End tokens) else found named
 
 -- a fact with its name, as owner(a)
-abbrev pub fact_at : Scope → List Token → Option ((Name × Fact) × List Token)
-fact_at scope tokens = do
-  named ← name_at scope tokens
-  inside ← behind_open named.1
-  read ← subject_at scope named.0 inside
-  rest ← behind_close read.1
-  Some ((named.0, fact_of named.0 read.0), rest)
+abbrev pub fact_at : Reader → List Token → Found ((Name × Fact) × List Token)
+fact_at reader tokens =
+    name_at reader tokens
+    >> λ named. expect reader expected.Open named.1 (behind_open named.1)
+    >> λ inside. subject_at reader named.0 inside
+    >> λ read. expect reader expected.Close read.1 (behind_close read.1)
+    >> λ rest. found ((named.0, fact_of named.0 read.0), rest)
 
 -- ---- what it is compared with
 
@@ -156,17 +148,25 @@ behind_noun sort.Owner tokens = behind_word (codes "device") tokens
 behind_noun sort.Number tokens = None
 behind_noun sort.Truth tokens = None
 
+-- what is expected where no value of this sort stands
+abbrev pub expected_of : Sort → Expected
+expected_of sort.Reply = expected.Reply
+expected_of sort.Owner = expected.Owner
+expected_of sort.Number = expected.Number
+expected_of sort.Truth = expected.Truth
+
 -- a device behind its noun, where the noun stands; else a word
-abbrev pub value_behind : Scope → Sort → List Token → Option (List Token) → Option (Value × List Token)
-value_behind scope sort tokens (Some rest) =
-    number_at 64 rest >>= λ found. Some (value.Owner (owner.Device (record { 0 = found.0 })), found.1)
-value_behind scope sort tokens None =
-    word_at tokens >>= λ found. value_named scope sort found.0 >>= λ value. Some (value, found.1)
+abbrev pub value_behind : Reader → Sort → List Token → Option (List Token) → Found (Value × List Token)
+value_behind reader sort tokens (Some rest) =
+    number_at reader 64 expected.Device rest
+    >> λ read. found (value.Owner (owner.Device (record { 0 = read.0 })), read.1)
+value_behind reader sort tokens None =
+    expect reader (expected_of sort) tokens
+    (word_at tokens >>= λ read. value_named reader.scope sort read.0 >>= λ value. Some (value, read.1))
 
 -- a value of this sort: a word, or a device behind its noun
-abbrev pub value_at : Scope → Sort → List Token → Option (Value × List Token)
-value_at scope sort tokens =
-    value_behind scope sort tokens (behind_noun sort tokens)
+abbrev pub value_at : Reader → Sort → List Token → Found (Value × List Token)
+value_at reader sort tokens = value_behind reader sort tokens (behind_noun sort tokens)
 
 -- the sign of a comparison
 abbrev pub sign_at : List Token → Option (Comparison × List Token)
@@ -179,15 +179,16 @@ is_truth sort.Truth = true
 is_truth sort = false
 
 -- behind a fact: a sign and a value, or nothing where the fact is true or false
-abbrev pub compared_by : Scope → Name → Fact → List Token → Option (Comparison × List Token)
-    → Option (Formula × List Token)
-compared_by scope name fact tokens (Some signed) =
-    value_at scope (sort_of name) signed.1
-    >>= λ read. Some (compares (term.Fact fact) signed.0 (term.Constant read.0), read.1)
-compared_by scope name fact tokens None =
-    if is_truth (sort_of name) then Some (true_of (term.Fact fact), tokens) else None
+abbrev pub compared_by : Reader → Name → Fact → List Token → Option (Comparison × List Token)
+    → Found (Formula × List Token)
+compared_by reader name fact tokens (Some signed) =
+    value_at reader (sort_of name) signed.1
+    >> λ read. found (compares (term.Fact fact) signed.0 (term.Constant read.0), read.1)
+compared_by reader name fact tokens None =
+    if is_truth (sort_of name) then found (true_of (term.Fact fact), tokens)
+    else missing (fault_at reader expected.Comparison tokens)
 
 -- a fact that is true or false alone, or one with what it is compared with
-abbrev pub compared_at : Scope → List Token → Option (Formula × List Token)
-compared_at scope tokens =
-    fact_at scope tokens >>= λ found. compared_by scope found.0.0 found.0.1 found.1 (sign_at found.1)
+abbrev pub compared_at : Reader → List Token → Found (Formula × List Token)
+compared_at reader tokens =
+    fact_at reader tokens >> λ read. compared_by reader read.0.0 read.0.1 read.1 (sign_at read.1)

@@ -56,7 +56,7 @@ impl fmt::Display for Expected {
     }
 }
 
-/// Where a text stops being a condition: the column, from 1, and what was expected there.
+/// Where a text stops being a condition: the column of a byte, from 1, and what was expected there.
 #[derive(Clone, Copy)]
 pub struct Fault {
     pub column: usize,

@@ -1,10 +1,10 @@
 //! Reading a condition from its text. Source: this project's own rules.
 
 ghost use Rattle.std.specs.Prelude.{◌≡◌, ◌<◌, IfOk, MatchResult, length};
+ghost use Rattle.irp_condition.specs.Faults.{Gives, IfFault, found};
 ghost use Rattle.irp_condition.specs.Formulas.{Formula, formula_of, joins, no};
-ghost use Rattle.irp_condition.specs.Grammar.{TextSays, inside, joined, single};
+ghost use Rattle.irp_condition.specs.Grammar.{TextBreaks, TextSays, inside, joined, single};
 ghost use Rattle.irp_condition.specs.Parsing.{Reads};
-ghost use Rattle.irp_condition.specs.Reading.{Gives};
 
 use crate::condition::Condition;
 use crate::fault::{Expected, Unread};
@@ -48,12 +48,12 @@ fn single_at<'a>(
     tokens: &'a [Token],
     depth: u32,
 ) -> Result<(Condition, &'a [Token]), Unread>
-    ensures reads { Reads reader.entry.scope single depth tokens.now result }
+    ensures reads { Reads reader.entry single depth tokens.now result }
     ensures shorter { IfOk result (λ read. length read.1.now < length tokens.now) }
 {
     if let Some(inner) = behind_word("not", tokens) {
         if depth == 0 {
-            return Err(fault_at(reader, inner, Expected::Shallower));
+            return Err(fault_at(reader, tokens, Expected::Shallower));
         }
         let (condition, rest) = single_at(alloc, reader, inner, depth - 1)?;
         return Ok((not(alloc, condition)?, rest));
@@ -80,7 +80,7 @@ fn inside_at<'a>(
     tokens: &'a [Token],
     depth: u32,
 ) -> Result<(Condition, &'a [Token]), Unread>
-    ensures reads { Reads reader.entry.scope (inside joint) depth tokens.now result }
+    ensures reads { Reads reader.entry (inside joint) depth tokens.now result }
     ensures shorter { IfOk result (λ read. length read.1.now < length tokens.now) }
 {
     match joint {
@@ -98,7 +98,7 @@ fn joined_at<'a>(
     tokens: &'a [Token],
     depth: u32,
 ) -> Result<(Condition, &'a [Token]), Unread>
-    ensures reads { Reads reader.entry.scope (joined joint) depth tokens.now result }
+    ensures reads { Reads reader.entry (joined joint) depth tokens.now result }
     ensures shorter { IfOk result (λ read. length read.1.now < length tokens.now) }
 {
     let (mut so_far, mut rest) = inside_at(alloc, reader, joint, tokens, depth)?;
@@ -114,15 +114,16 @@ fn joined_at<'a>(
 ///
 /// # Errors
 ///
-/// `Fault` only where it says none, with the column, from 1, of the first token that can't stand there, and what was
-/// expected; `NoMemory` where memory runs out.
+/// `Fault` only where it says none, with the column of the first byte, from 1, of the first token that can't stand
+/// there, and what was expected; `NoMemory` where memory runs out.
 pub fn read_condition(alloc: Global, text: &str, scope: Scope<'_>) -> Result<Condition, Unread>
     ensures said { IfOk result (λ condition. TextSays scope.entry text.now (formula_of condition)) }
     ensures whole { (formula : Formula) → TextSays scope.entry text.now formula
-        → Gives formula_of result (Some formula) }
+        → Gives formula_of result (found formula) }
+    ensures broken { IfFault result (λ fault. TextBreaks scope.entry text.now fault) }
 {
     let tokens = tokens_of(alloc, text.as_bytes())?;
-    let end = text.len().saturating_add(1);
+    let end = text.len() + 1;
     let reader = Reader { scope, end };
     let (condition, rest) = joined_at(alloc, reader, Joint::Or, &tokens, MOST_DEPTH)?;
     if !rest.is_empty() {

@@ -4,7 +4,8 @@ ghost use Rattle.std.specs.Prelude.{◌≡◌, ◌<◌, IfOk, IfSome, length, op
 ghost use Rattle.std.proofs.Common.{bytes_eq};
 ghost use Rattle.irp_condition.specs.Parsing.{seen};
 ghost use Rattle.irp_condition.specs.Reading as spec;
-ghost use Rattle.irp_condition.specs.Reading.{Gives, with_rest};
+ghost use Rattle.irp_condition.specs.Faults.{Gives, fault_at as spec_fault_at};
+ghost use Rattle.irp_condition.specs.Reading.{with_rest};
 
 use crate::condition::{Comparison, Condition, Fact, Term};
 use crate::fault::{Expected, Fault, Unread};
@@ -30,7 +31,7 @@ pub struct Reader<'a> {
 
 /// The fault that something else was expected where these tokens begin.
 pub fn fault_at(reader: Reader<'_>, tokens: &[Token], expected: Expected) -> Unread
-    ensures { spec.IsFault result }
+    ensures { result ≡ Unread.Fault (spec_fault_at reader.entry expected tokens.now) }
 {
     let column = match tokens.first() {
         Some(token) => token.column,
@@ -91,7 +92,7 @@ fn number_at<'a>(
     bound: u32,
     expected: Expected,
 ) -> Result<(u32, &'a [Token]), Unread>
-    ensures reads { Gives with_rest result (spec.number_at bound tokens.now) }
+    ensures reads { Gives with_rest result (spec.number_at reader.entry bound expected tokens.now) }
     ensures shorter { IfOk result (λ read. length read.1.now < length tokens.now) }
 {
     let Some((word, rest)) = word_at(tokens) else {
@@ -111,7 +112,7 @@ fn number_below<'a>(
     bound: u32,
     expected: Expected,
 ) -> Result<(u32, &'a [Token]), Unread>
-    ensures reads { Gives with_rest result (spec.number_below noun.now bound tokens.now) }
+    ensures reads { Gives with_rest result (spec.number_below reader.entry noun.now bound expected tokens.now) }
     ensures shorter { IfOk result (λ read. length read.1.now < length tokens.now) }
 {
     let tokens = behind_word(noun, tokens).unwrap_or(tokens);
@@ -120,7 +121,7 @@ fn number_below<'a>(
 
 /// A device, as `D2`, `device 2` or `2`.
 fn device_at<'a>(reader: Reader<'_>, tokens: &'a [Token]) -> Result<(u32, &'a [Token]), Unread>
-    ensures reads { Gives with_rest result (spec.device_at tokens.now) }
+    ensures reads { Gives with_rest result (spec.device_at reader.entry tokens.now) }
     ensures shorter { IfOk result (λ read. length read.1.now < length tokens.now) }
 {
     if let Some((word, rest)) = word_at(tokens)
@@ -157,7 +158,7 @@ fn place_of(labels: &[String], word: &[u8]) -> Option<u32>
 
 /// A label of the script: its place.
 fn label_at<'a>(reader: Reader<'_>, tokens: &'a [Token]) -> Result<(u32, &'a [Token]), Unread>
-    ensures reads { Gives with_rest result (spec.label_at reader.entry.scope tokens.now) }
+    ensures reads { Gives with_rest result (spec.label_at reader.entry tokens.now) }
     ensures shorter { IfOk result (λ read. length read.1.now < length tokens.now) }
 {
     if let Some((word, rest)) = word_at(tokens)
@@ -174,7 +175,7 @@ fn place_at<'a>(
     name: Name,
     tokens: &'a [Token],
 ) -> Result<(u32, &'a [Token]), Unread>
-    ensures reads { Gives with_rest result (spec.subject_at reader.entry.scope name tokens.now) }
+    ensures reads { Gives with_rest result (spec.subject_at reader.entry name tokens.now) }
     ensures shorter { IfOk result (λ read. length read.1.now < length tokens.now) }
 {
     let Scope { steps, locks, .. } = reader.scope;
@@ -208,7 +209,7 @@ fn fact_of(name: Name, place: u32) -> Fact
 
 /// The name that a fact begins with.
 fn name_at<'a>(reader: Reader<'_>, tokens: &'a [Token]) -> Result<(Name, &'a [Token]), Unread>
-    ensures reads { Gives with_rest result (spec.name_at reader.entry.scope tokens.now) }
+    ensures reads { Gives with_rest result (spec.name_at reader.entry tokens.now) }
     ensures shorter { IfOk result (λ read. length read.1.now < length tokens.now) }
 {
     let Some((word, rest)) = word_at(tokens) else {
@@ -228,7 +229,7 @@ fn fact_at<'a>(
     reader: Reader<'_>,
     tokens: &'a [Token],
 ) -> Result<((Name, Fact), &'a [Token]), Unread>
-    ensures reads { Gives with_rest result (spec.fact_at reader.entry.scope tokens.now) }
+    ensures reads { Gives with_rest result (spec.fact_at reader.entry tokens.now) }
     ensures shorter { IfOk result (λ read. length read.1.now < length tokens.now) }
 {
     let (name, tokens) = name_at(reader, tokens)?;
@@ -243,7 +244,9 @@ fn fact_at<'a>(
 }
 
 /// What was expected where no value of a sort stands.
-fn expected_of(sort: Sort) -> Expected {
+fn expected_of(sort: Sort) -> Expected
+    ensures { result ≡ spec.expected_of sort }
+{
     match sort {
         Sort::Reply => Expected::Reply,
         Sort::Owner => Expected::Owner,
@@ -269,7 +272,7 @@ fn value_at<'a>(
     sort: Sort,
     tokens: &'a [Token],
 ) -> Result<(Value, &'a [Token]), Unread>
-    ensures reads { Gives with_rest result (spec.value_at reader.entry.scope sort tokens.now) }
+    ensures reads { Gives with_rest result (spec.value_at reader.entry sort tokens.now) }
     ensures shorter { IfOk result (λ read. length read.1.now < length tokens.now) }
 {
     if let Some(number) = behind_noun(sort, tokens) {
@@ -301,7 +304,7 @@ pub fn compared_at<'a>(
     reader: Reader<'_>,
     tokens: &'a [Token],
 ) -> Result<(Condition, &'a [Token]), Unread>
-    ensures reads { Gives seen result (spec.compared_at reader.entry.scope tokens.now) }
+    ensures reads { Gives seen result (spec.compared_at reader.entry tokens.now) }
     ensures shorter { IfOk result (λ read. length read.1.now < length tokens.now) }
 {
     let ((name, fact), tokens) = fact_at(reader, tokens)?;
