@@ -6,6 +6,7 @@ The first comment of each file of races/ says how many preemptions its fault nee
 import os
 import re
 import shutil
+import subprocess
 
 import orders
 
@@ -13,7 +14,8 @@ HERE = os.path.dirname(os.path.abspath(__file__))
 RACES = sorted(it[:-2] for it in os.listdir(HERE + "/races") if it.endswith(".c"))
 # Stacks at one round a loop: how many preemptions are exhausted, and up to how many the reduction is compared with none.
 STACKS = {"children": (2, 2), "keyboard": (1, 1), "late": (2, 2), "policy": (2, 2), "power": (1, 1), "removal": (1, 1),
-          "retry": (2, 2), "serial": (2, 2), "split": (1, 1), "watchdog": (2, 2)}
+          "retry": (2, 2), "serial": (2, 2), "split": (1, 1), "watchdog": (2, 2), "handover": (2, 1), "port": (2, 1),
+          "direct": (2, 2), "shared": (1, 1)}
 
 # An explorer with one thing wrong: a name, a file of the host, what is replaced by what, and where it shows: in a race that
 # it doesn't find with as few preemptions, in a right driver that isn't clean, or in a stack's number of classes.
@@ -48,6 +50,11 @@ WRONG = [
      "    hold_host(\"InterlockedPopEntrySList\", Head, READS);", "race", "buffer_taken"),
     ("an MDL is locked without a touch", "mdl.c", """    enter_host(&c, "MmProbeAndLockPages", at);
     touch_memory(Mdl, sizeof *Mdl, WRITES);""", """    enter_host(&c, "MmProbeAndLockPages", at);""", "race", "mdl_seen"),
+    ("what a routine decides as it returns is touched by nobody", "threads.c",
+     "        touch(f->p->irp, f->settled ? READS : WRITES);", "        (void)touch;", "classes", "watchdog"),
+    ("deferred calls run one at a time", "work.c", "MAX_PROCESSORS = 2 };", "MAX_PROCESSORS = 1 };", "race", "two_calls"),
+    ("one processor lets a thread go on below DISPATCH_LEVEL", "schedule.c", "return high ? ready & high : ready;",
+     "return ready;", "race", "waits_high"),
     ("memory that was let go isn't told", "racing.c", "if (c->let_go && pc)", "if (c->let_go && pc && !by_schedule)", "race",
      "deleted_while_used"),
 ]
@@ -221,6 +228,29 @@ def test_parts(run, bench):
     wrong = [] if set.union(*parts) == whole else [f"together {len(set.union(*parts))} of {len(whole)} classes"]
     wrong += [f"part {at} alone has all" for at, it in enumerate(parts, 1) if it == whole]
     yield "parts of an exploration, together the whole", "; ".join(wrong) or None
+    yield from merged_parts(bench)
+
+
+def merged_parts(bench):
+    """The recipe of EVERY_ORDER.md, with xargs for parallel: what four parts leave merges to what the whole leaves."""
+    folder = bench.folder("merged parts")
+    command = [HERE + "/run", "--irpx", bench.irpx, "--every-order", "--rounds", "1", "--judge", "1", "--processes", "1"]
+    command += [HERE + "/stacks/serial.c", "--result"]
+    subprocess.run(["xargs", "-P", "2", "-I{}", *command, f"{folder}/result{{}}", "--part", "{}/4"], input="1\n2\n3\n4\n",
+                   text=True, check=True, stdout=subprocess.DEVNULL)
+    subprocess.run([*command, folder + "/whole"], check=True, stdout=subprocess.DEVNULL)
+    parts = [lines_of(f"{folder}/result{it}") for it in range(1, 5)]
+    same = what_was_found(set.union(*parts)) == what_was_found(lines_of(folder + "/whole"))
+    yield "four parts of an exploration, merged", None if same else "they differ from the whole"
+
+
+def lines_of(path):
+    with open(path, encoding="utf-8") as it:
+        return set(it.read().splitlines())
+
+
+def what_was_found(lines):
+    return {it for it in lines if not it.startswith("covered ")}
 
 
 LOCKS = """#include <wdm.h>

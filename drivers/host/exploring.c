@@ -1,7 +1,17 @@
-/* exploring.c: a process for each choice that wasn't made yet. */
+/*
+ * exploring.c: a process for each choice that wasn't made yet.
+ *
+ * There are no sleep sets, since with a bound of preemptions they lose runs. They leave out T after U where T before U was
+ * made, and the two change nothing in common. Both orders lead to the same state, but behind one U goes on for nothing
+ * and T costs a preemption, and behind the other it is the other way round. So what is left out may end within the bound
+ * where what was made doesn't. Instead each choice in a state counts as made with what was left of the bound behind it
+ * (`claim`), and is made again only where more is left. What sleep sets would save besides is the process that finds no
+ * choice left, and ends.
+ */
 #include "explore.h"
 #include <errno.h>
 #include <signal.h>
+#include <sys/mman.h>
 #include <sys/prctl.h>
 #include <sys/time.h>
 #include <sys/wait.h>
@@ -200,9 +210,30 @@ int explore_choices(const Choices *c, uint32_t step)
     return c->usual;
 }
 
+/* A write to the program's and the libraries' own pages, each the same byte again: only what has such a page has its
+   mappings copied by fork, and needn't be mapped anew by each process. */
+static void own_mappings(void)
+{
+    unsigned long from, to;
+    char how[5], line[600];
+    FILE *maps = fopen("/proc/self/maps", "r");
+    while (maps && fgets(line, sizeof line, maps))
+        if (sscanf(line, "%lx-%lx %4s", &from, &to, how) == 3 && strchr(line, '/') && how[1] == '-' && how[3] == 'p' &&
+            how[0] == 'r') {
+            const int is_code = how[2] == 'x' ? PROT_EXEC : 0;
+            if (mprotect((void *)from, to - from, PROT_READ | PROT_WRITE | is_code))
+                continue;
+            *(volatile char *)from = *(volatile char *)from;
+            mprotect((void *)from, to - from, PROT_READ | is_code);
+        }
+    if (maps)
+        fclose(maps);
+}
+
 /* In the first process of a round. */
 void begin_exploring(void)
 {
+    own_mappings();
     is_exploring = true;
     begin_process(true, 0);
 }

@@ -9,11 +9,12 @@
 #include <sys/mman.h>
 
 bool footprints, hooks_present;
-typedef struct { const void *object; uint64_t written, read; uint32_t clock[MAX_THREADS]; } Object;
+typedef struct { const void *object; uint64_t written, read; uint32_t clock[FEW_THREADS]; } Object;
 enum { OBJECTS = 1 << 15, PLACES = 1 << 16, ROOM = 4 << 20 };
 static const uint64_t GOLDEN = 0x9E3779B97F4A7C15u;
-/* Dense, since each page that a run touches is a fault. */
+/* Dense, since each page that a run touches is a fault: most runs have few threads. */
 static Object objects[OBJECTS];
+static uint32_t other_clocks[OBJECTS][MAX_THREADS - FEW_THREADS];
 static uint16_t place_of_object[PLACES];
 static int n_objects;
 static uint64_t past[MAX_THREADS], n_named[MAX_THREADS];
@@ -104,7 +105,7 @@ void touch(const void *object, Touch how)
     Object *o = object_of(object);
     step(current_thread(), o, object, how == WRITES || how == SYNCS);
     if (how >= ACQUIRES)
-        clocks_meet(o->clock, how);
+        clocks_meet(o->clock, other_clocks[o - objects], how);
 }
 
 void touch_memory(const void *from, size_t size, Touch how)

@@ -14,10 +14,12 @@ typedef struct {
     const void *write_pc;
     const char *let_go;
     WDM_SITE let_go_at;
-    uint32_t read[MAX_THREADS], read_pc[MAX_THREADS];
+    uint32_t read[FEW_THREADS], read_pc[FEW_THREADS];
 } Cell;
+typedef struct { uint32_t read[MAX_THREADS - FEW_THREADS], read_pc[MAX_THREADS - FEW_THREADS]; } OtherReads;
 enum { CELLS = 1 << 15, PLACES = 1 << 16, MOST_LET_GO = 1024 };
 static Cell cells[CELLS];
+static OtherReads other_reads[CELLS]; /* of threads behind the first few */
 static uint16_t place_of_cell[PLACES];
 static int n_cells;
 static uint32_t clocks[MAX_THREADS][MAX_THREADS];
@@ -32,15 +34,22 @@ void clocks_born(int parent, int child)
     clocks[parent][parent]++;
 }
 
-void clocks_meet(uint32_t *of_object, Touch how)
+static void meet(uint32_t *mine, uint32_t *of_object, int n, Touch how)
 {
-    uint32_t *mine = clocks[current_thread()];
-    for (int i = 0; i < MAX_THREADS; i++) {
+    for (int i = 0; i < n; i++) {
         if (of_object[i] > mine[i])
             mine[i] = of_object[i];
         if (how != ACQUIRES)
             of_object[i] = mine[i];
     }
+}
+
+void clocks_meet(uint32_t *of_few, uint32_t *of_others, Touch how)
+{
+    uint32_t *mine = clocks[current_thread()];
+    meet(mine, of_few, FEW_THREADS, how);
+    if (threads_of_run() > FEW_THREADS)
+        meet(mine + FEW_THREADS, of_others, MAX_THREADS - FEW_THREADS, how);
     if (how != ACQUIRES)
         mine[current_thread()]++;
 }
@@ -89,6 +98,16 @@ void let_go_of(const void *from, size_t size, const char *what, WDM_SITE at)
     }
 }
 
+static uint32_t *last_read(Cell *c, int t)
+{
+    return t < FEW_THREADS ? &c->read[t] : &other_reads[c - cells].read[t - FEW_THREADS];
+}
+
+static uint32_t *place_of_read(Cell *c, int t)
+{
+    return t < FEW_THREADS ? &c->read_pc[t] : &other_reads[c - cells].read_pc[t - FEW_THREADS];
+}
+
 static void note_race(uint32_t here, uint32_t there)
 {
     place_races(here);
@@ -108,8 +127,8 @@ void access_to(const void *key, bool writes, const void *pc, bool is_plain)
         note_race(place_of(pc), place_of(c->write_pc));
     for (uint32_t r = writes ? c->readers & ~(1u << me) : 0; r; r &= r - 1) {
         const int t = __builtin_ctz(r);
-        if (c->read[t] > mine[t])
-            note_race(place_of(pc), c->read_pc[t]);
+        if (*last_read(c, t) > mine[t])
+            note_race(place_of(pc), *place_of_read(c, t));
     }
     if (writes) {
         c->writer = me;
@@ -117,7 +136,7 @@ void access_to(const void *key, bool writes, const void *pc, bool is_plain)
         c->write_pc = pc;
     } else {
         c->readers |= 1u << me;
-        c->read[me] = mine[me];
-        c->read_pc[me] = place_of(pc);
+        *last_read(c, me) = mine[me];
+        *place_of_read(c, me) = place_of(pc);
     }
 }

@@ -25,6 +25,7 @@ static bool is_deciding;
 
 int current_thread(void) { return running; }
 int points_of_run(void) { return n_points; }
+int threads_of_run(void) { return n_threads; }
 const char *thread_name(int t) { return threads[t].name; }
 
 LONGLONG virtual_now(void)

@@ -10,7 +10,7 @@
 
 #include "host.h"
 
-enum { MAX_THREADS = 32, MAX_DEVIATIONS = 4096, MAX_SWITCHES = 1 << 14, MAX_POINTS = 300000 };
+enum { FEW_THREADS = 8, MAX_THREADS = 32, MAX_DEVIATIONS = 4096, MAX_SWITCHES = 1 << 14, MAX_POINTS = 300000 };
 typedef enum { AT_POINT, AT_YIELD, AT_WAIT, AT_END } Stop;
 
 /* schedule.c: the coroutines. */
@@ -28,6 +28,7 @@ bool has_ended(int thread, void **result);
 void after_end_of(int thread);
 const char *thread_name(int thread);
 int points_of_run(void);
+int threads_of_run(void);
 void tell_threads(void);
 
 typedef struct { const char *what; WDM_SITE at; const void *pc; } Place;
@@ -69,7 +70,7 @@ uint64_t next_name(void);
 
 /* racing.c: which plain accesses race, by what happened before what; and memory that was let go. */
 void clocks_born(int parent, int child);
-void clocks_meet(uint32_t *of_object, Touch how);
+void clocks_meet(uint32_t *of_few, uint32_t *of_others, Touch how);
 void access_to(const void *cell, bool writes, const void *pc, bool is_plain);
 
 /* telling.c, ending.c */
