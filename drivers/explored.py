@@ -3,6 +3,7 @@ reduction against none, and explorers made wrong.
 
 The first comment of each file of races/ says how many preemptions its fault needs at least, and as what it is told."""
 
+import json
 import os
 import re
 import shutil
@@ -238,10 +239,58 @@ def merged_parts(bench):
     command += [HERE + "/stacks/serial.c", "--result"]
     subprocess.run(["xargs", "-P", "2", "-I{}", *command, f"{folder}/result{{}}", "--part", "{}/4"], input="1\n2\n3\n4\n",
                    text=True, check=True, stdout=subprocess.DEVNULL)
-    subprocess.run([*command, folder + "/whole"], check=True, stdout=subprocess.DEVNULL)
+    told = subprocess.run([*command, folder + "/whole"], check=True, capture_output=True, text=True).stdout
+    wanted = r"the usual order has \d+ other choices: at most about .* with 2 \(estimated\)\n(.*\n)+outcomes: \d+, of \d+ class"
+    yield "an exploration's estimate and outcomes are told", None if re.match(wanted, told) else told
     parts = [lines_of(f"{folder}/result{it}") for it in range(1, 5)]
     same = what_was_found(set.union(*parts)) == what_was_found(lines_of(folder + "/whole"))
     yield "four parts of an exploration, merged", None if same else "they differ from the whole"
+
+
+def test_stopped(run, bench):
+    """An exploration that is stopped tells which part of it was made."""
+    command = [HERE + "/run", "--irpx", bench.irpx, "--every-order", "--rounds", "9", "--judge", "1", "--minutes", "0.03"]
+    told = subprocess.run([*command, HERE + "/stacks/keyboard.c"], check=False, capture_output=True, text=True)
+    wanted = r"stopped, since time is up: (all with \d, )?about \d+ % of those with \d \(estimated\), "
+    well = told.returncode == 3 and re.search(wanted, told.stdout)
+    yield "an exploration that is stopped tells how far it came", None if well else told.stdout
+
+
+def normal(text):
+    """Returns a transcript with its packets, seats and tags named as they come."""
+    names = {}
+
+    def name(kind, it):
+        return names.setdefault((kind, str(it)), sum(key[0] == kind for key in names))
+
+    def walk(it, is_word):
+        if isinstance(it, list):
+            return [walk(part, is_word) for part in it]
+        if not isinstance(it, dict):
+            return it
+        made = {}
+        for key, value in it.items():
+            if key == "shown":
+                value = [value[0], name("irp", value[1:3]), *value[3:]]
+            kind = {"irp": "irp", "seat": "seat", "tag": "tag", "to": "seat" if is_word else None}.get(key)
+            made[key] = name(kind, value) if kind else walk(value, is_word)
+        made.pop("step", None)
+        return made
+
+    return json.dumps([walk(it, "step" in it) for it in map(json.loads, text.splitlines())])
+
+
+def test_distinct(run, bench):
+    """Transcripts that are kept differ in more than in seats, slots and use numbers."""
+    made = Explored(run, bench, "distinct", Options(bench.cc, HERE + "/stacks/removal.c", 1))
+    made.report()
+    texts = []
+    for it in os.listdir(made.folder + "/orders"):
+        if it.isdigit():
+            with open(f"{made.folder}/orders/{it}", encoding="utf-8") as file:
+                texts.append(file.read())
+    same = len(texts) - len({normal(it) for it in texts})
+    yield f"{len(texts)} transcripts that are kept are distinct", f"{same} are as others" if same or len(texts) < 2 else None
 
 
 def lines_of(path):
@@ -336,7 +385,8 @@ def tests(run, bench):
     found += [(f"race {it} right", lambda it=it: test_right(run, bench, it)) for it in RACES]
     found += [(f"orders {it}", lambda it=it: test_stack(run, bench, it)) for it in STACKS]
     found += [("untested under every order", lambda: test_untested(run, bench)),
-              ("orders in parts", lambda: test_parts(run, bench)),
+              ("orders in parts", lambda: test_parts(run, bench)), ("orders stopped", lambda: test_stopped(run, bench)),
+              ("orders distinct", lambda: test_distinct(run, bench)),
               ("orders by chance", lambda: test_chance(run, bench)), ("orders with a test's own locks",
                                                                       lambda: test_locks(run, bench))]
     return found + [(f"wrong explorer {it[0]}", lambda it=it: test_wrong(run, bench, *it)) for it in WRONG]
