@@ -285,6 +285,8 @@ MISTAKES = [("Touched", "in Write"), ("PoolOverrun", "in Write"), ("IrqlReturn",
 # Stacks that the host's own test is clean over. The others have no PnP, or want settings that their tests make.
 FOR_OWN_TEST = ["handover", "keyboard", "children", "policy", "power", "removal", "split", "serial", "shared", "late"]
 
+# Drivers of hostile/ that the host stops after ten times its patience, so they have more seconds than others.
+SLOW_TO_STOP = {"polls": 40, "arms_again": 40}
 # The drivers of hostile/: what is told of each, beside the transcript. Each ends within its bound, and none is clean.
 STOPPED = "STOPPED: "
 HOSTILE = {
@@ -324,5 +326,11 @@ HOSTILE = {
     "leaves_a_packet": ["FAULT LeftBehind: leaves_a_packet.c:6 in Read: IoAllocateIrp(IRP "],
     "leaves_a_work_item": ["FAULT LeftBehind: leaves_a_work_item.c:6 in Read: IoAllocateWorkItem"],
     "leaves_a_link": ["FAULT LeftBehind: leaves_a_link.c:9 in DriverEntry: IoCreateSymbolicLink"],
+    "polls": ["FAULT CancelledAndHeld", "FAULT Hang", "while other threads go on; IRP 1.2 (READ), which D0 (polls) holds",
+              "it waits in KeDelayExecutionThread at polls.c:8"],
+    "arms_again": ["FAULT Hang: arms_again.c:18 in Read", "while other threads go on; IRP 1.2 (READ), which is in Read",
+                   "thread 0 holds a mutex since arms_again.c:17"],
+    "takes_two_mutexes": ["LockOrder", "FAULT Hang: takes_two_mutexes.c:12", "takes_two_mutexes.c:12 for a mutex that thread",
+                          "thread 1 holds a mutex since takes_two_mutexes.c:9"],
     "uses_no_packet": [STOPPED + "a pointer that is no packet", "at uses_no_packet.c:7"],
 }

@@ -82,23 +82,38 @@ static bool complete_lost(void)
     return false;
 }
 
-/* A wait hangs: told, once. The run goes on where a lost packet can be completed; else it ends. */
-void hang(WDM_SITE at)
+/* Whether a packet is in flight that nobody has done anything with since: under G. */
+bool stands_still_since(unsigned long began)
+{
+    for (int i = 0; i < n_packets; i++)
+        if (is_in_flight(packets[i]) && packets[i]->moved <= began)
+            return true;
+    return false;
+}
+
+/* A wait hangs: told, once. The run goes on where a lost packet can be completed; else it ends. One that only lasts long
+   goes on as well, where each packet has moved since it began. */
+void hang(Woken why, unsigned long began, WDM_SITE at)
 {
     static bool told;
     char text[400];
     Call c;
     enter_host(&c, "KeWaitForSingleObject", at);
+    if (why == OVERDUE && !stands_still_since(began)) {
+        leave_host();
+        return;
+    }
     if (!told) {
         told = true;
         for (int i = 0; i < n_packets; i++)
             if (is_cancelled_and_held(packets[i]))
                 tell_cancelled_and_held(packets[i]);
         tell_in_flight(text, sizeof text);
-        fault("Hang", NULL, "waits for what nobody does; %s", text);
+        fault("Hang", NULL, why == OVERDUE ? "waits for what nobody does, while other threads go on; %s" :
+              "waits for what nobody does; %s", text);
     }
     const bool goes_on = complete_lost();
     if (!goes_on)
-        give_up("nothing goes on any more");
+        give_up(why == OVERDUE ? "a packet doesn't go on any more" : "nothing goes on any more");
     leave_host();
 }

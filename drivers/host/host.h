@@ -145,6 +145,7 @@ typedef struct {
 struct Packet {
     PIRP irp;
     int size, current, owner, last, allocator; /* allocator: a driver, or NOBODY */
+    unsigned long moved; /* host_activity when it was called for last, or somebody was asked about it */
     unsigned slot;
     uint64_t use, information;
     ULONG status;
@@ -217,6 +218,7 @@ typedef struct {
     struct _KTHREAD *thread;
     PFILE_OBJECT file; /* whose packets it builds (WdmUseFile), or NULL */
     int regions;       /* critical ones that it is in */
+    const Wait *wait;  /* where it waits on a real thread, or NULL */
     pthread_t id;
     void *other_stack; /* for handlers */
     WDM_SITE last;

@@ -63,20 +63,38 @@ static void put_places(char *text, size_t size, const void *const *at, int n)
                                  place_in_program(at[i]), function_name(at[i]));
 }
 
+/* What a thread waits for, and who has that. */
+static void put_wait(const Self *t, char *text, size_t size)
+{
+    const Wait *w = t->wait;
+    int seat;
+    *text = 0;
+    if (!w || w->patience == IDLES)
+        return;
+    const Hold *h = w->object ? holder_of(w->object, &seat) : NULL;
+    if (h)
+        snprintf(text, size, "; it waits at %s for a %s that thread %d has held since %s", place(w->at), lock_kind(h->kind),
+                 seat, place(h->at));
+    else
+        snprintf(text, size, "; it waits in %s at %s", w->what, place(w->at));
+}
+
 /* What the thread is in: the routine that runs innermost, with its last call. */
 static void tell_thread(const Self *t, const char *where)
 {
     const Frame *f = t->frames;
-    char packet[48] = "";
+    char packet[48] = "", wait[200];
     if (!f && !t->last_call)
         return;
     if (f && f->p)
         snprintf(packet, sizeof packet, ", IRP %u.%lu", f->p->slot, (unsigned long)f->use);
     const WDM_SITE at = f ? f->last : t->last;
     const char *call = f ? f->last_call : t->last_call;
+    put_wait(t, wait, sizeof wait);
     say("  thread %d%s%s%s%s%s%s%s%s%s%s", t->seat, f ? " is in " : "", f ? what_runs(f) : "", packet,
         call ? f ? "; its last call: " : ": its last call: " : "", call ? call : "", call && at.file ? " at " : "",
-        call && at.file ? place(at) : "", f && f->waiting ? ", in which it waits" : "", *where ? "; now at " : "", where);
+        call && at.file ? place(at) : "", *wait ? wait : f && f->waiting ? ", in which it waits" : "",
+        *where ? "; now at " : "", where);
 }
 
 /* All threads that run something, but this one. */

@@ -276,6 +276,14 @@ const Hold *holder_of(const void *lock, int *seat)
     return NULL;
 }
 
+/* A line for each lock that a thread holds. */
+void tell_locks_held(void)
+{
+    for (int seat = 0; seat < n_seats; seat++)
+        for (int i = 0; i < of_seat[seat].n; i++)
+            say("  thread %d holds a %s since %s", seat, lock_kind(of_seat[seat].held[i].kind), place(of_seat[seat].held[i].at));
+}
+
 /* A spin lock that nobody gives back: who holds it, and what each thread holds. */
 void tell_deadlock(const void *lock)
 {

@@ -15,6 +15,8 @@ Entry *begin(Op op, Packet *p, int by)
 {
     if (p && p->ghost && op != SET_CANCEL && op != CANCEL && op != LOOK)
         tell_ghost(p);
+    if (p)
+        p->moved = host_activity;
     Entry *e = calloc(1, sizeof *e);
     if (!e)
         give_up("out of memory");
@@ -108,6 +110,7 @@ int ask(Entry *e, Packet *p, Kind kind, void *fn, int device, int location)
     e->asked[e->n] = (Asked){ .kind = kind, .fn = fn, .device = device, .location = location,
         .major = p->at[location].major, .word = p->at[location].word, .status = p->status,
         .information = p->information };
+    p->moved = host_activity;
     return e->n++;
 }
 

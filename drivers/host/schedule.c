@@ -4,11 +4,14 @@
 #include <ucontext.h>
 
 enum { STACK = 256 * 1024, MOST_STUCK = 50, MOST_SPINS = 100 };
+enum { OVERDUE_SECONDS = 60, OVERDUE_POINTS = 20000, LOOK_EVERY = 1024 }; /* how long a wait lasts before it is overdue */
 static const uintptr_t STACKS = 0x210000000000; /* the same in each run: what lies on a stack counts by its address */
 typedef struct {
     ucontext_t context;
     Self self;
     Wait wait;
+    LONGLONG since; /* when that wait began, and at which point */
+    int since_point;
     bool waits, ended;
     Woken woken;
     Place place;
@@ -221,6 +224,28 @@ static void go_to(int t)
 
 uint64_t state_of_run(void) { return state_of(n_threads); }
 
+/* A thread that waits very long without an end while others go on, or NOBODY. */
+static int overdue(void)
+{
+    for (int i = 0; i < n_threads && n_points % LOOK_EVERY == 0; i++) {
+        const Thread *t = &threads[i];
+        if (waits_for_something(t) && t->wait.patience <= HANGS && !deadline_of(t) &&
+            clock_now - t->since > OVERDUE_SECONDS * 10000000LL && n_points - t->since_point > OVERDUE_POINTS)
+            return i;
+    }
+    return NOBODY;
+}
+
+/* Who goes on, where it isn't one whose wait is overdue. */
+static int chosen_of(const Choices *c)
+{
+    const int n = __builtin_popcount(c->ready) + (c->by_time != NOBODY && c->ready), late = overdue();
+    if (late == NOBODY)
+        return n > 1 ? decide(c) : c->usual;
+    threads[late].woken = OVERDUE;
+    return late;
+}
+
 /* The one place where it is decided who goes on. */
 static void choose(Stop stop)
 {
@@ -228,13 +253,12 @@ static void choose(Stop stop)
         give_up("the run has 300,000 scheduling points: it may never end");
     is_deciding = true;
     const Choices c = choices_at(stop);
-    const int n = __builtin_popcount(c.ready) + (c.by_time != NOBODY && c.ready);
-    const int chosen = n > 1 ? decide(&c) : c.usual;
+    const int chosen = chosen_of(&c);
     const bool by_time = is_early(&c, chosen);
     Thread *t = &threads[chosen];
     if (by_time)
         let_time_pass(chosen);
-    if (t->waits && t->woken != STUCK)
+    if (t->waits && t->woken != STUCK && t->woken != OVERDUE)
         t->woken = is_over(t) ? READY : TIME_UP;
     if (t->waits && t->woken == TIME_UP && !by_time)
         clock_read_by(chosen, &clock_now); /* time passed for another one */
@@ -281,6 +305,8 @@ Woken wait_by_schedule(const Wait *w)
 {
     Thread *t = &threads[running];
     t->wait = *w;
+    t->since = clock_now;
+    t->since_point = n_points;
     t->woken = READY;
     if (w->ready(w->context)) {
         passed(w->what, READY); /* as if it had waited: both come to the same */

@@ -221,6 +221,7 @@ void stop_run(const char *why)
     stopped_by = why;
     note_fault(why);
     tell_others();
+    tell_locks_held();
     tell_packets();
     write_out();
     end_run(3);

@@ -22,7 +22,8 @@ static inline bool is_this_thread(pthread_t thread) { return pthread_equal(threa
 typedef struct { pthread_mutex_t *lock; pthread_cond_t told; } Condition;
 void tell_waiters(Condition *c);
 
-typedef enum { READY, TIME_UP, STUCK } Woken;
+/* OVERDUE: a wait without an end lasts very long, though other threads go on. Who waits may wait again. */
+typedef enum { READY, TIME_UP, STUCK, OVERDUE } Woken;
 /* What a wait is, where no thread can go on: the first of them in this order ends, with STUCK. */
 typedef enum {
     GIVES_IN, /* the host does without what it waits for */

@@ -15,7 +15,8 @@ void run_is_finished(void);
 void tell_others(void);
 void tell_packets(void);
 __attribute__((noreturn)) void end_process(int status);
-void hang(WDM_SITE at);
+void hang(Woken why, unsigned long began, WDM_SITE at);
+bool stands_still_since(unsigned long began);
 bool is_cancelled_and_held(const Packet *p);
 void tell_cancelled_and_held(const Packet *p);
 

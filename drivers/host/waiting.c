@@ -5,6 +5,7 @@
 #include <unistd.h>
 
 enum { LOOK_AGAIN = 100 }; /* milliseconds after which a waiter looks whether anything goes on */
+enum { MANY_TIMES = 10 };  /* so many times its patience a thread waits while others go on */
 static const LONGLONG UNIX_EPOCH = 116444736000000000; /* in 100 ns from 1601 */
 static _Atomic int sleepers; /* waits with a limit that go on */
 static unsigned shake_seed;
@@ -31,20 +32,25 @@ static void read_settings(void)
         patience = atoi(seconds);
 }
 
-/* Since when nothing goes on in the host, as this waiter saw it. */
-typedef struct { unsigned long seen; LONGLONG since; } Quiet;
+/* Since when nothing goes on in the host, as this waiter saw it, and since when it waits. */
+typedef struct { unsigned long seen; LONGLONG since, began; } Quiet;
 
-static bool is_stuck(const Wait *w, bool has_limit, Quiet *q)
+/* READY where it goes on to wait. */
+static Woken patience_is_over(const Wait *w, bool has_limit, Quiet *q)
 {
     const unsigned long now = __atomic_load_n(&host_activity, __ATOMIC_SEQ_CST);
-    const LONGLONG time = now_in_100ns();
+    const LONGLONG time = now_in_100ns(), second = 10000000;
     if (w->patience == IDLES || has_limit)
-        return false;
+        return READY;
+    if (!q->began)
+        q->began = time;
     if (!q->since || ((now != q->seen || sleepers || timers_armed()) && !w->seconds)) {
         q->since = time;
         q->seen = now;
     }
-    return time - q->since > (LONGLONG)(w->seconds ? w->seconds : patience) * 10000000;
+    if (time - q->since > (w->seconds ? w->seconds : patience) * second)
+        return STUCK;
+    return w->patience <= HANGS && time - q->began > MANY_TIMES * patience * second ? OVERDUE : READY;
 }
 
 /* Waits for a moment, or until it is told. */
@@ -66,6 +72,7 @@ static Woken wait_really(const Wait *w)
     Woken woken = READY;
     bool counts = false;
     pthread_once(&settings_once, read_settings);
+    self.wait = w;
     while (!w->ready(w->context)) {
         waits_now();
         const LONGLONG until = w->deadline ? w->deadline(w->context) : 0;
@@ -77,13 +84,13 @@ static Woken wait_really(const Wait *w)
             counts = true;
             sleepers++;
         }
-        if (is_stuck(w, until != 0, &quiet)) {
-            woken = STUCK;
+        woken = patience_is_over(w, until != 0, &quiet);
+        if (woken != READY)
             break;
-        }
         pause_for(w, until);
     }
     sleepers -= counts;
+    self.wait = NULL;
     return woken;
 }
 

@@ -224,11 +224,14 @@ static int await_objects(const Objects *o, WDM_SITE at)
     const Wait w = { .ready = is_one_ready, .deadline = until_of, .context = o, .on = &changed,
                      .object = o->n ? o->objects[0] : NULL, .patience = may_idle(o) ? IDLES : HANGS, .at = at,
                      .what = o->n ? "KeWaitForSingleObject" : "KeDelayExecutionThread" };
+    unsigned long began = __atomic_load_n(&host_activity, __ATOMIC_SEQ_CST);
+    Woken woken;
     pthread_mutex_lock(&wait_lock);
     note_waiting(o, at);
-    while (wait_for(&w) == STUCK) {
+    while ((woken = wait_for(&w)) == STUCK || woken == OVERDUE) {
         pthread_mutex_unlock(&wait_lock);
-        hang(at);
+        hang(woken, began, at);
+        began = __atomic_load_n(&host_activity, __ATOMIC_SEQ_CST);
         pthread_mutex_lock(&wait_lock);
     }
     note_waiting(NULL, at);
@@ -318,5 +321,11 @@ bool wait_for_host(bool (*done)(const void *), const void *context)
 {
     const Wait w = { .ready = done, .context = context, .on = &host_settled, .patience = GIVES_IN,
                      .what = self.calls->name, .at = self.calls->at };
-    return wait_for(&w) == READY;
+    unsigned long began = host_activity;
+    Woken woken = wait_for(&w);
+    while (woken == OVERDUE && !stands_still_since(began)) {
+        began = host_activity;
+        woken = wait_for(&w);
+    }
+    return woken == READY;
 }
