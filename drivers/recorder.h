@@ -66,7 +66,42 @@ VOID IrpxCompleteRequest(PIRP Irp, CCHAR Boost, const char *File);
 PDRIVER_CANCEL IrpxSetCancelRoutine(PIRP Irp, PDRIVER_CANCEL Routine, const char *File);
 BOOLEAN IrpxCancelIrp(PIRP Irp);
 
-#ifndef IRPX_INSIDE /* a file of the recorder, which makes the real calls */
+/* Packets that the manager builds, and frees at their end. */
+PIRP IrpxBuildControl(ULONG Code, PDEVICE_OBJECT Device, PVOID In, ULONG InLength, PVOID Out, ULONG OutLength,
+                      BOOLEAN Internal, PKEVENT Event, PIO_STATUS_BLOCK Status, const char *File);
+PIRP IrpxBuildSynchronous(ULONG Major, PDEVICE_OBJECT Device, PVOID Buffer, ULONG Length, PLARGE_INTEGER Offset,
+                          PKEVENT Event, PIO_STATUS_BLOCK Status, const char *File);
+PIRP IrpxBuildAsynchronous(ULONG Major, PDEVICE_OBJECT Device, PVOID Buffer, ULONG Length, PLARGE_INTEGER Offset,
+                           PIO_STATUS_BLOCK Status, const char *File);
+
+#endif
+
+/* The calls are replaced, but in the files of the recorder, which make the real ones: there they are put back where
+   `-include` had them replaced. */
+#if !defined IRPX_INSIDE && !defined IRPX_REPLACES
+#define IRPX_REPLACES
+#pragma push_macro("IoCreateDevice")
+#pragma push_macro("IoAttachDeviceToDeviceStack")
+#pragma push_macro("IoDetachDevice")
+#pragma push_macro("IoDeleteDevice")
+#pragma push_macro("IoAllocateIrp")
+#pragma push_macro("IoFreeIrp")
+#pragma push_macro("IoReuseIrp")
+#pragma push_macro("IoGetNextIrpStackLocation")
+#pragma push_macro("IoCopyCurrentIrpStackLocationToNext")
+#pragma push_macro("IoSkipCurrentIrpStackLocation")
+#pragma push_macro("IoSetCompletionRoutine")
+#pragma push_macro("IoMarkIrpPending")
+#pragma push_macro("IoCallDriver")
+#pragma push_macro("IofCallDriver")
+#pragma push_macro("PoCallDriver")
+#pragma push_macro("IoCompleteRequest")
+#pragma push_macro("IofCompleteRequest")
+#pragma push_macro("IoSetCancelRoutine")
+#pragma push_macro("IoCancelIrp")
+#pragma push_macro("IoBuildDeviceIoControlRequest")
+#pragma push_macro("IoBuildSynchronousFsdRequest")
+#pragma push_macro("IoBuildAsynchronousFsdRequest")
 #undef IoCreateDevice
 #undef IoAttachDeviceToDeviceStack
 #undef IoDetachDevice
@@ -86,6 +121,9 @@ BOOLEAN IrpxCancelIrp(PIRP Irp);
 #undef IofCompleteRequest
 #undef IoSetCancelRoutine
 #undef IoCancelIrp
+#undef IoBuildDeviceIoControlRequest
+#undef IoBuildSynchronousFsdRequest
+#undef IoBuildAsynchronousFsdRequest
 #define IoCreateDevice(driver, extension, name, type, characteristics, exclusive, device) \
     IrpxCreateDevice((driver), (extension), (name), (type), (characteristics), (exclusive), (device), __FILE__)
 #define IoAttachDeviceToDeviceStack(device, target) IrpxAttachDevice((device), (target))
@@ -107,6 +145,34 @@ BOOLEAN IrpxCancelIrp(PIRP Irp);
 #define IofCompleteRequest(irp, boost) IrpxCompleteRequest((irp), (boost), __FILE__)
 #define IoSetCancelRoutine(irp, routine) IrpxSetCancelRoutine((irp), (routine), __FILE__)
 #define IoCancelIrp(irp) IrpxCancelIrp(irp)
-#endif
-
+#define IoBuildDeviceIoControlRequest(code, device, in, in_length, out, out_length, internal, event, status) \
+    IrpxBuildControl((code), (device), (in), (in_length), (out), (out_length), (internal), (event), (status), __FILE__)
+#define IoBuildSynchronousFsdRequest(major, device, buffer, length, offset, event, status) \
+    IrpxBuildSynchronous((major), (device), (buffer), (length), (offset), (event), (status), __FILE__)
+#define IoBuildAsynchronousFsdRequest(major, device, buffer, length, offset, status) \
+    IrpxBuildAsynchronous((major), (device), (buffer), (length), (offset), (status), __FILE__)
+#elif defined IRPX_INSIDE && defined IRPX_REPLACES
+#undef IRPX_REPLACES
+#pragma pop_macro("IoCreateDevice")
+#pragma pop_macro("IoAttachDeviceToDeviceStack")
+#pragma pop_macro("IoDetachDevice")
+#pragma pop_macro("IoDeleteDevice")
+#pragma pop_macro("IoAllocateIrp")
+#pragma pop_macro("IoFreeIrp")
+#pragma pop_macro("IoReuseIrp")
+#pragma pop_macro("IoGetNextIrpStackLocation")
+#pragma pop_macro("IoCopyCurrentIrpStackLocationToNext")
+#pragma pop_macro("IoSkipCurrentIrpStackLocation")
+#pragma pop_macro("IoSetCompletionRoutine")
+#pragma pop_macro("IoMarkIrpPending")
+#pragma pop_macro("IoCallDriver")
+#pragma pop_macro("IofCallDriver")
+#pragma pop_macro("PoCallDriver")
+#pragma pop_macro("IoCompleteRequest")
+#pragma pop_macro("IofCompleteRequest")
+#pragma pop_macro("IoSetCancelRoutine")
+#pragma pop_macro("IoCancelIrp")
+#pragma pop_macro("IoBuildDeviceIoControlRequest")
+#pragma pop_macro("IoBuildSynchronousFsdRequest")
+#pragma pop_macro("IoBuildAsynchronousFsdRequest")
 #endif

@@ -177,3 +177,33 @@ VOID IrpxReuseIrp(PIRP Irp, NTSTATUS Status)
     irpx_leave();
     IoReuseIrp(Irp, Status);
 }
+
+/* The manager has filled the top location; what stood at this address before has been freed. */
+static PIRP built(PIRP irp, const char *file)
+{
+    if (!irp)
+        return NULL;
+    irpx_enter();
+    IrpxPacket *p = irpx_new(irp, irp->CurrentLocation - 1, irpx_calling_driver(file));
+    p->foreign = p->touched = TRUE;
+    irpx_leave();
+    return irp;
+}
+
+PIRP IrpxBuildControl(ULONG Code, PDEVICE_OBJECT Device, PVOID In, ULONG InLength, PVOID Out, ULONG OutLength,
+                      BOOLEAN Internal, PKEVENT Event, PIO_STATUS_BLOCK Status, const char *File)
+{
+    return built(IoBuildDeviceIoControlRequest(Code, Device, In, InLength, Out, OutLength, Internal, Event, Status), File);
+}
+
+PIRP IrpxBuildSynchronous(ULONG Major, PDEVICE_OBJECT Device, PVOID Buffer, ULONG Length, PLARGE_INTEGER Offset,
+                          PKEVENT Event, PIO_STATUS_BLOCK Status, const char *File)
+{
+    return built(IoBuildSynchronousFsdRequest(Major, Device, Buffer, Length, Offset, Event, Status), File);
+}
+
+PIRP IrpxBuildAsynchronous(ULONG Major, PDEVICE_OBJECT Device, PVOID Buffer, ULONG Length, PLARGE_INTEGER Offset,
+                           PIO_STATUS_BLOCK Status, const char *File)
+{
+    return built(IoBuildAsynchronousFsdRequest(Major, Device, Buffer, Length, Offset, Status), File);
+}

@@ -204,6 +204,20 @@ static void own_packet(void)
     done();
 }
 
+/* Two packets that the manager builds and frees, the second perhaps where the first one was. */
+static void built(void)
+{
+    LARGE_INTEGER from = { .QuadPart = 0 };
+    IO_STATUS_BLOCK status;
+    KEVENT event;
+    stack(1);
+    KeInitializeEvent(&event, NotificationEvent, FALSE);
+    for (int i = 0; i < 2; i++) {
+        irp = IoBuildSynchronousFsdRequest(IRP_MJ_READ, d[0], NULL, 0, &from, &event, &status);
+        IoCallDriver(d[0], irp);
+    }
+}
+
 static void no_dispatch(void) { stack_forwarding(2, WATCHES); send_major(1, IRP_MJ_CLEANUP, 2); done(); }
 static void forgets_mark(void) { stack_forwarding(2, FORGETS); send_held(1); }
 
@@ -238,7 +252,7 @@ static const struct { const char *name; void (*run)(void); } scenarios[] = {
     SCENARIO(pending_bit), SCENARIO(pending_bit_top), SCENARIO(held_below_skips), SCENARIO(cancel_finishes),
     SCENARIO(cancel_leaves), SCENARIO(cancel_none), SCENARIO(cancel_before), SCENARIO(twice_kept),
     SCENARIO(twice_ended), SCENARIO(twice_in_dispatch), SCENARIO(wait_for_lower), SCENARIO(wait_pended),
-    SCENARIO(own_packet),
+    SCENARIO(own_packet), SCENARIO(built),
     SCENARIO(no_dispatch), SCENARIO(forgets_mark), SCENARIO(unmarked), SCENARIO(skip_routine), SCENARIO(bad_status),
     SCENARIO(delete_in_flight), SCENARIO(not_prepared), SCENARIO(too_short),
 };
