@@ -121,7 +121,8 @@ static NTSTATUS Power(PDEVICE_OBJECT DeviceObject, PIRP Irp)
     PBOTTOM ext = DeviceObject->DeviceExtension;
     const BOOLEAN fails = (ext->Style & WDM_BOTTOM_FAILS) &&
         IoGetCurrentIrpStackLocation(Irp)->MinorFunction == IRP_MN_QUERY_POWER;
-    return End(DeviceObject, Irp, (ext->Style & WDM_BOTTOM_PENDS_ALL) != 0, fails ? STATUS_UNSUCCESSFUL : STATUS_SUCCESS, 0);
+    return End(DeviceObject, Irp, (ext->Style & WDM_BOTTOM_PENDS_ALL) != 0,
+               fails ? STATUS_UNSUCCESSFUL : STATUS_SUCCESS, 0);
 }
 
 static NTSTATUS SystemControl(PDEVICE_OBJECT DeviceObject, PIRP Irp)

@@ -91,8 +91,8 @@ bool stands_still_since(unsigned long began)
     return false;
 }
 
-/* A wait hangs: told, once. The run goes on where a lost packet can be completed; else it ends. One that only lasts long
-   goes on as well, where each packet has moved since it began. */
+/* A wait hangs: told, once. The run goes on where a lost packet can be completed; else it ends. One that only lasts
+   long goes on as well, where each packet has moved since it began. */
 void hang(Woken why, unsigned long began, WDM_SITE at)
 {
     static bool told;

@@ -73,8 +73,8 @@ static void put_wait(const Self *t, char *text, size_t size)
         return;
     const Hold *h = w->object ? holder_of(w->object, &seat) : NULL;
     if (h)
-        snprintf(text, size, "; it waits at %s for a %s that thread %d has held since %s", place(w->at), lock_kind(h->kind),
-                 seat, place(h->at));
+        snprintf(text, size, "; it waits at %s for a %s that thread %d has held since %s", place(w->at),
+                 lock_kind(h->kind), seat, place(h->at));
     else
         snprintf(text, size, "; it waits in %s at %s", w->what, place(w->at));
 }

@@ -280,8 +280,10 @@ const Hold *holder_of(const void *lock, int *seat)
 void tell_locks_held(void)
 {
     for (int seat = 0; seat < n_seats; seat++)
-        for (int i = 0; i < of_seat[seat].n; i++)
-            say("  thread %d holds a %s since %s", seat, lock_kind(of_seat[seat].held[i].kind), place(of_seat[seat].held[i].at));
+        for (int i = 0; i < of_seat[seat].n; i++) {
+            const Hold *h = &of_seat[seat].held[i];
+            say("  thread %d holds a %s since %s", seat, lock_kind(h->kind), place(h->at));
+        }
 }
 
 /* A spin lock that nobody gives back: who holds it, and what each thread holds. */

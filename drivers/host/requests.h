@@ -22,8 +22,8 @@ NTSTATUS make_request(PDEVICE_OBJECT top, What what, How how, int milliseconds);
 /* The same of power, which isn't cancelled. */
 NTSTATUS set_power(PDEVICE_OBJECT top, UCHAR minor, DEVICE_POWER_STATE state);
 
-/* The control codes that are sent: those of WDM_CONTROLS, and from `find_controls` on those of WDM_CANDIDATES, which stand
-   in the drivers' source, and usual ones: all that aren't answered as a code is that nobody knows. */
+/* The control codes that are sent: those of WDM_CONTROLS, and from `find_controls` on those of WDM_CANDIDATES, which
+   stand in the drivers' source, and usual ones: all that aren't answered as a code is that nobody knows. */
 extern ULONG controls[];
 extern int n_controls;
 void read_controls(void);

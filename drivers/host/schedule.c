@@ -4,7 +4,7 @@
 #include <ucontext.h>
 
 enum { STACK = 256 * 1024, MOST_STUCK = 50, MOST_SPINS = 100 };
-enum { OVERDUE_SECONDS = 60, OVERDUE_POINTS = 20000, LOOK_EVERY = 1024 }; /* how long a wait lasts before it is overdue */
+enum { OVERDUE_SECONDS = 60, OVERDUE_POINTS = 20000, LOOK_EVERY = 1024 }; /* after which a wait is overdue */
 static const uintptr_t STACKS = 0x210000000000; /* the same in each run: what lies on a stack counts by its address */
 typedef struct {
     ucontext_t context;

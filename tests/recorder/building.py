@@ -12,6 +12,7 @@ HOST_COMPILER = ["cc", "-std=c11", *HOST_FLAGS, "-I" + DRIVERS + "/host"]
 STRICT = ["-std=c11", "-Wall", "-Wextra", "-Werror"]
 HEADERS = "/usr/x86_64-w64-mingw32/include/ddk"
 RECORDER = sorted(f"{DRIVERS}/recorder/{name}" for name in os.listdir(DRIVERS + "/recorder") if name.endswith(".c"))
+OWN_TESTS = ("exercise.c", "requests.c", "overlaps.c")  # of the host's
 SCENARIOS = [HERE + "/scenarios.c", HERE + "/probe.c"]
 
 
@@ -39,7 +40,7 @@ def compile_all(sources, folder, flags):
 
 
 def host_objects(folder):
-    names = sorted(it for it in os.listdir(DRIVERS + "/host") if it.endswith(".c") and it not in ("exercise.c", "requests.c", "overlaps.c"))
+    names = sorted(it for it in os.listdir(DRIVERS + "/host") if it.endswith(".c") and it not in OWN_TESTS)
     return compile_all([f"{DRIVERS}/host/{it}" for it in names], folder + "/host", HOST_COMPILER)
 
 

@@ -70,7 +70,8 @@ def run_scenarios(bench, program, changed=(), rows=expected.ROWS):
 def try_scenarios(bench, scenarios, host, recorder):
     program = building.link(scenarios + host + recorder, bench.room + "/scenarios")
     named = subprocess.run([program], capture_output=True, text=True, check=True).stdout.split()
-    bench.count("recorded scenarios", "all are expected", sorted(named) != sorted(row[0] for row in expected.ROWS + expected.HOST_ROWS) and "they aren't")
+    wanted = [row[0] for row in expected.ROWS + expected.HOST_ROWS]
+    bench.count("recorded scenarios", "all are expected", sorted(named) != sorted(wanted) and "they aren't")
     for name, wrong in run_scenarios(bench, program, rows=expected.ROWS + expected.HOST_ROWS):
         bench.count("recorded scenarios", name, wrong)
     try_page_command(bench, host)
