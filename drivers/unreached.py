@@ -32,7 +32,7 @@ def reader(compiler):
 
 def forget(folder):
     """Takes the counts of an earlier run away."""
-    for path in glob.glob(f"{folder}/parts/*.gcda"):
+    for path in glob.glob(f"{folder}/*.gcda") + glob.glob(f"{folder}/parts/*.gcda"):
         os.remove(path)
 
 
