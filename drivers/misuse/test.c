@@ -62,7 +62,9 @@ int main(int argc, char **argv)
         else if (strcmp(wanted, name) == 0)
             run_case(top, n);
     if (tells_names)
-        puts("NoLocation");
+        puts("NoLocation\nCheck");
+    else if (strcmp(wanted, "Check") == 0)
+        WDM_CHECK(top == NULL); /* told: Check */
     else if (strcmp(wanted, "NoLocation") == 0)
         skip_as_originator(top);
     else if (strcmp(wanted, "Stuck") == 0)
