@@ -89,6 +89,24 @@ two_frees_against_an_allocation|reply(3) == NoIrp|it holds in 1 of 5 orders, 1 o
 a_look_between_a_reuse_and_its_label|reply(1) == Stale and reply(2) == Stale|it holds in 4 of 15 orders, 1 of 4 outcomes; one of them:
 END
 
+# The order that is shown is a shortest one: its steps by name, as they are answered, and the seats of its atomic steps.
+while IFS='|' read -r name condition steps seats; do
+    [ -n "$name" ] || continue
+    run --never "$condition" "$examples/$name.script"
+    told=$(sed -n 's/^    step \([0-9]*\)  seat .*/\1/p' "$room/output" | paste -sd' ')
+    meets "$name, never $condition: steps $told" [ "$told" = "$steps" ]
+    meets "$name, never $condition: seats" grep -qx "    the seats of its atomic steps: $seats" "$room/output"
+done <<'END'
+a_cancel_against_a_completion|status(a) == 0xC0000120|2 0 1|1 0 0
+a_removal_against_a_send|reply(5) == DeviceGone|0 1 2 3 4 5 6|1 1 1 1 1 0 0 0 0
+a_removal_against_a_send|held(lock 0) >= 0|4 5 6 0 1 2 3|0 0 0 1 1 1 1 1
+END
+run --never 'status(a) == 0xC0000120' "$examples"/a_cancel_against_a_completion.script
+meets 'the shown steps are told as the table tells them' \
+    [ -z "$(grep '^    step' "$room/output" | grep -vxFf "$examples"/a_cancel_against_a_completion.expected)" ]
+run --ends --never 'status(a) == 0xC0000120' "$examples"/a_cancel_against_a_completion.script
+meets 'by ends too' [ "$(grep -c '^    step .* -> ' "$room/output")" -eq 3 ]
+
 # Texts that are no conditions: the column, and what was expected there.
 while IFS='|' read -r condition column expected; do
     [ -n "$column" ] || continue

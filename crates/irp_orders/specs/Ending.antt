@@ -1,5 +1,17 @@
--- The exit statuses.
+-- The exit statuses, and which ending comes of what.
 use Rattle.std.specs.Prelude.{ℕ, Bool, true, false}
+use Rattle.irp_condition.specs.declared.fault.Unread.{Unread}
+use Rattle.irp_condition.specs.declared.fault.Unread.TheVariants as unread
+use Rattle.irp_listing.specs.declared.writing.Unwritten.{Unwritten}
+use Rattle.irp_listing.specs.declared.writing.Unwritten.TheVariants as unwritten
+use Rattle.irp_machine.specs.declared.limits.NotFound.{NotFound}
+use Rattle.irp_machine.specs.declared.limits.NotFound.TheVariants as found
+use Rattle.irp_machine.specs.declared.limits.NotMade.{NotMade}
+use Rattle.irp_machine.specs.declared.limits.NotMade.TheVariants as made
+use Rattle.irp_orders.specs.declared.input.StreamFault.{StreamFault}
+use Rattle.irp_orders.specs.declared.input.StreamFault.TheVariants as stream
+use Rattle.irp_script_reader.specs.declared.refusal.ScriptFault.{ScriptFault}
+use Rattle.irp_script_reader.specs.declared.refusal.ScriptFault.TheVariants as script
 use Rattle.irp_orders.specs.declared.ending.Ending.{Ending}
 use Rattle.irp_orders.specs.declared.ending.Ending.TheVariants.{
   Done,
@@ -34,3 +46,35 @@ abbrev pub has_line : Ending → Bool
 has_line Done = false
 has_line Broken = false
 has_line ending = true
+
+-- ---- which ending comes of what
+
+-- of an exploration that was given up
+abbrev pub of_unfound : NotFound → Ending
+of_unfound found.Memory = NoMemory
+of_unfound bound = Met bound
+
+-- of an order that isn't made again
+abbrev pub of_unmade : NotMade → Ending
+of_unmade made.Memory = NoMemory
+of_unmade made.NoStep = NoOrder
+
+-- of a text that isn't read as a condition
+abbrev pub of_unread : Unread → Ending
+of_unread (unread.Fault fault) = RefusedCondition fault
+of_unread unread.NoMemory = NoMemory
+
+-- of a text that isn't written
+abbrev pub of_unwritten : Unwritten → Ending
+of_unwritten unwritten.Failed = Failed
+of_unwritten unwritten.NoMemory = NoMemory
+
+-- of an input that isn't read
+abbrev pub of_unheard : StreamFault → Ending
+of_unheard stream.Failed = Failed
+of_unheard stream.NoMemory = NoMemory
+
+-- of a text that isn't read as a script
+abbrev pub of_refused : ScriptFault → Ending
+of_refused (script.Refused refusal) = RefusedScript refusal
+of_refused script.NoMemory = NoMemory

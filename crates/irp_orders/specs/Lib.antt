@@ -1,1 +1,6 @@
+pub mod Conditions
 pub mod Ending
+pub mod Facts
+pub mod Founds
+pub mod Judging
+pub mod Program

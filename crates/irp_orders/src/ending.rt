@@ -138,6 +138,10 @@ impl From<Unasked> for Ending {
 }
 
 impl From<StreamFault> for Ending {
+    ghost use Rattle.irp_orders.specs.Ending.{of_unheard};
+
+    ghost from_gives = { λ given ending. ending ≡ of_unheard given };
+
     fn from(given: StreamFault) -> Ending {
         match given {
             StreamFault::Failed => Ending::Failed,
@@ -147,6 +151,10 @@ impl From<StreamFault> for Ending {
 }
 
 impl From<ScriptFault> for Ending {
+    ghost use Rattle.irp_orders.specs.Ending.{of_refused};
+
+    ghost from_gives = { λ given ending. ending ≡ of_refused given };
+
     fn from(given: ScriptFault) -> Ending {
         match given {
             ScriptFault::Refused(refusal) => Ending::RefusedScript(refusal),
@@ -156,6 +164,10 @@ impl From<ScriptFault> for Ending {
 }
 
 impl From<Unread> for Ending {
+    ghost use Rattle.irp_orders.specs.Ending.{of_unread};
+
+    ghost from_gives = { λ given ending. ending ≡ of_unread given };
+
     fn from(given: Unread) -> Ending {
         match given {
             Unread::Fault(fault) => Ending::RefusedCondition(fault),
@@ -165,6 +177,10 @@ impl From<Unread> for Ending {
 }
 
 impl From<NotFound> for Ending {
+    ghost use Rattle.irp_orders.specs.Ending.{of_unfound};
+
+    ghost from_gives = { λ given ending. ending ≡ of_unfound given };
+
     fn from(given: NotFound) -> Ending {
         match given {
             NotFound::Memory => Ending::NoMemory,
@@ -174,6 +190,10 @@ impl From<NotFound> for Ending {
 }
 
 impl From<NotMade> for Ending {
+    ghost use Rattle.irp_orders.specs.Ending.{of_unmade};
+
+    ghost from_gives = { λ given ending. ending ≡ of_unmade given };
+
     fn from(given: NotMade) -> Ending {
         match given {
             NotMade::Memory => Ending::NoMemory,
@@ -183,6 +203,10 @@ impl From<NotMade> for Ending {
 }
 
 impl From<Unwritten> for Ending {
+    ghost use Rattle.irp_orders.specs.Ending.{of_unwritten};
+
+    ghost from_gives = { λ given ending. ending ≡ of_unwritten given };
+
     fn from(given: Unwritten) -> Ending {
         match given {
             Unwritten::Failed => Ending::Failed,
@@ -192,12 +216,20 @@ impl From<Unwritten> for Ending {
 }
 
 impl From<AllocError> for Ending {
+    ghost use Rattle.irp_orders.specs.declared.ending.Ending.TheVariants.{NoMemory};
+
+    ghost from_gives = { λ _ ending. ending ≡ NoMemory };
+
     fn from(_given: AllocError) -> Ending {
         Ending::NoMemory
     }
 }
 
 impl<T: Drop> From<AllocFailed<T>> for Ending {
+    ghost use Rattle.irp_orders.specs.declared.ending.Ending.TheVariants.{NoMemory};
+
+    ghost from_gives = { λ _ ending. ending ≡ NoMemory };
+
     fn from(_given: AllocFailed<T>) -> Ending {
         Ending::NoMemory
     }

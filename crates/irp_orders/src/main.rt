@@ -1,14 +1,18 @@
 //! The program that explores every order of a script's steps, and tells how they end.
 #![tactic(auto)]
 
+mod answering;
 mod asked;
+mod conditions;
 mod differing;
 mod ending;
 mod ends;
 mod exploring;
+mod facts;
 mod found;
 mod groups;
 mod help;
+mod in_order;
 mod input;
 mod names;
 mod never;
@@ -16,9 +20,9 @@ mod steps;
 mod table;
 mod words;
 
+use crate::answering::explore;
 use crate::asked::{Asked, Order, Unasked};
 use crate::ending::{Ending, NoOpen};
-use crate::exploring::explore;
 use irp_transcript_writer::{Out, WriterOut};
 use std::alloc::Global;
 use std::env;

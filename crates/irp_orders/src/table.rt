@@ -5,7 +5,7 @@ use crate::ends::{DeviceEndWords, LabelWords, LiveWords, LocationWords, LockWord
 use crate::found::Found;
 use crate::steps::StepWords;
 use irp_listing::put_line;
-use irp_machine::LiveEnd;
+use irp_machine::{Answered, LiveEnd};
 use irp_script_reader::{Script, Step};
 use irp_types::{IrpRef, Preparation};
 use std::alloc::{AllocError, Global};
@@ -86,10 +86,10 @@ impl<'a> Columns<'a> {
     pub fn of(
         alloc: Global,
         script: &'a Script,
-        labels: &'a [String],
         founds: &[Found],
     ) -> Result<Columns<'a>, AllocError> {
         let parts = script.parts();
+        let labels = parts.labels.as_slice();
         Ok(Columns {
             script,
             labels,
@@ -171,14 +171,14 @@ fn put_steps(
     Ok(())
 }
 
-/// Puts the line of a step.
-fn put_step(
+/// Puts the line of a step, with what it was answered. The one error is want of memory.
+pub fn put_step(
     alloc: Global,
     out: &mut Vec<u8>,
     columns: &Columns<'_>,
     place: usize,
     step: Step,
-    answer: irp_machine::Answered,
+    answer: Answered,
 ) -> Result<(), AllocError> {
     let labels = columns.labels;
     let words = StepWords {
@@ -310,9 +310,8 @@ fn put_slots(
     Ok(())
 }
 
-/// Puts an outcome, which has this number: how many orders lead to it, the answers that differ between outcomes, and what
-/// it leaves. The one error is want of memory.
-pub fn put_outcome(
+/// Puts the first line of an outcome, which has this number: how many orders lead to it. The one error is want of memory.
+pub fn put_head(
     alloc: Global,
     out: &mut Vec<u8>,
     columns: &Columns<'_>,
@@ -325,13 +324,35 @@ pub fn put_outcome(
         orders: columns.orders,
     };
     let text = format!(in alloc; "{}", head)?;
-    put_line(out, text.as_str())?;
-    put_steps(alloc, out, columns, found)?;
+    put_line(out, text.as_str())
+}
+
+/// Puts what an outcome leaves. The one error is want of memory.
+pub fn put_end(
+    alloc: Global,
+    out: &mut Vec<u8>,
+    columns: &Columns<'_>,
+    found: &Found,
+) -> Result<(), AllocError> {
     put_packets(alloc, out, columns, found)?;
     put_labels(alloc, out, columns, found)?;
     put_devices(alloc, out, columns, found)?;
     put_locks(alloc, out, columns, found)?;
     put_slots(alloc, out, columns, found)
+}
+
+/// Puts an outcome, which has this number: how many orders lead to it, the answers that differ between outcomes, and what
+/// it leaves.
+fn put_outcome(
+    alloc: Global,
+    out: &mut Vec<u8>,
+    columns: &Columns<'_>,
+    number: usize,
+    found: &Found,
+) -> Result<(), AllocError> {
+    put_head(alloc, out, columns, number, found)?;
+    put_steps(alloc, out, columns, found)?;
+    put_end(alloc, out, columns, found)
 }
 
 /// The table of these outcomes, in their order: how many there are of how many orders, and each of them. The one error is

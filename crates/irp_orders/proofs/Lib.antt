@@ -1,0 +1,3 @@
+mod Ranking
+mod Verdicts
+mod Programs
