@@ -190,6 +190,19 @@ for script in refused/*.script; do
     ended "$script" 1 "$(sed 's/^irpx:/irp_orders:/' "${script%.script}.expected")"
 done
 
+# A script in words has the orders of its JSON, and its faults are told as irp_words tells them.
+for words in ../examples/recipes/a_device_is_removed.words ../examples/recipes/a_cancel_race.words; do
+    run "${words%.words}.script"
+    cp "$room/output" "$room/table"
+    run "$words"
+    ended "$words" 0 ''
+    meets "$words: table" cmp -s "$room/table" "$room/output"
+done
+printf 'dispatches\n  finish STATUS_SUCESS 0\nsteps\n  look by o irp a\n' >"$room/wrong.words"
+run "$room/wrong.words"
+ended 'faulty words' 1 'line 2, column 10: "STATUS_SUCESS"; expected a status: a name such as STATUS_SUCCESS, or a number below 2^32. Did you mean STATUS_SUCCESS?
+line 4, column 8: "by"; expected a key of look, each once: irp'
+
 # Other words, files and outputs.
 usage='irp_orders: usage: irp_orders [--show K or --never CONDITION] [FILE]; see irp_orders --help'
 while read -r words; do

@@ -6,8 +6,10 @@ the two have to tell as many orders for the same outcomes: the same replies, and
 each transcript that is shown has to be legal by the model, and its calls to change their seat as often as in the order of
 this outcome that does so least often, or less often where the script has steps that aren't calls. Of COUNT further scripts
 that free and allocate packets the same is compared, and, where one seat makes all their steps, the transcript that is
-shown with the one that irpx writes. Of each race, RUNS runs on as many workers as it has seats have to print one of the outcomes. Prints a line for each
-difference, and then how many were tried. Ends with status 0, or 1 where something differs.
+shown with the one that irpx writes. Of each race, RUNS runs on as many workers as it has seats have to print one of the
+outcomes; so does each of RUNS / 4 runs of COUNT scripts of either kind. As many runs as there are processors go on at
+once, so that workers wait for each other. Prints a line for each difference, and then how many were tried. Ends with status
+0, or 1 where something differs.
 """
 
 import collections
@@ -144,9 +146,8 @@ def compare(name, text):
     return tally
 
 
-def by_chance(seed, number):
-    """Compares a small script that is made by chance."""
-    rng = random.Random(f"{seed}:{number}")
+def small_script(rng):
+    """Returns a small script of several seats."""
     for _ in range(1000):
         script = base_script(rng, rng.choice((1, 2)), 20)
         steps = script["setup"] + script["steps"]
@@ -155,13 +156,18 @@ def by_chance(seed, number):
         script["setup"], script["steps"] = steps[:first], steps[first : first + rng.randrange(3, STEPS + 1)]
         if len({step["seat"] for step in script["steps"]}) > 1:
             break
-    return compare(f"script {number} of seed {seed}", encode(text_of(script, rng, False)))
+    return script
 
 
-def freeing_script(rng):
-    """Returns a small script that frees and allocates packets, names them by labels, and looks at them."""
+def by_chance(seed, number):
+    """Compares a small script that is made by chance."""
+    rng = random.Random(f"{seed}:{number}")
+    return compare(f"script {number} of seed {seed}", encode(text_of(small_script(rng), rng, False)))
+
+
+def freeing_script(rng, seats):
+    """Returns a small script of so many seats that frees and allocates packets, names them by labels, and looks at them."""
     labels = "abc"
-    seats = rng.choice((1, 2, 2, 2))
     setup = [{"seat": 0, "do": "allocate", "size": 1, "as": label} for label in labels]
     steps = []
     for _ in range(rng.randrange(4, 7) if seats == 1 else rng.randrange(3, 6)):
@@ -183,7 +189,7 @@ def freeing_script(rng):
 def by_freeing(seed, number):
     """Compares a script that frees and allocates; and where one seat makes its steps, what it shows with what irpx writes."""
     rng = random.Random(f"freeing {seed}:{number}")
-    script = freeing_script(rng)
+    script = freeing_script(rng, rng.choice((1, 2, 2, 2)))
     name, text = f"freeing script {number} of seed {seed}", compact(script)
     tally = compare(name, text)
     if script["seats"] == 1:
@@ -192,7 +198,7 @@ def by_freeing(seed, number):
     return tally
 
 
-def race(name, text, runs):
+def race(name, text, runs, kind="races"):
     """Runs a script on as many workers as it has seats. Each run has to print an outcome. Returns the tally."""
     tally = Tally()
     script = read_script(text, 1)
@@ -202,8 +208,18 @@ def race(name, text, runs):
     for number in range(runs):
         printed = ended(IRPX, "run", "--workers", str(script.seats), text=text)
         is_found = found is not None and (replies_in(printed, script), end_in(printed, script)) in found
-        tally.note("races", f"{name}, run {number}: {wrong or 'no outcome has its replies'}", is_found)
+        tally.note(kind, f"{name}, run {number}: {wrong or 'no outcome has its replies'}", is_found)
     return tally
+
+
+def by_threads(seed, number, runs):
+    """Runs a script that is made by chance, with labels, frees or slots, and few orders."""
+    rng = random.Random(f"threads {seed}:{number}")
+    while True:
+        script = small_script(rng) if number % 2 else freeing_script(rng, rng.choice((2, 3)))
+        text = compact(script)
+        if orders_of(read_script(text, 1), MOST // 10) is not None:
+            return race(f"script {number} for threads of seed {seed}", text, runs, "threads")
 
 
 def main():
@@ -218,6 +234,7 @@ def main():
         if name.startswith("orders/"):
             tasks.append((race, name, text, runs))
     tasks += [(one, seed, number) for number in range(count) for one in (by_chance, by_freeing)]
+    tasks += [(by_threads, seed, number, max(1, runs // 4)) for number in range(count)]
     tally = work(tasks, prepare, (irp_orders, irpx))
     tally.tell()
     return 1 if tally.wrong else 0

@@ -1,12 +1,12 @@
 -- How the program ends by what was judged.
 use Rattle.std.proofs.Common.{◌≡◌, ◌<◌, ◌∙◌, ◌⊎◌, inl, inr, ℕ, Bool, List, Option, Some, None, length, ap, refl, sym, subst, arith, Contains}
-use Rattle.std.specs.Prelude.{slice_get, Err}
+use Rattle.std.specs.Prelude.{⊤, slice_get, Err}
 use Rattle.std.proofs.lemmas.List.{length-map, get_or-map}
 use Rattle.std.proofs.lemmas.List.Elements.{All-map, Contains-get_or}
-use Rattle.std.proofs.lemmas.Option.{get_or_from_slice_get, none-some, slice_get_within}
+use Rattle.std.proofs.lemmas.Option.{get_or_from_slice_get, slice_get_within}
+use Rattle.irp_condition.specs.Faults.{Gives, Found as Sought, found as sought, missing}
 use Rattle.irp_condition.specs.Formulas.{Formula, formula_of}
 use Rattle.irp_condition.specs.Grammar.{TextSays}
-use Rattle.irp_condition.specs.Reading.{Gives}
 use Rattle.irp_condition.specs.declared.condition.Condition.{Condition}
 use Rattle.irp_condition.specs.declared.fault.Unread.{Unread}
 use Rattle.irp_condition.specs.declared.fault.Unread.TheVariants as unread
@@ -38,13 +38,18 @@ pub says_of : (script : ScriptParts) (tells : Bool) (text : List ℕ) (condition
     → IsScopeOf script tells scope → TextSays scope text (formula_of condition) → Says script tells text condition
 says_of script tells text condition scope of_script said = record { scope = scope; of_script = of_script; said = said }
 
+-- what was looked for is there
+abbrev IsThere : Sought Formula → Type 0
+IsThere (sought formula) = ⊤
+IsThere (missing fault) = ⊥
+
 pub unread_of : (script : ScriptParts) (tells : Bool) (text : List ℕ) (unread : Unread) (scope : Scope) → IsScopeOf script tells scope
-    → ((formula : Formula) → TextSays scope text formula → Gives formula_of (Err unread) (Some formula))
+    → ((formula : Formula) → TextSays scope text formula → Gives formula_of (Err unread) (sought formula))
     → IsUnread script tells text (of_unread unread)
 unread_of script tells text (unread.Fault fault) scope of_script whole = record {
   scope = scope;
   of_script = of_script;
-  nothing = λ formula says. none-some formula (sym (whole formula says));
+  nothing = λ formula says. subst IsThere (whole formula says) tt;
 }
 unread_of script tells text unread.NoMemory scope of_script whole = tt
 
@@ -112,6 +117,8 @@ pub unexplored_judges : (script : ScriptParts) (order : Order) (text : List ℕ)
     → IsUnexplored script order ending → Judges script order text ending
 unexplored_judges script order text ending.Done un = absurd un
 unexplored_judges script order text (ending.RefusedScript refusal) un = absurd un
+unexplored_judges script order text (ending.FaultyWords lines) un = absurd un
+unexplored_judges script order text ending.Differs un = absurd un
 unexplored_judges script order text ending.Broken un = absurd un
 unexplored_judges script order text ending.NoMemory un = tt
 unexplored_judges script order text (ending.Met bound) un = un
@@ -126,6 +133,8 @@ pub unjudged_judges : (script : ScriptParts) (order : Order) (text : List ℕ) (
     → IsUnjudged script (tells order) text ending → Judges script order text ending
 unjudged_judges script order text ending.Done un = absurd un
 unjudged_judges script order text (ending.RefusedScript refusal) un = absurd un
+unjudged_judges script order text (ending.FaultyWords lines) un = absurd un
+unjudged_judges script order text ending.Differs un = absurd un
 unjudged_judges script order text ending.Broken un = absurd un
 unjudged_judges script order text ending.NoMemory un = tt
 unjudged_judges script order text (ending.Met bound) un = absurd un

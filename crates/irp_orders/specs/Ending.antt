@@ -16,6 +16,8 @@ use Rattle.irp_orders.specs.declared.ending.Ending.{Ending}
 use Rattle.irp_orders.specs.declared.ending.Ending.TheVariants.{
   Done,
   RefusedScript,
+  FaultyWords,
+  Differs,
   Broken,
   NoMemory,
   Met,
@@ -31,6 +33,8 @@ use Rattle.irp_orders.specs.declared.ending.Ending.TheVariants.{
 abbrev pub status_of : Ending → ℕ
 status_of Done = 0
 status_of (RefusedScript refusal) = 1
+status_of (FaultyWords lines) = 1
+status_of Differs = 1
 status_of Broken = 2
 status_of NoMemory = 3
 status_of (Met met) = 3

@@ -26,6 +26,8 @@ use Rattle.irp_orders.specs.declared.ending.Ending.TheVariants.{
   NoOrder,
   RefusedCondition,
   RefusedScript,
+  FaultyWords,
+  Differs,
   Failed,
 }
 
@@ -152,3 +154,19 @@ abbrev pub Explores : Order → Option (List ℕ) → Option (List ℕ) → Endi
 Explores order old new ending =
     IsGivenUp ending
     ⊎ ((text : List ℕ) × IsInput old new text × (IsRefused text ending ⊎ IsAnswered order text ending))
+
+-- words say no script: each fault is told, or memory ran out
+abbrev pub IsFaulty : Ending → Type 0
+IsFaulty (FaultyWords lines) = ⊤
+IsFaulty Differs = ⊤
+IsFaulty NoMemory = ⊤
+IsFaulty other = ⊥
+
+-- the program does with some text of JSON what it does with its input
+abbrev pub IsToldOfJson : Order → Ending → Type 0
+IsToldOfJson order ending =
+    (json : List ℕ) × (IsGivenUp ending ⊎ (IsRefused json ending ⊎ IsAnswered order json ending))
+
+-- what the program does with words: it gives up, or tells their faults; or it takes the JSON that they say
+abbrev pub ExploresWords : Order → Ending → Type 0
+ExploresWords order ending = IsGivenUp ending ⊎ (IsFaulty ending ⊎ IsToldOfJson order ending)

@@ -177,7 +177,12 @@ fn answer<O: Out>(alloc: Global, output: &mut O, script: &Script, order: &Order<
 }
 
 /// Tells what is asked of the orders of the script that a text is.
-fn read_and_answer<O: Out>(alloc: Global, output: &mut O, order: &Order<'_>, text: &[u8]) -> Ending
+pub fn read_and_answer<O: Out>(
+    alloc: Global,
+    output: &mut O,
+    order: &Order<'_>,
+    text: &[u8],
+) -> Ending
     ensures { IsGivenUp result ⊎ (IsRefused text.now result ⊎ IsAnswered order.now text.now result) }
 {
     match read_script(alloc, text) {

@@ -42,6 +42,10 @@ pub enum Ending {
     Done,
     /// The script is refused: status 1.
     RefusedScript(ScriptRefusal),
+    /// The script in words has faults, with a line for each: status 1.
+    FaultyWords(String),
+    /// The JSON isn't read as what the words say; no text is known that brings this about: status 1.
+    Differs,
     /// An order makes the condition hold, and was told: status 2, and no line.
     Broken,
     /// Memory ran out: status 3.
@@ -70,7 +74,7 @@ impl Ending {
     {
         match self {
             Ending::Done => 0,
-            Ending::RefusedScript(_) => 1,
+            Ending::RefusedScript(_) | Ending::FaultyWords(_) | Ending::Differs => 1,
             Ending::Broken => 2,
             Ending::NoMemory | Ending::Met(_) | Ending::NoOrder => 3,
             Ending::OtherWords | Ending::RefusedCondition(_) | Ending::NoOutcome(_) => 4,
@@ -106,12 +110,21 @@ fn bound_words(met: NotFound) -> &'static str {
     }
 }
 
-/// The line for standard error, without its newline; no text where there is none.
+/// Lines without the newline of the last one.
+fn without_last_newline(lines: &str) -> &str {
+    lines.strip_suffix("\n").unwrap_or(lines)
+}
+
+/// The line for standard error, without its newline; no text where there is none. Faulty words have several.
 impl fmt::Display for Ending {
     fn fmt<W: fmt::Write>(&self, f: &mut fmt::Formatter<W>) -> fmt::Result {
         match self {
             Ending::Done | Ending::Broken => Ok(()),
             Ending::RefusedScript(refusal) => write!(f, "irp_orders: script refused: {refusal}"),
+            Ending::FaultyWords(lines) => f.write_str(without_last_newline(lines.as_str())),
+            Ending::Differs => f.write_str(
+                "irp_orders: a fault of this program: the JSON isn't read as what the words say",
+            ),
             Ending::NoMemory => f.write_str("irp_orders: out of memory"),
             Ending::Met(met) => write!(f, "irp_orders: {}", bound_words(*met)),
             Ending::NoOrder => f.write_str("irp_orders: an order can't be made again"),

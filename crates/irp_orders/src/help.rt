@@ -12,9 +12,9 @@ Usage: irp_orders [--ends] [--groups] [--states N] [--outcomes N] [FILE]
        irp_orders --show K [..] [FILE]
        irp_orders --never CONDITION [..] [FILE]
 
-The script is read from FILE, or from standard input. Without --show and --never, a table of the outcomes is printed, the
-most frequent first: how many orders end so, the replies in which outcomes differ, the live packets, the remove locks and
-the cancel slots.
+The script is read from FILE, or from standard input. A file whose name ends with .words holds words, as irp_words reads
+them. Without --show and --never, irp_orders prints a table of the outcomes, the most frequent first: how many orders end
+so, the replies in which outcomes differ, the live packets, the remove locks and the cancel slots.
 
   --show K           prints a transcript that leads to outcome K
   --write FOLDER     writes the table and a transcript for each outcome there (bin/irp_orders takes this word)

@@ -13,6 +13,7 @@ mod found;
 mod groups;
 mod help;
 mod in_order;
+mod in_words;
 mod input;
 mod names;
 mod never;
@@ -23,6 +24,7 @@ mod words;
 use crate::answering::explore;
 use crate::asked::{Asked, Order, Unasked};
 use crate::ending::{Ending, NoOpen};
+use crate::in_words::explore_words;
 use irp_transcript_writer::{Out, WriterOut};
 use std::alloc::Global;
 use std::env;
@@ -55,6 +57,9 @@ fn explore_in<O: Out>(
         return explore(rt.alloc(), &mut input, output, order);
     };
     match File::open(rt, name) {
+        Ok(mut file) if name.ends_with(".words") => {
+            explore_words(rt.alloc(), &mut file, output, order)
+        }
         Ok(mut file) => explore(rt.alloc(), &mut file, output, order),
         Err(error) => no_file(rt.alloc(), name, error.kind()),
     }

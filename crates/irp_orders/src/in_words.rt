@@ -1,0 +1,77 @@
+//! Telling what is asked of the orders of a script in words.
+
+ghost use Rattle.std.specs.Prelude.{◌⊎◌, IfErr};
+ghost use Rattle.irp_orders.specs.Program.{ExploresWords, IsFaulty, IsGivenUp, IsToldOfJson};
+
+use crate::answering::read_and_answer;
+use crate::asked::Order;
+use crate::ending::Ending;
+use crate::input::read_up_to;
+use irp_grammar::{Told, Untold, fault_lines, json, read_lines};
+use irp_transcript_writer::Out;
+use std::alloc::Global;
+use std::io::Read;
+
+/// One byte more than a text in words may have.
+const TOO_MANY_BYTES: usize = 1_048_577;
+
+/// The JSON of a text in words, with its script.
+fn told_of<'a>(alloc: Global, text: &'a [u8]) -> Result<Told, Untold<'a>> {
+    let said = read_lines(alloc, text)?;
+    json(alloc, &said)
+}
+
+/// How the program ends where there is no JSON of a text in words: with a line for each fault, as `irp_words` tells it.
+fn ending_of(alloc: Global, untold: Untold<'_>) -> Ending
+    ensures { IsFaulty result }
+{
+    match untold {
+        Untold::Faults(faults) => match fault_lines(alloc, faults.as_slice()) {
+            Ok(lines) => Ending::FaultyWords(lines),
+            Err(_) => Ending::NoMemory,
+        },
+        Untold::Differs => Ending::Differs,
+        Untold::NoMemory => Ending::NoMemory,
+    }
+}
+
+/// The JSON that `irp_words json` prints of a text in words.
+///
+/// # Errors
+///
+/// `FaultyWords` where the words have faults, and `NoMemory` where memory ran out. `Differs` is a fault of this program,
+/// which no text is known to bring about.
+fn json_of(alloc: Global, text: &[u8]) -> Result<String, Ending>
+    ensures { IfErr result IsFaulty }
+{
+    match told_of(alloc, text) {
+        Ok(told) => Ok(told.text),
+        Err(untold) => Err(ending_of(alloc, untold)),
+    }
+}
+
+/// Tells what is asked of the orders of the script that words say.
+fn answer_words<O: Out>(alloc: Global, output: &mut O, order: &Order<'_>, text: &[u8]) -> Ending
+    ensures { IsFaulty result ⊎ IsToldOfJson order.now result }
+{
+    match json_of(alloc, text) {
+        Ok(json) => read_and_answer(alloc, output, order, json.as_bytes()),
+        Err(ending) => ending,
+    }
+}
+
+/// Reads words from the input, up to its end or to one byte more than a script may have, explores the orders of the
+/// script that they say, and tells what is asked (this project's own command line). Returns how the program ends.
+pub fn explore_words<R: Read, O: Out>(
+    alloc: Global,
+    input: &mut R,
+    output: &mut O,
+    order: &Order<'_>,
+) -> Ending
+    ensures { ExploresWords order.now result }
+{
+    match read_up_to(alloc, input, TOO_MANY_BYTES) {
+        Ok(text) => answer_words(alloc, output, order, text.as_slice()),
+        Err(fault) => Ending::from(fault),
+    }
+}
