@@ -4,6 +4,9 @@ keeps the rule."""
 import os
 import re
 import subprocess
+from xml.etree import ElementTree
+
+import mistakes
 
 HERE = os.path.dirname(os.path.abspath(__file__))
 # What the run of a case needs, by the end of its name.
@@ -59,6 +62,36 @@ static NTSTATUS Flush(PDEVICE_OBJECT DeviceObject, PIRP Irp)
     IoSetCompletionRoutine(Irp, Flushed, NULL, TRUE, TRUE, TRUE);
     return IoCallDriver(lower, Irp);
 }
+static NTSTATUS Opened(PDEVICE_OBJECT DeviceObject, PIRP Irp, PVOID Context)
+{
+    KeSetEvent(Context, IO_NO_INCREMENT, FALSE);
+    return STATUS_MORE_PROCESSING_REQUIRED;
+}
+static NTSTATUS Create(PDEVICE_OBJECT DeviceObject, PIRP Irp)
+{
+    static KEVENT event;
+    KeInitializeEvent(&event, NotificationEvent, FALSE);
+    IoCopyCurrentIrpStackLocationToNext(Irp);
+    IoSetCompletionRoutine(Irp, Opened, &event, TRUE, TRUE, TRUE);
+    if (IoCallDriver(lower, Irp) == STATUS_PENDING && IS_RIGHT)
+        KeWaitForSingleObject(&event, Executive, KernelMode, FALSE, NULL);
+    Irp->IoStatus.Status = STATUS_SUCCESS; /* TouchedAfterSend */
+    IoCompleteRequest(Irp, IO_NO_INCREMENT);
+    return STATUS_SUCCESS;
+}
+static VOID Cancelled(PDEVICE_OBJECT DeviceObject, PIRP Irp)
+{
+    IoReleaseCancelSpinLock(Irp->CancelIrql);
+    Complete(Irp, STATUS_CANCELLED);
+}
+static NTSTATUS Control(PDEVICE_OBJECT DeviceObject, PIRP Irp)
+{
+    IoMarkIrpPending(Irp);
+    IoSetCancelRoutine(Irp, Cancelled);
+    if (IoSetCancelRoutine(Irp, NULL) != NULL || !IS_RIGHT)
+        Complete(Irp, STATUS_SUCCESS); /* CompletedTwice */
+    return STATUS_PENDING;
+}
 static NTSTATUS Pass(PDEVICE_OBJECT DeviceObject, PIRP Irp)
 {
     const PIO_STACK_LOCATION stack = IoGetCurrentIrpStackLocation(Irp);
@@ -88,6 +121,8 @@ NTSTATUS DriverEntry(PDRIVER_OBJECT DriverObject, PUNICODE_STRING RegistryPath)
     DriverObject->MajorFunction[IRP_MJ_READ] = Read;
     DriverObject->MajorFunction[IRP_MJ_WRITE] = Write;
     DriverObject->MajorFunction[IRP_MJ_FLUSH_BUFFERS] = Flush;
+    DriverObject->MajorFunction[IRP_MJ_CREATE] = Create;
+    DriverObject->MajorFunction[IRP_MJ_DEVICE_CONTROL] = Control;
     DriverObject->DriverExtension->AddDevice = AddDevice;
     return STATUS_SUCCESS;
 }
@@ -136,7 +171,7 @@ def tests(bench, names_of, complaint):
 
 def verified(bench, source, *flags):
     """Returns what `run --verify` prints, and its exit status."""
-    words = [HERE + "/run", "--verify", "--processes", "1", "--irpx", bench.irpx, *flags, source]
+    words = [HERE + "/run", "--verify", "--processes", "1", "--irpx", bench.irpx, *flags, source]  # `flags` come last
     made = subprocess.run(words, capture_output=True, text=True, check=False)
     return made.stdout, made.returncode
 
@@ -144,7 +179,7 @@ def verified(bench, source, *flags):
 def right_verified(bench, wish):
     """Gives a complaint where one of the right drivers isn't silent in all runs."""
     *flags, source = wish.split()
-    flags = [it.replace("=", " ") for it in flags]
+    flags = ["--minutes", "0.4", *(it.replace("=", " ") for it in flags)]
     said, status = verified(bench, f"{HERE}/{source}", *flags)
     yield f"verify: {wish}", None if not status and "clean" in said else f"status {status}: {said[-600:]}"
 
@@ -156,7 +191,7 @@ def unlucky(bench):
         it.write(UNLUCKY)
     said, status = verified(bench, source)
     lines = UNLUCKY.splitlines()
-    for rule in ("Lost", "PoolOverrun", "STOPPED", "IrqlTooHigh"):
+    for rule in ("Lost", "PoolOverrun", "STOPPED", "IrqlTooHigh", "TouchedAfterSend", "CompletedTwice"):
         number = next(n for n, line in enumerate(lines, 1) if f"/* {rule} */" in line)
         place = "Read, dispatch" if rule == "Lost" else f"unlucky.c:{number}"
         told = re.search(rf"^host: (?:FAULT )?{rule}.*?{re.escape(place)}.*"
@@ -167,6 +202,106 @@ def unlucky(bench):
         yield f"verify tells {rule}, and how to repeat it", None if well else f"status {status}: {said[-900:]}"
     said, status = verified(bench, source, "--cflag=-DRIGHT")
     yield "verify is silent without the mistakes", None if status == 0 else said[-600:]
+
+
+NAMED = """#include "wdm_test.h"
+WDM_TEST(is_there)
+{
+    PDRIVER_OBJECT driver = WdmLoadByName("one");
+    WDM_CHECK(WdmSend(driver->DeviceObject, IRP_MJ_READ, 0, 4) == STATUS_SUCCESS);
+}
+WDM_TEST(a_read_has_its_bytes)
+{
+    PDRIVER_OBJECT driver = WdmLoadByName("one");
+    WDM_CHECK(WdmSend(driver->DeviceObject, IRP_MJ_READ, 0, 4) == STATUS_SUCCESS);
+    WDM_CHECK(WdmSend(driver->DeviceObject, IRP_MJ_WRITE, 0, 4) == STATUS_SUCCESS); /* there is no such dispatch */
+    WdmUnloadDriver(driver);
+}
+"""
+
+
+def named_tests(bench, driver):
+    """Tests by name run alone, a check that fails is told at its line, and both reports have them."""
+    folder = bench.folder("named tests")
+    for name, text in ("one.c", driver), ("named.c", NAMED):
+        with open(f"{folder}/{name}", "w", encoding="utf-8") as it:
+            it.write(text)
+    words = [HERE + "/run", "--irpx", bench.irpx, "--tap", "--junit", folder + "/out.xml", folder + "/one.c",
+             folder + "/named.c"]
+    made = subprocess.run(words, capture_output=True, text=True, check=False)
+    wanted = ["\n1..2\n", "\nok 1 - is_there\n", "\nnot ok 2 - a_read_has_its_bytes\n"]
+    missing = [it for it in wanted if it not in made.stdout]
+    failed = next(number for number, line in enumerate(NAMED.splitlines(), 1) if "IRP_MJ_WRITE" in line)
+    if f"FAULT Check: named.c:{failed} in a_read_has_its_bytes" not in made.stderr or made.returncode != 1:
+        missing.append("the check that fails")
+    yield "tests by name, and TAP", f"no {missing}: {made.stdout[-600:]} {made.stderr[-600:]}" if missing else None
+    suite = ElementTree.parse(folder + "/out.xml").getroot()
+    cases = [(it.get("name"), it.find("failure") is not None) for it in suite.iter("testcase")]
+    well = cases == [("is_there", False), ("a_read_has_its_bytes", True)] and suite.get("failures") == "1"
+    yield "and JUnit", None if well else str(cases)
+    alone = subprocess.run([*words[:3], "--test", "is_there", *words[-2:]], capture_output=True, text=True, check=False)
+    yield "one test alone", None if alone.returncode == 0 and "a_read" not in alone.stdout else alone.stdout
+
+
+NOTED = r"""#include <wdm.h>
+#include "wdm_test.h"
+static NTSTATUS Control(PDEVICE_OBJECT DeviceObject, PIRP Irp)
+{
+    PIO_STACK_LOCATION stack = IoGetCurrentIrpStackLocation(Irp);
+    PUCHAR in = stack->Parameters.DeviceIoControl.Type3InputBuffer;
+    if (stack->Parameters.DeviceIoControl.IoControlCode & 4)
+        ProbeForRead(in, 1, 1);
+    Irp->IoStatus.Status = *in ? STATUS_UNSUCCESSFUL : STATUS_SUCCESS;
+    Irp->IoStatus.Information = 0;
+    DeviceObject->DeviceExtension = ExAllocatePoolWithTag(NonPagedPool, 8, 'peeK');
+    IoCompleteRequest(Irp, IO_NO_INCREMENT);
+    return STATUS_SUCCESS;
+}
+static NTSTATUS Entry(PDRIVER_OBJECT DriverObject, PUNICODE_STRING RegistryPath)
+{
+    PDEVICE_OBJECT device;
+    DriverObject->MajorFunction[IRP_MJ_DEVICE_CONTROL] = Control;
+    return IoCreateDevice(DriverObject, 0, NULL, FILE_DEVICE_NULL, 0, FALSE, &device);
+}
+int main(int argc, char **argv)
+{
+    PDRIVER_OBJECT driver = WdmLoadDriver("noted", Entry);
+    for (int i = 0; i < atoi(argv[1]); i++)
+        WdmControl(driver->DeviceObject, argc > 2 ? 0x222007 : 0x222003, 8);
+    return WdmFinish();
+}
+"""
+
+
+def notes(bench):
+    """What is a note, and no fault: a METHOD_NEITHER pointer without a probe; what each of many packets leaves behind."""
+    folder = bench.folder("notes")
+    with open(folder + "/noted.c", "w", encoding="utf-8") as it:
+        it.write(NOTED)
+    program = bench.build(folder, [folder + "/noted.c"])
+    line = next(number for number, text in enumerate(NOTED.splitlines(), 1) if "= *in" in text)
+    said = bench.run(folder, program, args="1", settings={"WDM_PAGE_ENDS": "1"}).said
+    told = re.search(rf"note, a METHOD_NEITHER pointer: .*noted.c:{line} in Control", said)
+    yield "a METHOD_NEITHER pointer that isn't probed", None if told else said[-500:]
+    said = bench.run(folder, program, args="1 probed", settings={"WDM_PAGE_ENDS": "1"}).said
+    yield "and one that is", said[-500:] if "METHOD_NEITHER" in said else None
+    said = bench.run(folder, program, args="120 probed").said
+    told = re.search(r"note, pool: of 1[12]\d blocks that were allocated at noted.c:\d+, 1\d\d aren't freed", said)
+    yield "what packets leave behind", None if told else said[-500:]
+
+
+def mistakes_told(bench, mistake):
+    """The mistake is told first by the run that mistakes.py names, as the rule that it names."""
+    folder = bench.folder("mistake " + mistake.name)
+    mistake.write(f"{folder}/{mistake.file}")
+    flags = [word for key, value in mistake.flags.items()
+             for word in ([f"--{key}"] if value is True else [f"--{key}", value])]
+    made = subprocess.run([HERE + "/run", "--irpx", bench.irpx, "--controls", mistakes.CONTROLS[mistake.file], *flags,
+                           f"{folder}/{mistake.file}"], capture_output=True, text=True, check=False)
+    found = re.search(r"^host: (?:FAULT )?(\w+)", "\n".join(
+        it for it in made.stderr.splitlines() if "FAULT" in it or "STOPPED" in it), re.M)
+    told = found[1] if found else None
+    yield f"mistake: {mistake.name}", None if told == mistake.rule else f"{told}, and not {mistake.rule}: {made.stdout[-300:]}"
 
 
 def missing_rules(names):

@@ -14,6 +14,7 @@ import time
 import reporting
 
 SEEDS_OF_REFUSALS = 4
+PATIENCE = 10  # seconds: runs stand side by side, and one that gets no processor for a while doesn't hang
 FLAGS = ["-finstrument-functions", f"-finstrument-functions-exclude-file-list={os.path.dirname(os.path.abspath(__file__))}/include/"]
 # What is told of memory is told best where pages end with blocks: at the line itself.
 MEMORY = ("PoolOverrun", "WrittenAfterFree", "UsedAfterFree")
@@ -122,6 +123,7 @@ class Verification:
         if began > self.until:
             return None
         options = copy.copy(self.options)
+        options.patience = options.patience or PATIENCE
         for key, value in flags.items():
             setattr(options, key, value)
         return self.make_run(options, next(self.numbers)), time.monotonic() - began
