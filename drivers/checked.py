@@ -274,7 +274,7 @@ int main(int argc, char **argv)
 
 
 def notes(bench):
-    """What is a note, and no fault: a METHOD_NEITHER pointer without a probe; what each of many packets leaves behind."""
+    """Notes, and no faults: a METHOD_NEITHER pointer without a probe; what each of many packets leaves behind."""
     folder = bench.folder("notes")
     with open(folder + "/noted.c", "w", encoding="utf-8") as it:
         it.write(NOTED)
@@ -301,7 +301,8 @@ def mistakes_told(bench, mistake):
     found = re.search(r"^host: (?:FAULT )?(\w+)", "\n".join(
         it for it in made.stderr.splitlines() if "FAULT" in it or "STOPPED" in it), re.M)
     told = found[1] if found else None
-    yield f"mistake: {mistake.name}", None if told == mistake.rule else f"{told}, and not {mistake.rule}: {made.stdout[-300:]}"
+    wrong = f"{told}, and not {mistake.rule}: {made.stdout[-300:]}"
+    yield f"mistake: {mistake.name}", None if told == mistake.rule else wrong
 
 
 def missing_rules(names):
