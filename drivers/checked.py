@@ -62,36 +62,6 @@ static NTSTATUS Flush(PDEVICE_OBJECT DeviceObject, PIRP Irp)
     IoSetCompletionRoutine(Irp, Flushed, NULL, TRUE, TRUE, TRUE);
     return IoCallDriver(lower, Irp);
 }
-static NTSTATUS Opened(PDEVICE_OBJECT DeviceObject, PIRP Irp, PVOID Context)
-{
-    KeSetEvent(Context, IO_NO_INCREMENT, FALSE);
-    return STATUS_MORE_PROCESSING_REQUIRED;
-}
-static NTSTATUS Create(PDEVICE_OBJECT DeviceObject, PIRP Irp)
-{
-    static KEVENT event;
-    KeInitializeEvent(&event, NotificationEvent, FALSE);
-    IoCopyCurrentIrpStackLocationToNext(Irp);
-    IoSetCompletionRoutine(Irp, Opened, &event, TRUE, TRUE, TRUE);
-    if (IoCallDriver(lower, Irp) == STATUS_PENDING && IS_RIGHT)
-        KeWaitForSingleObject(&event, Executive, KernelMode, FALSE, NULL);
-    Irp->IoStatus.Status = STATUS_SUCCESS; /* TouchedAfterSend */
-    IoCompleteRequest(Irp, IO_NO_INCREMENT);
-    return STATUS_SUCCESS;
-}
-static VOID Cancelled(PDEVICE_OBJECT DeviceObject, PIRP Irp)
-{
-    IoReleaseCancelSpinLock(Irp->CancelIrql);
-    Complete(Irp, STATUS_CANCELLED);
-}
-static NTSTATUS Control(PDEVICE_OBJECT DeviceObject, PIRP Irp)
-{
-    IoMarkIrpPending(Irp);
-    IoSetCancelRoutine(Irp, Cancelled);
-    if (IoSetCancelRoutine(Irp, NULL) != NULL || !IS_RIGHT)
-        Complete(Irp, STATUS_SUCCESS); /* CompletedTwice */
-    return STATUS_PENDING;
-}
 static NTSTATUS Pass(PDEVICE_OBJECT DeviceObject, PIRP Irp)
 {
     const PIO_STACK_LOCATION stack = IoGetCurrentIrpStackLocation(Irp);
@@ -121,8 +91,6 @@ NTSTATUS DriverEntry(PDRIVER_OBJECT DriverObject, PUNICODE_STRING RegistryPath)
     DriverObject->MajorFunction[IRP_MJ_READ] = Read;
     DriverObject->MajorFunction[IRP_MJ_WRITE] = Write;
     DriverObject->MajorFunction[IRP_MJ_FLUSH_BUFFERS] = Flush;
-    DriverObject->MajorFunction[IRP_MJ_CREATE] = Create;
-    DriverObject->MajorFunction[IRP_MJ_DEVICE_CONTROL] = Control;
     DriverObject->DriverExtension->AddDevice = AddDevice;
     return STATUS_SUCCESS;
 }
@@ -191,7 +159,7 @@ def unlucky(bench):
         it.write(UNLUCKY)
     said, status = verified(bench, source)
     lines = UNLUCKY.splitlines()
-    for rule in ("Lost", "PoolOverrun", "STOPPED", "IrqlTooHigh", "TouchedAfterSend", "CompletedTwice"):
+    for rule in ("Lost", "PoolOverrun", "STOPPED", "IrqlTooHigh"):
         number = next(n for n, line in enumerate(lines, 1) if f"/* {rule} */" in line)
         place = "Read, dispatch" if rule == "Lost" else f"unlucky.c:{number}"
         told = re.search(rf"^host: (?:FAULT )?{rule}.*?{re.escape(place)}.*"

@@ -69,7 +69,7 @@ MISTAKES = [
           "    return IoCallDriver(ext->Lower, Irp);\n",
           "    IoSetCompletionRoutine(Irp, TransferDone, transfer, TRUE, TRUE, TRUE);\n"
           "    status = IoCallDriver(ext->Lower, Irp);\n    ext->Transfers += stack->Parameters.Read.Length > 0;\n"
-          "    return status;\n", "TouchedAfterSend"),
+          "    return status;\n", "Touched"),
     meter("its own control isn't waited for", "    if (status == STATUS_PENDING) {\n"
           "        KeWaitForSingleObject(&event", "    if (0) {\n        KeWaitForSingleObject(&event", "StackBlock"),
     meter("two locks in two orders",
