@@ -5,17 +5,19 @@
 typedef struct {
     PDEVICE_OBJECT Lower;
     IO_REMOVE_LOCK RemoveLock;
-    KSPIN_LOCK Lock;
-    LIST_ENTRY Reads;
-    KSEMAPHORE Count;
 } EXTENSION, *PEXTENSION;
+
+/* Of the driver: its reader goes on when the device is gone. */
+static KSPIN_LOCK lock;
+static LIST_ENTRY reads;
+static KSEMAPHORE count;
 
 static VOID Reader(PVOID Context)
 {
     PEXTENSION ext = Context;
     for (;;) {
-        KeWaitForSingleObject(&ext->Count, Executive, KernelMode, FALSE, NULL);
-        PLIST_ENTRY e = ExInterlockedRemoveHeadList(&ext->Reads, &ext->Lock);
+        KeWaitForSingleObject(&count, Executive, KernelMode, FALSE, NULL);
+        PLIST_ENTRY e = ExInterlockedRemoveHeadList(&reads, &lock);
         if (!e)
             break;
         PIRP irp = CONTAINING_RECORD(e, IRP, Tail.Overlay.ListEntry);
@@ -37,8 +39,8 @@ static NTSTATUS Read(PDEVICE_OBJECT DeviceObject, PIRP Irp)
     if (!NT_SUCCESS(status))
         return Complete(Irp, status, 0);
     IoMarkIrpPending(Irp);
-    ExInterlockedInsertTailList(&ext->Reads, &Irp->Tail.Overlay.ListEntry, &ext->Lock);
-    KeReleaseSemaphore(&ext->Count, 0, 1, FALSE);
+    ExInterlockedInsertTailList(&reads, &Irp->Tail.Overlay.ListEntry, &lock);
+    KeReleaseSemaphore(&count, 0, 1, FALSE);
     return STATUS_PENDING;
 }
 
@@ -71,9 +73,9 @@ static NTSTATUS AddDevice(PDRIVER_OBJECT DriverObject, PDEVICE_OBJECT Pdo)
         return status;
     PEXTENSION ext = device->DeviceExtension;
     IoInitializeRemoveLock(&ext->RemoveLock, 'ecaR', 0, 0);
-    KeInitializeSpinLock(&ext->Lock);
-    InitializeListHead(&ext->Reads);
-    KeInitializeSemaphore(&ext->Count, 0, 100);
+    KeInitializeSpinLock(&lock);
+    InitializeListHead(&reads);
+    KeInitializeSemaphore(&count, 0, 100);
     ext->Lower = IoAttachDeviceToDeviceStack(device, Pdo);
     return PsCreateSystemThread(&thread, THREAD_ALL_ACCESS, NULL, NULL, NULL, Reader, ext);
 }
