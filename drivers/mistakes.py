@@ -71,7 +71,7 @@ MISTAKES = [
           "    status = IoCallDriver(ext->Lower, Irp);\n    ext->Transfers += stack->Parameters.Read.Length > 0;\n"
           "    return status;\n", "Touched"),
     meter("its own control isn't waited for", "    if (status == STATUS_PENDING) {\n"
-          "        KeWaitForSingleObject(&event", "    if (0) {\n        KeWaitForSingleObject(&event", "StackBlock"),
+          "        KeWaitForSingleObject(&event", "    if (0) {\n        KeWaitForSingleObject(&event", "StackBlock", is_race=True),
     meter("two locks in two orders",
           "    KeQuerySystemTime(&now);\n    KeAcquireSpinLock(&ext->Lock, &irql);\n",
           "    KIRQL outer;\n    KeQuerySystemTime(&now);\n    KeAcquireSpinLock(&ext->StateLock, &outer);\n"
