@@ -7,7 +7,7 @@ static const WCHAR device_id[] = L"HOST\\Bottom\0", instance_id[] = L"0\0";
 
 static NTSTATUS AnswerBlock(PIRP Irp, const VOID *Bytes, SIZE_T Size)
 {
-    PVOID block = ExAllocatePoolWithTag(PagedPool, Size, 'ttoB');
+    PVOID block = ExAllocatePoolWithTag(PagedPool, Size, 0x74746F42);
     if (block == NULL)
         return STATUS_INSUFFICIENT_RESOURCES;
     RtlCopyMemory(block, Bytes, Size);
