@@ -16,7 +16,7 @@ Entry *begin(Op op, Packet *p, int by)
     if (p && p->ghost && op != SET_CANCEL && op != CANCEL && op != LOOK)
         tell_ghost(p);
     if (p)
-        p->moved = host_activity;
+        p->moved = __atomic_load_n(&host_activity, __ATOMIC_SEQ_CST);
     Entry *e = calloc(1, sizeof *e);
     if (!e)
         give_up("out of memory");
@@ -110,7 +110,7 @@ int ask(Entry *e, Packet *p, Kind kind, void *fn, int device, int location)
     e->asked[e->n] = (Asked){ .kind = kind, .fn = fn, .device = device, .location = location,
         .major = p->at[location].major, .word = p->at[location].word, .status = p->status,
         .information = p->information };
-    p->moved = host_activity;
+    p->moved = __atomic_load_n(&host_activity, __ATOMIC_SEQ_CST);
     return e->n++;
 }
 

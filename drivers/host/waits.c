@@ -321,10 +321,10 @@ bool wait_for_host(bool (*done)(const void *), const void *context)
 {
     const Wait w = { .ready = done, .context = context, .on = &host_settled, .patience = GIVES_IN,
                      .what = self.calls->name, .at = self.calls->at };
-    unsigned long began = host_activity;
+    unsigned long began = __atomic_load_n(&host_activity, __ATOMIC_SEQ_CST);
     Woken woken = wait_for(&w);
     while (woken == OVERDUE && !stands_still_since(began)) {
-        began = host_activity;
+        began = __atomic_load_n(&host_activity, __ATOMIC_SEQ_CST);
         woken = wait_for(&w);
     }
     return woken == READY;
