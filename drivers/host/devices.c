@@ -91,13 +91,19 @@ static bool is_in_open_entry(int d)
     return false;
 }
 
+/* How many of these frames run code of the device. */
+static int frames_of(int d, const Frame *frames)
+{
+    int n = 0;
+    for (const Frame *f = frames; f; f = f->up)
+        n += f->device == d;
+    return n;
+}
+
 /* Code of the device that runs on other threads has nothing in flight any more: it only returns. */
 static void tell_running(int d, const Frame *mine)
 {
-    int own = 0;
-    for (const Frame *f = mine; f; f = f->up)
-        own += f->device == d;
-    if (devices[d].running > own)
+    if (devices[d].running > frames_of(d, mine))
         note("still returning", "%s is deleted while a routine of it is returning on another thread", who(d));
 }
 
@@ -195,11 +201,12 @@ void delete_after(int d)
         delete_late(d);
 }
 
-/* The host's own devices go when their work items are done, as a driver waits for its own. */
+/* The host's own devices go when their work items are done, as a driver waits for its own. The dispatch that removes one
+   isn't waited for. */
 static bool is_at_rest(const void *device)
 {
-    const Device *d = device;
-    return !d->running && !has_work((int)(d - devices));
+    const int d = (int)((const Device *)device - devices);
+    return devices[d].running <= frames_of(d, self.frames) && !has_work(d);
 }
 
 /* As in Windows, a device with another one above it goes once that one is gone; and one that is deleted in its own
