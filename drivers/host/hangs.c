@@ -64,6 +64,7 @@ static bool complete_lost(void)
     for (int i = 0; i < n_packets; i++) {
         Packet *p = packets[i];
         if (lives(p) && p->lost && p->owner >= 0 && !p->asking) {
+            packets_lost--;
             p->lost = false;
             say("IRP %u.%lu is completed in place of %s, so that the run goes on", p->slot, (unsigned long)p->use,
                 who(p->owner));

@@ -236,6 +236,7 @@ extern size_t n_history;
 extern int n_devices, n_drivers, n_packets, n_live, n_seats, n_faults, n_notes, n_early, n_sends;
 extern uint64_t next_use;
 extern unsigned long host_activity; /* grows with each call, so that a wait sees whether anything goes on */
+extern _Atomic int packets_lost; /* that a dispatch neither finished, kept nor passed down, and nobody has completed since */
 
 /* telling.c, names.c */
 const char *who(int device);

@@ -124,6 +124,7 @@ static void begin_use(Packet *p, NTSTATUS status)
     p->owner = p->last = ORIGINATOR;
     p->status = (ULONG)status;
     p->information = 0;
+    packets_lost -= p->lost;
     p->cancel = p->returned = p->lost = p->writes_back = p->status_is_gone = p->event_is_gone = false;
     prepare_nothing(p);
     p->kept_by = NULL;

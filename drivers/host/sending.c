@@ -37,6 +37,7 @@ static NTSTATUS dispatch_returned(Packet *p, Frame *f, NTSTATUS answer)
         if (!f->marked && answer != STATUS_PENDING) {
             fault_of("Lost", p, f, "neither finishes, keeps nor passes down the packet, and returns %#x",
                      (unsigned)answer);
+            packets_lost += !p->lost;
             p->lost = true;
             p->at[f->location].told = true;
         }

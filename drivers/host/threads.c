@@ -4,6 +4,7 @@
 pthread_mutex_t host_lock = PTHREAD_MUTEX_INITIALIZER;
 Condition host_settled = { &host_lock, PTHREAD_COND_INITIALIZER };
 unsigned long host_activity;
+_Atomic int packets_lost;
 int n_seats;
 _Thread_local Self self = { .seat = -1, .driver = NOBODY, .device = NOBODY };
 

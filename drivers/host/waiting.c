@@ -35,6 +35,16 @@ static void read_settings(void)
 /* Since when nothing goes on in the host, as this waiter saw it, and since when it waits. */
 typedef struct { unsigned long seen; LONGLONG since, began; } Quiet;
 
+/* For how long nothing has to go on, in 100 ns, before a wait is over. Where a packet is lost the wait is most likely for
+   that one: so a driver that loses each packet is told of soon. */
+static LONGLONG quiet_time(const Wait *w)
+{
+    const LONGLONG second = 10000000;
+    if (w->seconds)
+        return w->seconds * second;
+    return patience * second / (packets_lost > 0 ? 10 : 1);
+}
+
 /* READY where it goes on to wait. */
 static Woken patience_is_over(const Wait *w, bool has_limit, Quiet *q)
 {
@@ -48,7 +58,7 @@ static Woken patience_is_over(const Wait *w, bool has_limit, Quiet *q)
         q->since = time;
         q->seen = now;
     }
-    if (time - q->since > (w->seconds ? w->seconds : patience) * second)
+    if (time - q->since > quiet_time(w))
         return STUCK;
     return w->patience <= HANGS && time - q->began > MANY_TIMES * patience * second ? OVERDUE : READY;
 }
