@@ -12,7 +12,7 @@ HOST_COMPILER = ["cc", "-std=c11", *HOST_FLAGS, "-I" + DRIVERS + "/host"]
 STRICT = ["-std=c11", "-Wall", "-Wextra", "-Werror"]
 HEADERS = "/usr/x86_64-w64-mingw32/include/ddk"
 RECORDER = sorted(f"{DRIVERS}/recorder/{name}" for name in os.listdir(DRIVERS + "/recorder") if name.endswith(".c"))
-OWN_TESTS = ("exercise.c", "requests.c", "overlaps.c")  # of the host's
+OWN_TESTS = ("exercise.c", "requests.c", "overlaps.c", "named_tests.c")  # of the host: each has a `main`, or serves one
 SCENARIOS = [HERE + "/scenarios.c", HERE + "/probe.c"]
 
 
