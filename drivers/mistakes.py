@@ -62,7 +62,7 @@ MISTAKES = [
             "        CompleteRequest(read, STATUS_SUCCESS, length);", None),
     mailbox("an empty read keeps the remove lock",
             "        CompleteRequest(Irp, STATUS_SUCCESS, 0);\n        IoReleaseRemoveLock(&extension->RemoveLock, Irp);\n",
-            "        CompleteRequest(Irp, STATUS_SUCCESS, 0);\n", "Hang"),
+            "        CompleteRequest(Irp, STATUS_SUCCESS, 0);\n", "NotDrained"),
     meter("the routine doesn't mark", "    if (Irp->PendingReturned)\n        IoMarkIrpPending(Irp);\n", "", "Mark"),
     meter("the length is read after the send",
           "    IoSetCompletionRoutine(Irp, TransferDone, transfer, TRUE, TRUE, TRUE);\n"

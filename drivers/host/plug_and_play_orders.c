@@ -4,7 +4,8 @@
 
 enum { MAX_ORDERS = 256 };
 typedef enum { LOOK_FOR_CHILDREN, PLUG_IN, STOP_AND_START, UNPLUG, SURPRISE, REMOVE_ALL } What;
-typedef struct { What what; PDEVICE_OBJECT pdo; PKEVENT done; NTSTATUS *status; } Order;
+typedef struct { bool is_done; NTSTATUS status; } Outcome;
+typedef struct { What what; PDEVICE_OBJECT pdo; Outcome *outcome; } Order; /* outcome: NULL where nobody waits for it */
 
 static Condition orders_came = { &host_lock, PTHREAD_COND_INITIALIZER };
 static Order orders[MAX_ORDERS];
@@ -49,45 +50,55 @@ static NTSTATUS carry_out(const Order *o)
     return STATUS_SUCCESS;
 }
 
+static void tell_outcome(Outcome *outcome, NTSTATUS status)
+{
+    Call c;
+    enter_host(&c, "the Plug and Play manager", (WDM_SITE){ 0 });
+    touch(&n_orders, SYNCS);
+    *outcome = (Outcome){ .is_done = true, .status = status };
+    tell_waiters(&host_settled);
+    leave_host();
+}
+
 static void *manage(void *unused)
 {
     (void)unused;
     for (;;) {
         const Order o = next_order();
         const NTSTATUS status = carry_out(&o);
-        if (o.status)
-            *o.status = status;
-        if (o.done)
-            KeSetEvent(o.done, IO_NO_INCREMENT, FALSE);
+        if (o.outcome)
+            tell_outcome(o.outcome, status);
     }
     return NULL;
 }
 
 /* Under G. */
-static void put_order(What what, PDEVICE_OBJECT pdo, PKEVENT done, NTSTATUS *status)
+static void put_order(What what, PDEVICE_OBJECT pdo, Outcome *outcome)
 {
     if (n_orders == MAX_ORDERS)
         give_up("more than 256 orders for the Plug and Play manager");
-    orders[n_orders++] = (Order){ .what = what, .pdo = pdo, .done = done, .status = status };
+    orders[n_orders++] = (Order){ .what = what, .pdo = pdo, .outcome = outcome };
     touch(&n_orders, SYNCS);
     if (!runs)
         runs = !start_thread(manage, NULL, "Plug and Play manager", NULL, NULL);
     tell_waiters(&orders_came);
 }
 
-/* The manager does it, and this thread waits. */
+static bool is_done(const void *outcome) { return ((const Outcome *)outcome)->is_done; }
+
+/* The manager does it, and this thread waits. Where that never ends, the manager's own wait tells so. */
 static NTSTATUS have_done(const char *name, What what, PDEVICE_OBJECT pdo, WDM_SITE at)
 {
     Call c;
-    KEVENT done;
-    NTSTATUS status = STATUS_SUCCESS;
+    Outcome outcome = { 0 };
+    const Wait w = { .ready = is_done, .context = &outcome, .on = &host_settled, .patience = IDLES, .what = name, .at = at };
     learn_test(at.file);
-    WdmKeInitializeEvent(&done, NotificationEvent, FALSE);
     enter_host(&c, name, at);
-    put_order(what, pdo, &done, &status);
+    put_order(what, pdo, &outcome);
+    wait_for(&w);
+    touch(&n_orders, SYNCS);
     leave_host();
-    WdmKeWaitForSingleObject(&done, NULL, at);
-    return status;
+    return outcome.status;
 }
 
 NTSTATUS WdmPlug(PDEVICE_OBJECT Pdo, WDM_SITE at) { return have_done("WdmPlugIn", PLUG_IN, Pdo, at); }
@@ -106,7 +117,7 @@ VOID WdmInvalidateRelations(PDEVICE_OBJECT Device, DEVICE_RELATION_TYPE Type, WD
     Call c;
     enter_host(&c, "IoInvalidateDeviceRelations", at);
     if (Type == BusRelations && runs)
-        put_order(LOOK_FOR_CHILDREN, Device, NULL, NULL);
+        put_order(LOOK_FOR_CHILDREN, Device, NULL);
     leave_host();
 }
 
