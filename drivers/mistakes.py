@@ -1,8 +1,9 @@
 """Two drivers that stand for those of a driver writer (written/), and twenty mistakes in them: by which of the runs of
-`run --verify` each is told first, and as what. The mistakes were written down before any of them was tried. On a busy
-machine the plain run told eleven of them within ten seconds (a lock order within 24), high routines one, pages' ends two,
-a refused allocation two (within 24 seconds), and a cancel one (13 seconds). Three have no rule, since no run told them:
-one is in a routine that never ran, which the sum says; two need requests that the host's own test doesn't send."""
+`run --verify` each is told first, and as what. The mistakes were written down before any of them was tried, by someone who
+knew the host's rules; the rule of each is mostly the one that its run then told. On a busy machine the plain run told
+eleven of them within ten seconds (a lock order within 24), high routines one, pages' ends two, a refused allocation two
+(within 24 seconds), and a cancel one (13 seconds). Three have no rule, since no run told them: one is in a routine that
+never ran, which the sum says; two need requests that the host's own test doesn't send."""
 
 import os
 
