@@ -143,9 +143,9 @@ meets 'by ends: orders' grep -q '^outcomes: [23], of 3 orders$' "$room/output"
 for script in two_preparations_of_one_packet a_look_between_a_reuse_and_its_label; do
     # Without the heads no two outcomes are told alike.
     run --ends "$examples/$script.script"
-    count=$(grep -c '^outcome ' "$room/output")
+    outcomes=$(grep -c '^outcome ' "$room/output")
     blocks=$(sed '1d; s/^outcome .*/;/' "$room/output" | tr -d '\n' | tr ';' '\n' | sed 1d | sort -u | wc -l)
-    meets "$script by ends: $count outcomes, $blocks told" [ "$count" -eq "$blocks" ]
+    meets "$script by ends: $outcomes outcomes, $blocks told" [ "$outcomes" -eq "$blocks" ]
 done
 run --ends --never 'live(a) and reply(0) == done' "$examples"/a_cancel_against_a_completion.script
 ended 'a reply by ends' 4 'irp_orders: condition refused: column 13: expected no reply and no deleted beside --ends, which leaves replies out'

@@ -7,7 +7,7 @@ each transcript that is shown has to be legal by the model, and its calls to cha
 this outcome that does so least often, or less often where the script has steps that aren't calls. Of COUNT further scripts
 that free and allocate packets the same is compared, and, where one seat makes all their steps, the transcript that is
 shown with the one that irpx writes. Of each race, RUNS runs on as many workers as it has seats have to print one of the
-outcomes; so does each of RUNS / 4 runs of COUNT scripts of either kind. As many runs as there are processors go on at
+outcomes; so does each of RUNS / 4 runs of a third as many scripts of either kind. As many runs as there are processors go on at
 once, so that workers wait for each other. Prints a line for each difference, and then how many were tried. Ends with status
 0, or 1 where something differs.
 """
@@ -234,7 +234,7 @@ def main():
         if name.startswith("orders/"):
             tasks.append((race, name, text, runs))
     tasks += [(one, seed, number) for number in range(count) for one in (by_chance, by_freeing)]
-    tasks += [(by_threads, seed, number, max(1, runs // 4)) for number in range(count)]
+    tasks += [(by_threads, seed, number, max(1, runs // 4)) for number in range(count // 3 + 1)]
     tally = work(tasks, prepare, (irp_orders, irpx))
     tally.tell()
     return 1 if tally.wrong else 0
