@@ -26,22 +26,6 @@ PARTS = {"low_memory": "each allocation fails, alone and with all behind it",
          "cancel_everywhere": "each request is cancelled at each call that a driver makes meanwhile"}
 
 
-def add_arguments(parser):
-    """Adds what `run` takes for plans of runs, and for each run of them."""
-    parser.add_argument("--verify", action="store_true",
-                        help="many runs, each of which takes some luck away (VERIFIER.md)")
-    for part, what in PARTS.items():
-        parser.add_argument(f"--{part.replace('_', '-')}", action="store_true", help=f"of --verify these runs: {what}")
-    parser.add_argument("--refuse", metavar="N|N+|sSEED",
-                        help="the N-th allocation of the drivers fails; all from it on; some by a seed")
-    parser.add_argument("--pend", metavar="N|all",
-                        help="what a driver sends down from the N-th device that was attached comes back later")
-    parser.add_argument("--cancel", metavar="K@N", help="the K-th request is cancelled at its N-th call of a driver")
-    parser.add_argument("--test", metavar="NAME", help="one of the tests that a file has by WDM_TEST(NAME)")
-    parser.add_argument("--junit", metavar="FILE", help="write what each run or test gave, for a test server")
-    parser.add_argument("--tap", action="store_true", help="and print it as lines of the Test Anything Protocol")
-
-
 class Kind:
     """Runs of one kind: the flags that `run` takes for each of them."""
 

@@ -36,12 +36,32 @@ has='differs in'
 gives 2 ../examples/why/completed_twice.transcript why
 has='Usage: irp WORD'
 gives 0 /dev/null --help
+has='Usage: irpx run'
 gives 0 /dev/null run --help
+gives 0 /dev/null check --help
 has='drivers/run'
 gives 0 /dev/null help
 has='is none of its words'
 gives 4 /dev/null ran
 has='a lesson and a file are wanted'
 gives 2 /dev/null lesson
+
+# Each program has a manual page, with each section, and no word of it is lost.
+words_of() {
+    grep -oE '[A-Za-z]{4,}' | sort -u
+}
+has='.SH SYNOPSIS'
+for name in irp irpx irp_view irp_words irp_orders irp_live drivers-run lessons-check; do
+    gives 0 /dev/null man "$name"
+    for section in NAME DESCRIPTION 'EXIT STATUS' EXAMPLES; do
+        grep -qx ".SH $section" "$room/output" || { wrong=$((wrong + 1)) && echo "failed: man $name has no $section"; }
+    done
+done
+gives 0 /dev/null man drivers-run
+../drivers/run --help | words_of >"$room/said"
+words_of <"$room/output" | comm -23 "$room/said" - | grep -vixE 'usage|examples?|exit|status' >"$room/lost"
+[ ! -s "$room/lost" ] || { wrong=$((wrong + 1)) && echo "failed: man drivers-run has not: $(tr '\n' ' ' <"$room/lost")"; }
+has='name a program'
+gives 2 /dev/null man nobody
 echo "tried: $tried $wrong one command"
 [ "$wrong" -eq 0 ]
