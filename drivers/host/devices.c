@@ -209,6 +209,75 @@ static bool is_at_rest(const void *device)
     return devices[d].running <= frames_of(d, self.frames) && !has_work(d);
 }
 
+static bool is_on_this_thread(const Packet *p)
+{
+    const Frame *f = self.frames;
+    while (f && f->p != p)
+        f = f->up;
+    return f;
+}
+
+/* Whether another thread has the packet on its way up, and has called the device's completion routine there. */
+static bool comes_up(const Packet *p, int d)
+{
+    if (!lives(p) || !p->open || p->open->sealed || is_on_this_thread(p))
+        return false;
+    for (int i = 0; i < p->open->n; i++)
+        if (p->open->asked[i].kind == ROUTINE && p->open->asked[i].device == d)
+            return true;
+    return false;
+}
+
+static bool is_on_way(const Packet *p, int d)
+{
+    for (int j = p->current; j <= p->size; j++)
+        if (p->at[j].device == d)
+            return true;
+    return p->owner == d;
+}
+
+/* Whether nothing holds the device but packets whose routines were called. */
+static bool is_only_left_by_packets(int d)
+{
+    bool any = false;
+    for (int i = 0; i < n_packets; i++)
+        if (lives(packets[i]) && is_on_way(packets[i], d)) {
+            if (!comes_up(packets[i], d))
+                return false;
+            any = true;
+        }
+    return any && (!devices[d].bound || lock_knows_drained(d));
+}
+
+static bool has_left(const void *device)
+{
+    for (int i = 0; i < n_packets; i++)
+        if (comes_up(packets[i], (int)((const Device *)device - devices)))
+            return false;
+    return true;
+}
+
+/* Whether one is in flight there. */
+static void touch_packets(void)
+{
+    for (int i = 0; i < n_packets; i++)
+        if (lives(packets[i]))
+            touch(packets[i]->irp, READS);
+}
+
+/* A routine that has released the remove lock, or has told in another way that it is done, only returns: so a driver may
+   delete the device before that. The history has the deletion behind the packet's way up. But the extension is let go
+   here, so that a routine which uses it now is told. */
+static void wait_for_routines(int d)
+{
+    tell_running(d, self.frames);
+    let_go_of(devices[d].raw->DeviceExtension, devices[d].raw->HostExtensionSize, "the extension of a device",
+              self.calls->at);
+    wait_for_host(has_left, &devices[d]);
+    touch(&devices[d].running, SYNCS);
+    touch_packets();
+}
+
 /* As in Windows, a device with another one above it goes once that one is gone; and one that is deleted in its own
    REMOVE before the packet is completed goes when the dispatch returns. */
 VOID WdmIoDeleteDevice(PDEVICE_OBJECT Device, WDM_SITE at)
@@ -216,9 +285,7 @@ VOID WdmIoDeleteDevice(PDEVICE_OBJECT Device, WDM_SITE at)
     Call c;
     enter_host(&c, "IoDeleteDevice", at);
     touch(&devices, WRITES);
-    for (int i = 0; i < n_packets; i++) /* whether one is in flight there */
-        if (lives(packets[i]))
-            touch(packets[i]->irp, READS);
+    touch_packets();
     const int d = device_number(Device);
     if (is_bottom(Device) || is_between(Device)) {
         wait_for_host(is_at_rest, &devices[d]);
@@ -227,8 +294,11 @@ VOID WdmIoDeleteDevice(PDEVICE_OBJECT Device, WDM_SITE at)
     if (devices[d].live && devices[d].lower < 0 && (devices[d].upper >= 0 || removing(d))) {
         devices[d].leaving = true;
         devices[d].deleted = at;
-    } else
+    } else {
+        if (devices[d].live && is_only_left_by_packets(d))
+            wait_for_routines(d);
         delete_now(d, self.frames);
+    }
     leave_host();
 }
 

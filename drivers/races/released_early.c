@@ -1,0 +1,71 @@
+/* released_early.c: 1 preemption, UsedAfterFree. The completion routine counts in the extension after it has released the
+   remove lock. It is preempted between both, and the device is removed and deleted there. The right one only returns there. */
+#include "race.h"
+
+typedef struct {
+    PDEVICE_OBJECT Lower;
+    IO_REMOVE_LOCK RemoveLock;
+    LONG Done;
+} EXTENSION, *PEXTENSION;
+
+static NTSTATUS ReadDone(PDEVICE_OBJECT DeviceObject, PIRP Irp, PVOID Context)
+{
+    PEXTENSION ext = Context;
+    UNREFERENCED_PARAMETER(DeviceObject);
+    if (Irp->PendingReturned)
+        IoMarkIrpPending(Irp);
+#ifdef RIGHT
+    InterlockedIncrement(&ext->Done);
+    IoReleaseRemoveLock(&ext->RemoveLock, Irp);
+#else
+    IoReleaseRemoveLock(&ext->RemoveLock, Irp);
+    InterlockedIncrement(&ext->Done); /* the fault */
+#endif
+    return STATUS_SUCCESS;
+}
+
+static NTSTATUS Read(PDEVICE_OBJECT DeviceObject, PIRP Irp)
+{
+    PEXTENSION ext = DeviceObject->DeviceExtension;
+    const NTSTATUS status = IoAcquireRemoveLock(&ext->RemoveLock, Irp);
+    if (!NT_SUCCESS(status))
+        return Complete(Irp, status, 0);
+    IoCopyCurrentIrpStackLocationToNext(Irp);
+    IoSetCompletionRoutine(Irp, ReadDone, ext, TRUE, TRUE, TRUE);
+    return IoCallDriver(ext->Lower, Irp);
+}
+
+static NTSTATUS Remove(PDEVICE_OBJECT DeviceObject, PIRP Irp)
+{
+    PEXTENSION ext = DeviceObject->DeviceExtension;
+    IoAcquireRemoveLock(&ext->RemoveLock, Irp);
+    Irp->IoStatus.Status = STATUS_SUCCESS;
+    const NTSTATUS status = PassDown(ext->Lower, Irp);
+    IoReleaseRemoveLockAndWait(&ext->RemoveLock, Irp);
+    IoDetachDevice(ext->Lower);
+    IoDeleteDevice(DeviceObject);
+    return status;
+}
+
+NTSTATUS DriverEntry(PDRIVER_OBJECT DriverObject, PUNICODE_STRING RegistryPath)
+{
+    UNREFERENCED_PARAMETER(RegistryPath);
+    DriverObject->MajorFunction[IRP_MJ_READ] = Read;
+    DriverObject->MajorFunction[IRP_MJ_PNP] = Remove;
+    return STATUS_SUCCESS;
+}
+
+int main(void)
+{
+    PDRIVER_OBJECT driver = WdmLoadDriver("released_early", DriverEntry);
+    PDEVICE_OBJECT bottom = WdmCreateBottom(TRUE), top;
+    REQUEST read;
+    IoCreateDevice(driver, sizeof(EXTENSION), NULL, FILE_DEVICE_UNKNOWN, 0, FALSE, &top);
+    IoInitializeRemoveLock(&((PEXTENSION)top->DeviceExtension)->RemoveLock, 'ecaR', 0, 0);
+    ((PEXTENSION)top->DeviceExtension)->Lower = IoAttachDeviceToDeviceStack(top, bottom);
+    Start(&read, top, IRP_MJ_READ, 4);
+    WdmSend(top, IRP_MJ_PNP, IRP_MN_REMOVE_DEVICE, 0);
+    Finish(&read);
+    IoDeleteDevice(bottom);
+    return WdmFinish();
+}
