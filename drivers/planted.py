@@ -290,11 +290,6 @@ RIGHT_SHAPES = """
     MarkedSynchronously KeepChanged MarksAndKeeps Retry CompleteInRoutine ToAWorker WaitForAWorker OwnAndWait
     SplitTransfer SendElsewhere SkipElsewhere ElsewhereAndKeep BuiltForNobody
 """.split()
-# How many entries a stack's run has at least: five of a request that is kept (allocate, set_next, set_routine, the send,
-# free), three of one that is freed at its end, one of each device and attachment. Other stacks say it themselves.
-STACK_ENTRIES = {"children": 2 * (4 + 5 * 3 + 5 * 5), "keyboard": 3 + 3 * 3 + 20 * 5, "late": 1 + 5,
-                 "policy": 2 * (3 + 3 * 3 * 3), "power": 3 + 2 * 3 + 5 * (3 * 5 + 2 * 3), "removal": 3 + 4 * 3 + 4 * 5,
-                 "retry": 3 + 10 * 3, "serial": 1 + 36 * 5, "split": 2 * (3 + 8 * 3 + 5), "watchdog": 3 + 20 * 5}
 # Stacks that the host's own test is clean over. The others have no PnP, or want settings that their tests make.
 FOR_OWN_TEST = ["handover", "keyboard", "children", "policy", "power", "removal", "split", "serial", "shared", "late"]
 
