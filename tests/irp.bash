@@ -48,7 +48,7 @@ gives 2 /dev/null lesson
 
 # Each program has a manual page, with each section, and no word of it is lost.
 words_of() {
-    grep -oE '[A-Za-z]{4,}' | sort -u
+    tr A-Z a-z | grep -oE '[a-z]{4,}' | sort -u
 }
 has='.SH SYNOPSIS'
 for name in irp irpx irp_view irp_words irp_orders irp_live drivers-run lessons-check; do
@@ -59,7 +59,7 @@ for name in irp irpx irp_view irp_words irp_orders irp_live drivers-run lessons-
 done
 gives 0 /dev/null man drivers-run
 ../drivers/run --help | words_of >"$room/said"
-words_of <"$room/output" | comm -23 "$room/said" - | grep -vixE 'usage|examples?|exit|status' >"$room/lost"
+words_of <"$room/output" | comm -23 "$room/said" - | grep -vxE 'usage|examples?|exit|status' >"$room/lost"
 [ ! -s "$room/lost" ] || { wrong=$((wrong + 1)) && echo "failed: man drivers-run has not: $(tr '\n' ' ' <"$room/lost")"; }
 has='name a program'
 gives 2 /dev/null man nobody
