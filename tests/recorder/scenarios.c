@@ -204,7 +204,7 @@ static void own_packet(void)
     done();
 }
 
-/* Two packets that the manager builds and frees, the second perhaps where the first one was. */
+/* Packets that the manager builds and frees, each perhaps where the one before was. */
 static void built(void)
 {
     LARGE_INTEGER from = { .QuadPart = 0 };
@@ -212,8 +212,9 @@ static void built(void)
     KEVENT event;
     stack(1);
     KeInitializeEvent(&event, NotificationEvent, FALSE);
-    for (int i = 0; i < 2; i++) {
-        irp = IoBuildSynchronousFsdRequest(IRP_MJ_READ, d[0], NULL, 0, &from, &event, &status);
+    for (int i = 0; i < 4; i++) {
+        irp = i % 2 ? IoBuildDeviceIoControlRequest(0, d[0], NULL, 0, NULL, 0, FALSE, &event, &status) :
+            IoBuildSynchronousFsdRequest(IRP_MJ_READ, d[0], NULL, 0, &from, &event, &status);
         IoCallDriver(d[0], irp);
     }
 }

@@ -91,8 +91,26 @@ def try_planted(bench, scenarios, host, recorder):
         folder = f"{bench.room}/planted{i}"
         objects = building.with_edits(host, folder, edits)
         program = building.link(scenarios + objects + recorder, folder + "/scenarios")
-        for scenario, wrong in run_scenarios(bench, program, changed):
+        for scenario, wrong in run_scenarios(bench, program, changed, expected.ROWS + expected.HOST_ROWS):
             bench.count("planted differences of Wine", f"{name}, {scenario}", wrong)
+    program = building.link(scenarios + objects + forgetful(bench, recorder), folder + "/forgetful")
+    verdict = bench.run([program, "built"])[0]
+    bench.count("planted differences of Wine", "a recorder that takes a built packet for an old one",
+                f"it is {verdict}" if verdict.startswith("legal") else None)
+
+
+def forgetful(bench, recorder):
+    """Returns the recorder's objects, where that of packets.c is made wrong."""
+    with open(building.DRIVERS + "/recorder/packets.c", encoding="utf-8") as it:
+        text = it.read()
+    if expected.FORGETFUL[0] not in text:
+        raise building.Failed("packets.c has no built packets to forget")
+    os.makedirs(bench.room + "/forgetful")
+    with open(bench.room + "/forgetful/packets.c", "w", encoding="utf-8") as it:
+        it.write(text.replace(*expected.FORGETFUL))
+    flags = ["cc", *building.STRICT, *building.HOST_FLAGS, f"-I{building.DRIVERS}/recorder"]
+    made = building.compile_all([bench.room + "/forgetful/packets.c"], bench.room + "/forgetful", flags)
+    return made + [it for it in recorder if os.path.basename(it) != "packets.o"]
 
 
 def try_threads(bench, host, recorder):
