@@ -38,7 +38,7 @@ RESULTS = {
     "watchdog": [either(2, "READ", it) for it in range(20)],
     "retry": [(10, "READ SUCCESS 4")],
     "late": [(1, "READ SUCCESS 1")],
-    "handover": [(1, f"READ SUCCESS {it // 2}") for it in range(7, 28)],
+    "handover": [(1, f"READ SUCCESS {it // 2}") for it in range(8, 32)],
     "port": [(4, "READ SUCCESS 2"), (2, "READ SUCCESS 1"), (2, "READ SUCCESS 9"), (4, "READ CANCELLED 0")],
     "direct": [(3, "CREATE SUCCESS 0"), (3, "CLEANUP SUCCESS 0"), (3, "CLOSE SUCCESS 0"), (3, "CONTROL SUCCESS 12288"),
                (1, "CONTROL INVALID_DEVICE_REQUEST 0"), (6, "READ SUCCESS 6144")],
@@ -57,7 +57,7 @@ ENTRIES = {
     "watchdog": (283, 303),   # 3; 20 reads of 7, each with a packet of 7 or 8
     "retry": (73, 73),        # 3; 10 reads of 4, sent again by 3
     "late": (7, 7),           # 1; 6
-    "handover": (150, 150),   # 3; 21 reads of 7
+    "handover": (171, 171),   # 3; 24 reads of 7
     "port": (86, 86),         # 1; 12 reads of 7; 1
     "direct": (92, 92),       # 2; 9 opens, cleanups and closes of 4; 3 controls of 4 with 2 packets of 6; one of 4; 2
     "shared": (98, 98)}       # 1; 24 requests of 4; 1

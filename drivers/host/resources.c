@@ -94,6 +94,7 @@ VOID WdmExReleaseResource(PERESOURCE Resource, WDM_SITE at)
 {
     Call c;
     enter_host(&c, "ExReleaseResourceLite", at);
+    hands_over();
     touch(Resource, SYNCS);
     const int mine = reader(Resource, false);
     if (Resource->Exclusive && Resource->Owner == me())
@@ -197,6 +198,7 @@ VOID ExInitializeSListHead(PSLIST_HEADER Head) { *Head = (SLIST_HEADER){ 0 }; }
 PSLIST_ENTRY WdmPushEntrySList(PSLIST_HEADER Head, PSLIST_ENTRY Entry)
 {
     hold_host("InterlockedPushEntrySList", Head, SYNCS);
+    hands_over();
     PSLIST_ENTRY first = Head->First;
     Entry->Next = first;
     Head->First = Entry;

@@ -2,7 +2,7 @@
    to IoStatus at once, while the routine still runs; the routine itself changes nothing. */
 #include "common.h"
 
-enum { BY_EVENT, BY_SEMAPHORE, BY_SPIN_LOCK, BY_LIST, BY_WORK_ITEM, BY_DPC, BY_TIMER, WAYS };
+enum { BY_EVENT, BY_SEMAPHORE, BY_SPIN_LOCK, BY_LIST, BY_SLIST, BY_WORK_ITEM, BY_DPC, BY_TIMER, WAYS };
 typedef struct {
     PDEVICE_OBJECT Self, Lower;
     PIRP Given;
@@ -10,6 +10,8 @@ typedef struct {
     KSEMAPHORE Count;
     KSPIN_LOCK Lock;
     LIST_ENTRY Listed;
+    SLIST_HEADER Pushed;
+    SLIST_ENTRY Push; /* of Given */
     KDPC Dpc;
     KTIMER Timer;
     LONG Stops;
@@ -41,6 +43,8 @@ static VOID Poller(PVOID Context)
         PLIST_ENTRY e = ExInterlockedRemoveHeadList(&ext->Listed, &ext->Lock);
         if (e)
             Take(CONTAINING_RECORD(e, IRP, Tail.Overlay.ListEntry));
+        else if (InterlockedPopEntrySList(&ext->Pushed))
+            Take(ext->Given);
         else if (InterlockedAdd(&ext->Stops, 0))
             PsTerminateSystemThread(STATUS_SUCCESS);
         else
@@ -92,6 +96,7 @@ static VOID HandOver(PEXTENSION Ext, PIRP Irp, ULONG Way)
         KeReleaseSpinLock(&Ext->Lock, irql);
         break;
     case BY_LIST: ExInterlockedInsertTailList(&Ext->Listed, &Irp->Tail.Overlay.ListEntry, &Ext->Lock); break;
+    case BY_SLIST: InterlockedPushEntrySList(&Ext->Pushed, &Ext->Push); break;
     case BY_WORK_ITEM: QueueWork(Ext, Irp); break;
     case BY_DPC: KeInsertQueueDpc(&Ext->Dpc, NULL, NULL); break;
     default: KeSetTimer(&Ext->Timer, Milliseconds(0), &Ext->Dpc);
@@ -140,6 +145,7 @@ static NTSTATUS AddDevice(PDRIVER_OBJECT DriverObject, PDEVICE_OBJECT Pdo)
     KeInitializeSemaphore(&ext->Count, 0, WAYS);
     KeInitializeSpinLock(&ext->Lock);
     InitializeListHead(&ext->Listed);
+    ExInitializeSListHead(&ext->Pushed);
     KeInitializeDpc(&ext->Dpc, Called, ext);
     KeInitializeTimer(&ext->Timer);
     status = PsCreateSystemThread(&waiter, THREAD_ALL_ACCESS, NULL, NULL, NULL, Waiter, ext);
