@@ -1,0 +1,74 @@
+#!/bin/bash
+# Tries the same work in plain Rust, tests/plain: its unit tests say that it is the same manager, by the examples' bytes
+# and verdicts. Then `bin/ratios --quick` prints its table, where a stand-in for irp_bench prints the times of this side.
+# IRPX names the program irpx. Where there is no cargo, the table has this side alone. Each failure has a line of its own.
+# Ends with status 0 where all was as expected, else with 1.
+set -u
+cd "$(dirname "$(readlink -f "$0")")" || exit 1
+if ! command -v python3 >/dev/null; then
+    echo 'passed over, for want of Python: times beside plain Rust'
+    exit 0
+fi
+room=$(mktemp -d) || exit 1
+trap 'rm -rf "$room"' EXIT
+tried=0
+wrong=0
+
+# Counts one check. Its name is $1; the rest is a command that succeeds where the check is met.
+meets() {
+    local name=$1
+    shift
+    tried=$((tried + 1))
+    "$@" && return
+    wrong=$((wrong + 1))
+    echo "failed: ratios: $name"
+}
+
+# Runs bin/ratios with the given words and the stand-in. Keeps its output, its errors and its status.
+run() {
+    IRP_BENCH=$room/bench timeout 300 ../bin/ratios "$@" >"$room/output" 2>"$room/errors"
+    status=$?
+}
+
+# Whether the table has a row that begins with this text.
+has() { grep -qF -- "$1" "$room/output"; }
+
+# The stand-in: each of its lines has the form of irp_bench's.
+cat >"$room/bench" <<'END'
+#!/bin/sh
+case $1 in
+locks) echo 'irp_bench: acquire and release, threads 1: 5000000.0 ns; fetch-add and fetch-sub: 9.5 ns; ratio 526315.8' >&2 ;;
+calls) echo 'irp_bench: a send, devices 4: 286.4 ns; recorded: 1055.2 ns; ratio 0.27' >&2 ;;
+write) echo 'irp_bench: write_transcript, entries 100000: 536.3 ns, 624.0 MB a second; serde_json alone: 1.0 ns; ratio 9' >&2 ;;
+read) echo 'no time' ;;
+*) exit 3 ;;
+esac
+END
+chmod +x "$room/bench"
+
+CARGO=$room/none run --quick locks calls
+meets 'no cargo: status' [ "$status" -eq 0 ]
+meets 'no cargo: it is told' grep -q 'there is no cargo' "$room/errors"
+meets 'no cargo: a lock' has '| acquire and release, 1 / 4 threads | 5,000,000 / - | | |'
+meets 'no cargo: a send' has '| a send through 1 / 4 / 16 / 32 devices, not recorded | - / 286 / - / - | | |'
+meets 'no cargo: a recorded send' has '| the same, recorded | - / 1,055 / - / - | | |'
+CARGO=$room/none run --quick read
+meets 'no time: status' [ "$status" -eq 1 ]
+CARGO=$room/none run --quick slots
+meets 'a program that fails: status' [ "$status" -eq 1 ]
+run --quick sends
+meets 'another word: status' [ "$status" -eq 2 ]
+
+if command -v cargo >/dev/null; then
+    meets 'unit tests of plain Rust' eval '(cd plain && cargo test --offline --quiet >"$room/tests" 2>&1) || ! cat "$room/tests"'
+    run --quick locks calls write files
+    meets "status $status: $(head -c 300 "$room/errors")" [ "$status" -eq 0 ]
+    meets 'rows' [ "$(grep -c '^| ' "$room/output")" -eq 14 ]
+    # A pair of plain Rust takes less than a hundredth of what the stand-in tells, and more than none.
+    meets 'a lock' grep -qE '^\| acquire and release, 1 / 4 threads \| 5,000,000 / - \| [0-9.,]+ / [0-9.,]+ \| [0-9]{3,}\.[0-9] / - \|$' "$room/output"
+    meets 'both judge a file' grep -qE '^\| `irpx check` of [0-9]+ MB, [0-9 /]+ processors, in ms \| [0-9./ ,]+ \| [0-9./ ,]+ \| [0-9./ ]+ \|$' "$room/output"
+else
+    echo 'passed over, for want of cargo: the same work in plain Rust'
+fi
+echo "tried: $tried $wrong checks of times beside plain Rust"
+[ "$wrong" -eq 0 ]
