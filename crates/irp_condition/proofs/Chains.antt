@@ -52,7 +52,7 @@ not_open_at word text Open column rest inner other is also = cc
 not_open_at word text kind column rest inner other is also = cc
 
 -- no word is an opening parenthesis
-not_open : (word : List ℕ) (tokens inner other : List Token) → behind_word word tokens ≡ Some inner → behind_open tokens ≡ Some other → ⊥
+pub not_open : (word : List ℕ) (tokens inner other : List Token) → behind_word word tokens ≡ Some inner → behind_open tokens ≡ Some other → ⊥
 not_open word [] inner other is also = cc
 not_open word (token ∷ rest) inner other is also = not_open_at word token.text token.kind token.column rest inner other is also
 
@@ -99,7 +99,7 @@ not_at reader text Word column rest inner is =
 not_at reader text kind column rest inner is = cc
 
 -- no comparison begins with `not`
-not_compared : (reader : Reader) (tokens inner : List Token) → behind_word (codes "not") tokens ≡ Some inner → compared_at reader tokens ≡ missing (fault_at reader Condition tokens)
+pub not_compared : (reader : Reader) (tokens inner : List Token) → behind_word (codes "not") tokens ≡ Some inner → compared_at reader tokens ≡ missing (fault_at reader Condition tokens)
 not_compared reader [] inner is = refl
 not_compared reader (token ∷ rest) inner is = not_at reader token.text token.kind token.column rest inner is
 
@@ -111,7 +111,7 @@ open_at reader text Open column rest inner is = refl
 open_at reader text kind column rest inner is = cc
 
 -- nor with a parenthesis
-open_not_compared : (reader : Reader) (tokens inner : List Token) → behind_open tokens ≡ Some inner → compared_at reader tokens ≡ missing (fault_at reader Condition tokens)
+pub open_not_compared : (reader : Reader) (tokens inner : List Token) → behind_open tokens ≡ Some inner → compared_at reader tokens ≡ missing (fault_at reader Condition tokens)
 open_not_compared reader [] inner is = refl
 open_not_compared reader (token ∷ rest) inner is = open_at reader token.text token.kind token.column rest inner is
 

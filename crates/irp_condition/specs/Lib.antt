@@ -7,3 +7,4 @@ pub mod Parsing
 pub mod Reading
 pub mod Tokens
 pub mod Words
+pub mod Writing

@@ -12,6 +12,7 @@ mod scope;
 mod tokens;
 mod value;
 mod words;
+mod writing;
 
 pub use condition::Condition;
 pub use facts::{Facts, Packet, Told};
@@ -20,3 +21,4 @@ pub use holding::holds;
 pub use parsing::read_condition;
 pub use scope::Scope;
 pub use value::{Answer, Named, Value};
+pub use writing::text_of;

@@ -33,7 +33,7 @@ pub struct Token {
 }
 
 /// What a byte is.
-fn kind_of(byte: u8) -> Kind
+pub fn kind_of(byte: u8) -> Kind
     ensures { result ≡ spec.kind_of byte }
 {
     match byte {
@@ -47,7 +47,7 @@ fn kind_of(byte: u8) -> Kind
 }
 
 /// Whether a byte of a kind goes on with the token of a byte of another.
-fn goes_on(before: Kind, behind: Kind) -> bool
+pub fn goes_on(before: Kind, behind: Kind) -> bool
     ensures { result ≡ spec.goes_on before behind }
 {
     matches!(
