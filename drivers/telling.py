@@ -9,6 +9,7 @@ import shutil
 import subprocess
 
 import checked
+import explored
 import planted
 
 HERE = os.path.dirname(os.path.abspath(__file__))
@@ -17,6 +18,7 @@ NO_COMPLAINT = None
 OTHERS = {"DriverEntry", "AddDevice", "LeftBehind", "CompletedTwice"}
 # Only tried by a run with a schedule: the real threads would stand still.
 BY_SCHEDULE = {"Stuck"}
+STUCK = "FAULT Stuck: every thread waits"
 
 
 def text_of(path):
@@ -95,7 +97,7 @@ def misused(bench):
         yield f"misuse {case}", wrong_misuse(case, run)
     words = [HERE + "/run", "--irpx", bench.irpx, "--shake", "1", "--args", "Stuck", HERE + "/misuse"]
     made = subprocess.run(words, capture_output=True, text=True, check=False)
-    told = "FAULT Stuck: every thread waits" in made.stderr and made.returncode == 1
+    told = STUCK in made.stderr and made.returncode == 1
     yield "misuse Stuck, by a schedule", NO_COMPLAINT if told else made.stderr[-600:]
     ours, known = rules(), tests_of(misuses, names_of(bench.build(bench.folder("rules"), [HERE + "/rules"])))
     missing = sorted(ours - set(known))
@@ -155,15 +157,27 @@ class Silenced:
         return f"it doesn't say {missing[0]}" if missing else NO_COMPLAINT
 
 
+def silenced_stuck(bench, RUN, library):
+    """Gives what is said of threads that all wait, by a schedule, where that isn't told."""
+    options = explored.Options(bench.cc, HERE + "/misuse/misuse.c", 0)
+    options.source, options.every_order, options.shake, options.args = [HERE + "/misuse"], False, 1, "Stuck"
+    made = explored.Explored(RUN, bench, "silenced by a schedule", options, library)
+    options.settings, options.transcript = {"WDM_SILENCED": "Stuck"}, made.folder + "/transcript"
+    return RUN.Run(options, made.program, made.folder, 1).said
+
+
 def silenced(bench, RUN, told_as_planted, apply):
     """Gives a complaint for each rule whose test is well without it."""
-    tried = Silenced(bench, silenced_library(bench, RUN, apply), told_as_planted, apply)
+    library = silenced_library(bench, RUN, apply)
+    tried = Silenced(bench, library, told_as_planted, apply)
     misuses = names_of(tried.program("misuse", [HERE + "/misuse"]))
     cases = names_of(tried.program("rules", [HERE + "/rules"]))
     known = tests_of(misuses, cases)
     for rule in sorted(rules() & set(known)):
         kind, what = known[rule]
-        if kind != "schedule":
+        if kind == "schedule":
+            fails = STUCK not in silenced_stuck(bench, RUN, library)
+        else:
             fails = tried.failure(kind, what, rule)
-            yield f"silenced {rule}: {kind} {getattr(what, 'name', what)} fails", \
-                NO_COMPLAINT if fails else "it is well without the rule"
+        yield f"silenced {rule}: {kind} {getattr(what, 'name', what)} fails", \
+            NO_COMPLAINT if fails else "it is well without the rule"
