@@ -4,12 +4,14 @@ The program explores itself (host/explore.c), and leaves a report of lines with 
 is made shorter and run again, distinct transcripts are judged, and all is told."""
 
 import concurrent.futures
+import functools
 import math
 import os
 import re
 import shutil
 import subprocess
 import sys
+import tempfile
 
 RENAMED = ["pthread_create", "pthread_join", "pthread_detach", "pthread_self", "pthread_exit", "pthread_mutex_lock",
            "pthread_mutex_unlock", "pthread_mutex_trylock", "pthread_cond_wait", "pthread_cond_timedwait", "pthread_cond_signal", "pthread_cond_broadcast", "sched_yield",
@@ -25,6 +27,17 @@ SCENARIOS = {"overlap": "a read and a write at once", "cancel": "a read that is 
              "power": "power goes and comes while a read is under way",
              "remove": "the device is removed while it holds a read",
              "surprise": "the device is gone while it holds a read"}
+
+
+@functools.lru_cache
+def link_flags(compiler):
+    """Returns flags by which a process has fewer pages and mappings to copy: the host's small variables lie side by side,
+    and the library in the program, where it is there for that."""
+    sorts, static = "-Wl,--sort-section=alignment", "-static-pie"
+    with tempfile.TemporaryDirectory() as room:
+        words = [compiler, static, sorts, "-x", "c", "-", "-o", room + "/program"]
+        made = subprocess.run(words, input="int main(void) { return 0; }", capture_output=True, text=True, check=False)
+    return [sorts] if made.returncode else [static, sorts]
 
 
 def fixed(words):

@@ -10,12 +10,13 @@
 
 bool footprints, hooks_present;
 typedef struct { const void *object; uint64_t written, read; uint32_t clock[FEW_THREADS]; } Object;
-enum { OBJECTS = 1 << 15, PLACES = 1 << 16, ROOM = 4 << 20 };
+enum { OBJECTS = 1 << 15, PLACES = 1 << 16, FEWEST_PLACES = 1 << 11, ROOM = 4 << 20 };
 static const uint64_t GOLDEN = 0x9E3779B97F4A7C15u;
 /* Dense, since each page that a run touches is a fault: most runs have few threads. */
 static Object objects[OBJECTS];
 static uint32_t other_clocks[OBJECTS][MAX_THREADS - FEW_THREADS];
 static uint16_t place_of_object[PLACES];
+static size_t n_places = FEWEST_PLACES; /* of those that are used: a power of two, so that a small run touches one page */
 static int n_objects;
 static uint64_t past[MAX_THREADS], n_named[MAX_THREADS];
 
@@ -27,18 +28,34 @@ static uint64_t mix(uint64_t a, uint64_t b)
     return a ^ a >> 27;
 }
 
+static size_t place_for(const void *object)
+{
+    size_t i = ((uintptr_t)object * GOLDEN) >> 48 & (n_places - 1);
+    while (place_of_object[i] && objects[place_of_object[i]].object != object)
+        i = (i + 1) & (n_places - 1);
+    return i;
+}
+
+static void use_more_places(void)
+{
+    memset(place_of_object, 0, n_places * sizeof *place_of_object);
+    n_places *= 2;
+    for (int n = 1; n < n_objects; n++)
+        place_of_object[place_for(objects[n].object)] = (uint16_t)n;
+}
+
 static Object *object_of(const void *object)
 {
-    size_t i = ((uintptr_t)object * GOLDEN) >> 48;
-    while (place_of_object[i] && objects[place_of_object[i]].object != object)
-        i = (i + 1) & (PLACES - 1);
-    if (!place_of_object[i]) {
-        if (++n_objects == OBJECTS)
-            give_up("a run touches more than 32,767 objects: make its test smaller");
-        place_of_object[i] = (uint16_t)n_objects;
-        objects[n_objects].object = object;
-    }
-    return &objects[place_of_object[i]];
+    const size_t i = place_for(object);
+    if (place_of_object[i])
+        return &objects[place_of_object[i]];
+    if (++n_objects == OBJECTS)
+        give_up("a run touches more than 32,767 objects: make its test smaller");
+    objects[n_objects].object = object;
+    if ((size_t)n_objects * 2 > n_places)
+        use_more_places();
+    place_of_object[place_for(object)] = (uint16_t)n_objects;
+    return &objects[n_objects];
 }
 
 /* A name for a packet: by the thread that allocates it, and how many that allocated before. */

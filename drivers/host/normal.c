@@ -41,8 +41,9 @@ static const char *read_packet(const char *at, uint64_t *number)
 
 static const char *behind(const char *at, const char *key)
 {
-    const size_t n = strlen(key);
-    return strncmp(at, key, n) ? NULL : at + n;
+    while (*key && *at == *key)
+        at++, key++;
+    return *key ? NULL : at;
 }
 
 /* Where a name begins: reads it. Returns what is behind it, or NULL. */

@@ -17,10 +17,11 @@ typedef struct {
     uint32_t read[FEW_THREADS], read_pc[FEW_THREADS];
 } Cell;
 typedef struct { uint32_t read[MAX_THREADS - FEW_THREADS], read_pc[MAX_THREADS - FEW_THREADS]; } OtherReads;
-enum { CELLS = 1 << 15, PLACES = 1 << 16, MOST_LET_GO = 1024 };
+enum { CELLS = 1 << 15, PLACES = 1 << 16, FEWEST_PLACES = 1 << 11, MOST_LET_GO = 1024 };
 static Cell cells[CELLS];
 static OtherReads other_reads[CELLS]; /* of threads behind the first few */
 static uint16_t place_of_cell[PLACES];
+static size_t n_places = FEWEST_PLACES; /* of those that are used, as in footprint.c */
 static int n_cells;
 static uint32_t clocks[MAX_THREADS][MAX_THREADS];
 extern char __executable_start;
@@ -54,18 +55,34 @@ void clocks_meet(uint32_t *of_few, uint32_t *of_others, Touch how)
         mine[current_thread()]++;
 }
 
+static size_t place_for(const void *key)
+{
+    size_t i = ((uintptr_t)key * 0x9E3779B97F4A7C15u) >> 48 & (n_places - 1);
+    while (place_of_cell[i] && cells[place_of_cell[i]].key != key)
+        i = (i + 1) & (n_places - 1);
+    return i;
+}
+
+static void use_more_places(void)
+{
+    memset(place_of_cell, 0, n_places * sizeof *place_of_cell);
+    n_places *= 2;
+    for (int n = 1; n < n_cells; n++)
+        place_of_cell[place_for(cells[n].key)] = (uint16_t)n;
+}
+
 static Cell *cell_of(const void *key)
 {
-    size_t i = ((uintptr_t)key * 0x9E3779B97F4A7C15u) >> 48;
-    while (place_of_cell[i] && cells[place_of_cell[i]].key != key)
-        i = (i + 1) & (PLACES - 1);
-    if (!place_of_cell[i]) {
-        if (++n_cells == CELLS)
-            give_up("a run touches more than 32,767 words of memory: make its test smaller");
-        place_of_cell[i] = (uint16_t)n_cells;
-        cells[n_cells] = (Cell){ .key = key, .writer = NOBODY };
-    }
-    return &cells[place_of_cell[i]];
+    const size_t i = place_for(key);
+    if (place_of_cell[i])
+        return &cells[place_of_cell[i]];
+    if (++n_cells == CELLS)
+        give_up("a run touches more than 32,767 words of memory: make its test smaller");
+    cells[n_cells] = (Cell){ .key = key, .writer = NOBODY };
+    if ((size_t)n_cells * 2 > n_places)
+        use_more_places();
+    place_of_cell[place_for(key)] = (uint16_t)n_cells;
+    return &cells[n_cells];
 }
 
 static uint32_t place_of(const void *pc) { return pc ? (uint32_t)((const char *)pc - &__executable_start) : 0; }
