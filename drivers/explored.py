@@ -56,6 +56,11 @@ WRONG = [
     ("deferred calls run one at a time", "work.c", "MAX_PROCESSORS = 2 };", "MAX_PROCESSORS = 1 };", "race", "two_calls"),
     ("one processor lets a thread go on below DISPATCH_LEVEL", "schedule.c", "return high ? ready & high : ready;",
      "return ready;", "race", "waits_high"),
+    ("a device that waits for its routine keeps its extension meanwhile", "devices.c",
+     "    tell_running(d, self.frames);\n    let_go_of(devices", "    tell_running(d, self.frames);\n    (void)(devices", "race",
+     "released_early"),
+    ("a device doesn't wait for its routine", "devices.c", "if (devices[d].live && is_only_left_by_packets(d))",
+     "if (!devices[d].live && is_only_left_by_packets(d))", "right", "released_early"),
     ("memory that was let go isn't told", "racing.c", "if (c->let_go && pc)", "if (c->let_go && pc && !by_schedule)", "race",
      "deleted_while_used"),
 ]
