@@ -41,7 +41,8 @@ static void wait_for_expected(void)
 int main(int argc, char **argv)
 {
     PDEVICE_OBJECT device = MakeDevice(report, sizeof report, 3);
-    PDEVICE_OBJECT hid = Add(WdmLoadByName("driver_hid"), device), collection = hid ? Child(hid, 0) : NULL;
+    PDRIVER_OBJECT driver = WdmLoadByName(Does(argc, argv, "poll") ? "driver_hid_poll" : "driver_hid");
+    PDEVICE_OBJECT hid = Add(driver, device), collection = hid ? Child(hid, 0) : NULL;
     if (!collection || Pnp(collection, IRP_MN_START_DEVICE))
         return WdmFinish();
     PFILE_OBJECT file = WdmOpenFile(collection);
