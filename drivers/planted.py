@@ -326,6 +326,7 @@ HOSTILE = {
     "keeps_a_cancelled_packet": ["FAULT CancelledAndHeld", "keeps_a_cancelled_packet.c:13 in Read",
                                  "if (Irp->Cancel && IoSetCancelRoutine(Irp, NULL) != NULL) complete it"],
     "leaves_a_status_block": ["FAULT StackBlock", "leaves_a_status_block.c:11 in Read", "its IoStatusBlock lies on the"],
+    "leaves_an_event": ["FAULT StackBlock", "leaves_an_event.c:12 in Read", "its event lies on the stack of Read"],
     "fails_in_driver_entry": ["FAULT DriverEntry", "DriverEntry of fails_in_driver_entry returned 0xc000000e"],
     "fails_in_add_device": ["FAULT AddDevice", "AddDevice of fails_in_add_device returned 0xc000000e"],
     "leaves_its_device": ["FAULT LeftBehind", "in Begin: IoCreateDevice: the device D0 (leaves_its_device)"],
