@@ -3,6 +3,7 @@ keeps the rule."""
 
 import os
 import re
+import shlex
 import subprocess
 from xml.etree import ElementTree
 
@@ -13,90 +14,13 @@ HERE = os.path.dirname(os.path.abspath(__file__))
 SETTINGS = {"_Routine": {"WDM_ROUTINES_HIGH": "1"}, "_PageEnds": {"WDM_PAGE_ENDS": "1"}}
 NO_COMPLAINT = None
 
-# Mistakes that a plain run doesn't show; without them where RIGHT is defined. Each is told at its own line.
-UNLUCKY = r"""#include <wdm.h>
-#ifdef RIGHT
-enum { IS_RIGHT = 1 };
-#else
-enum { IS_RIGHT = 0 };
-#endif
-static PDEVICE_OBJECT lower;
-static NTSTATUS Complete(PIRP Irp, NTSTATUS Status)
-{
-    Irp->IoStatus.Status = Status;
-    Irp->IoStatus.Information = 0;
-    IoCompleteRequest(Irp, IO_NO_INCREMENT);
-    return Status;
-}
-static NTSTATUS Read(PDEVICE_OBJECT DeviceObject, PIRP Irp)
-{
-    volatile UCHAR *bytes = ExAllocatePoolWithTag(NonPagedPool, 32, 'etyB'), sum = 0;
-    if (!bytes)
-        return IS_RIGHT ? Complete(Irp, STATUS_INSUFFICIENT_RESOURCES) : STATUS_INSUFFICIENT_RESOURCES; /* Lost */
-    for (int i = 0; i < 32 + !IS_RIGHT; i++)
-        sum += bytes[i]; /* PoolOverrun */
-    ExFreePoolWithTag((PVOID)bytes, 'etyB');
-    return Complete(Irp, sum ? STATUS_SUCCESS : STATUS_UNSUCCESSFUL);
-}
-static NTSTATUS Write(PDEVICE_OBJECT DeviceObject, PIRP Irp)
-{
-    PULONG length = ExAllocatePoolWithTag(NonPagedPool, sizeof *length, 'htgL');
-    if (IS_RIGHT && !length)
-        return Complete(Irp, STATUS_INSUFFICIENT_RESOURCES);
-    *length = IoGetCurrentIrpStackLocation(Irp)->Parameters.Write.Length; /* STOPPED */
-    ExFreePool(length);
-    return Complete(Irp, STATUS_SUCCESS);
-}
-static NTSTATUS Flushed(PDEVICE_OBJECT DeviceObject, PIRP Irp, PVOID Context)
-{
-    LARGE_INTEGER moment = { .QuadPart = -10 };
-    if (Irp->PendingReturned)
-        IoMarkIrpPending(Irp);
-    if (!IS_RIGHT)
-        KeDelayExecutionThread(KernelMode, FALSE, &moment); /* IrqlTooHigh */
-    return STATUS_CONTINUE_COMPLETION;
-}
-static NTSTATUS Flush(PDEVICE_OBJECT DeviceObject, PIRP Irp)
-{
-    IoCopyCurrentIrpStackLocationToNext(Irp);
-    IoSetCompletionRoutine(Irp, Flushed, NULL, TRUE, TRUE, TRUE);
-    return IoCallDriver(lower, Irp);
-}
-static NTSTATUS Pass(PDEVICE_OBJECT DeviceObject, PIRP Irp)
-{
-    const PIO_STACK_LOCATION stack = IoGetCurrentIrpStackLocation(Irp);
-    const BOOLEAN goes = stack->MajorFunction == IRP_MJ_PNP && stack->MinorFunction == IRP_MN_REMOVE_DEVICE;
-    IoSkipCurrentIrpStackLocation(Irp);
-    NTSTATUS status = IoCallDriver(lower, Irp);
-    if (goes) {
-        IoDetachDevice(lower);
-        IoDeleteDevice(DeviceObject);
-    }
-    return status;
-}
-static NTSTATUS AddDevice(PDRIVER_OBJECT DriverObject, PDEVICE_OBJECT Pdo)
-{
-    PDEVICE_OBJECT device;
-    NTSTATUS status = IoCreateDevice(DriverObject, 0, NULL, FILE_DEVICE_UNKNOWN, 0, FALSE, &device);
-    if (!NT_SUCCESS(status))
-        return status;
-    lower = IoAttachDeviceToDeviceStack(device, Pdo);
-    device->Flags &= ~(ULONG)DO_DEVICE_INITIALIZING;
-    return STATUS_SUCCESS;
-}
-NTSTATUS DriverEntry(PDRIVER_OBJECT DriverObject, PUNICODE_STRING RegistryPath)
-{
-    for (int i = 0; i <= IRP_MJ_MAXIMUM_FUNCTION; i++)
-        DriverObject->MajorFunction[i] = Pass;
-    DriverObject->MajorFunction[IRP_MJ_READ] = Read;
-    DriverObject->MajorFunction[IRP_MJ_WRITE] = Write;
-    DriverObject->MajorFunction[IRP_MJ_FLUSH_BUFFERS] = Flush;
-    DriverObject->DriverExtension->AddDevice = AddDevice;
-    return STATUS_SUCCESS;
-}
-"""
-VERIFIED = ["samples", "stacks/children.c", "stacks/removal.c", "stacks/retry.c", "stacks/handover.c",
-            "--args SplitTransfer=1 shapes", "--args ToAWorker=1 shapes", "--args WaitElsewhere=1 shapes"]
+# Drivers of unlucky/ that stand on each other, and the runs that tell the last one's mistakes. A plain run tells none
+# of them; where RIGHT is defined there are none. Each is told at its own line.
+UNLUCKY = [(["allocates"], "--verify"), (["answers", "asks"], "--force-pending"), (["keeps"], "--cancel-everywhere")]
+PORTS = "--library stacks/ports/portclass.c stacks/ports/portmini.c stacks/ports/test.c"
+VERIFIED = ["samples",
+            *(f"stacks/{it}.c" for it in "children removal retry handover direct port enumerate".split()),
+            PORTS, *(f"--args {it}=1 shapes" for it in ("SplitTransfer", "ToAWorker", "WaitElsewhere"))]
 
 
 def lines_told():
@@ -137,39 +61,48 @@ def tests(bench, names_of, complaint):
     yield "each rule of the host has a case, and a row of VERIFIER.md", missing_rules(names)
 
 
-def verified(bench, source, *flags):
-    """Returns what `run --verify` prints, and its exit status."""
-    words = [HERE + "/run", "--verify", "--processes", "1", "--irpx", bench.irpx, *flags, source]  # `flags` come last
-    made = subprocess.run(words, capture_output=True, text=True, check=False)
-    return made.stdout, made.returncode
-
-
 def right_verified(bench, wish):
-    """Gives a complaint where one of the right drivers isn't silent in all runs."""
-    *flags, source = wish.split()
-    flags = ["--minutes", "0.4", *(it.replace("=", " ") for it in flags)]
-    said, status = verified(bench, f"{HERE}/{source}", *flags)
-    yield f"verify: {wish}", None if not status and "clean" in said else f"status {status}: {said[-600:]}"
+    """Gives a complaint where a right driver isn't silent in a run. The name says how many runs of the plan were made
+    within the time: all cheap ones, and as many of the others as the machine allowed."""
+    words = [f"{HERE}/{it}" if os.path.exists(f"{HERE}/{it}") else it.replace("=", " ") for it in wish.split()]
+    said, status = ran(bench, "--verify", "--minutes", "0.4", "--processes", "1", *words)
+    planned, made = (re.search(rf"^verify: (\d+) runs{end}", said, re.M) for end in ("$", ","))
+    well = planned and made and not status
+    covered = f"{made[1]} of {planned[1]} runs" if planned and made else "no run"
+    yield f"verify: {wish}, {covered}", None if well else f"status {status}: {said[-600:]}"
 
 
-def unlucky(bench):
-    """Each mistake of UNLUCKY is told at its line, with a command that repeats its run; without them all is silent."""
-    source = bench.folder("unlucky") + "/unlucky.c"
-    with open(source, "w", encoding="utf-8") as it:
-        it.write(UNLUCKY)
-    said, status = verified(bench, source)
-    lines = UNLUCKY.splitlines()
-    for rule in ("Lost", "PoolOverrun", "STOPPED", "IrqlTooHigh"):
-        number = next(n for n, line in enumerate(lines, 1) if f"/* {rule} */" in line)
-        place = "Read, dispatch" if rule == "Lost" else f"unlucky.c:{number}"
-        told = re.search(rf"^host: (?:FAULT )?{rule}.*?{re.escape(place)}.*"
-                         r"\n  again with  run (.*) \S+$", said, re.M)
-        again = told and subprocess.run([HERE + "/run", "--irpx", bench.irpx, *told[1].split(), source],
-                                        capture_output=True, text=True, check=False)
-        well = told and status == 1 and again.returncode == 1
-        yield f"verify tells {rule}, and how to repeat it", None if well else f"status {status}: {said[-900:]}"
-    said, status = verified(bench, source, "--cflag=-DRIGHT")
-    yield "verify is silent without the mistakes", None if status == 0 else said[-600:]
+def ran(bench, *words):
+    """Returns what `run` prints, and its exit status."""
+    made = subprocess.run([HERE + "/run", "--irpx", bench.irpx, *words], capture_output=True, text=True, check=False)
+    return made.stdout + made.stderr, made.returncode
+
+
+def marks(driver):
+    """Gives for each mistake of a driver its rule, and where it is told: at its line, or of a routine."""
+    with open(f"{HERE}/unlucky/{driver}.c", encoding="utf-8") as it:
+        for number, line in enumerate(it, 1):
+            found = re.search(r"/\* told: (\w+)( in .*)? \*/", line)
+            if found:
+                yield found[1], found[2] or f" {driver}.c:{number}"
+
+
+def unlucky(bench, drivers, flag):
+    """The runs of `flag` alone tell each mistake at its line, with a command that repeats the run; the right driver is
+    silent in all of them."""
+    files, name = [f"{HERE}/unlucky/{it}.c" for it in drivers], drivers[-1]
+    said, status = ran(bench, *files)
+    yield f"{name}: a plain run is clean", said[-600:] if status else None
+    words = [flag, "--minutes", "30", "--processes", "1", "--args", " ".join(drivers), *files, f"{HERE}/unlucky/test.c"]
+    said, status = ran(bench, *words)
+    for rule, place in marks(name):
+        told = re.search(rf"^host: (?:FAULT )?{rule}\b.*{re.escape(place)}\b.*\n  again with  run (.*)$", said, re.M)
+        again, ended = ran(bench, *shlex.split(told[1])) if told else ("", 0)
+        repeated = re.search(rf"^host: (?:FAULT )?{rule}\b.*{re.escape(place)}\b", again, re.M)
+        well = status == 1 and ended == 1 and repeated
+        yield f"{name}: {flag} tells {rule}, and how to repeat it", None if well else f"status {status}: {said} {again}"
+    said, status = ran(bench, "--cflag=-DRIGHT", *words)
+    yield f"{name}: {flag} is silent without the mistakes", said[-600:] if status else None
 
 
 NAMED = """#include "wdm_test.h"
@@ -259,18 +192,16 @@ def notes(bench):
 
 
 def mistakes_told(bench, mistake):
-    """The mistake is told first by the run that mistakes.py names, as the rule that it names."""
+    """The mistake is told first by the run that mistakes.py names, as the rule and where it names."""
     folder = bench.folder("mistake " + mistake.name)
     mistake.write(f"{folder}/{mistake.file}")
     flags = [word for key, value in mistake.flags.items()
              for word in ([f"--{key}"] if value is True else [f"--{key}", value])]
     made = subprocess.run([HERE + "/run", "--irpx", bench.irpx, "--controls", mistakes.CONTROLS[mistake.file], *flags,
                            f"{folder}/{mistake.file}"], capture_output=True, text=True, check=False)
-    found = re.search(r"^host: (?:FAULT )?(\w+)", "\n".join(
-        it for it in made.stderr.splitlines() if "FAULT" in it or "STOPPED" in it), re.M)
-    told = found[1] if found else None
-    wrong = f"{told}, and not {mistake.rule}: {made.stdout[-300:]}"
-    yield f"mistake: {mistake.name}", None if told == mistake.rule else wrong
+    told = next((it for it in made.stderr.splitlines() if "FAULT" in it or "STOPPED" in it), "nothing is told")
+    well = re.match(rf"host: (?:FAULT )?{mistake.rule}\b.*{re.escape(mistake.place)}\b", told)
+    yield f"mistake: {mistake.name}", None if well else f"it isn't {mistake.rule} {mistake.place}: {told}"
 
 
 def missing_rules(names):

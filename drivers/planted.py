@@ -8,9 +8,10 @@ SAMPLES, STACKS, SHAPES = "samples", "stacks", "shapes"
 
 
 class Fault:
-    def __init__(self, name, where, file, edits, tells, verdict="legal", refused=None, args="", is_race=False):
+    def __init__(self, name, where, file, edits, tells, verdict="legal", refused=None, args="", is_race=False,
+                 settings=None):
         self.name, self.where, self.file, self.edits, self.tells = name, where, file, edits, tells
-        self.verdict, self.refused, self.args, self.is_race = verdict, refused, args, is_race
+        self.verdict, self.refused, self.args, self.is_race, self.settings = verdict, refused, args, is_race, settings
 
 
 def sample(name, file, edits, tells, **more):
@@ -199,6 +200,14 @@ FAULTS = [
     stack("a partial MDL reaches beyond its source", "direct.c",
           [("Irp->MdlAddress, half, half)", "Irp->MdlAddress, half, half + 1)")],
           ["MdlRange", "direct.c:", "ReadPart", "IoBuildPartialMdl"]),
+    stack("a file's context isn't freed", "direct.c",
+          [("    if (stack->MajorFunction == IRP_MJ_CLOSE)\n"
+            "        ExFreePoolWithTag(stack->FileObject->FsContext, 'tceD');\n", "    (void)stack;\n")],
+          ["PoolLeak", "direct.c:", "in Create: never freed"]),
+    stack("StartIo doesn't look at who is started", "port.c",
+          [("    if (DeviceObject->CurrentIrp != Irp) {", "    if (0) {")],
+          ["NotOwner", "port.c:", "StartIo, work of D0 (port)", "IoSetCancelRoutine"], refused="NotOwner",
+          settings={"WDM_CANCEL": "1@7"}),
     stack("a file is dereferenced twice", "direct.c",
           [("    IoDeleteDevice(DriverObject->DeviceObject);\n}",
             "    ObDereferenceObject(((PEXTENSION)DriverObject->DeviceObject->DeviceExtension)->LowerFile);\n"

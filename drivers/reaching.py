@@ -39,16 +39,31 @@ def mistakes(bench):
         f"status {status}, no {missing}: {said[-1500:]}" if status or missing else NO_COMPLAINT
 
 
-def silent(bench, name):
-    """Gives a complaint where the host's own test isn't clean over a stack, whose own test is left out."""
+def without_its_test(bench, name):
+    """Returns a copy of a stack whose own test is left out."""
     with open(f"{HERE}/stacks/{name}.c", encoding="utf-8") as it:
         text = it.read()
     source = f"{bench.folder('own test')}/its_{name}.c"
     text = text.replace("int main(void)", "static int __attribute__((unused)) its_main(void)")
     with open(source, "w", encoding="utf-8") as it:
         it.write(text.replace('"common.h"', f'"{HERE}/stacks/common.h"'))
-    said, status = run(bench, source)
+    return source
+
+
+def silent(bench, name):
+    """Gives a complaint where the host's own test isn't clean over a stack."""
+    said, status = run(bench, without_its_test(bench, name))
     yield f"the host's own test over stack {name}", NO_COMPLAINT if not status else said[-900:]
+
+
+def children(bench):
+    """Gives a complaint where a filter doesn't come onto a bus's children, or is told of where it isn't there."""
+    bus, known = without_its_test(bench, "enumerate"), re.compile(r"^never ran .*Filter", re.M)
+    said, status = run(bench, bus, "--on", "Port", HERE + "/samples/filter.c")
+    well = not status and not known.search(said) and "was met by FilterReadDone" in said
+    yield "the host's own test with a filter on a bus's children", NO_COMPLAINT if well else said[-900:]
+    said, status = run(bench, bus)
+    yield "and without it", NO_COMPLAINT if not status and "Filter" not in said else said[-900:]
 
 
 def samples(bench):
@@ -60,4 +75,5 @@ def samples(bench):
 def tests(bench):
     """Returns the tests: of each a name, and a call that gives names and complaints."""
     return [("own test, mistakes", lambda: mistakes(bench)), ("own test, samples", lambda: samples(bench)),
+            ("own test, children", lambda: children(bench)),
             *((f"own test, stack {it}", lambda it=it: silent(bench, it)) for it in planted.FOR_OWN_TEST)]

@@ -31,8 +31,8 @@ def reader(compiler):
 
 
 def forget(folder):
-    """Takes the counts of an earlier run away."""
-    for path in glob.glob(f"{folder}/*.gcda") + glob.glob(f"{folder}/parts/*.gcda"):
+    """Takes the counts of an earlier run away, and what it compiled may have counted."""
+    for path in (it for kind in ("gcda", "gcno") for it in glob.glob(f"{folder}/**/*.{kind}", recursive=True)):
         os.remove(path)
 
 

@@ -136,7 +136,13 @@ class Verification:
             if getattr(self.options, key, None):
                 words.append(f"--{key} {shlex.quote(str(getattr(self.options, key)))}")
         words += [f"--cflag={shlex.quote(it)}" for it in self.options.cflag]
-        return " ".join([*words, *([words_of(flags)] if flags else []), *map(shlex.quote, self.options.source)])
+        words += [f"--library {shlex.quote(it)}" for it in getattr(self.options, "library", [])]
+        words += [f"--on {shlex.quote(child)} {shlex.quote(file)}" for child, file in getattr(self.options, "on", [])]
+        if getattr(self.options, "wine", None):
+            words.append(f"--wine {shlex.quote(self.options.wine)}")
+        its = {file for _, file in getattr(self.options, "on", [])}
+        files = [shlex.quote(it) for it in self.options.source if it not in its]
+        return " ".join([*words, *([words_of(flags)] if flags else []), *files])
 
     def tell_found(self):
         """Tells the faults that weren't told."""

@@ -6,13 +6,17 @@
 #include <wdm.h>
 #include "host.h"
 
+enum { MOMENT = 5 }; /* milliseconds */
 typedef struct { PDEVICE_OBJECT Self, Lower; } BETWEEN, *PBETWEEN;
 typedef struct { PIO_WORKITEM Item; PIRP Irp; } LATE, *PLATE;
 
+/* By then the driver above has most likely gone on behind IoCallDriver: to where it waits, or to its return. */
 static VOID CompleteLate(PDEVICE_OBJECT DeviceObject, PVOID Context)
 {
     PLATE late = Context;
+    LARGE_INTEGER moment = { .QuadPart = -10 * 1000 * MOMENT };
     UNREFERENCED_PARAMETER(DeviceObject);
+    KeDelayExecutionThread(KernelMode, FALSE, &moment);
     IoFreeWorkItem(late->Item);
     IoCompleteRequest(late->Irp, IO_NO_INCREMENT);
     free(late);

@@ -26,6 +26,7 @@ const Hold *held_spin_lock(void);
 void tell_locks_kept(const Frame *f);
 void check_thread_end(void); /* takes G and gives it back */
 void forget_locks(const void *from, size_t size, const char *why);
+void forget_remove_locks(const void *from, size_t size, const char *why); /* remove_locks.c */
 void tell_deadlock(const void *lock);
 void tell_locks_held(void);
 const Hold *holder_of(const void *lock, int *seat);

@@ -22,12 +22,12 @@ static BOOLEAN is_short;
 static What control(int i, ULONG length) { return (What){ IRP_MJ_DEVICE_CONTROL, length, controls[i] }; }
 static What transfer(UCHAR major, ULONG length) { return (What){ major, length, 0 }; }
 
-/* Requests that meet: a read and each control are on their way while others come. */
+/* Requests that meet: a read and each control are on their way while others come; the write that comes is longer. */
 static void use_overlapped(PDEVICE_OBJECT top)
 {
     Request first;
     if (start_request(&first, top, transfer(IRP_MJ_READ, 16), KEPT)) {
-        make_request(top, transfer(IRP_MJ_WRITE, 16), PLAIN, PATIENT);
+        make_request(top, transfer(IRP_MJ_WRITE, 40), PLAIN, PATIENT);
         end_request(&first, PATIENT);
     }
     for (int i = 0; i < n_controls; i++) {

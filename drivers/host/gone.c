@@ -14,4 +14,5 @@ void check_gone(const void *from, size_t size, const char *what)
     if (waited_in(from, size, &at))
         broken("UsedInFreedMemory", NULL, "a thread waits since %s, for an object in the %s", place(at), what);
     forget_locks(from, size, what);
+    forget_remove_locks(from, size, what);
 }

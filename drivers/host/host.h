@@ -119,6 +119,7 @@ typedef struct Frame {
     bool waiting;            /* its thread waits */
     bool sent;               /* it made a send in its device's name */
     KIRQL before, irql;      /* the interrupt level before it, and the one at which it began */
+    uint64_t number;         /* of all frames of the run */
     PDRIVER_CANCEL cancel;
     Entry *below; /* in_place.c: the rider's send, which returns when the dispatch's own does */
     ULONG lower, done, status;
@@ -170,7 +171,7 @@ struct Packet {
     bool writes_back, is_built; /* is_built: by the I/O manager, which frees it at its end */
     bool trapped, touch_untold, touched_by_sender;
     bool watched; /* watching.c: its page is closed, until somebody touches it */
-    const Frame *watcher;
+    uint64_t watcher; /* the number of the frame */
     const struct Call *watcher_calls;
     const void *touched_at;
     int toucher;
@@ -311,6 +312,7 @@ void after_work_items(void);
 void tell_work_queued(int device);
 bool is_bottom(PDEVICE_OBJECT device);
 bool timers_armed(void);
+ULONG next_new_timer(ULONG most);
 
 /* objects.c, mdl.c, start_io.c: what wdm_ob.h, wdm_mm.h and wdm_hw.h have */
 bool is_referenced(PVOID object);

@@ -113,11 +113,33 @@ static void with_children(int bus, void (*act)(int))
             act(i);
 }
 
-static void surprise(int node)
+/* Sends a request to each device of the subtree that is started, children first. */
+static void send_up(int node, UCHAR minor)
 {
-    with_children(node, surprise);
+    for (int i = 0; i < MAX_NODES; i++)
+        if (nodes[i].pdo && nodes[i].bus == node)
+            send_up(i, minor);
     if (nodes[node].is_started)
-        ask_stack(nodes[node].pdo, IRP_MN_SURPRISE_REMOVAL);
+        ask_stack(nodes[node].pdo, minor);
+}
+
+/* The same, children last. */
+static void send_down(int node, UCHAR minor)
+{
+    if (nodes[node].is_started)
+        ask_stack(nodes[node].pdo, minor);
+    for (int i = 0; i < MAX_NODES; i++)
+        if (nodes[i].pdo && nodes[i].bus == node)
+            send_down(i, minor);
+}
+
+/* Asks each device of the subtree that is started, children first, until one doesn't agree. Returns whether all do. */
+static bool agrees(int node, UCHAR minor)
+{
+    for (int i = 0; i < MAX_NODES; i++)
+        if (nodes[i].pdo && nodes[i].bus == node && !agrees(i, minor))
+            return false;
+    return !nodes[node].is_started || NT_SUCCESS(ask_stack(nodes[node].pdo, minor));
 }
 
 /* The node goes, its children first. */
@@ -132,27 +154,12 @@ static void remove_node(int node)
         ObDereferenceObject(pdo);
 }
 
-static bool agrees(int node)
-{
-    for (int i = 0; i < MAX_NODES; i++)
-        if (nodes[i].pdo && nodes[i].bus == node && !agrees(i))
-            return false;
-    return !nodes[node].is_started || NT_SUCCESS(ask_stack(nodes[node].pdo, IRP_MN_QUERY_REMOVE_DEVICE));
-}
-
-static void call_off(int node)
-{
-    if (nodes[node].is_started)
-        ask_stack(nodes[node].pdo, IRP_MN_CANCEL_REMOVE_DEVICE);
-    with_children(node, call_off);
-}
-
 void unplug(PDEVICE_OBJECT pdo)
 {
     const int node = node_of(pdo);
-    if (node >= 0 && !agrees(node)) {
-        call_off(node);
-        surprise(node);
+    if (node >= 0 && !agrees(node, IRP_MN_QUERY_REMOVE_DEVICE)) {
+        send_down(node, IRP_MN_CANCEL_REMOVE_DEVICE);
+        send_up(node, IRP_MN_SURPRISE_REMOVAL);
     }
 }
 
@@ -160,7 +167,7 @@ void take_by_surprise(PDEVICE_OBJECT pdo)
 {
     const int node = node_of(pdo);
     if (node >= 0)
-        surprise(node);
+        send_up(node, IRP_MN_SURPRISE_REMOVAL);
 }
 
 void remove_all(PDEVICE_OBJECT pdo)
@@ -170,51 +177,21 @@ void remove_all(PDEVICE_OBJECT pdo)
         remove_node(node);
 }
 
-static void stop(int node)
-{
-    with_children(node, stop);
-    if (nodes[node].is_started)
-        ask_stack(nodes[node].pdo, IRP_MN_STOP_DEVICE);
-}
-
-static bool may_stop(int node)
-{
-    for (int i = 0; i < MAX_NODES; i++)
-        if (nodes[i].pdo && nodes[i].bus == node && !may_stop(i))
-            return false;
-    return !nodes[node].is_started || NT_SUCCESS(ask_stack(nodes[node].pdo, IRP_MN_QUERY_STOP_DEVICE));
-}
-
-static void start_again(int node)
-{
-    if (nodes[node].is_started)
-        ask_stack(nodes[node].pdo, IRP_MN_START_DEVICE);
-    with_children(node, start_again);
-}
-
-static void go_on(int node)
-{
-    if (nodes[node].is_started)
-        ask_stack(nodes[node].pdo, IRP_MN_CANCEL_STOP_DEVICE);
-    with_children(node, go_on);
-}
-
 void stop_and_start(PDEVICE_OBJECT pdo)
 {
     const int node = node_of(pdo);
     if (node < 0)
         return;
-    if (!may_stop(node)) {
-        go_on(node);
+    if (!agrees(node, IRP_MN_QUERY_STOP_DEVICE)) {
+        send_down(node, IRP_MN_CANCEL_STOP_DEVICE);
         return;
     }
-    stop(node);
-    start_again(node);
+    send_up(node, IRP_MN_STOP_DEVICE);
+    send_down(node, IRP_MN_START_DEVICE);
     look_for_children(pdo);
 }
 
 static void forget_reports(int node) { nodes[node].is_reported = false; }
-
 
 static int known_device(PDEVICE_OBJECT device)
 {
@@ -240,7 +217,7 @@ static void let_missing_go(int node)
     PDEVICE_OBJECT pdo = nodes[node].pdo;
     if (nodes[node].is_reported)
         return;
-    surprise(node);
+    send_up(node, IRP_MN_SURPRISE_REMOVAL);
     remove_node(node);
     check_deleted(pdo);
 }

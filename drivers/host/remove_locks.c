@@ -1,10 +1,33 @@
-/* remove_locks.c: remove locks. They give word lines, which `irpx check` doesn't judge: the host does. */
+/*
+ * remove_locks.c: remove locks. The one in a device's extension has the device's number, and gives word lines, which
+ * `irpx check` doesn't judge: the host does. One that lies elsewhere, in pool or in a global, has a number behind all
+ * devices': the host checks it in the same way, and records nothing of it.
+ */
 #include "host.h"
 
+enum { MAX_LOCKS = MAX_DEVICES + 64 };
 typedef struct { PVOID tag; int seat, device; UCHAR major; bool in_dispatch; WDM_SITE at; } Held;
-typedef struct { Held held[MAX_HELD]; int n; bool removed; uint64_t knows; } Lock;
+typedef struct { PIO_REMOVE_LOCK raw; WDM_SITE made; Held held[MAX_HELD]; int n; bool removed; uint64_t knows; } Lock;
 
-static Lock locks[MAX_DEVICES];
+static Lock locks[MAX_LOCKS];
+
+static bool is_devices(int lock) { return lock < MAX_DEVICES; }
+
+static const char *lock_name(int lock)
+{
+    static _Thread_local char text[200];
+    if (is_devices(lock))
+        snprintf(text, sizeof text, "the remove lock of %s", who(lock));
+    else
+        snprintf(text, sizeof text, "the remove lock that was initialized at %s", place(locks[lock].made));
+    return text;
+}
+
+static void write_word(const char *act, int lock, PVOID tag, const char *reply, int by, int to)
+{
+    if (is_devices(lock))
+        record_word(act, lock, tag, reply, by, to);
+}
 
 bool lock_knows_drained(int device) { return locks[device].knows >> self.seat & 1; }
 
@@ -26,26 +49,66 @@ const char *held_tags(int device)
     return text;
 }
 
-/* The device whose extension has the lock. */
+/* The device whose extension has the lock, where it is the first one in there; else NOBODY. */
+static int device_of(PIO_REMOVE_LOCK lock)
+{
+    for (int i = n_devices - 1; i >= 0; i--) {
+        const char *extension = devices[i].raw->DeviceExtension;
+        if ((char *)lock >= extension && (char *)lock < extension + devices[i].raw->HostExtensionSize)
+            return !locks[i].raw || locks[i].raw == lock ? i : NOBODY;
+    }
+    return NOBODY;
+}
+
+/* A number behind those of devices: the one that the lock had before; else one that no lock has, or one that has been
+   drained. */
+static int number_elsewhere(PIO_REMOVE_LOCK lock)
+{
+    int found = NOBODY;
+    for (int i = MAX_LOCKS - 1; i >= MAX_DEVICES; i--)
+        if (!locks[i].raw || (locks[i].removed && !locks[i].n))
+            found = i;
+    for (int i = MAX_DEVICES; i < MAX_LOCKS; i++)
+        if (locks[i].raw == lock)
+            found = i;
+    if (found < 0)
+        give_up("more than 64 remove locks that lie in no device's extension");
+    locks[found].n = 0;
+    locks[found].removed = false;
+    return found;
+}
+
 VOID WdmIoInitializeRemoveLock(PIO_REMOVE_LOCK Lock, WDM_SITE at)
 {
     Call c;
     enter_host(&c, "IoInitializeRemoveLock", at);
-    Lock->HostNumber = -1;
-    for (int i = 0; i < n_devices; i++) {
-        char *extension = devices[i].raw->DeviceExtension;
-        if ((char *)Lock >= extension && (char *)Lock < extension + devices[i].raw->HostExtensionSize)
-            Lock->HostNumber = i;
-    }
-    if (Lock->HostNumber < 0)
-        give_up("a remove lock that is in no device's extension");
+    const int device = device_of(Lock), number = device >= 0 ? device : number_elsewhere(Lock);
+    if (device < 0)
+        note("a remove lock", "it lies in no device's extension: the host checks it, and the transcript doesn't have it");
+    locks[number].raw = Lock;
+    locks[number].made = at;
+    Lock->HostNumber = number;
     Lock->HostBound = TRUE;
     leave_host();
 }
 
+/* Locks in this memory go with it: for one outside of extensions. A device with a lock that is held isn't deleted. */
+void forget_remove_locks(const void *from, size_t size, const char *why)
+{
+    const char *begin = from;
+    for (int i = MAX_DEVICES; i < MAX_LOCKS; i++) {
+        Lock *k = &locks[i];
+        if ((const char *)k->raw < begin || (const char *)k->raw >= begin + size)
+            continue;
+        if (k->n)
+            broken("LockInFreedMemory", NULL, "%s is held%s, in the %s", lock_name(i), held_tags(i), why);
+        k->raw = NULL;
+    }
+}
+
 static int lock_of(PIO_REMOVE_LOCK lock)
 {
-    if (lock->HostBound != TRUE)
+    if (lock->HostBound != TRUE || lock->HostNumber < 0 || lock->HostNumber >= MAX_LOCKS)
         give_up("a remove lock is used before IoInitializeRemoveLock");
     check_used(lock, "remove lock");
     touch(&locks[lock->HostNumber], strcmp(self.calls->name, "IoReleaseRemoveLockAndWait") ? MEETS : SYNCS);
@@ -58,7 +121,8 @@ NTSTATUS WdmIoAcquireRemoveLock(PIO_REMOVE_LOCK RemoveLock, PVOID Tag, WDM_SITE 
     enter_host(&c, "IoAcquireRemoveLock", at);
     const int d = lock_of(RemoveLock);
     Lock *k = &locks[d];
-    devices[d].bound = true; /* one that nobody ever acquired needs no drain */
+    if (is_devices(d))
+        devices[d].bound = true; /* one that nobody ever acquired needs no drain */
     const bool removed = k->removed;
     const Frame *f = self.frames;
     if (!removed && k->n == MAX_HELD)
@@ -66,7 +130,7 @@ NTSTATUS WdmIoAcquireRemoveLock(PIO_REMOVE_LOCK RemoveLock, PVOID Tag, WDM_SITE 
     if (!removed)
         k->held[k->n++] = (Held){ .tag = Tag, .seat = self.seat, .device = f ? f->device : NOBODY, .at = at,
                                   .in_dispatch = f && f->kind == DISPATCH, .major = f ? f->major : 0 };
-    record_word("acquire", d, Tag, removed ? "{\"status\":3221225558}" : "{\"status\":0}", self.seat, -1);
+    write_word("acquire", d, Tag, removed ? "{\"status\":3221225558}" : "{\"status\":0}", self.seat, -1);
     leave_host();
     return removed ? STATUS_DELETE_PENDING : STATUS_SUCCESS;
 }
@@ -80,14 +144,14 @@ static bool give_back(int d, PVOID tag, const char *act)
         if (k->held[i].tag == tag && (found < 0 || k->held[i].seat == self.seat))
             found = i;
     if (found < 0) {
-        record_word(act, d, tag, "\"not_held\"", self.seat, -1);
-        fault("NotHeld", NULL, "the remove lock of %s is released under a tag that isn't held (tag %lu)%s%s", who(d),
+        write_word(act, d, tag, "\"not_held\"", self.seat, -1);
+        fault("NotHeld", NULL, "%s is released under a tag that isn't held (tag %lu)%s%s", lock_name(d),
               (unsigned long)number_of(tag), k->n ? "; held" : "", k->n ? held_tags(d) : "");
         return false;
     }
     if (k->held[found].seat != self.seat)
-        record_word("hand", d, tag, "\"ok\"", k->held[found].seat, self.seat);
-    record_word(act, d, tag, "\"ok\"", self.seat, -1);
+        write_word("hand", d, tag, "\"ok\"", k->held[found].seat, self.seat);
+    write_word(act, d, tag, "\"ok\"", self.seat, -1);
     k->held[found] = k->held[--k->n];
     tell_waiters(&host_settled);
     return true;
@@ -110,17 +174,17 @@ VOID WdmIoReleaseRemoveLockAndWait(PIO_REMOVE_LOCK RemoveLock, PVOID Tag, WDM_SI
     const int d = lock_of(RemoveLock);
     Lock *k = &locks[d];
     if (k->removed) {
-        record_word("begin_remove", d, Tag, "\"already_removing\"", self.seat, -1);
-        fault("AlreadyRemoving", NULL, "the remove lock of %s is drained twice", who(d));
+        write_word("begin_remove", d, Tag, "\"already_removing\"", self.seat, -1);
+        fault("AlreadyRemoving", NULL, "%s is drained twice", lock_name(d));
     } else if (give_back(d, Tag, "begin_remove"))
         k->removed = true;
     if (k->n)
         wait_for_host(is_drained, k);
     touch(k, SYNCS);
     if (k->n)
-        fault("NotDrained", NULL, "the remove lock of %s isn't drained: %d held%s", who(d), k->n, held_tags(d));
+        fault("NotDrained", NULL, "%s isn't drained: %d held%s", lock_name(d), k->n, held_tags(d));
     else if (k->removed) {
-        record_word("drained", d, NULL, "\"yes\"", self.seat, -1);
+        write_word("drained", d, NULL, "\"yes\"", self.seat, -1);
         k->knows |= 1ull << self.seat;
     }
     leave_host();

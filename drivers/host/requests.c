@@ -1,7 +1,8 @@
 /* requests.c: one request of the host's own test, and which control codes a stack knows. */
+#include "schedule.h"
 #include "requests.h"
-#include <stdlib.h>
 
+enum { MOST_FOR_TIMERS = 300 }; /* milliseconds */
 enum { MOST_CONTROLS = 48, NOT_KNOWN = CTL_CODE(FILE_DEVICE_UNKNOWN, 0x7ff, METHOD_BUFFERED, FILE_ANY_ACCESS) };
 ULONG controls[MOST_CONTROLS];
 int n_controls;
@@ -34,11 +35,23 @@ BOOLEAN start_request(Request *r, PDEVICE_OBJECT top, What what, How how)
     return TRUE;
 }
 
+static BOOLEAN is_done_within(Request *r, LONGLONG milliseconds)
+{
+    LARGE_INTEGER limit = { .QuadPart = -10000LL * milliseconds };
+    return KeWaitForSingleObject(&r->done, Executive, KernelMode, FALSE, &limit) != STATUS_TIMEOUT;
+}
+
+/* A timer's routine may end the request: the test waits for each such routine once. */
+static BOOLEAN is_done_by_timer(Request *r)
+{
+    const ULONG left = r->how == PLAIN && !by_schedule ? next_new_timer(MOST_FOR_TIMERS) : 0;
+    return left && is_done_within(r, left + 10);
+}
+
 NTSTATUS end_request(Request *r, int milliseconds)
 {
     const BOOLEAN kept = (r->how & (KEPT | CANCELLED_AFTER)) != 0;
-    LARGE_INTEGER limit = { .QuadPart = r->how & CANCELLED_AT_ONCE ? 0 : -10000LL * milliseconds };
-    if (KeWaitForSingleObject(&r->done, Executive, KernelMode, FALSE, &limit) == STATUS_TIMEOUT) {
+    if (!is_done_within(r, r->how & CANCELLED_AT_ONCE ? 0 : milliseconds) && !is_done_by_timer(r)) {
         WdmCancelRequest(r->irp);
         KeWaitForSingleObject(&r->done, Executive, KernelMode, FALSE, NULL);
     }

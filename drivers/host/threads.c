@@ -119,6 +119,8 @@ void driver_came_back(void)
 
 void enter_frame(Frame *f)
 {
+    static uint64_t n_frames;
+    f->number = __atomic_add_fetch(&n_frames, 1, __ATOMIC_SEQ_CST);
     f->up = self.frames;
     f->thread = this_thread();
     self.frames = f;

@@ -122,14 +122,20 @@ static void tell(Packet *p)
     self.frames = frames;
 }
 
-/* At the thread's next call with a packet. A second completion or free of the same packet is told instead. */
+/* Whether the code that touched the packet may complete or free it by now: it has come back to it. */
+static bool is_back_by_now(const Packet *p)
+{
+    return p->touched_by_sender && p->owner != ENDED && !p->rider && (p->owner < 0 || p->owner == p->toucher);
+}
+
+/* At the thread's next call with a packet. A completion or free that comes too early, or a second one, is told instead. */
 void tell_touch(const char *call, PIRP irp)
 {
     Packet *p = self.touched;
     self.touched = NULL;
     if (!p || !p->touch_untold)
         return;
-    if (irp == p->irp && (!strcmp(call, "IoCompleteRequest") || !strcmp(call, "IoFreeIrp")))
+    if (irp == p->irp && !is_back_by_now(p) && (!strcmp(call, "IoCompleteRequest") || !strcmp(call, "IoFreeIrp")))
         p->touch_untold = false;
     else
         tell(p);

@@ -17,6 +17,34 @@ static _Atomic int n_armed; /* timers that will go off once */
 
 bool timers_armed(void) { return n_armed > 0; }
 
+/* Whether a routine wasn't asked about before. */
+static bool is_new(PKDEFERRED_ROUTINE routine)
+{
+    static PKDEFERRED_ROUTINE known[32];
+    static size_t n;
+    for (size_t i = 0; i < n; i++)
+        if (known[i] == routine)
+            return false;
+    if (n < ARRAYSIZE(known))
+        known[n++] = routine;
+    return true;
+}
+
+/* The milliseconds until the next armed timer goes off, where these are at most `most`, and its routine wasn't asked about
+   before; else 0. */
+ULONG next_new_timer(ULONG most)
+{
+    PKTIMER next = NULL;
+    hold_host("the host's own test", &timers, SYNCS);
+    for (PKTIMER t = timers; t; t = t->HostNext)
+        if (t->Dpc && (!next || t->Due < next->Due))
+            next = t;
+    const LONGLONG left = next ? (next->Due - now_in_100ns()) / 10000 + 1 : 0;
+    const bool is_wanted = next && left > 0 && left <= (LONGLONG)most && is_new(next->Dpc->Routine);
+    pthread_mutex_unlock(&host_lock);
+    return is_wanted ? (ULONG)left : 0;
+}
+
 /* Runs a driver's routine that no packet asked for, in its own frame. Under G before and after. */
 void run_work(Frame *f, int driver)
 {

@@ -121,6 +121,19 @@ static NTSTATUS FreesEvent(PEXTENSION Ext, PIRP Irp, BOOLEAN Wrong)
     return Done(Irp);
 }
 
+/* A remove lock may lie in pool, as well as in an extension. */
+static NTSTATUS FreesRemoveLock(PEXTENSION Ext, PIRP Irp, BOOLEAN Wrong)
+{
+    PIO_REMOVE_LOCK lock = ExAllocatePoolWithTag(NonPagedPool, sizeof *lock, 'kcoL');
+    UNREFERENCED_PARAMETER(Ext);
+    IoInitializeRemoveLock(lock, 'kcoL', 0, 0);
+    IoAcquireRemoveLock(lock, Irp);
+    if (!Wrong)
+        IoReleaseRemoveLockAndWait(lock, Irp);
+    ExFreePoolWithTag(lock, 'kcoL'); /* told: LockInFreedMemory_RemoveLock */
+    return Done(Irp);
+}
+
 static VOID Works(PDEVICE_OBJECT DeviceObject, PVOID Context)
 {
     UNREFERENCED_PARAMETER(DeviceObject);
@@ -226,6 +239,7 @@ const CASE_ROW ObjectCases[] = {
     { "UsedInFreedMemory_Call", QueuesCall, NULL, NULL }, { "UsedInFreedMemory_Event", FreesEvent, NULL, NULL },
     { "UsedInFreedMemory_WorkItem", QueuesFreedItem, NULL, NULL },
     { "UsedInFreedMemory_RemoveLock", LocksLate, NULL, NULL },
+    { "LockInFreedMemory_RemoveLock", FreesRemoveLock, NULL, NULL },
     { "UsedInFreedMemory_Extension", SignalsLate, NULL, NULL }, { "StartedEarly", NULL, StartsEarly, NULL },
     { "StartedEarly_Asks", AsksLater, AsksEarly, NULL }, { NULL, NULL, NULL, NULL },
 };

@@ -234,5 +234,5 @@ int main(void)
     use(driver, FALSE);
     use(driver, TRUE);
     WdmExpectEntries(852);
-    return WasWrong ? 1 : WdmFinish();
+    return WdmFinish() || WasWrong;
 }

@@ -45,6 +45,10 @@ static VOID StartIo(PDEVICE_OBJECT DeviceObject, PIRP Irp)
     WISH wish = { ext, IoGetCurrentIrpStackLocation(Irp)->Parameters.Read.Length };
     KIRQL irql;
     IoAcquireCancelSpinLock(&irql);
+    if (DeviceObject->CurrentIrp != Irp) { /* its cancel routine ran before, and has started the next one */
+        IoReleaseCancelSpinLock(irql);
+        return;
+    }
     const BOOLEAN is_mine = IoSetCancelRoutine(Irp, NULL) != NULL, is_cancelled = Irp->Cancel;
     IoReleaseCancelSpinLock(irql);
     if (!is_mine) /* its cancel routine has it */

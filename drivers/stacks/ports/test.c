@@ -6,8 +6,10 @@ int main(void)
     PDRIVER_OBJECT class = WdmLoadByName("portclass"), mini = WdmLoadByName("portmini");
     PDEVICE_OBJECT bottom = WdmCreateBottom(FALSE);
     REQUEST first, second;
-    if (!class || !mini || !NT_SUCCESS(WdmAddDevice(mini, bottom)))
-        return 1;
+    if (!class || !mini || !NT_SUCCESS(WdmAddDevice(mini, bottom))) { /* there is no memory */
+        IoDeleteDevice(bottom);
+        return WdmFinish();
+    }
     WdmPlugIn(bottom);
     PDEVICE_OBJECT top = IoGetAttachedDevice(bottom);
     for (ULONG i = 0; i < WdmRounds(4); i++) {
