@@ -1,8 +1,8 @@
 #!/bin/bash
-# Tries the same work in plain Rust, tests/plain: its unit tests say that it is the same manager, by the examples' bytes
-# and verdicts. Then `bin/ratios --quick` prints its table, where a stand-in for irp_bench prints the times of this side.
-# IRPX names the program irpx. Where there is no cargo, the table has this side alone. Each failure has a line of its own.
-# Ends with status 0 where all was as expected, else with 1.
+# Tries the same work in plain Rust, tests/plain: its unit tests say that it is the same manager, by the examples'
+# bytes and verdicts. Then `bin/ratios --quick` prints its table, where a stand-in for irp_bench prints the times of
+# this side. IRPX names the program irpx. Where there is no cargo, the table has this side alone. Each failure has a
+# line of its own. Ends with status 0 where all was as expected, else with 1.
 set -u
 cd "$(dirname "$(readlink -f "$0")")" || exit 1
 if ! command -v python3 >/dev/null; then
@@ -37,12 +37,13 @@ has() { grep -qF -- "$1" "$room/output"; }
 cat >"$room/bench" <<'END'
 #!/bin/sh
 case $1 in
-locks) echo 'irp_bench: acquire and release, threads 1: 5000000.0 ns; fetch-add and fetch-sub: 9.5 ns; ratio 526315.8' >&2 ;;
-calls) echo 'irp_bench: a send, devices 4: 286.4 ns; recorded: 1055.2 ns; ratio 0.27' >&2 ;;
-write) echo 'irp_bench: write_transcript, entries 100000: 536.3 ns, 624.0 MB a second; serde_json alone: 1.0 ns; ratio 9' >&2 ;;
-read) echo 'no time' ;;
+locks) told='acquire and release, threads 1: 5000000.0 ns; fetch-add and fetch-sub: 9.5 ns; ratio 526315.8' ;;
+calls) told='a send, devices 4: 286.4 ns; recorded: 1055.2 ns; ratio 0.27' ;;
+write) told='write_transcript, entries 100000: 536.3 ns, 624.0 MB a second; serde_json alone: 1.0 ns; ratio 9' ;;
+read) told='nothing' ;;
 *) exit 3 ;;
 esac
+echo "irp_bench: $told" >&2
 END
 chmod +x "$room/bench"
 
@@ -60,13 +61,17 @@ run --quick sends
 meets 'another word: status' [ "$status" -eq 2 ]
 
 if command -v cargo >/dev/null; then
-    meets 'unit tests of plain Rust' eval '(cd plain && cargo test --offline --quiet >"$room/tests" 2>&1) || ! cat "$room/tests"'
-    run --quick locks calls write files
+    (cd plain && cargo test --offline --quiet >"$room/tests" 2>&1) || cat "$room/tests"
+    meets 'unit tests of plain Rust' grep -q '^test result: ok\. [1-9][0-9]* passed; 0 failed' "$room/tests"
+    run --quick locks calls write files orders
     meets "status $status: $(head -c 300 "$room/errors")" [ "$status" -eq 0 ]
-    meets 'rows' [ "$(grep -c '^| ' "$room/output")" -eq 14 ]
+    meets 'rows' [ "$(grep -c '^| ' "$room/output")" -eq 15 ]
     # A pair of plain Rust takes less than a hundredth of what the stand-in tells, and more than none.
-    meets 'a lock' grep -qE '^\| acquire and release, 1 / 4 threads \| 5,000,000 / - \| [0-9.,]+ / [0-9.,]+ \| [0-9]{3,}\.[0-9] / - \|$' "$room/output"
-    meets 'both judge a file' grep -qE '^\| `irpx check` of [0-9]+ MB, [0-9 /]+ processors, in ms \| [0-9./ ,]+ \| [0-9./ ,]+ \| [0-9./ ]+ \|$' "$room/output"
+    times='[0-9.,]+( / [0-9.,]+)*'
+    row="\| acquire and release, 1 / 4 threads \| 5,000,000 / - \| $times \| [0-9]{3,}\.[0-9] / - \|"
+    meets 'a lock' grep -qxE "$row" "$room/output"
+    row="\| \`irpx check\` of [0-9]+ MB, [0-9/ ]+ processors, in ms \| $times \| $times \| $times \|"
+    meets 'both judge a file' grep -qxE "$row" "$room/output"
 else
     echo 'passed over, for want of cargo: the same work in plain Rust'
 fi

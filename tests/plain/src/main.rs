@@ -14,6 +14,7 @@ mod headers;
 mod judge;
 mod locks;
 mod manager;
+mod orders;
 mod packet;
 mod packets;
 mod pairs;
@@ -32,6 +33,7 @@ mod works;
 mod writer;
 
 use crate::judge::Verdict;
+use crate::orders::{explore, script, Act, ACTS};
 use crate::samples::{sample_of, sends};
 use crate::table::{rounds, time_rows, Amount};
 use crate::works::By;
@@ -41,7 +43,9 @@ use std::process::ExitCode;
 
 const USAGE: &str = "usage: plain [--quick] locks|slots|calls|write|read|check
        plain judge < TRANSCRIPT
-       plain write calls|sends ENTRIES FILE";
+       plain orders SEATS STEPS
+       plain write calls|sends ENTRIES FILE
+       plain write orders SEATS STEPS FILE";
 
 /// Writes a transcript of about so many entries: of rounds of calls in four seats, or of sends of 500 packets through
 /// four devices, again and again. None where there is no such kind.
@@ -75,6 +79,25 @@ fn judge_input() -> io::Result<u8> {
     })
 }
 
+/// So many seats, and the steps of each at one remove lock. None where there aren't so many.
+fn seats_and_steps(seats: &str, steps: &str) -> Option<(usize, &'static [Act])> {
+    let seats = seats.parse().ok().filter(|it| (1..=64).contains(it))?;
+    let steps: usize = steps.parse().ok()?;
+    Some((seats, ACTS.get(..steps)?))
+}
+
+/// Explores every order, and says what `irp_orders --never 'held(lock 0) > 64'` says.
+fn tell_orders(seats: usize, steps: &[Act]) -> u8 {
+    let ends = explore(seats, steps);
+    if ends.most_held > 64 {
+        println!("never: it holds in an order");
+        return 2;
+    }
+    let (orders, outcomes) = (ends.orders, ends.outcomes);
+    println!("never: it holds in none of {orders} orders, {outcomes} outcomes");
+    0
+}
+
 /// Does what the words ask for, and answers the exit status. None where they aren't words of the program.
 fn run(words: &[&str]) -> Option<io::Result<u8>> {
     match words {
@@ -83,6 +106,14 @@ fn run(words: &[&str]) -> Option<io::Result<u8>> {
             let entries = entries.parse().ok().filter(|it| *it <= 1_000_000)?;
             let written = write_sample(kind, entries, path)?;
             Some(written.map(|()| 0))
+        }
+        ["orders", seats, steps] => {
+            let (seats, steps) = seats_and_steps(seats, steps)?;
+            Some(Ok(tell_orders(seats, steps)))
+        }
+        ["write", "orders", seats, steps, path] => {
+            let (seats, steps) = seats_and_steps(seats, steps)?;
+            Some(fs::write(path, script(seats, steps)).map(|()| 0))
         }
         ["--quick", word] => time_rows(word, Amount::Little).then_some(Ok(0)),
         [word] => time_rows(word, Amount::All).then_some(Ok(0)),

@@ -3,6 +3,7 @@
 use crate::asking::Store;
 use crate::judge::{Judge, Verdict};
 use crate::locks::{Refused, RemoveLock, RemoveSeat};
+use crate::orders::{explore, Act};
 use crate::session::open;
 use crate::slots::{self, Outcome, Token};
 use crate::status::SUCCESS;
@@ -172,6 +173,19 @@ fn histories_of_four_seats_are_legal() {
     assert_eq!(judged(&entries), Verdict::Illegal(100));
     let text = write_transcript(&header, &entries, 0);
     assert_eq!(check_ahead(&text, 3), Verdict::Illegal(100));
+}
+
+#[test]
+fn every_order_at_a_lock_is_counted() {
+    let pair = [Act::Acquire(0), Act::Release(0)];
+    let ends = explore(2, &pair);
+    assert_eq!((ends.orders, ends.outcomes, ends.most_held), (6, 1, 0));
+    // Either seat removes first, in two steps. Where the other one has acquired before, the two acquires stand in
+    // either order, and so do the giving back and the refused removal: 4 orders, and a reference is left. Else its
+    // acquire is refused in two steps, its removal in one, and the giving back stands in one of 4 places among these.
+    let removal = [Act::Acquire(0), Act::BeginRemove(0)];
+    let ends = explore(2, &removal);
+    assert_eq!((ends.orders, ends.outcomes, ends.most_held), (16, 4, 1));
 }
 
 #[test]
