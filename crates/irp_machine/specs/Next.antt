@@ -1,18 +1,17 @@
 -- What a seat does next.
 use Rattle.std.specs.Prelude.{ℕ, ◌&&◌, Bool, true, not, if◌then◌else◌, List, slice_get, Option, Some, None, is_some, unwrap_or, position}
 use Rattle.std.specs.Option.{option_map_or, option_and_then}
-use Rattle.irp_types.specs.Calls.{Call, packet_named}
+use Rattle.irp_types.specs.Calls.{Call}
 use Rattle.irp_types.specs.Calls as calls
-use Rattle.irp_types.specs.declared.call.Call.TheVariants.{FinishTaken, Reuse, Look}
+use Rattle.irp_types.specs.declared.call.Call.TheVariants.{FinishTaken, Look}
 use Rattle.irp_types.specs.declared.call.Call.TheVariants.{Allocate as AllocateCall}
 use Rattle.irp_types.specs.declared.names.IrpRef.{IrpRef}
 use Rattle.irp_types.specs.declared.reply.Reply.{Reply}
 use Rattle.irp_types.specs.declared.reply.Reply.TheVariants as manager
 use Rattle.irp_transcript.specs.declared.word_line.WordReply.TheVariants.{NoToken}
-use Rattle.irp_script_reader.specs.declared.act.Named.{Named}
-use Rattle.irp_script_reader.specs.declared.act.Named.TheVariants.{Label, Irp}
 use Rattle.irp_script_reader.specs.declared.act.StepAct.{StepAct}
 use Rattle.irp_script_reader.specs.declared.act.StepAct.TheVariants as does
+use Rattle.irp_script.specs.Labels.{label_of, packet_of}
 use Rattle.irp_plain.specs.declared.parts.Stage.{Stage}
 use Rattle.irp_plain.specs.declared.parts.Stage.TheVariants as stages
 use Rattle.irp_plain.specs.declared.parts.Taken.{Taken}
@@ -28,42 +27,6 @@ use Rattle.irp_plain.specs.declared.answered.Answered.TheVariants.{Reply as Repl
 use Rattle.irp_plain.specs.Seats.{SeatValue, is_taken}
 use Rattle.irp_machine.specs.Standings.{StandingValue}
 use Rattle.irp_plain.specs.Changes as change
-
--- what a label stands for that isn't bound
-abbrev pub unbound : IrpRef
-unbound = record { slot = 4294967295; use_no = 0 }
-
--- how an act names its packet, where it names one
-abbrev pub named_by : StepAct → Option Named
-named_by (does.Call call) = packet_named call
-named_by (does.Publish slot irp) = Some irp
-named_by other = None
-
--- the label by which a packet is named
-abbrev pub label_in : Named → Option ℕ
-label_in (Label label) = Some label
-label_in (Irp irp) = None
-
--- the label that an act binds where it is answered by a packet: an allocation its own, and a reuse the one that named
--- its packet
-abbrev pub label_of : StepAct → Option ℕ
-label_of (does.Allocate size label) = Some label
-label_of (does.Call (Reuse irp status)) = label_in irp
-label_of other = None
-
--- what a label stands for
-abbrev pub label_at : List IrpRef → ℕ → IrpRef
-label_at labels label = unwrap_or (slice_get labels label) unbound
-
--- the packet that is named so
-abbrev pub packet_at : List IrpRef → Option Named → IrpRef
-packet_at labels None = unbound
-packet_at labels (Some (Irp irp)) = irp
-packet_at labels (Some (Label label)) = label_at labels label
-
--- the packet that an act names
-abbrev pub packet_of : List IrpRef → StepAct → IrpRef
-packet_of labels act = packet_at labels (named_by act)
 
 -- the slot from which the token of a finish is to come, where the act is one
 abbrev pub slot_of : StepAct → Option ℕ

@@ -9,64 +9,10 @@ use irp_plain::{
     After, Answered, Change, NewLabel, SeatState, Stage, Taken, bound, going, hand, on_lock, only,
     place_of_taken, publish, request, told, withdraw,
 };
-use irp_script_reader::{Named, StepAct};
+use irp_script::{label_of, packet_of};
+use irp_script_reader::StepAct;
 use irp_transcript::WordReply;
 use irp_types::{Call, IrpRef, Reply};
-
-/// What a label stands for that isn't bound: a reference that is never live (this project's own format,
-/// docs/FORMATS.md).
-pub const UNBOUND: IrpRef = IrpRef {
-    slot: 0xFFFF_FFFF,
-    use_no: 0,
-};
-
-/// How an act names its packet, where it names one.
-pub fn named_by(act: StepAct) -> Option<Named>
-    ensures { result ≡ spec.named_by act }
-{
-    match act {
-        StepAct::Call(call) => call.packet(),
-        StepAct::Publish { irp, .. } => Some(irp),
-        _ => None,
-    }
-}
-
-/// The label that an act binds where it is answered by a packet.
-pub fn label_of(act: StepAct) -> Option<usize>
-    ensures { result ≡ spec.label_of act }
-{
-    match act {
-        StepAct::Allocate { label, .. } => Some(label),
-        StepAct::Call(
-            Call::Reuse {
-                irp: Named::Label(label),
-                ..
-            },
-        ) => Some(label),
-        _ => None,
-    }
-}
-
-/// What a label stands for.
-fn label_at(labels: &[IrpRef], label: usize) -> IrpRef
-    ensures { result ≡ spec.label_at labels.now label }
-{
-    match labels.get(label) {
-        Some(irp) => *irp,
-        None => UNBOUND,
-    }
-}
-
-/// The packet that an act names.
-fn packet_of(labels: &[IrpRef], act: StepAct) -> IrpRef
-    ensures { result ≡ spec.packet_of labels.now act }
-{
-    match named_by(act) {
-        Some(Named::Irp(irp)) => irp,
-        Some(Named::Label(label)) => label_at(labels, label),
-        None => UNBOUND,
-    }
-}
 
 /// The slot from which the token of a finish is to come, where the act is one.
 fn slot_of(act: StepAct) -> Option<u32>

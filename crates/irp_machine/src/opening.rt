@@ -10,10 +10,10 @@ ghost use Rattle.irp_machine.specs.Openings as spec;
 
 use crate::asker::ScriptAsker;
 use crate::machine::ScriptMachine;
-use crate::next::UNBOUND;
 use crate::planning::acts_of;
 use crate::standing::Standing;
 use irp_plain::{SeatState, Slot};
+use irp_script::UNBOUND;
 use irp_script_reader::{ScriptParts, Step};
 use irp_transcript::Header;
 use std::alloc::{AllocError, Global};

@@ -2,11 +2,11 @@
 
 ghost use Rattle.std.specs.Prelude.{◌≡◌, ◌<◌, ◌^◌, IfOk, OnOk, length};
 ghost use Rattle.std.specs.List.{list_any};
-ghost use Rattle.irp_machine.specs.Next.{named_by};
+ghost use Rattle.irp_script.specs.StepKinds.{named_by};
 ghost use Rattle.irp_machine.specs.Planning as spec;
 
-use crate::next::{label_of, named_by};
 use crate::parts::Planned;
+use irp_script::{label_of, named_by};
 use irp_script_reader::{Named, Step, StepAct};
 use irp_types::Row;
 use std::alloc::{AllocError, Global};

@@ -5,6 +5,7 @@ pub mod Dealing
 pub mod Firsts
 pub mod Handing
 pub mod Making
+pub mod Marking
 pub mod Numbers
 pub mod Outcomes
 pub mod Pairs

@@ -13,6 +13,7 @@ use Rattle.irp_script_reader.specs.declared.act.Step.{Step}
 use Rattle.irp_script.specs.declared.step_kind.StepKind.{StepKind}
 use Rattle.irp_script.specs.declared.step_kind.StepKind.TheVariants.{Calls, OnLock, Hands, OnSlot, Finishes}
 use Rattle.irp_script.specs.Accounts.{calls_at, pair_at}
+use Rattle.irp_script.specs.Labels.{Known}
 use Rattle.irp_script.specs.StepKinds.{kind_of}
 use Rattle.irp_script.specs.Made.{NoneTwice, SeatCalls, calls_in, nameless, once_made}
 use Rattle.irp_script.specs.Outcomes.{Outcome, nameless_call, told_act}
@@ -43,40 +44,40 @@ one_told lines longer line is = ap (map told_by) is ∙ map_push told_by lines l
 no_call_more : (old new : AtWork) → new.seat ≡ old.seat → calls_in new.seat.entries ≡ calls_in old.seat.entries ++ []
 no_call_more old new same = ap (λ seat. calls_in seat.entries) same ∙ sym (append-nil (calls_in old.seat.entries))
 
-came_out : (count place : ℕ) (step : Step) (kind : StepKind) (old new : AtWork) (lines longer : List WordLine)
-    → Does count place step kind old new lines longer → CameOut place step kind old new lines longer
-came_out count place step Calls old new lines longer did = record {
+came_out : (count place : ℕ) (step : Step) (kind : StepKind) (old new : AtWork) (lines longer : List WordLine) (known learnt : Known)
+    → Does count place step kind old new lines longer known learnt → CameOut place step kind old new lines longer
+came_out count place step Calls old new lines longer known learnt did = record {
   tokenless = false;
   told = none_told lines longer did.silent;
   pair = λ i. record { seat = did.called.recorded.recorded.kept.number i; table = (did.rest i).remove.table; remove = (did.rest i).remove.number };
   calls = one_call old.seat.entries new.seat.entries did.called.recorded.recorded.entry did.called.call did.called.recorded.recorded.kept.entries did.called.recorded.recorded.of_call.asks
       ∙ ap (λ made. calls_in old.seat.entries ++ option_to_list made) (sym (nameless_of step.act did.called.of_act.irp did.called.call did.called.of_act.made));
 }
-came_out count place step (OnLock on) old new lines longer did = record {
+came_out count place step (OnLock on) old new lines longer known learnt (unlearnt, did) = record {
   tokenless = false;
   told = one_told lines longer _ did.told;
   pair = λ i. record { seat = (did.rest i).seat.number; table = did.same.0 i; remove = did.same.1 i };
   calls = no_call_more old new (ap (λ own. own.seat) did.rest);
 }
-came_out count place step (OnSlot on) old new lines longer did = record {
+came_out count place step (OnSlot on) old new lines longer known learnt (unlearnt, did) = record {
   tokenless = false;
   told = one_told lines longer _ did.told;
   pair = ap pair_at did.rest;
   calls = no_call_more old new (ap (λ own. own.seat) did.rest);
 }
-came_out count place step (Finishes slot status information) old new lines longer (inl did) = record {
+came_out count place step (Finishes slot status information) old new lines longer known learnt (unlearnt, inl did) = record {
   tokenless = false;
   told = none_told lines longer did.silent;
   pair = λ i. record { seat = did.recorded.recorded.kept.number i; table = (did.rest i).remove.table; remove = (did.rest i).remove.number };
   calls = one_call old.seat.entries new.seat.entries did.recorded.recorded.entry _ did.recorded.recorded.kept.entries did.recorded.recorded.of_call.asks;
 }
-came_out count place step (Finishes slot status information) old new lines longer (inr did) = record {
+came_out count place step (Finishes slot status information) old new lines longer known learnt (unlearnt, inr did) = record {
   tokenless = true;
   told = one_told lines longer _ did.told;
   pair = ap pair_at did.rest;
   calls = no_call_more old new (ap (λ own. own.seat) did.rest);
 }
-came_out count place step (Hands hand) old new lines longer did = absurd did
+came_out count place step (Hands hand) old new lines longer known learnt did = absurd did
 
 -- what a worker's seats and lines tell of a step
 pub record Comes (out : Outcome) (before after : Working) : Type 0 where
@@ -104,7 +105,7 @@ once_own place step tokenless old new pair named calls =
 alone : (count place : ℕ) (step : Step) (before after : Working) → MakesAlone count place step (kind_of step.act) before after
     → (tokenless : Bool) × Comes (out_of place step tokenless) before after
 alone count place step before after made =
-    let out = came_out count place step (kind_of step.act) made.old made.new before.lines after.lines made.did in
+    let out = came_out count place step (kind_of step.act) made.old made.new before.lines after.lines before.known after.known made.did in
     let lt = slice_get_within before.seats made.at made.old made.there in
     let here = get_or_from_slice_get before.seats made.at made.old made.old made.there in
     let length = news made.old.seat.seen made.new.seat.seen in (

@@ -1,5 +1,5 @@
 -- From what opening, pairing, working and closing say to what ran.
-use Rattle.std.proofs.Common.{◌≡◌, ℕ, All, List, [], refl, sym, ap, ◌∙◌, subst, map}
+use Rattle.std.proofs.Common.{◌≡◌, ℕ, All, List, [], length, refl, sym, ap, ◌∙◌, subst, map}
 use Rattle.std.specs.Prelude.{Option, Some, None, slice_get}
 use Rattle.std.specs.List.{count_by}
 use Rattle.std.specs.Option.{option_map}
@@ -84,7 +84,7 @@ all_opened script all opened removes cancellers owners lock_table slot_table cou
 
 pub closed_ran : {L : _} {session : _} (workers : ℕ) (script : Script) (before after : List (ScriptSeat L session)) (closed : List Seated) (transcript : TranscriptValue) (stopped : Option Stop)
     → AreOpened script (seats_at_work before)
-    → RunsScript script.locks workers script.setup script.steps (seats_at_work before) (seats_at_work after) transcript.words stopped
+    → RunsScript script.locks workers (length script.labels) script.setup script.steps (seats_at_work before) (seats_at_work after) transcript.words stopped
     → EachAsOften (seats_of after) closed → All (IsKept transcript.entries) closed
     → Ran workers script transcript stopped
 closed_ran workers script before after closed transcript stopped opened made back kept =

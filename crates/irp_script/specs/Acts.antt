@@ -32,7 +32,7 @@ use Rattle.irp_types.specs.declared.seat_act.LockAct.TheVariants.{
 }
 use Rattle.irp_types.specs.declared.seat_act.SlotAct.{SlotAct}
 use Rattle.irp_types.specs.declared.seat_act.SlotAct.TheVariants.{Publish, Withdraw, Request}
-use Rattle.irp_script.specs.StepKinds.{IsNamed}
+use Rattle.irp_script.specs.Labels.{IsNamed, Known}
 
 -- an acquisition, of so many locks
 abbrev pub AcquireActs : ℕ → ℕ → ℕ → Holder → Holder → WordReply → Type 0
@@ -93,9 +93,9 @@ HandActs count lock tag giver giver_after taker taker_after answered.SeatFull =
     HandRefused count lock tag giver giver_after taker taker_after hand.SeatFull
 HandActs count lock tag giver giver_after taker taker_after other = ⊥
 
--- an act on a slot did that, of the packet that the step names
-abbrev pub SlotActs : StepAct → SlotAct → AtSlots → AtSlots → WordReply → Type 0
-SlotActs act (Publish slot) before after reply =
-    (irp : IrpRef) × IsNamed act irp × Publishing slot irp.use_no before after reply
-SlotActs act (Withdraw slot) before after reply = Withdrawing slot before after reply
-SlotActs act (Request slot) before after reply = Requesting slot before after reply
+-- an act on a slot did that, of the packet that the step names by what is known of the labels
+abbrev pub SlotActs : Known → StepAct → SlotAct → AtSlots → AtSlots → WordReply → Type 0
+SlotActs known act (Publish slot) before after reply =
+    (irp : IrpRef) × IsNamed known act irp × Publishing slot irp.use_no before after reply
+SlotActs known act (Withdraw slot) before after reply = Withdrawing slot before after reply
+SlotActs known act (Request slot) before after reply = Requesting slot before after reply

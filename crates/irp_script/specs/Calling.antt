@@ -9,22 +9,24 @@ use Rattle.irp_remove.specs.Core.{flag}
 use Rattle.irp_remove.specs.Seats.{Holder}
 use Rattle.irp_script_reader.specs.declared.act.StepAct.{StepAct}
 use Rattle.irp_shared.specs.Sharing.{Called}
-use Rattle.irp_script.specs.StepKinds.{IsNamed, call_of}
+use Rattle.irp_script.specs.Labels.{IsNamed, Known, known_behind}
+use Rattle.irp_script.specs.StepKinds.{call_of}
 
 -- which locks a remove seat found drained
 abbrev pub found_drained : Holder → LockNo → Bool
 found_drained remove lock = flag remove.watch.drained lock.0
 
--- a call is the one that an act makes, of some packet, which is the one that the act names where it names it by a
--- reference
-pub record Makes (act : StepAct) (call : Call) : Type 0 where
+-- a call is the one that an act makes, of the packet that the act names by what is known of the labels
+pub record Makes (known : Known) (act : StepAct) (call : Call) : Type 0 where
   pub irp : IrpRef
-  pub referred : IsNamed act irp
+  pub named : IsNamed known act irp
   pub made : call_of act irp ≡ Some call
 
--- a seat made the call of an act, that one alone, with what a remove seat knows, and keeps its entry
-pub record CallsFor (act : StepAct) (remove : Holder) (before after : Seated) : Type 0 where
+-- a seat made the call of an act, that one alone, with what a remove seat knows, and keeps its entry. A label that the
+-- act binds stands for the packet that it was answered by
+pub record CallsFor (act : StepAct) (remove : Holder) (before after : Seated) (known learnt : Known) : Type 0 where
   pub call : Call
   pub receipt : Receipted
-  pub of_act : Makes act call
+  pub of_act : Makes known act call
   pub recorded : Called before call (found_drained remove) receipt after
+  pub bound : learnt ≡ known_behind known act receipt.reply

@@ -1,6 +1,6 @@
 -- What ran of a script: the chains of steps that its workers made, from the seats as they were opened to the entries
 -- and word lines that the transcript has.
-use Rattle.std.specs.Prelude.{ℕ, ◌≡◌, All, List, [], Option, map}
+use Rattle.std.specs.Prelude.{ℕ, ◌≡◌, All, List, [], Option, length, map}
 use Rattle.std.specs.List.{flat_map}
 use Rattle.atomic_table.specs.Seated.{TableId}
 use Rattle.irp_manager.specs.Seats.{Seated}
@@ -66,7 +66,7 @@ pub record Ran (workers : ℕ) (script : Script) (transcript : TranscriptValue) 
   pub before : List AtWork
   pub after : List AtWork
   pub opened : AreOpened script before
-  pub made : RunsScript script.locks workers script.setup script.steps before after
+  pub made : RunsScript script.locks workers (length script.labels) script.setup script.steps before after
       transcript.words stop
   pub closed : List Seated
   pub back : EachAsOften (seats_in after) closed

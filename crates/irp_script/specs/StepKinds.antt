@@ -1,11 +1,10 @@
 -- What is read of a step's act: the packet that it names, its kind, and its call.
-use Rattle.std.specs.Prelude.{◌≡◌, Option, Some, None}
+use Rattle.std.specs.Prelude.{Option, Some, None}
 use Rattle.irp_types.specs.Calls.{Call, call_with, packet_named}
 use Rattle.irp_types.specs.declared.names.IrpRef.{IrpRef}
 use Rattle.irp_types.specs.declared.call.Call.TheVariants as call
 use Rattle.irp_types.specs.declared.seat_act.SlotAct.TheVariants as on_slot
 use Rattle.irp_script_reader.specs.declared.act.Named.{Named}
-use Rattle.irp_script_reader.specs.declared.act.Named.TheVariants.{Irp}
 use Rattle.irp_script_reader.specs.declared.act.StepAct.{StepAct}
 use Rattle.irp_script_reader.specs.declared.act.StepAct.TheVariants.{
   Call as Made,
@@ -24,10 +23,6 @@ abbrev pub named_by : StepAct → Option Named
 named_by (Made made) = packet_named made
 named_by (Publish slot irp) = Some irp
 named_by other = None
-
--- the packet is the one that an act names, where it names it by a reference
-abbrev pub IsNamed : StepAct → IrpRef → Type 0
-IsNamed act irp = (given : IrpRef) → named_by act ≡ Some (Irp given) → irp ≡ given
 
 -- what kind a step is of
 abbrev pub kind_of : StepAct → StepKind

@@ -59,7 +59,8 @@ use Rattle.irp_script.specs.declared.step_kind.StepKind.TheVariants.{
 use Rattle.irp_script.specs.Acts.{Acts, HandActs, SlotActs}
 use Rattle.irp_script.specs.AtSlots.{AtSlots, IsSpent, fresh}
 use Rattle.irp_script.specs.Calling.{CallsFor}
-use Rattle.irp_script.specs.StepKinds.{IsNamed, kind_of}
+use Rattle.irp_script.specs.Labels.{IsNamed, Known, known_to, none_bound}
+use Rattle.irp_script.specs.StepKinds.{kind_of}
 use Rattle.irp_script.specs.Outcomes.{is_own_step, own_placed}
 use Rattle.irp_script.specs.Numbers.{EachAsOften}
 use Rattle.irp_script.specs.Stops.{IsUnmade}
@@ -79,13 +80,14 @@ roomless seat = record seat { room = 0 }
 abbrev pub at_work : Seated → Holder → AtSlots → AtWork
 at_work seat remove parties = record { seat = roomless seat; remove = remove; parties = parties }
 
--- a worker's seats, and the word lines of what they did
+-- a worker's seats, the word lines of what they did, and what it knows of the labels
 pub record Working : Type 0 where
   pub seats : List AtWork
   pub lines : List WordLine
+  pub known : Known
 
-abbrev pub working : List AtWork → List WordLine → Working
-working seats lines = record { seats = seats; lines = lines }
+abbrev pub working : List AtWork → List WordLine → Known → Working
+working seats lines known = record { seats = seats; lines = lines; known = known }
 
 -- the line of a step of this place
 abbrev pub line_of : ℕ → Step → Act → WordReply → WordLine
@@ -100,9 +102,9 @@ abbrev pub Stays : AtWork → AtWork → List WordLine → List WordLine → Typ
 Stays before after lines longer = (after ≡ before) × (longer ≡ lines)
 
 -- a call, with what the seat's own remove seat knew of the locks
-pub record MakesCall (step : Step) (before after : AtWork) (lines longer : List WordLine)
+pub record MakesCall (step : Step) (before after : AtWork) (lines longer : List WordLine) (known learnt : Known)
     : Type 0 where
-  pub called : CallsFor step.act before.remove before.seat after.seat
+  pub called : CallsFor step.act before.remove before.seat after.seat known learnt
   pub rest : after ≡ record before { seat = after.seat }
   pub silent : longer ≡ lines
 
@@ -117,22 +119,22 @@ pub record ActsOnLock (count place : ℕ) (step : Step) (on : LockAct) (before a
 
 -- an act on a cancel slot, and its line
 pub record ActsOnSlot (place : ℕ) (step : Step) (on : SlotAct) (before after : AtWork)
-    (lines longer : List WordLine) : Type 0 where
+    (lines longer : List WordLine) (known : Known) : Type 0 where
   pub reply : WordReply
-  pub did : SlotActs step.act on before.parties after.parties reply
+  pub did : SlotActs known step.act on before.parties after.parties reply
   pub rest : after ≡ record before { parties = after.parties }
   pub told : Tells place step (act.OnSlot on) reply lines longer
 
 -- a finish with a token that the seat took from the slot, and has not spent: one call, of this token's number. The
 -- token is left in its place where it comes back
 pub record FinishesTaken (step : Step) (slot : ℕ) (status : Status) (information : ℕ)
-    (before after : AtWork) (lines longer : List WordLine) : Type 0 where
+    (before after : AtWork) (lines longer : List WordLine) (known : Known) : Type 0 where
   pub place : ℕ
   pub token : Token
   pub irp : IrpRef
   pub receipt : Receipted
   pub there : slice_get before.parties.taken place ≡ Some (fresh slot token)
-  pub referred : IsNamed step.act irp
+  pub named : IsNamed known step.act irp
   pub recorded : Called before.seat (FinishTaken irp token.use_no status information)
       (λ lock. false) receipt after.seat
   pub rest : after ≡ record before {
@@ -151,17 +153,23 @@ pub record FindsNoToken (place : ℕ) (step : Step) (slot : ℕ) (before after :
   pub rest : after ≡ before
   pub told : Tells place step (act.FinishTaken slot) NoToken lines longer
 
--- what a step of this place does to its own seat and to the lines. A hand does more
-abbrev pub Does : ℕ → ℕ → Step → StepKind → AtWork → AtWork → List WordLine → List WordLine → Type 0
-Does count place step Calls before after lines longer = MakesCall step before after lines longer
-Does count place step (OnLock on) before after lines longer =
-    ActsOnLock count place step on before after lines longer
-Does count place step (OnSlot on) before after lines longer =
-    ActsOnSlot place step on before after lines longer
-Does count place step (Finishes slot status information) before after lines longer =
-    FinishesTaken step slot status information before after lines longer
+-- a finish of either kind
+abbrev pub Finishing : ℕ → Step → ℕ → Status → ℕ → AtWork → AtWork → List WordLine → List WordLine → Known → Type 0
+Finishing place step slot status information before after lines longer known =
+    FinishesTaken step slot status information before after lines longer known
     ⊎ FindsNoToken place step slot before after lines longer
-Does count place step (Hands hand) before after lines longer = ⊥
+
+-- what a step of this place does to its own seat, to the lines and to what is known of the labels. A hand does more
+abbrev pub Does : ℕ → ℕ → Step → StepKind → AtWork → AtWork → List WordLine → List WordLine → Known → Known → Type 0
+Does count place step Calls before after lines longer known learnt =
+    MakesCall step before after lines longer known learnt
+Does count place step (OnLock on) before after lines longer known learnt =
+    (learnt ≡ known) × ActsOnLock count place step on before after lines longer
+Does count place step (OnSlot on) before after lines longer known learnt =
+    (learnt ≡ known) × ActsOnSlot place step on before after lines longer known
+Does count place step (Finishes slot status information) before after lines longer known learnt =
+    (learnt ≡ known) × Finishing place step slot status information before after lines longer known
+Does count place step (Hands hand) before after lines longer known learnt = ⊥
 
 -- the seat has seen so many entries of the history, or more if it had seen more
 abbrev pub caught_up : ℕ → AtWork → AtWork
@@ -182,7 +190,7 @@ pub record MakesAlone (count place : ℕ) (step : Step) (kind : StepKind) (befor
   pub new : AtWork
   pub there : slice_get before.seats at ≡ Some old
   pub named : old.seat.number ≡ step.seat
-  pub did : Does count place step kind old new before.lines after.lines
+  pub did : Does count place step kind old new before.lines after.lines before.known after.known
   pub others : after.seats ≡ map (caught_up (news old.seat.seen new.seat.seen)) (slice_set before.seats at new)
 
 -- a reference to one of so many locks went from the one seat to the other, or was refused
@@ -218,6 +226,7 @@ pub record MakesHand (count place : ℕ) (step : Step) (hand : Hand)
   pub giver_named : between.giver.seat.number ≡ step.seat
   pub taker_named : between.taker.seat.number ≡ hand.to
   pub told : Tells place step (act.Hand hand) reply before.lines after.lines
+  pub unlearnt : after.known ≡ before.known
 
 -- a step of this place was made
 abbrev pub MakesBy : ℕ → ℕ → Step → StepKind → Working → Working → Type 0
@@ -302,7 +311,7 @@ first_stop told_by (worker ∷ others) = option_or (told_by worker) (first_stop 
 
 -- each seat was dealt to the one of so many workers whose own it is, each worker made its own steps, and what they left
 -- was gathered
-pub record WorkApart (count workers : ℕ) (steps : List Step) (ready after : List AtWork)
+pub record WorkApart (count workers : ℕ) (steps : List Step) (known : Known) (ready after : List AtWork)
     (lines : List WordLine) (stop : Option Stop) : Type 0 where
   pub dealt : List (List AtWork)
   pub left : List Left
@@ -312,24 +321,25 @@ pub record WorkApart (count workers : ℕ) (steps : List Step) (ready after : Li
       → slice_get dealt number ≡ Some seats → All (IsOwn number workers) seats
   pub made : (number : ℕ) (seats : List AtWork) (one : Left)
       → slice_get dealt number ≡ Some seats → slice_get left number ≡ Some one
-      → MakesOwn count number workers steps (working seats []) one.work one.stop
+      → MakesOwn count number workers steps (working seats [] (known_to number workers steps known)) one.work one.stop
   pub back : EachAsOften (flat_map (λ (one : Left). one.work.seats) left) after
   pub told : EachAsOften (flat_map (λ (one : Left). one.work.lines) left) lines
   pub halted : stop ≡ first_stop (λ (one : Left). one.stop) left
 
 -- what came behind the setup: nothing, where its worker stopped, which is told; and else the steps
-abbrev pub WorkAfter : Option Stop → ℕ → ℕ → List Step → List AtWork → List AtWork
+abbrev pub WorkAfter : Option Stop → ℕ → ℕ → List Step → Known → List AtWork → List AtWork
     → List WordLine → Option Stop → Type 0
-WorkAfter (Some told) count workers steps ready after lines stop =
+WorkAfter (Some told) count workers steps known ready after lines stop =
     (after ≡ ready) × (lines ≡ []) × (stop ≡ Some told)
-WorkAfter None count workers steps ready after lines stop =
-    WorkApart count workers steps ready after lines stop
+WorkAfter None count workers steps known ready after lines stop =
+    WorkApart count workers steps known ready after lines stop
 
--- one worker made the setup with all seats, and then, unless it stopped, so many made the steps. All seats have seen
--- the whole setup then, so each call of the steps stands behind all calls of the setup in the history
-pub record RunsScript (count workers : ℕ) (setup steps : List Step)
+-- One worker made the setup with all seats, and then, unless it stopped, so many made the steps. All seats have seen
+-- the whole setup then, so each call of the steps stands behind all calls of the setup in the history. At first none of
+-- so many labels is bound, and each worker knows what the setup bound
+pub record RunsScript (count workers labels : ℕ) (setup steps : List Step)
     (before after : List AtWork) (lines : List WordLine) (stop : Option Stop) : Type 0 where
   pub ready : Working
   pub halted : Option Stop
-  pub first : MakesOwn count 0 1 setup (working before []) ready halted
-  pub rest : WorkAfter halted count workers steps ready.seats after lines stop
+  pub first : MakesOwn count 0 1 setup (working before [] (none_bound labels)) ready halted
+  pub rest : WorkAfter halted count workers steps ready.known ready.seats after lines stop

@@ -26,6 +26,8 @@ pub use between::hand_between;
 pub use gate::{AlwaysOpen, Gate};
 /// Whether a history is legal: `irp_judge` judges it.
 pub use irp_judge::{Verdict, check};
+pub use labels::{UNBOUND, label_of, packet_of};
 pub use run::{Worked, run_workers, script_seats};
 pub use script_seat::ScriptSeat;
+pub use step_call::named_by;
 pub use stop::{Stop, StopReason};

@@ -1,6 +1,6 @@
 //! Running a script. Source: this project's own rule, and of texts its own format (docs/FORMATS.md).
 
-ghost use Rattle.std.specs.Prelude.{◌≡◌, ◌<◌, ℕ, Bool, All, IfOk, slice_index_or, vec_len};
+ghost use Rattle.std.specs.Prelude.{◌≡◌, ◌<◌, ℕ, Bool, All, IfOk, length, slice_index_or, vec_len};
 ghost use Rattle.std.specs.List.{count_by};
 ghost use Rattle.irp_transcript.specs.declared.word_line.WordLine.{WordLine};
 ghost use Rattle.irp_remove.specs.Pairing.{IsSeatOf, lock_count};
@@ -28,7 +28,7 @@ ghost use Rattle.irp_script.specs.Workers.{IsIdle, IsReady, RunsOwn, count_lines
 ghost use Rattle.irp_script.specs.Working.{RunsScript, first_stop};
 
 use crate::gate::{AlwaysOpen, Gate};
-use crate::labels::Labels;
+use crate::labels::{Known, Labels};
 use crate::meeting::Meeting;
 use crate::run_context::RunContext;
 use crate::script_seat::ScriptSeat;
@@ -132,42 +132,48 @@ pub fn script_seats<'a, L: Session>(
     Ok(pairs)
 }
 
-/// So many workers without seats.
+/// So many workers without seats, each with what it is to know of the labels before these steps.
 fn idle<'a, L: Session>(
     alloc: Global,
     locks: &'a Locks,
     workers: u32,
+    known: &Known,
+    steps: &[Step],
 ) -> Result<Vec<Worker<'a, L>>, AllocError>
     requires { 0 < workers }
     ensures len { IfOk result (λ all. vec_len all ≡ workers) }
     ensures ready { IfOk result (λ all. (k : ℕ) (one : _) → k < workers
-        → IsIdle workers locks.now k (slice_index_or all.items k one)) }
+        → IsIdle workers steps.now known.now locks.now k (slice_index_or all.items k one)) }
     ensures seats { IfOk result (λ all. (test : _ → Bool)
         → count_seats test all.items ≡ 0) }
 {
     let mut all = Vec::with_capacity(alloc, workers as usize)?;
     for number in 0..workers {
-        all.push_reserved(Worker::new(alloc, number, workers, locks, Vec::new(alloc)));
+        let known = known.known_to(alloc, number, workers, steps)?;
+        all.push_reserved(Worker::new(alloc, number, workers, locks, Vec::new(alloc), known));
     }
     Ok(all)
 }
 
-/// The workers, each with the seats whose numbers leave its own number when divided by how many workers there are.
+/// The workers, each with the seats whose numbers leave its own number when divided by how many workers there are, and
+/// with what it is to know of the labels before these steps.
 fn deal<'a, L: Session>(
     alloc: Global,
     locks: &'a Locks,
     workers: u32,
     mut seats: Vec<ScriptSeat<'a, L>>,
+    known: &Known,
+    steps: &[Step],
 ) -> Result<Vec<Worker<'a, L>>, AllocError>
     requires some { 0 < workers }
     requires fits { All (IsAtLocks locks.now) seats.items }
     ensures len { IfOk result (λ all. vec_len all ≡ workers) }
     ensures ready { IfOk result (λ all. (k : ℕ) (one : _) → k < workers
-        → IsReady workers k (slice_index_or all.items k one)) }
+        → IsReady workers steps.now known.now k (slice_index_or all.items k one)) }
     ensures seats { IfOk result (λ all. (test : _ → Bool)
         → count_seats test all.items ≡ count_by test seats.entry.items) }
 {
-    let mut all = idle(alloc, locks, workers)?;
+    let mut all = idle(alloc, locks, workers, known, steps)?;
     while let Some(seat) = seats.pop() {
         let worker = &mut all[(seat.number() % workers) as usize];
         worker.give(seat)?;
@@ -230,8 +236,10 @@ fn gather<'a, L: Session>(
 /// history behind all calls that the worker made before, and behind all calls of the setup. A seat that had learned a
 /// receipt of another session may be behind, and then its worker stops.
 ///
-/// Labels are shared by all seats: one that isn't bound yet stands for a packet that is never live. A step whose seat
-/// isn't there, one whose call isn't recorded, a hand to a seat that its worker doesn't have, and a publish or a
+/// Labels are shared by all seats: one that isn't bound yet stands for a packet that is never live. For a worker's step
+/// a label stands for what the setup's steps and the worker's own made it stand for; but one that another worker binds
+/// stands for what it stands for at that moment, of which no clause speaks. A step whose seat isn't there, one whose
+/// call isn't recorded, a hand to a seat that its worker doesn't have, and a publish or a
 /// withdraw in a slot of another seat stops its worker, which says so; in the setup, nothing more is run. The gate is
 /// called before and after each of the script's `steps`, with its seat and its place, outside the session's lock
 /// (tests show it, no clause). A step of the setup on a lock or a slot, which no `Script` has, has no word line.
@@ -240,8 +248,8 @@ fn gather<'a, L: Session>(
 /// conditions of this call.
 ///
 /// What was done is a chain for the setup, and then one for each worker over the seats that it was dealt. Each link is
-/// one of its own steps, in the order of the script, made by the seat that the step names: one call, with what this
-/// seat's own remove seat knew of the locks, or one act on remove locks or on a cancel slot, of which one word line
+/// one of its own steps, in the order of the script, made by the seat that the step names: one call, of the packet
+/// that the step names, with what this seat's own remove seat knew of the locks, or one act on remove locks or on a cancel slot, of which one word line
 /// tells what was answered. A finish of a taken packet is one call with a token that this seat took from that slot and
 /// hasn't spent, and where there is none, one word line. A token that comes out of a slot stays with the seat, and so
 /// does one that a finish gives back. The next link goes on from there. No other seat changes, but for the one that a
@@ -290,14 +298,15 @@ pub fn run_workers<
         (seats_at_work seats.entry.items) (seats_at_work worked.seats.items)
         worked.words.items worked.stop) }
     ensures ran { IfOk result
-        (λ worked. RunsScript L.fixed.locks workers script.now.setup script.now.steps
+        (λ worked. RunsScript L.fixed.locks workers (length script.now.labels) script.now.setup script.now.steps
         (seats_at_work seats.entry.items) (seats_at_work worked.seats.items)
         worked.words.items worked.stop) }
 {
     let _ = slots;
-    let labels = Labels::new(alloc, script.labels.len())?;
+    let known = Known::new(alloc, script.labels.len())?;
+    let labels = Labels::new(alloc, &known)?;
     let context = RunContext { shared, labels };
-    let all = Worker::new(alloc, 0, 1, locks, seats);
+    let all = Worker::new(alloc, 0, 1, locks, seats, known);
     let alone = Meeting::new(1);
     let ready = all.run(rt, &context, &alone, &AlwaysOpen, script.setup.as_slice());
     if ready.stop.is_some() {
@@ -307,7 +316,9 @@ pub fn run_workers<
         return Ok(Worked { seats, words, stop });
     }
     let steps = script.steps.as_slice();
-    let groups = deal(alloc, locks, workers, ready.seats)?;
+    let labels = Labels::new(alloc, &ready.known)?;
+    let context = RunContext { shared, labels };
+    let groups = deal(alloc, locks, workers, ready.seats, &ready.known, steps)?;
     let meeting = Meeting::new(workers);
     let done = run_all(rt, &context, &meeting, gate, steps, groups)?;
     gather(alloc, done)

@@ -1,6 +1,6 @@
 //! The steps of a script's seat.
 
-ghost use Rattle.std.specs.Prelude.{◌≡◌, ◌<◌, MatchResult, vec_capacity, vec_len};
+ghost use Rattle.std.specs.Prelude.{◌≡◌, ◌<◌, MatchResult, OnErr, vec_capacity, vec_len};
 ghost use Rattle.irp_remove.specs.Calls.{IsSameSeat};
 ghost use Rattle.irp_remove.specs.Pairing.{lock_count};
 ghost use Rattle.irp_shared.specs.Sharing.{IsAsBefore};
@@ -9,8 +9,9 @@ ghost use Rattle.irp_script.specs.Calling.{CallsFor};
 ghost use Rattle.irp_script.specs.StepKinds.{kind_of};
 ghost use Rattle.irp_script.specs.Seats.{seat_at_work};
 ghost use Rattle.irp_script.specs.Stops.{IsAlone, IsUnacted, IsUnmade, IsUnrecorded};
-ghost use Rattle.irp_script.specs.Working.{ActsOnLock, ActsOnSlot, Does, HandsOver, Stays, Tells, caught_up};
+ghost use Rattle.irp_script.specs.Working.{ActsOnLock, ActsOnSlot, Does, Finishing, HandsOver, Stays, Tells, caught_up};
 
+use crate::labels::Known;
 use crate::run_context::RunContext;
 use crate::script_seat::ScriptSeat;
 use crate::step_call::{call_of, kind_of};
@@ -53,8 +54,8 @@ impl<'a, L: Session> ScriptSeat<'a, L> {
         self.seat.saw(length);
     }
 
-    /// Makes the call of a step once, with what the remove seat knows of the locks, and binds the label that the step
-    /// binds.
+    /// Makes the call of a step once, of the packet that it names, with what the remove seat knows of the locks, and
+    /// binds the label that the step binds.
     ///
     /// # Errors
     ///
@@ -63,23 +64,25 @@ impl<'a, L: Session> ScriptSeat<'a, L> {
         &mut self,
         rt: &impl Wait,
         context: &RunContext<A, L>,
+        known: &mut Known,
         step: Step,
     ) -> Result<(), StopReason>
         requires { kind_of step.act ≡ StepKind.Calls }
         ensures remove { self.new.remove ≡ self.old.remove }
         ensures parties { self.new.parties ≡ self.old.parties }
         ensures called { MatchResult result
-            (λ _. CallsFor step.act self.old.remove self.old.seat self.new.seat)
+            (λ _. CallsFor step.act self.old.remove self.old.seat self.new.seat known.old known.new)
             (λ why. IsAsBefore self.old.seat self.new.seat × IsUnrecorded self.old.seat.seen why) }
+        ensures unlearnt { OnErr result (known.new ≡ known.old) }
     {
-        let irp = context.labels.packet_of(rt, step.act);
+        let irp = known.packet_of(rt, &context.labels, step.act);
         let Some(call) = call_of(step.act, irp) else {
             unreachable!();
         };
         let seat = &mut self.seat;
         match context.shared.call(rt, seat, call, &self.remove) {
             Ok(receipt) => {
-                context.labels.learn(rt, step.act, receipt.reply());
+                known.learn(rt, &context.labels, step.act, receipt.reply());
                 Ok(())
             }
             Err(error) => Err(StopReason::from(error)),
@@ -186,18 +189,19 @@ impl<'a, L: Session> ScriptSeat<'a, L> {
         &mut self,
         rt: &impl Wait,
         context: &RunContext<A, L>,
+        known: &Known,
         step: Step,
         on: SlotAct,
     ) -> Result<WordReply, StopReason>
         ensures seat { self.new.seat ≡ self.old.seat }
         ensures remove { self.new.remove ≡ self.old.remove }
         ensures acts { MatchResult result
-            (λ reply. SlotActs step.act on self.old.parties self.new.parties reply)
+            (λ reply. SlotActs known.now step.act on self.old.parties self.new.parties reply)
             (λ why. (self.new.parties ≡ self.old.parties) × IsUnacted on self.old.parties why) }
     {
         match on {
             SlotAct::Publish { slot } => {
-                let irp = context.labels.packet_of(rt, step.act);
+                let irp = known.packet_of(rt, &context.labels, step.act);
                 self.parties.publish(slot, irp)
             }
             SlotAct::Withdraw { slot } => self.parties.withdraw(slot),
@@ -239,6 +243,7 @@ impl<'a, L: Session> ScriptSeat<'a, L> {
         &mut self,
         rt: &impl Wait,
         context: &RunContext<A, L>,
+        known: &Known,
         index: u32,
         step: Step,
         on: SlotAct,
@@ -247,12 +252,12 @@ impl<'a, L: Session> ScriptSeat<'a, L> {
         ensures { MatchResult result
             (λ _. ActsOnSlot index step on
             (seat_at_work self.old) (seat_at_work self.new)
-            words.old.items words.new.items)
+            words.old.items words.new.items known.now)
             (λ why. Stays (seat_at_work self.old) (seat_at_work self.new)
             words.old.items words.new.items × IsUnacted on self.old.parties why) }
     {
         words.reserve(1)?;
-        let reply = self.act_at_slot(rt, context, step, on)?;
+        let reply = self.act_at_slot(rt, context, known, step, on)?;
         tell(words, index, step, Act::OnSlot(on), reply);
         Ok(())
     }
@@ -295,6 +300,7 @@ impl<'a, L: Session> ScriptSeat<'a, L> {
         &mut self,
         rt: &impl Wait,
         context: &RunContext<A, L>,
+        known: &Known,
         index: u32,
         step: Step,
         slot: u32,
@@ -303,9 +309,9 @@ impl<'a, L: Session> ScriptSeat<'a, L> {
         words: &mut Vec<WordLine>,
     ) -> Result<(), StopReason>
         ensures { MatchResult result
-            (λ _. Does L.fixed.locks index step (StepKind.Finishes slot status information)
+            (λ _. Finishing index step slot status information
             (seat_at_work self.old) (seat_at_work self.new)
-            words.old.items words.new.items)
+            words.old.items words.new.items known.now)
             (λ why. Stays (seat_at_work self.old) (seat_at_work self.new)
             words.old.items words.new.items × IsUnrecorded self.old.seat.seen why) }
     {
@@ -313,7 +319,7 @@ impl<'a, L: Session> ScriptSeat<'a, L> {
             self.finish_none(index, step, slot, words)?;
             return Ok(());
         };
-        let irp = context.labels.packet_of(rt, step.act);
+        let irp = known.packet_of(rt, &context.labels, step.act);
         let seat = &mut self.seat;
         match context
             .shared
@@ -342,6 +348,7 @@ impl<'a, L: Session> ScriptSeat<'a, L> {
         &mut self,
         rt: &impl Wait,
         context: &RunContext<A, L>,
+        known: &mut Known,
         index: u32,
         step: Step,
         words: &mut Vec<WordLine>,
@@ -350,21 +357,32 @@ impl<'a, L: Session> ScriptSeat<'a, L> {
         ensures does { MatchResult result
             (λ _. Does L.fixed.locks index step (kind_of step.act)
             (seat_at_work self.old) (seat_at_work self.new)
-            words.old.items words.new.items)
+            words.old.items words.new.items known.old known.new)
             (λ why. Stays (seat_at_work self.old) (seat_at_work self.new)
             words.old.items words.new.items
             × IsUnmade (kind_of step.act) self.old.seat.seen self.old.parties why) }
         ensures same { IsSameSeat self.old.remove self.new.remove }
+        ensures unlearnt { OnErr result (known.new ≡ known.old) }
     {
         match kind_of(step.act) {
-            StepKind::Calls => self.call(rt, context, step),
+            StepKind::Calls => self.call(rt, context, known, step),
             StepKind::OnLock(on) => Ok(self.step_on_lock(index, step, on, words)?),
-            StepKind::OnSlot(on) => self.step_on_slot(rt, context, index, step, on, words),
+            StepKind::OnSlot(on) => self.step_on_slot(rt, context, known, index, step, on, words),
             StepKind::Finishes {
                 slot,
                 status,
                 information,
-            } => self.finish(rt, context, index, step, slot, status, information, words),
+            } => self.finish(
+                rt,
+                context,
+                known,
+                index,
+                step,
+                slot,
+                status,
+                information,
+                words,
+            ),
             StepKind::Hands(_) => unreachable!(),
         }
     }

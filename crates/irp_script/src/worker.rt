@@ -3,6 +3,7 @@
 ghost use Rattle.std.specs.Prelude.{◌≡◌, ◌<◌, [], All, None};
 ghost use Rattle.irp_script.specs.Seats.{IsAtLocks};
 
+use crate::labels::Known;
 use crate::script_seat::ScriptSeat;
 use crate::stop::Stop;
 use irp_remove::Locks;
@@ -20,19 +21,21 @@ pub struct Worker<'a, L: Session> {
     pub seats: Vec<ScriptSeat<'a, L>>,
     pub words: Vec<WordLine>,
     pub stop: Option<Stop>,
+    pub known: Known,
     ghost some: { 0 < workers },
     ghost fits: { All (IsAtLocks locks.now) seats.items },
 }
 
 impl<'a, L: Session> Worker<'a, L> {
-    /// A worker of this number that has these seats, whose remove seats were opened with these locks, and has run
-    /// nothing.
+    /// A worker of this number that has these seats, whose remove seats were opened with these locks, knows this of the
+    /// labels, and has run nothing.
     pub fn new(
         alloc: Global,
         number: u32,
         workers: u32,
         locks: &'a Locks,
         seats: Vec<ScriptSeat<'a, L>>,
+        known: Known,
     ) -> Worker<'a, L>
         requires some { 0 < workers }
         requires fits { All (IsAtLocks locks.now) seats.items }
@@ -42,6 +45,7 @@ impl<'a, L: Session> Worker<'a, L> {
         ensures locks { result.locks.now ≡ locks.now }
         ensures words { result.words.items ≡ [] }
         ensures stop { result.stop ≡ None }
+        ensures known { result.known ≡ known }
     {
         Worker {
             number,
@@ -50,6 +54,7 @@ impl<'a, L: Session> Worker<'a, L> {
             seats,
             words: Vec::new(alloc),
             stop: None,
+            known,
         }
     }
 }

@@ -128,6 +128,7 @@ impl<'a, L: Session> Worker<'a, L> {
         requires { IsAtLocks self.old.locks.now seat }
         ensures same { IsSameWorker self.old self.new }
         ensures words { self.new.words.items ≡ self.old.words.items }
+        ensures known { self.new.known ≡ self.old.known }
         ensures seats { IfOk result (λ _. self.new.seats.items
             ≡ self.old.seats.items ++ seat.entry ∷ []) }
     {
@@ -206,7 +207,7 @@ impl<'a, L: Session> Worker<'a, L> {
         };
         let own = &mut self.seats[at];
         let before = own.seen();
-        let made = own.step(rt, context, index, step, &mut self.words);
+        let made = own.step(rt, context, &mut self.known, index, step, &mut self.words);
         let length = news(before, own.seen());
         all_saw(self.locks, self.seats.as_mut_slice(), length);
         made

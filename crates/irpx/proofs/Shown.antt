@@ -128,7 +128,7 @@ made_own count outs before after closed entries new called back kept number lt =
 -- so is what so many workers ran
 pub ran_shows : (workers : ℕ) (script : Script) (transcript : TranscriptValue) (stop : Option Stop) → 0 < workers → Ran workers script transcript stop → ShowsSteps script transcript stop
 ran_shows workers script transcript stop some ran =
-    let accounts = accounted script.locks workers script.setup script.steps ran.before ran.after transcript.words stop some ran.made in
+    let accounts = accounted script.locks workers (length script.labels) script.setup script.steps ran.before ran.after transcript.words stop some ran.made in
     record {
       tokenless_first = accounts.tokenless_first;
       tokenless = accounts.tokenless;

@@ -8,7 +8,7 @@ use Rattle.irp_script.proofs.run.deal.Given as goal
 abbrev pub invariant-loop-seat : goal.invariant-loop-seat
 invariant-loop-seat g l = record {
   len : vec_len l.all ≡ l.workers;
-  ready : (k : ℕ) (one : _) → k < l.workers → IsReady l.workers k (get_or l.all.items k one);
+  ready : (k : ℕ) (one : _) → k < l.workers → IsReady l.workers l.steps l.known k (get_or l.all.items k one);
   at_locks : (k : ℕ) (one : _) → k < l.workers → (get_or l.all.items k one).locks.now ≡ l.locks;
   fits : All (IsAtLocks l.locks) l.seats.items;
   seats : (test : _ → Bool) → count_by test l.seats.items + count_seats test l.all.items ≡ count_by test l.fn.seats.items;

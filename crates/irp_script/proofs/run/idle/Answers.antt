@@ -14,9 +14,9 @@ loop-number-preserved g c =
     record {
       len = omega (arith, c.push_reserved.ensures.len, c.loop-number.invariant.len);
       room = omega (arith, c.push_reserved.ensures.capacity, c.loop-number.invariant.room);
-      ready = λ k one lt. subst (λ all. IsIdle c.args.workers c.args.locks.now k (get_or all k one)) (sym pushed)
-          (each_push (IsIdle c.args.workers c.args.locks.now) c.loop-number.all.items c.new-in-loop-number.result c.loop-number.number long c.loop-number.invariant.ready
-          (new.number, new.workers, new.words, new.stop, seats, new.locks) k one (omega (arith, lt)));
+      ready = λ k one lt. subst (λ all. IsIdle c.args.workers c.args.steps.now c.args.known.now c.args.locks.now k (get_or all k one)) (sym pushed)
+          (each_push (IsIdle c.args.workers c.args.steps.now c.args.known.now c.args.locks.now) c.loop-number.all.items c.new-in-loop-number.result c.loop-number.number long c.loop-number.invariant.ready
+          (new.number, new.workers, new.words, new.stop, seats, new.locks, new.known ∙ c.in_ok-known.ensures) k one (omega (arith, lt)));
       seats = λ test.
           let more = sum_by_push (λ worker. count_by test worker.seats.items) c.loop-number.all.items c.new-in-loop-number.result in
           let none : count_by test c.new-in-loop-number.result.seats.items ≡ 0 = ap (count_by test) seats in

@@ -8,6 +8,6 @@ abbrev pub invariant-loop-number : goal.invariant-loop-number
 invariant-loop-number g l = record {
   len : vec_len l.all ≡ l.number;
   room : l.workers ≤ vec_capacity l.all;
-  ready : (k : ℕ) (one : _) → k < l.number → IsIdle l.workers l.locks k (get_or l.all.items k one);
+  ready : (k : ℕ) (one : _) → k < l.number → IsIdle l.workers l.steps l.known l.locks k (get_or l.all.items k one);
   seats : (test : _ → Bool) → count_seats test l.all.items ≡ 0;
 }

@@ -1,5 +1,5 @@
 -- The transcript that was closed, with the script's form and the word lines put in.
-use Rattle.std.proofs.Common.{rules, ◌≡◌, ◌<◌, List, Option, IfSome, sym, subst, ap, ◌∙◌}
+use Rattle.std.proofs.Common.{rules, ◌≡◌, ◌<◌, List, Option, length, IfSome, sym, subst, ap, ◌∙◌}
 use Rattle.std.specs.List.{All}
 use Rattle.std.specs.Vec.{vec_len}
 use Rattle.std.proofs.lemmas.Result.{IfOk-weaker}
@@ -56,8 +56,8 @@ returns-clause-ran g c =
     (c.slots.ensures ∙ ap slots_in c.form_of-form.ensures ∙ slots_same script.form)
     (λ k d lt. made.counted k d lt ∙ ap (λ key. key.slots) c.in-Ok-open-2.ensures.parties)
     c.in-Ok-open-2.ensures.owners (made.all_owners some) many made.owners made.taken in
-    let chains : RunsScript script.locks c.args.workers script.setup script.steps (seats_at_work pairs) (seats_at_work worked.seats.items) worked.words.items worked.stop =
-    subst (λ locks. RunsScript locks c.args.workers script.setup script.steps (seats_at_work pairs) (seats_at_work worked.seats.items) worked.words.items worked.stop)
+    let chains : RunsScript script.locks c.args.workers (length script.labels) script.setup script.steps (seats_at_work pairs) (seats_at_work worked.seats.items) worked.words.items worked.stop =
+    subst (λ locks. RunsScript locks c.args.workers (length script.labels) script.setup script.steps (seats_at_work pairs) (seats_at_work worked.seats.items) worked.words.items worked.stop)
     (ap (λ (fixed : Fixed). fixed.locks) c.requires.fixed) c.in-Ok-run_workers.ensures.ran in
     IfOk-weaker c.finish.result _ (λ (run : Finished). Ran c.args.workers script run.transcript run.stop)
     (λ run ends.

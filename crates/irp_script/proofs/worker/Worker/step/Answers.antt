@@ -20,10 +20,11 @@ returns-clause-made g c =
     (sym (length-map c.all_saw.new.seats seat_at_work) ∙ ap length c.all_saw.ensures.saw
     ∙ length-map (seats_at_work c.as_mut_slice.result.now) (caught_up c.news-length.result)
     ∙ length-map c.as_mut_slice.result.now seat_at_work ∙ c.as_mut_slice.ensures.len) in
-    made_at c.step-made.result seat_at_work c.args.self.now.seats.items (with_items changed c.all_saw.new.seats).items c.in-Some.at c.step-made.new.self c.index_mut-own.result.now _ _ _ _ c.args.step c.news-length.result
+    made_at c.step-made.result seat_at_work c.args.self.now.seats.items (with_items changed c.all_saw.new.seats).items c.in-Some.at c.step-made.new.self c.index_mut-own.result.now _ _ _ _ _ _ c.args.step c.news-length.result
     within c.index_mut-own.ensures.value own
     (c.news-length.ensures ∙ ap₂ news c.seen-before.ensures c.seen.ensures)
     (ap seats_at_work whole ∙ c.all_saw.ensures.saw ∙ ap (λ seats. map (caught_up c.news-length.result) (seats_at_work seats)) c.as_mut_slice.ensures.value)
+    c.step-made.ensures.unlearnt
     c.step-made.ensures.does
 
 pub returns-in_default-place_of-clause-made : goal.returns-in_default-place_of-clause-made
