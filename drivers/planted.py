@@ -340,6 +340,7 @@ HOSTILE = {
     "fails_in_add_device": ["FAULT AddDevice", "AddDevice of fails_in_add_device returned 0xc000000e"],
     "leaves_its_device": ["FAULT LeftBehind", "in Begin: IoCreateDevice: the device D0 (leaves_its_device)"],
     "leaves_a_timer": ["FAULT LeftBehind: leaves_a_timer.c:15 in Read: KeSetTimer"],
+    "leaves_a_dpc": ["FAULT LeftBehind: leaves_a_dpc.c:15 in UnloadAtOnce: KeInsertQueueDpc: the deferred call that was queued"],
     "leaves_a_thread": ["FAULT LeftBehind: leaves_a_thread.c:14 in DriverEntry: PsCreateSystemThread"],
     "leaves_a_packet": ["FAULT LeftBehind: leaves_a_packet.c:6 in Read: IoAllocateIrp(IRP "],
     "leaves_a_work_item": ["FAULT LeftBehind: leaves_a_work_item.c:6 in Read: IoAllocateWorkItem"],

@@ -164,5 +164,7 @@ int main(void)
             top = loaded[i]->DeviceObject;
             play(scenario);
         }
+    if (!strcmp(scenario, "overlap"))
+        WdmExpectEntries(6); /* no driver got a request where there are fewer */
     return WdmFinish();
 }

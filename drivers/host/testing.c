@@ -75,11 +75,15 @@ PDRIVER_OBJECT WdmLoadNamed(const char *Name, WDM_SITE at)
 
 VOID WdmUnloadDriver(PDRIVER_OBJECT Driver)
 {
+    const int before = self.driver;
+    self.driver = Driver->HostNumber;
     if (Driver->DriverUnload)
         Driver->DriverUnload(Driver);
+    self.driver = before;
     Call c;
     enter_host(&c, "WdmUnloadDriver", (WDM_SITE){ 0 });
     if (Driver->DriverUnload) {
+        tell_calls_left(Driver->HostNumber);
         finish_work();
         tell_left(Driver->HostNumber);
         tell_pool_leaks(Driver->HostNumber, true);

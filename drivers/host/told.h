@@ -30,6 +30,7 @@ void left_behind(const char *what, const char *call, WDM_SITE at);
 void tell_left(int driver);
 void tell_work_left(int driver);
 void tell_timers_left(int driver);
+void tell_calls_left(int driver);
 void tell_threads_left(int driver);
 void tell_links_left(int driver);
 int driver_of_file(const char *file);

@@ -117,6 +117,11 @@ void tell_timers_left(int driver)
     for (PKTIMER t = timers; t; t = t->HostNext)
         if ((t->Dpc ? t->Dpc->HostDriver : driver_of_file(t->HostSet.file)) == driver)
             left_behind("the timer that was set here", "KeSetTimer", t->HostSet);
+}
+
+/* Before the host lets them run: DriverUnload has to wait for them by KeFlushQueuedDpcs. */
+void tell_calls_left(int driver)
+{
     for (int i = 0; i < n_dpcs; i++)
         if (dpcs[i]->HostDriver == driver)
             left_behind("the deferred call that was queued here", "KeInsertQueueDpc", dpcs[i]->HostQueued);
