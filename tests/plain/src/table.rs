@@ -32,7 +32,10 @@ const SENDS: u32 = 40;
 /// How many entries the text has that is read and judged in blocks.
 const ENTRIES: u32 = 1_000_000;
 
-/// How much of it is timed: all, or a hundredth of it in one round, to see that it runs.
+/// The least part of a count. A text has a multiple of four entries.
+const LEAST: u32 = 40;
+
+/// How much of it is timed: all, or a thousandth of it in one round, to see that it runs.
 #[derive(Clone, Copy, PartialEq, Eq)]
 pub enum Amount {
     All,
@@ -158,11 +161,11 @@ static TABLE: [Row; 12] = [
     },
 ];
 
-/// So much of a count: all of it, or a hundredth.
+/// So much of a count: all of it, or a thousandth, but enough that there is something.
 fn part(count: u32, amount: Amount) -> u32 {
     match amount {
         Amount::All => count,
-        Amount::Little => count / 100,
+        Amount::Little => (count / 1000).max(LEAST),
     }
 }
 
@@ -218,7 +221,7 @@ fn run(load: Load, number: u32, amount: Amount, sample: Option<&Sample>) -> Done
         Load::Slot(pair) => pairs_on_slots(pair, number, part(TABLES, amount)),
         Load::Rounds(who) => time_work(&rounds(part(CALLS, amount), by(who, number)), 1),
         Load::Entries(who) => {
-            let work = rounds(part(number, amount).max(4), by(who, 1));
+            let work = rounds(part(number, amount), by(who, 1));
             time_work(&work, CALLS / number)
         }
         Load::Unused(who) => time_work(&unused(part(UNUSED, amount), number, by(who, 1)), 1),
@@ -227,8 +230,8 @@ fn run(load: Load, number: u32, amount: Amount, sample: Option<&Sample>) -> Done
                 Who::Recorded => RECORDED_PACKETS,
                 _ => PACKETS,
             };
-            let batches = part(SENDS * 100, amount) / 100;
-            time_work(&sends(number, packets, batches.max(1), by(who, 1)), 1)
+            let batches = if amount == Amount::All { SENDS } else { 1 };
+            time_work(&sends(number, packets, batches, by(who, 1)), 1)
         }
         Load::Text(task) => perform(task, sample.expect("a text's load has a sample")),
         Load::Blocks => {
