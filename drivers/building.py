@@ -48,7 +48,9 @@ def has_tests(source):
 
 
 def stem(path):
-    return re.sub(r"\W", "_", os.path.splitext(os.path.basename(path.rstrip("/")))[0])
+    """Returns the driver's name by its file: one that C takes as part of a name."""
+    name = re.sub(r"\W", "_", os.path.splitext(os.path.basename(path.rstrip("/")))[0])
+    return "_" + name if name[:1].isdigit() else name
 
 
 def files_of(named):

@@ -2,6 +2,7 @@
 
 import argparse
 import os
+import shlex
 
 import orders
 import verifying
@@ -32,7 +33,10 @@ EPILOG = """examples:
   run --schedule 'p3830,8=1' mydriver.c test.c   the run that failed there again
 
 exit status: 0 all is well; 1 it isn't; 2 nothing was run (usage, or it doesn't build); 3 nothing is wrong so far, and
---every-order was stopped before every order was made"""
+--verify or --every-order was stopped before every run was made"""
+# The flags that change what a run does, so that who makes it again needs them.
+CHANGING = ("test", "args", "threads", "controls", "sanitize", "page_ends", "routines_high", "one_processor", "refuse", "pend",
+            "cancel", "real", "wine")
 
 
 class Columns(argparse.RawDescriptionHelpFormatter):
@@ -91,7 +95,7 @@ def add_runs(parser):
 def add_verify(parser):
     """Adds the plans of many runs."""
     group = parser.add_argument_group("many runs, each of which takes some luck away (VERIFIER.md)")
-    group.add_argument("--verify", action="store_true", help="all of these, for at most --minutes")
+    group.add_argument("--verify", action="store_true", help="all of these, until --minutes are up")
     for part, what in verifying.PARTS.items():
         group.add_argument(f"--{part.replace('_', '-')}", action="store_true", help=f"of these: {what}")
 
@@ -102,7 +106,7 @@ def add_orders(parser):
     group.add_argument("--every-order", action="store_true", help="make every order, within these bounds")
     group.add_argument("--preemptions", type=int, default=2, metavar="N",
                        help="orders with at most N preemptions and early timers (2)")
-    group.add_argument("--minutes", type=float, default=5, metavar="M", help="stop after so many minutes (5)")
+    group.add_argument("--minutes", type=float, default=5, metavar="M", help="stop after so many minutes in all (5)")
     group.add_argument("--rounds", type=int, default=2, metavar="N", help="rounds of the test's loops then (2)")
     group.add_argument("--processes", type=int, metavar="N", help="processes side by side (one a processor)")
     group.add_argument("--part", metavar="I/N", help="the I-th of N parts of the orders, for several machines")
@@ -121,6 +125,20 @@ def add_output(parser):
     group.add_argument("--junit", metavar="FILE", help="write what each run or test gave, for a test server")
     group.add_argument("--tap", action="store_true", help="and print it as lines of the Test Anything Protocol")
     group.add_argument("--irpx", default=os.environ.get("IRPX"), help="the program that judges (IRPX, else bin/irpx)")
+
+
+def flag(name, value):
+    """Returns a flag as `run` takes it."""
+    return f"--{name.replace('_', '-')}" + ("" if value == 1 and name not in ("threads", "refuse", "pend") else
+                                            f" {shlex.quote(str(value))}")
+
+
+def again(options):
+    """Returns the flags that who makes a run again gives beside its seed or schedule."""
+    words = [flag(it, getattr(options, it)) for it in CHANGING if getattr(options, it, None)]
+    words += [f"--cflag={shlex.quote(it)}" for it in options.cflag]
+    words += [f"--on {shlex.quote(child)} {shlex.quote(file)}" for child, file in options.on]
+    return "".join(f"{it} " for it in words)
 
 
 def parser_of():

@@ -199,7 +199,8 @@ def sum_up(found, kinds, functions):
     if found.left_out:
         left = ", ".join(f"{found.left_out.count(it)} {it}" for it in dict.fromkeys(found.left_out))
         print(f"not made    {left}: give more --minutes")
-    print(f"verify: {found.made} runs, {len(found.faults)} faults; " + ("NOT CLEAN" if found.faults else "clean"))
+    ending = "NOT CLEAN" if found.faults else "nothing wrong so far" if found.left_out else "clean"
+    print(f"verify: {found.made} runs, {len(found.faults)} faults; {ending}")
 
 
 def verify(options, make_run, objects):
@@ -217,4 +218,4 @@ def verify(options, make_run, objects):
         found.all_of(cheap, pool)
         found.all_of([it for it in kinds if it.part], pool)
     sum_up(found, [plain, *kinds], functions_of(objects))
-    return (1 if found.faults else 0), found.cases
+    return (1 if found.faults else 3 if found.left_out else 0), found.cases

@@ -6,6 +6,7 @@
  * as what they are in each order: a packet by the thread that allocated it and how many that had before.
  */
 #include "schedule.h"
+#include "explore.h"
 #include <sys/mman.h>
 
 bool footprints, hooks_present;
@@ -44,13 +45,28 @@ static void use_more_places(void)
         place_of_object[place_for(objects[n].object)] = (uint16_t)n;
 }
 
+/* One of all orders can't be told from another one without footprints. Any other run goes on without them. */
+void look_no_further(const char *why)
+{
+    if (is_exploring)
+        give_up(why);
+    if (!footprints)
+        return;
+    footprints = false;
+    note("footprints", "this run is long: from here on it isn't told who uses memory that was let go");
+}
+
 static Object *object_of(const void *object)
 {
     const size_t i = place_for(object);
     if (place_of_object[i])
         return &objects[place_of_object[i]];
-    if (++n_objects == OBJECTS)
-        give_up("a run touches more than 32,767 objects: make its test smaller");
+    if (n_objects + 1 == OBJECTS) {
+        look_no_further("a run touches more than 32,767 objects: make its test smaller");
+        objects[0] = (Object){ .object = object };
+        return &objects[0];
+    }
+    n_objects++;
     objects[n_objects].object = object;
     if ((size_t)n_objects * 2 > n_places)
         use_more_places();

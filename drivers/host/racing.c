@@ -76,8 +76,12 @@ static Cell *cell_of(const void *key)
     const size_t i = place_for(key);
     if (place_of_cell[i])
         return &cells[place_of_cell[i]];
-    if (++n_cells == CELLS)
-        give_up("a run touches more than 32,767 words of memory: make its test smaller");
+    if (n_cells + 1 == CELLS) {
+        look_no_further("a run touches more than 32,767 words of memory: make its test smaller");
+        cells[0] = (Cell){ .key = key, .writer = NOBODY };
+        return &cells[0];
+    }
+    n_cells++;
     cells[n_cells] = (Cell){ .key = key, .writer = NOBODY };
     if ((size_t)n_cells * 2 > n_places)
         use_more_places();

@@ -60,6 +60,7 @@ void tell_story(FILE *out);
 /* footprint.c: what came before what. Two runs whose states are equal differ in nothing but the order of what can change
    places. */
 extern bool footprints;
+void look_no_further(const char *why);
 uint64_t state_of(int n_threads);
 uint64_t state_of_run(void);
 void passed(const char *what, int line);
