@@ -3,7 +3,7 @@
  *
  * The level is the thread's own: a deferred call and a cancel routine begin at DISPATCH_LEVEL, a spin lock raises it,
  * a fast mutex raises it to APC_LEVEL. With WDM_ROUTINES_HIGH, and with each odd seed, completion routines begin at
- * DISPATCH_LEVEL: Windows may call them so.
+ * DISPATCH_LEVEL: Windows may call them so. wdm_levels.h has further calls, all of PASSIVE_LEVEL.
  */
 #include "host.h"
 
@@ -36,6 +36,10 @@ static const Level levels[] = {
     { "IoInitializeRemoveLock", 0, PASSIVE_LEVEL, ANY_LOCK, NULL },
     { "PsCreateSystemThread", 0, PASSIVE_LEVEL, NO_LOCK, NULL },
     { "ZwClose", 0, PASSIVE_LEVEL, NO_LOCK, NULL },
+    { "IoConnectInterrupt", 0, PASSIVE_LEVEL, NO_LOCK, NULL },
+    { "IoDisconnectInterrupt", 0, PASSIVE_LEVEL, NO_LOCK, NULL },
+    { "IoCreateSymbolicLink", 0, PASSIVE_LEVEL, NO_LOCK, NULL },
+    { "IoInvalidateDeviceRelations", 0, DISPATCH_LEVEL, ANY_LOCK, NULL },
     { "ObReferenceObjectByHandle", 0, PASSIVE_LEVEL, NO_LOCK, NULL },
     { "IoBuildDeviceIoControlRequest", 0, PASSIVE_LEVEL, ANY_LOCK, NULL },
     { "IoBuildSynchronousFsdRequest", 0, PASSIVE_LEVEL, ANY_LOCK, NULL },
@@ -85,6 +89,19 @@ static void check_level(const Level *l)
                level_name(l->highest), l->code ? ": Driver Verifier's " : "", l->code ? l->code : "");
     else if (self.irql < l->lowest)
         broken("IrqlTooLow", NULL, "called at %s", level_name(self.irql));
+}
+
+/* A call of PASSIVE_LEVEL that is nothing but checked (wdm_levels.h). At APC_LEVEL, as under a fast mutex, most of them
+   do no harm, so nothing is told. */
+VOID WdmAtLevel(const char *name, WDM_SITE at)
+{
+    static const Level low = { NULL, 0, APC_LEVEL, NO_LOCK, NULL };
+    Call c;
+    if (self.irql <= APC_LEVEL)
+        return;
+    enter_host(&c, name, at);
+    check_level(&low);
+    leave_host();
 }
 
 /* Each call of a driver. The host's own calls have no place in a source. */

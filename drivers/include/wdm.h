@@ -6,5 +6,6 @@
 #include "wdm_hw.h"
 #include "wdm_trace.h"
 #include "wdm_guid.h"
+#include "wdm_levels.h"
 
 #endif

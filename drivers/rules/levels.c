@@ -43,6 +43,22 @@ static NTSTATUS MutexAtDispatch(PEXTENSION Ext, PIRP Irp, BOOLEAN Wrong)
     return Done(Irp);
 }
 
+static NTSTATUS RegistryAtDispatch(PEXTENSION Ext, PIRP Irp, BOOLEAN Wrong)
+{
+    UNICODE_STRING name = RTL_CONSTANT_STRING(L"\\Registry\\Machine");
+    OBJECT_ATTRIBUTES attributes;
+    HANDLE key;
+    KIRQL irql;
+    UNREFERENCED_PARAMETER(Ext);
+    InitializeObjectAttributes(&attributes, &name, OBJ_KERNEL_HANDLE, NULL, NULL);
+    KeRaiseIrql(Wrong ? DISPATCH_LEVEL : PASSIVE_LEVEL, &irql);
+    const NTSTATUS status = ZwOpenKey(&key, KEY_READ, &attributes); /* told: IrqlTooHigh_Registry */
+    KeLowerIrql(irql);
+    if (NT_SUCCESS(status))
+        ZwClose(key);
+    return Done(Irp);
+}
+
 static VOID Paged(PDEVICE_OBJECT DeviceObject)
 {
     UNREFERENCED_PARAMETER(DeviceObject);
@@ -141,6 +157,7 @@ static NTSTATUS AsksAtDispatch(PEXTENSION Ext, PIRP Irp, BOOLEAN Wrong)
 const CASE_ROW LevelCases[] = {
     { "IrqlTooHigh", WaitsInDeferredCall, NULL, NULL }, { "UnderSpinLock_Delay", DelaysUnderLock, NULL, NULL },
     { "IrqlTooHigh_FastMutex", MutexAtDispatch, NULL, NULL }, { "IrqlTooHigh_PagedCode", PagedUnderLock, NULL, NULL },
-    { "IrqlTooHigh_Routine", RoutineWaits, NULL, NULL }, { "IrqlTooLow", AtDpcLevel, NULL, NULL }, { "IrqlReturn", StaysRaised, NULL, NULL },
+    { "IrqlTooHigh_Routine", RoutineWaits, NULL, NULL }, { "IrqlTooHigh_Registry", RegistryAtDispatch, NULL, NULL },
+    { "IrqlTooLow", AtDpcLevel, NULL, NULL }, { "IrqlReturn", StaysRaised, NULL, NULL },
     { "RaiseLower", RaisesDown, NULL, NULL }, { "ForwardedAtBadIrql", AsksAtDispatch, NULL, NULL }, { NULL, NULL, NULL, NULL },
 };
