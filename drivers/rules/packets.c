@@ -32,11 +32,16 @@ static NTSTATUS SaysTooMuch(PEXTENSION Ext, PIRP Irp, BOOLEAN Wrong)
 /* The right one succeeds the start once the drivers below have, and fails a removal that it is asked for. */
 static NTSTATUS StartsAlone(PEXTENSION Ext, PIRP Irp, BOOLEAN Wrong)
 {
-    if (!Wrong || IoGetCurrentIrpStackLocation(Irp)->MinorFunction != IRP_MN_START_DEVICE)
+    NTSTATUS status = STATUS_SUCCESS;
+    if (IoGetCurrentIrpStackLocation(Irp)->MinorFunction != IRP_MN_START_DEVICE)
         return PassDown(Ext, Irp);
-    Irp->IoStatus.Status = STATUS_SUCCESS;
+    if (!Wrong) {
+        IoCopyCurrentIrpStackLocationToNext(Irp);
+        status = IoForwardIrpSynchronously(Ext->Lower, Irp) ? Irp->IoStatus.Status : STATUS_UNSUCCESSFUL;
+    }
+    Irp->IoStatus.Status = status;
     IoCompleteRequest(Irp, IO_NO_INCREMENT); /* told: NotPassedDown */
-    return STATUS_SUCCESS;
+    return status;
 }
 
 static NTSTATUS ChangesUnknown(PEXTENSION Ext, PIRP Irp, BOOLEAN Wrong)
