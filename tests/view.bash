@@ -1,5 +1,6 @@
 #!/bin/bash
-# Shows that `irp_view text` and `irp_view packet` show the entries that their words ask for: a use of a packet, a span,
+# Shows that `irp_view text` and `irp_view packet` show the entries that their words ask for: a use of a packet, also as
+# messages tell it, a span,
 # or all, with word lines only behind all; that entries and word lines are shown as they are read, also before a line
 # that is refused; and what they say of a completion that a right driver leaves out, and of one that is a mistake.
 # IRP_VIEW names the program; without it, it is the one that bin/irp_view runs.
@@ -41,7 +42,9 @@ shows '' text --entries 2..2 "$cancels"
 shows "$(seq -s ' ' 9 $(($(wc -l <"$cancels") - 2)))" text --entries 9.. "$cancels"
 shows "$(grep -nE '"irp":\[0,1\]' "$cancels" | sed 's/:.*//' | awk '{print $1 - 2}' | xargs)" packet 0 1 "$cancels"
 shows '4 5' packet 0 1 --entries 4..6 "$cancels"
+shows '4 5' packet 0.1 --entries 4..6 "$cancels"
 shows '' packet 99 1 "$cancels"
+shows '' packet 99.1 "$cancels"
 
 locks=$(grep -l '"tag"' ../examples/removal/*.transcript | head -n 1)
 shows_steps "$(grep -c '"step"' "$locks")" text "$locks"

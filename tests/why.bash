@@ -62,6 +62,25 @@ head -n 2 "$examples"/nothing_is_wrong.transcript >"$room/transcript"
 run why "$room/transcript"
 echo 'nothing is wrong: 1 entry, legal' >"$room/expected"
 told 'one entry' "$room/expected"
+# Of many refused calls the first ten are told.
+frees() {
+    head -n 1 "$examples"/nothing_is_wrong.transcript
+    local n
+    for ((n = 0; n < $1; n++)); do
+        echo "{\"asked\":[],\"call\":{\"do\":\"free\",\"irp\":[0,1]},\"n\":$n,\"reply\":{\"refused\":\"NoIrp\"},\"seat\":0}"
+    done
+}
+for count in 1 10 11 25; do
+    frees $count >"$room/transcript"
+    run why "$room/transcript"
+    {
+        [ $count = 1 ] && echo 'nothing is wrong: 1 entry, legal' || echo "nothing is wrong: $count entries, legal"
+        echo -n "refused calls: $count"
+        for ((n = 0; n < (count < 10 ? count : 10); n++)); do echo -n ", entry $n NoIrp"; done
+        [ $count -le 10 ] && echo || echo ", and $((count - 10)) more"
+    } >"$room/expected"
+    told "$count refused calls" "$room/expected"
+done
 
 # Each kind of difference has its example.
 shown() { grep -qx "  differs in  asked [0-9]*, shown: .* (place $1)" "$examples"/*.expected; }

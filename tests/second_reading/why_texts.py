@@ -322,6 +322,15 @@ def block_of(wrong):
     return [head] + [f"  {name:12}{'docs/RULES.md, ' if name == 'see' else ''}{words}" for name, words in rows]
 
 
+def refused_line(entries):
+    """Returns the line for the refused calls of a legal history, as a list; an empty one where none is refused."""
+    named = [(place, refusal(entry['reply'])) for place, entry in enumerate(entries)]
+    refused = [(place, name) for place, name in named if name]
+    told = ''.join(f', entry {place} {name}' for place, name in refused[:10])
+    more = f', and {len(refused) - 10} more' if len(refused) > 10 else ''
+    return [f'refused calls: {len(refused)}{told}{more}'] if refused else []
+
+
 def why(text):
     """Returns the exit status and what is printed: on standard output, and where the text is refused, on standard
     error."""
@@ -332,6 +341,8 @@ def why(text):
     wrong = explain(text)
     count = len(entries)
     lines = block_of(wrong) if wrong else [f"nothing is wrong: {count} {'entry' if count == 1 else 'entries'}, legal"]
+    if not wrong:
+        lines += refused_line(entries)
     words = text.count(b'\n') - count - 1 if header else 0
     if words:
         lines.append(f'word lines: {words}, read for their form, not judged')

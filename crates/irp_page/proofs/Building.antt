@@ -1,15 +1,14 @@
 -- Pieces that are put one behind the other.
-use Rattle.std.proofs.Common.{◌≡◌, ℕ, List, [], ◌∷◌, ◌++◌, refl, sym, ap, subst, ◌∙◌, append_assoc, append-nil, Bool, true, false, Option, None, Some, if◌then◌else◌}
+use Rattle.std.proofs.Common.{◌≡◌, ℕ, List, [], ◌∷◌, ◌++◌, refl, sym, ap, subst, ◌∙◌, append-nil, Bool, true, false, Option, None, Some, if◌then◌else◌}
 use Rattle.std.specs.List.{flat_map}
 use Rattle.std.proofs.lemmas.Grind.{flat_map-append}
 use Rattle.std.proofs.lemmas.List.{reverse-append}
 use Rattle.std.proofs.lemmas.List.Elements.{filter_map-append}
 use mathlib.Core.List.{reverse}
 use Rattle.irp_page.specs.declared.tag.Tag.{Tag}
-use Rattle.irp_page.specs.declared.tag.Tag.TheVariants.{Li}
 use Rattle.irp_page.specs.declared.piece.Piece.{Piece}
-use Rattle.irp_page.specs.declared.piece.Piece.TheVariants.{Doctype, Open, Close, Whole, Fixed, Words, Entry}
-use Rattle.irp_page.specs.Pieces.{Puts, piece_bytes, begun, entries_begun}
+use Rattle.irp_page.specs.declared.piece.Piece.TheVariants.{Doctype, Open, Close, Whole, Fixed, Words, Entry, Mark, Legal, Illegal}
+use Rattle.irp_page.specs.Pieces.{Puts, piece_bytes, sign, signs}
 use Rattle.irp_page.specs.Nesting.{Leads, Nests, IsMarkup}
 use Rattle.irp_page.specs.Pages.{Stands}
 
@@ -33,6 +32,9 @@ leads_within opened next around (Whole tag attributes) is = ap (λ given. given 
 leads_within opened next around (Fixed words) is = ap (λ given. given ++ around) is
 leads_within opened next around (Words words) is = ap (λ given. given ++ around) is
 leads_within opened next around (Entry place) is = ap (λ given. given ++ around) is
+leads_within opened next around (Mark place) is = ap (λ given. given ++ around) is
+leads_within opened next around (Legal entries) is = ap (λ given. given ++ around) is
+leads_within opened next around (Illegal place) is = ap (λ given. given ++ around) is
 
 -- the same pieces
 nests_within : (opened last around : List Tag) (pieces : List Piece) → Nests opened pieces last → Nests (opened ++ around) pieces (last ++ around)
@@ -52,27 +54,27 @@ pub no_markup : IsMarkup [] []
 no_markup = record { nests = refl; none = refl }
 
 -- one more piece that begins no entry
-more : (pieces : List Piece) (piece : Piece) → entries_begun pieces ≡ [] → entries_begun (piece ∷ []) ≡ [] → entries_begun (pieces ++ piece ∷ []) ≡ []
+more : (pieces : List Piece) (piece : Piece) → signs pieces ≡ [] → signs (piece ∷ []) ≡ [] → signs (pieces ++ piece ∷ []) ≡ []
 more pieces piece none not =
-    filter_map-append begun pieces (piece ∷ []) ∙ ap (λ given. given ++ entries_begun (piece ∷ [])) none ∙ not
+    filter_map-append sign pieces (piece ∷ []) ∙ ap (λ given. given ++ signs (piece ∷ [])) none ∙ not
 
-pub one_more : (pieces : List Piece) (piece : Piece) (before after : List Tag) → IsMarkup pieces before → Leads (reverse before) piece (reverse after) → entries_begun (piece ∷ []) ≡ [] → IsMarkup (pieces ++ piece ∷ []) after
+pub one_more : (pieces : List Piece) (piece : Piece) (before after : List Tag) → IsMarkup pieces before → Leads (reverse before) piece (reverse after) → signs (piece ∷ []) ≡ [] → IsMarkup (pieces ++ piece ∷ []) after
 one_more pieces piece before after is leads not = record {
   nests = then_leads [] (reverse before) (reverse after) pieces piece is.nests leads;
   none = more pieces piece is.none not;
 }
 
 -- what stands there, and then pieces
-pub stands_on : (places further : List ℕ) (opened next : List Tag) (text after : List ℕ) (pieces : List Piece) → Stands places opened text → after ≡ text ++ flat_map piece_bytes pieces → Nests (reverse opened) pieces (reverse next) → entries_begun pieces ≡ further → Stands (places ++ further) next after
-stands_on places further opened next text after pieces is went nests begins = record {
+pub stands_on : (told further : List Piece) (opened next : List Tag) (text after : List ℕ) (pieces : List Piece) → Stands told opened text → after ≡ text ++ flat_map piece_bytes pieces → Nests (reverse opened) pieces (reverse next) → signs pieces ≡ further → Stands (told ++ further) next after
+stands_on told further opened next text after pieces is went nests tells = record {
   pieces = is.pieces ++ pieces;
   bytes = went ∙ ap (λ given. given ++ flat_map piece_bytes pieces) is.bytes ∙ sym (flat_map-append piece_bytes is.pieces pieces);
   nests = then_nests [] (reverse opened) (reverse next) is.pieces pieces is.nests nests;
-  begins = filter_map-append begun is.pieces pieces ∙ ap (λ given. given ++ entries_begun pieces) is.begins ∙ ap (λ given. places ++ given) begins;
+  tells = filter_map-append sign is.pieces pieces ∙ ap (λ given. given ++ signs pieces) is.tells ∙ ap (λ given. told ++ given) tells;
 }
 
 -- an element is opened
-pub opens : (pieces : List Piece) (opened : List Tag) (piece : Piece) (tag : Tag) → IsMarkup pieces opened → Leads (reverse opened) piece (tag ∷ reverse opened) → entries_begun (piece ∷ []) ≡ [] → IsMarkup (pieces ++ piece ∷ []) (opened ++ tag ∷ [])
+pub opens : (pieces : List Piece) (opened : List Tag) (piece : Piece) (tag : Tag) → IsMarkup pieces opened → Leads (reverse opened) piece (tag ∷ reverse opened) → signs (piece ∷ []) ≡ [] → IsMarkup (pieces ++ piece ∷ []) (opened ++ tag ∷ [])
 opens pieces opened piece tag is leads not =
     one_more pieces piece opened (opened ++ tag ∷ []) is (subst (λ given. Leads (reverse opened) piece given) (sym (innermost opened tag)) leads) not
 
@@ -80,37 +82,34 @@ opens pieces opened piece tag is leads not =
 pub closes : (pieces : List Piece) (opened : List Tag) (tag : Tag) → IsMarkup pieces (opened ++ tag ∷ []) → IsMarkup (pieces ++ Close tag ∷ []) opened
 closes pieces opened tag is = one_more pieces (Close tag) (opened ++ tag ∷ []) opened is (innermost opened tag) refl
 
--- the item of an entry
-pub stands_entry : (places : List ℕ) (place : ℕ) (opened : List Tag) (text after : List ℕ) (pieces : List Piece) → Stands places opened text → IsMarkup pieces [] → after ≡ text ++ (piece_bytes (Entry place) ++ (flat_map piece_bytes pieces ++ piece_bytes (Close Li))) → Stands (places ++ place ∷ []) opened after
-stands_entry places place opened text after pieces is card went =
-    let around = reverse opened in
-    let item = Entry place ∷ (pieces ++ Close Li ∷ []) in
-    let nests : Nests around item around =
-    (Li ∷ around, refl, then_leads (Li ∷ around) (Li ∷ around) around pieces (Close Li) (closed_nests (Li ∷ around) pieces card.nests) refl) in
-    let bytes : flat_map piece_bytes item ≡ piece_bytes (Entry place) ++ (flat_map piece_bytes pieces ++ piece_bytes (Close Li)) =
-    ap (λ given. piece_bytes (Entry place) ++ given)
-    (flat_map-append piece_bytes pieces (Close Li ∷ []) ∙ ap (λ given. flat_map piece_bytes pieces ++ given) (append-nil (piece_bytes (Close Li)))) in
-    let begins : entries_begun item ≡ place ∷ [] = ap (λ given. place ∷ given) (more pieces (Close Li) card.none refl) in
-    stands_on places (place ∷ []) opened opened text after item is (went ∙ ap (λ given. text ++ given) (sym bytes)) nests begins
+-- a piece that tells something, and opens an element
+pub stands_tell : (told : List Piece) (piece : Piece) (opened : List Tag) (tag : Tag) (text after : List ℕ) → Stands told opened text → after ≡ text ++ piece_bytes piece → Leads (reverse opened) piece (tag ∷ reverse opened) → signs (piece ∷ []) ≡ piece ∷ [] → Stands (told ++ piece ∷ []) (opened ++ tag ∷ []) after
+stands_tell told piece opened tag text after is went leads tells =
+    stands_on told (piece ∷ []) opened (opened ++ tag ∷ []) text after (piece ∷ []) is
+    (went ∙ ap (λ given. text ++ given) (sym (append-nil (piece_bytes piece))))
+    (tag ∷ reverse opened, leads, sym (innermost opened tag)) tells
+
+-- markup that leaves elements open
+pub stands_go_on : (told : List Piece) (opened more : List Tag) (text after : List ℕ) (pieces : List Piece) → Stands told opened text → IsMarkup pieces more → after ≡ text ++ flat_map piece_bytes pieces → Stands told (opened ++ more) after
+stands_go_on told opened more text after pieces is markup went =
+    subst (λ given. Stands given (opened ++ more) after) (append-nil told)
+    (stands_on told [] opened (opened ++ more) text after pieces is went
+    (subst (λ given. Nests (reverse opened) pieces given) (sym (reverse-append opened more))
+    (nests_within [] (reverse more) (reverse opened) pieces markup.nests)) markup.none)
 
 -- closed markup
-pub stands_put : (places : List ℕ) (opened : List Tag) (text after : List ℕ) (pieces : List Piece) → Stands places opened text → IsMarkup pieces [] → after ≡ text ++ flat_map piece_bytes pieces → Stands places opened after
-stands_put places opened text after pieces is markup went =
-    subst (λ given. Stands given opened after) (append-nil places)
-    (stands_on places [] opened opened text after pieces is went (closed_nests (reverse opened) pieces markup.nests) markup.none)
+pub stands_put : (told : List Piece) (opened : List Tag) (text after : List ℕ) (pieces : List Piece) → Stands told opened text → IsMarkup pieces [] → after ≡ text ++ flat_map piece_bytes pieces → Stands told opened after
+stands_put told opened text after pieces is markup went =
+    subst (λ given. Stands given opened after) (append-nil told)
+    (stands_on told [] opened opened text after pieces is went (closed_nests (reverse opened) pieces markup.nests) markup.none)
 
 -- the innermost element is closed
-pub stands_close : (places : List ℕ) (opened : List Tag) (tag : Tag) (text after : List ℕ) → Stands places (opened ++ tag ∷ []) text → after ≡ text ++ piece_bytes (Close tag) → Stands places opened after
-stands_close places opened tag text after is went =
-    subst (λ given. Stands given opened after) (append-nil places)
-    (stands_on places [] (opened ++ tag ∷ []) opened text after (Close tag ∷ []) is
+pub stands_close : (told : List Piece) (opened : List Tag) (tag : Tag) (text after : List ℕ) → Stands told (opened ++ tag ∷ []) text → after ≡ text ++ piece_bytes (Close tag) → Stands told opened after
+stands_close told opened tag text after is went =
+    subst (λ given. Stands given opened after) (append-nil told)
+    (stands_on told [] (opened ++ tag ∷ []) opened text after (Close tag ∷ []) is
     (went ∙ ap (λ given. text ++ given) (sym (append-nil (piece_bytes (Close tag)))))
     (reverse opened, innermost opened tag, refl) refl)
-
--- three parts, one behind the other
-pub three : (x y z w a b c : List ℕ) → y ≡ x ++ a → z ≡ y ++ b → w ≡ z ++ c → w ≡ x ++ (a ++ (b ++ c))
-three x y z w a b c first second third =
-    third ∙ ap (λ given. given ++ c) (second ∙ ap (λ given. given ++ b) first ∙ append_assoc x a b) ∙ append_assoc x (a ++ b) c ∙ ap (λ given. x ++ given) (append_assoc a b c)
 
 -- what one more piece puts
 puts : (pieces : List Piece) (piece : Piece) → flat_map piece_bytes (pieces ++ piece ∷ []) ≡ flat_map piece_bytes pieces ++ piece_bytes piece

@@ -1,3 +1,4 @@
 pub mod Building
 pub mod Placing
 pub mod Plain
+pub mod Telling

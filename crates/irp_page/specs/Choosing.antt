@@ -1,6 +1,7 @@
 -- Which entries a page shows.
-use Rattle.std.specs.Prelude.{ℕ, ◌≡◌, ◌⊎◌, ◌+◌, ◌<◌, ◌≤◌, List, [], ◌∷◌, take}
+use Rattle.std.specs.Prelude.{ℕ, ◌≡◌, ◌⊎◌, ◌+◌, ◌<◌, ◌≤◌, List, [], ◌∷◌, length, take, Option}
 use Rattle.irp_types.specs.declared.entry.Entry.{Entry}
+use Rattle.irp_judge.specs.declared.verdict.Wrong.{Wrong}
 use Rattle.irp_listing.specs.Choosing.{IsChosen}
 use Rattle.irp_page.specs.Pages.{IsPage}
 use Rattle.irp_page.specs.declared.choosing.Choice.{Choice}
@@ -22,9 +23,10 @@ ArePlaces choice place (entry ∷ entries) places =
 unfoldable pub most_entries : ℕ
 most_entries = 2000
 
--- a page of these entries: the chosen ones begin in it, each once and in order, at most 2,000 of them, and no other;
--- each element is closed as it was opened, and words stand escaped
-pub record IsPageOf (choice : Choice) (entries : List Entry) (text : List ℕ) : Type 0 where
+-- a page of these entries, among which this is wrong, or nothing: the chosen ones begin in it, each once and in order,
+-- at most 2,000 of them, and no other; the one that is wrong is marked, where it is among them, and no other; the
+-- verdict tells its place, or that all are legal; each element is closed as it was opened, and words stand escaped
+pub record IsPageOf (choice : Choice) (wrong : Option Wrong) (entries : List Entry) (text : List ℕ) : Type 0 where
   pub chosen : List ℕ
   pub are_chosen : ArePlaces choice 0 entries chosen
-  pub is_page : IsPage (take most_entries chosen) text
+  pub is_page : IsPage wrong (length entries) (take most_entries chosen) text

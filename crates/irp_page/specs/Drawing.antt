@@ -1,5 +1,6 @@
 -- The page of a transcript, and what of it went out.
-use Rattle.std.specs.Prelude.{ℕ, ◌≡◌, ◌⊎◌, List}
+use Rattle.std.specs.Prelude.{ℕ, ◌≡◌, ◌⊎◌, List, Option}
+use Rattle.irp_judge.specs.declared.verdict.Wrong.{Wrong}
 use Rattle.irp_listing.specs.Bytes.{Bytes}
 use Rattle.irp_listing.specs.Writing.{BreaksOff, IsQuiet, Written}
 use Rattle.irp_listing.specs.declared.writing.Unwritten.{Unwritten}
@@ -8,13 +9,13 @@ use Rattle.irp_transcript.specs.Transcripts.{TranscriptValue}
 use Rattle.irp_page.specs.Choosing.{IsPageOf}
 use Rattle.irp_page.specs.declared.choosing.Choice.{Choice}
 
--- a page of the transcript's entries went out, and nothing failed
-abbrev pub Draws : Choice → TranscriptValue → Bytes → Bytes → ℕ → ℕ → Type 0
-Draws choice transcript old new before after =
-    (text : List ℕ) × IsPageOf choice transcript.entries text × Written text old new before after
+-- a page of the transcript's entries, in which this is marked as wrong, or nothing, went out, and nothing failed
+abbrev pub Draws : Choice → Option Wrong → TranscriptValue → Bytes → Bytes → ℕ → ℕ → Type 0
+Draws choice wrong transcript old new before after =
+    (text : List ℕ) × IsPageOf choice wrong transcript.entries text × Written text old new before after
 
 -- a beginning of such a page did; or nothing, where memory ran out
-abbrev pub DrawsPart : Choice → TranscriptValue → Bytes → Bytes → ℕ → ℕ → Unwritten → Type 0
-DrawsPart choice transcript old new before after fault =
-    ((text : List ℕ) × IsPageOf choice transcript.entries text × BreaksOff text old new before after fault)
+abbrev pub DrawsPart : Choice → Option Wrong → TranscriptValue → Bytes → Bytes → ℕ → ℕ → Unwritten → Type 0
+DrawsPart choice wrong transcript old new before after fault =
+    ((text : List ℕ) × IsPageOf choice wrong transcript.entries text × BreaksOff text old new before after fault)
     ⊎ (IsQuiet old new before after × (fault ≡ NoMemory))

@@ -1,5 +1,9 @@
 //! The card of an entry.
 
+ghost use Rattle.std.specs.Prelude.{◌≡◌};
+ghost use Rattle.std.specs.Option.{option_copied};
+ghost use Rattle.irp_page.specs.Pages.{wrong_at};
+
 use crate::attribute::{part, word};
 use crate::boxes::Scope;
 use crate::devices::{Made, rows_of};
@@ -8,7 +12,7 @@ use crate::markup::Markup;
 use crate::moves::put_moves;
 use crate::picture::Scene;
 use crate::tag::Tag;
-use crate::wrong::{put_wrong, wrong_step};
+use crate::wrong::wrong_step;
 use irp_judge::Wrong;
 use irp_names::{CallWords, PartyWords, ReplyWords, caller_of, refusal_meaning, windows_name};
 use irp_types::{Call, Entry, Refusal, Reply};
@@ -105,21 +109,22 @@ fn put_head(markup: &mut Markup, place: u64, entry: &Entry, tells_seat: bool) {
 }
 
 /// What is wrong with the entry at a place.
-fn wrong_at<'a>(deck: &Deck<'a>, place: u64) -> Option<&'a Wrong> {
+pub fn wrong_at<'a>(deck: &Deck<'a>, place: u64) -> Option<&'a Wrong>
+    ensures { option_copied result ≡ wrong_at (option_copied deck.now.wrong) place }
+{
     match deck.wrong {
         Some(wrong) if wrong.at == place => Some(wrong),
         _ => None,
     }
 }
 
-/// The card of an entry: its call and reply, its steps and their picture, and what is wrong with it. The one error is
-/// want of memory.
-pub fn card(deck: &Deck, picked: &Picked) -> Result<Markup, AllocError> {
+/// The card of an entry, with which this is wrong, or nothing: its call and reply, its steps and their picture. The one
+/// error is want of memory.
+pub fn card(deck: &Deck, picked: &Picked, wrong: Option<&Wrong>) -> Result<Markup, AllocError> {
     let Picked { place, life, entry } = picked;
     let place = *place;
     let mut markup = Markup::new(deck.alloc);
     put_head(&mut markup, place, entry, deck.tells_seats);
-    let wrong = wrong_at(deck, place);
     let rows = rows_of(deck.alloc, deck.made, *life, entry)?;
     let scene = Scene {
         entry,
@@ -132,9 +137,5 @@ pub fn card(deck: &Deck, picked: &Picked) -> Result<Markup, AllocError> {
         owner: life.owner,
     };
     put_moves(&mut markup, &scene);
-    if let Some(wrong) = wrong {
-        put_wrong(deck, &mut markup, picked, wrong)?;
-    }
-    markup.fixed("\n");
     Ok(markup)
 }

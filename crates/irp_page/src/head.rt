@@ -1,6 +1,6 @@
-//! The head of a page: its title, what is judged, what is drawn, the devices and the packets.
+//! The head of a page: its title, what is drawn, the devices and the packets.
 
-use crate::attribute::{Attribute, part, word};
+use crate::attribute::{Attribute, word};
 use crate::chips::put_packets;
 use crate::devices::put_devices;
 use crate::draft::Draft;
@@ -57,24 +57,6 @@ fn put_document(markup: &mut Markup, title: &str) {
     markup.fixed("\n");
 }
 
-/// Draws whether the manager can have made the history.
-fn put_verdict(markup: &mut Markup, subject: &Subject) {
-    let Some(wrong) = subject.wrong else {
-        markup.open(Tag::P, &[word("class", "verdict")]);
-        markup.fixed("Legal: the manager can have made all ");
-        markup.show(subject.draft.entries);
-        markup.fixed(" entries.");
-        return markup.close();
-    };
-    markup.open(Tag::P, &[word("class", "verdict bad")]);
-    markup.fixed("Illegal: entry ");
-    markup.open(Tag::A, &[part("href", "#e", wrong.at)]);
-    markup.show(wrong.at);
-    markup.close();
-    markup.fixed(" is the first that the manager can\u{2019}t have made.");
-    markup.close();
-}
-
 /// Says which entries are drawn, where not all are.
 fn put_extent(markup: &mut Markup, draft: &Draft) {
     let drawn = draft.cards.len() as u64;
@@ -95,17 +77,23 @@ fn put_extent(markup: &mut Markup, draft: &Draft) {
     markup.close();
 }
 
-/// What stands above the cards of a page, with the list of the cards open. The one error is want of memory.
-pub fn head(alloc: Global, subject: &Subject) -> Result<Markup, AllocError> {
+/// What stands above the verdict of a page, which has this title.
+pub fn top(alloc: Global, title: &str) -> Markup {
     let mut markup = Markup::new(alloc);
-    put_document(&mut markup, subject.title);
+    put_document(&mut markup, title);
     markup.open(Tag::Body, &[]);
     put_shapes(&mut markup);
     markup.open(Tag::Main, &[]);
     markup.open(Tag::H1, &[]);
-    markup.show(subject.title);
+    markup.show(title);
     markup.close();
-    put_verdict(&mut markup, subject);
+    markup
+}
+
+/// What stands between the verdict of a page and its cards, with the list of the cards open. The one error is want of
+/// memory.
+pub fn head(alloc: Global, subject: &Subject) -> Result<Markup, AllocError> {
+    let mut markup = Markup::new(alloc);
     put_extent(&mut markup, subject.draft);
     if let Some(header) = subject.header {
         put_devices(&mut markup, header, subject.draft.made.as_slice());

@@ -4,7 +4,7 @@ ghost use Rattle.std.specs.Prelude.{◌≡◌, ◌++◌, ◌∷◌, List, [], On
 ghost use Rattle.irp_page.specs.Escaping.{escaped};
 ghost use Rattle.irp_page.specs.Nesting.{IsMarkup, Leads, PutsEnd};
 ghost use Rattle.irp_page.specs.declared.tag.Tag.{Tag};
-ghost use Rattle.irp_page.specs.Pieces.{Puts, PutsNothing, entries_begun, piece_bytes, tag_bytes};
+ghost use Rattle.irp_page.specs.Pieces.{Puts, PutsNothing, piece_bytes, signs, tag_bytes};
 
 use crate::attribute::Attribute;
 use crate::piece::Piece;
@@ -13,7 +13,8 @@ use std::alloc::{AllocError, Global};
 use std::fmt;
 use std::marker::Model;
 
-/// Markup that is built piece by piece: elements that are closed as they were opened, and words. It begins no entry.
+/// Markup that is built piece by piece: elements that are closed as they were opened, and words. It begins no entry,
+/// marks none and has no verdict.
 /// Where memory runs out it remembers that: then it has no pieces any more, whatever else is put.
 ///
 /// Contracts see it as the list of its pieces, and as None where memory ran out.
@@ -58,10 +59,10 @@ impl Markup {
         }
     }
 
-    /// Puts a piece that opens and closes nothing, and begins no entry.
+    /// Puts a piece that opens and closes nothing, and tells of no entry.
     fn put(&mut self, piece: Piece)
         requires leads { (opened : List Tag) → Leads opened piece opened }
-        requires none { entries_begun (piece ∷ []) ≡ [] }
+        requires none { signs (piece ∷ []) ≡ [] }
         ensures { Puts (piece_bytes piece) self.old self.new }
     {
         match self.pieces.push(piece) {

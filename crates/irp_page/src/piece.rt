@@ -10,6 +10,11 @@ use crate::escape::put_escaped;
 use crate::tag::Tag;
 use std::alloc::AllocError;
 
+/// How the verdicts begin.
+const LEGAL: &str = "<p class=\"verdict\">Legal: the manager can have made all ";
+
+const ILLEGAL: &str = "<p class=\"verdict bad\">Illegal: entry <a href=\"#e";
+
 /// One piece of a page.
 #[derive(Drop)]
 pub enum Piece {
@@ -27,6 +32,12 @@ pub enum Piece {
     Words(String),
     /// The start tag of the item of the entry at this place in its history, from 0.
     Entry(u64),
+    /// The start tag of the block that tells what is wrong with the entry at this place.
+    Mark(u64),
+    /// The beginning of the verdict that all of so many entries are legal.
+    Legal(u64),
+    /// The beginning of the verdict that the entry at this place is the first that isn't legal.
+    Illegal(u64),
 }
 
 /// Puts a start tag without its end. The one error is want of memory.
@@ -49,14 +60,29 @@ fn put_end(out: &mut Vec<u8>, tag: Tag) -> Result<(), AllocError>
     out.extend_from_slice(b">")
 }
 
-/// Puts the start tag of an entry's item. The one error is want of memory.
-fn put_entry(out: &mut Vec<u8>, place: u64) -> Result<(), AllocError>
-    ensures { OnOk result (out.new.items ≡
-        out.old.items ++ (codes "<li id=\"e" ++ (decimal place ++ codes "\">"))) }
+/// Puts a number, and these words before and behind it. The one error is want of memory.
+fn put_around(out: &mut Vec<u8>, before: &str, number: u64, behind: &str) -> Result<(), AllocError>
+    ensures { OnOk result (out.new.items ≡ out.old.items ++ (before.now ++ (decimal number ++ behind.now))) }
 {
-    out.extend_from_slice(b"<li id=\"e")?;
-    put_number(out, place)?;
-    out.extend_from_slice(b"\">")
+    out.extend_from_slice(before.as_bytes())?;
+    put_number(out, number)?;
+    out.extend_from_slice(behind.as_bytes())
+}
+
+/// Puts a number twice, and these words before, between and behind. The one error is want of memory.
+fn put_twice(
+    out: &mut Vec<u8>,
+    before: &str,
+    number: u64,
+    between: &str,
+    behind: &str,
+) -> Result<(), AllocError>
+    ensures { OnOk result (out.new.items ≡ out.old.items
+        ++ (before.now ++ (decimal number ++ (between.now ++ (decimal number ++ behind.now))))) }
+{
+    out.extend_from_slice(before.as_bytes())?;
+    put_number(out, number)?;
+    put_around(out, between, number, behind)
 }
 
 /// Puts a piece behind what the buffer holds. The one error is want of memory.
@@ -76,7 +102,10 @@ pub(crate) fn put_piece(out: &mut Vec<u8>, piece: &Piece) -> Result<(), AllocErr
         }
         Piece::Fixed(words) => put_escaped(out, words),
         Piece::Words(words) => put_escaped(out, words.as_str()),
-        Piece::Entry(place) => put_entry(out, *place),
+        Piece::Entry(place) => put_around(out, "<li id=\"e", *place, "\">"),
+        Piece::Mark(place) => put_around(out, "<div class=\"why\" id=\"m", *place, "\">"),
+        Piece::Legal(entries) => put_around(out, LEGAL, *entries, " entries."),
+        Piece::Illegal(place) => put_twice(out, ILLEGAL, *place, "\">", "</a>"),
     }
 }
 

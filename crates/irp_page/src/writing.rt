@@ -1,7 +1,11 @@
 //! A page, written entry by entry.
 
-ghost use Rattle.std.specs.Prelude.{◌≡◌, ◌++◌, ◌∷◌, [], ℕ, List, IfOk, OnOk};
-ghost use Rattle.irp_page.specs.Pages.{IsPage, Stands};
+ghost use Rattle.std.specs.Prelude.{◌≡◌, ◌∷◌, [], List, IfOk, OnOk};
+ghost use Rattle.irp_page.specs.Nesting.{Leads};
+ghost use Rattle.irp_page.specs.Pages.{Stands, Tells, TellsNothing};
+ghost use Rattle.irp_page.specs.Pieces.{signs};
+ghost use Rattle.irp_page.specs.declared.piece.Piece.{Piece};
+ghost use Rattle.irp_page.specs.declared.tag.Tag.{Tag};
 
 use crate::markup::Markup;
 use crate::piece::{Piece, put_piece, put_pieces};
@@ -26,22 +30,31 @@ impl Page {
         Ok(Page { text, opened })
     }
 
-    /// Puts an item that begins the entry at this place in its history, and has this markup, closed. The one error is
-    /// want of memory.
-    pub fn entry(&mut self, place: u64, card: Markup) -> Result<(), AllocError>
-        ensures { OnOk result ((places : List ℕ) → Stands places self.old.opened.items self.old.text.items
-            → Stands (places ++ place ∷ []) self.new.opened.items self.new.text.items) }
+    /// Puts a piece that begins an entry, marks one, or is a verdict, and opens this element. The one error is want of
+    /// memory.
+    pub fn tell(&mut self, piece: &Piece, tag: Tag) -> Result<(), AllocError>
+        requires leads { (opened : List Tag) → Leads opened piece.now (tag ∷ opened) }
+        requires tells { signs (piece.now ∷ []) ≡ piece.now ∷ [] }
+        ensures { OnOk result (Tells (piece.now ∷ []) self.old self.new) }
     {
-        let pieces = card.closed()?;
-        put_piece(&mut self.text, &Piece::Entry(place))?;
+        put_piece(&mut self.text, piece)?;
+        self.opened.push(tag)?;
+        Ok(())
+    }
+
+    /// Puts this markup, and leaves open what that leaves. The one error is want of memory.
+    pub fn go_on(&mut self, markup: Markup) -> Result<(), AllocError>
+        ensures { OnOk result (TellsNothing self.old self.new) }
+    {
+        let (pieces, opened) = markup.into_parts()?;
         put_pieces(&mut self.text, pieces.as_slice())?;
-        put_piece(&mut self.text, &Piece::Close(Tag::Li))
+        self.opened.extend_from_slice(opened.as_slice())?;
+        Ok(())
     }
 
     /// Puts this markup, closed. The one error is want of memory.
     pub fn put(&mut self, markup: Markup) -> Result<(), AllocError>
-        ensures { OnOk result ((places : List ℕ) → Stands places self.old.opened.items self.old.text.items
-            → Stands places self.new.opened.items self.new.text.items) }
+        ensures { OnOk result (TellsNothing self.old self.new) }
     {
         let pieces = markup.closed()?;
         put_pieces(&mut self.text, pieces.as_slice())
@@ -49,8 +62,7 @@ impl Page {
 
     /// Closes the innermost open element, where one is open. The one error is want of memory.
     pub fn close(&mut self) -> Result<(), AllocError>
-        ensures { OnOk result ((places : List ℕ) → Stands places self.old.opened.items self.old.text.items
-            → Stands places self.new.opened.items self.new.text.items) }
+        ensures { OnOk result (TellsNothing self.old self.new) }
     {
         match self.opened.pop() {
             Some(tag) => put_piece(&mut self.text, &Piece::Close(tag)),
@@ -60,8 +72,8 @@ impl Page {
 
     /// The text of the page, with each open element closed. The one error is want of memory.
     pub fn finish(self) -> Result<Vec<u8>, AllocError>
-        ensures { IfOk result (λ text. (places : List ℕ)
-            → Stands places self.opened.items self.text.items → IsPage places text.items) }
+        ensures { IfOk result (λ text. (told : List Piece)
+            → Stands told self.opened.items self.text.items → Stands told [] text.items) }
     {
         let Page {
             mut text,

@@ -1,6 +1,6 @@
 //! What is wrong with an entry that isn't legal.
 
-use crate::attribute::{part, word};
+use crate::attribute::word;
 use crate::boxes::Scope;
 use crate::card::Deck;
 use crate::devices::rows_of;
@@ -13,7 +13,7 @@ use irp_judge::{Difference, QuestionPart, ShownField, Wrong};
 use irp_listing::AskedWords;
 use irp_names::{AnsweredWords, ReplyWords};
 use irp_types::{Entry, LockNo};
-use std::alloc::AllocError;
+use std::alloc::{AllocError, Global};
 use std::fmt;
 
 /// The step in which an entry differs from the manager's, from 0.
@@ -152,25 +152,20 @@ fn put_difference(markup: &mut Markup, entry: &Entry, made: &Entry, difference: 
     markup.close();
 }
 
-/// Draws what is wrong with an entry, and the entry that the manager makes of its call. The one error is want of
-/// memory.
-pub fn put_wrong(
-    deck: &Deck,
-    markup: &mut Markup,
-    picked: &Picked,
-    wrong: &Wrong,
-) -> Result<(), AllocError> {
+/// What stands in the block that marks an entry: what is wrong with it, and the entry that the manager makes of its
+/// call. The one error is want of memory.
+pub fn block(deck: &Deck, picked: &Picked, wrong: &Wrong) -> Result<Markup, AllocError> {
+    let mut markup = Markup::new(deck.alloc);
     let place = wrong.at;
     let life = picked.life;
     let rows = rows_of(deck.alloc, deck.made, life, &wrong.made)?;
-    markup.open(Tag::Div, &[word("class", "why"), part("id", "m", place)]);
     put_words(
-        markup,
+        &mut markup,
         "no",
         "The manager can\u{2019}t have made this entry.",
     );
-    put_difference(markup, &picked.entry, &wrong.made, wrong.difference);
-    put_words(markup, "made", "What the manager makes of this call:");
+    put_difference(&mut markup, &picked.entry, &wrong.made, wrong.difference);
+    put_words(&mut markup, "made", "What the manager makes of this call:");
     let (call, reply) = (wrong.made.call, wrong.made.reply);
     markup.open(Tag::P, &[word("class", "gives")]);
     markup.show(ReplyWords { call, reply });
@@ -182,8 +177,13 @@ pub fn put_wrong(
         rows: rows.as_slice(),
         owner: life.owner,
     };
-    put_moves(markup, &scene);
-    markup.close();
-    put_words(markup, "because", "From here on nothing is judged.");
-    Ok(())
+    put_moves(&mut markup, &scene);
+    Ok(markup)
+}
+
+/// What stands behind that block.
+pub fn behind_block(alloc: Global) -> Markup {
+    let mut markup = Markup::new(alloc);
+    put_words(&mut markup, "because", "From here on nothing is judged.");
+    markup
 }

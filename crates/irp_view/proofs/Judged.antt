@@ -29,6 +29,8 @@ use Rattle.irp_view.specs.Judging.{AreJudged, Concludes, Ends, IsFound, IsKept}
 use Rattle.irp_page.specs.declared.draft.Draft.{Draft}
 use Rattle.irp_page.specs.declared.choosing.Choice.{Choice}
 use Rattle.irp_view.specs.Drafts.{AreDrafted, choice_of}
+use Rattle.irp_view.specs.RefusedCalls.{HasNoted}
+use Rattle.irp_view.specs.declared.refused_calls.RefusedCalls.{RefusedCalls}
 use Rattle.irp_view.specs.declared.judging.Found.{Found}
 use Rattle.irp_view.specs.declared.judging.Kept.{Kept}
 use Rattle.irp_view.specs.declared.reading.Unread.{Unread}
@@ -75,6 +77,7 @@ kept_within old new judge kept text block rest within read =
       words = within.judged.words;
       few = omega (arith, within.judged.few, size, length-append (text ++ within.piece) rest);
       drafted = within.judged.drafted;
+      noted = within.judged.noted;
     }
 
 -- a line that is refused
@@ -98,8 +101,9 @@ pub on_within : (old new : Reader) (judge : JudgeValue) (kept : Kept) (after : J
     → IsKept (with_line within.judged.transcript line).entries after.wrong then.entry
     → then.words ≡ length (with_line within.judged.transcript line).words
     → AreDrafted then.draft (with_line within.judged.transcript line).entries
+    → HasNoted then.refused (with_line within.judged.transcript line).entries
     → IsWithin new after then text block (drop count rest)
-on_within old new judge kept after then text block rest count line within some fits place read header judged entry words drafted =
+on_within old new judge kept after then text block rest count line within some fits place read header judged entry words drafted noted =
     let split : rest ≡ take count rest ++ drop count rest = sym (take-append-drop count rest) in
     let same : (text ++ within.piece) ++ take count rest ≡ text ++ (within.piece ++ take count rest) = append_assoc text within.piece (take count rest) in
     let size : length ((text ++ within.piece) ++ take count rest) ≡ length (text ++ (within.piece ++ take count rest)) = ap length same in
@@ -115,6 +119,7 @@ on_within old new judge kept after then text block rest count line within some f
         words = words;
         few = omega (arith, words_more within.judged.transcript line, within.judged.few, size, length-append (text ++ within.piece) (take count rest), length-take-le count rest fits, some);
         drafted = drafted;
+        noted = noted;
       };
     }
 
@@ -198,8 +203,8 @@ some_header known header entries is none = absurd (none-some header (sym none �
 
 pub finds : (reader : Reader) (judge : JudgeValue) (kept : Kept) (text : List ℕ) (found : Found) (judged : AreJudged reader judge kept text)
     → IsTextOf text judged.transcript → found.entries ≡ judge.fed → found.words ≡ kept.words → found.wrong ≡ judge.wrong → found.entry ≡ kept.entry
-    → found.draft ≡ kept.draft → Concludes (Ok found) text
-finds reader judge kept text found judged read entries words wrong entry draft =
+    → found.draft ≡ kept.draft → found.refused ≡ kept.refused → Concludes (Ok found) text
+finds reader judge kept text found judged read entries words wrong entry draft refused =
     let of_judge : IsFirstWrongWith (Some judge.header) judged.transcript.entries judge.wrong = judged.judged.wrong in
     let explained : IsExplained judged.transcript found.wrong =
     subst (λ (given : Option Header). IsFirstWrongWith given judged.transcript.entries found.wrong) (sym judged.header)
@@ -215,18 +220,20 @@ finds reader judge kept text found judged read entries words wrong entry draft =
             (some_header judged.transcript.header judge.header judged.transcript.entries judged.header) explained;
         entry = subst (IsKept judged.transcript.entries found.wrong) (sym entry) there;
         drafted = subst (λ (given : Option Draft). AreDrafted given judged.transcript.entries) (sym draft) judged.drafted;
+        noted = subst (λ (given : RefusedCalls). HasNoted given judged.transcript.entries) (sym refused) judged.noted;
       },
     )
 
 -- a text without lines
-pub finds_nothing : (found : Found) → found.entries ≡ 0 → found.words ≡ 0 → found.wrong ≡ None → AreDrafted found.draft [] → IsFound no_lines found
-finds_nothing found entries words wrong drafted = record {
+pub finds_nothing : (found : Found) → found.entries ≡ 0 → found.words ≡ 0 → found.wrong ≡ None → AreDrafted found.draft [] → HasNoted found.refused [] → IsFound no_lines found
+finds_nothing found entries words wrong drafted noted = record {
   entries = entries;
   words = words;
   explained = wrong;
   judged = ap (verdict_of 0) wrong;
   entry = subst (λ (given : Option Wrong). IsKept [] given found.entry) (sym wrong) tt;
   drafted = drafted;
+  noted = noted;
 }
 
 -- what is concluded of the text of an input at its end

@@ -1,5 +1,5 @@
 -- What is told of a transcript.
-use Rattle.std.proofs.Common.{◌≡◌, inl, inr, ℕ, List, [], ◌++◌, Option, None, Some, slice_get, length, refl, sym, ap, subst, ◌∙◌, append-nil}
+use Rattle.std.proofs.Common.{◌≡◌, inl, inr, ℕ, List, [], ◌++◌, Option, None, Some, slice_get, length, refl, sym, ap, subst, ◌∙◌, append_assoc, append-nil}
 use Rattle.std.specs.Io.KnownBytes.{Keeps}
 use Rattle.irp_types.specs.declared.entry.Entry.{Entry}
 use Rattle.irp_transcript.specs.Transcripts.{TranscriptValue}
@@ -10,13 +10,14 @@ use Rattle.irp_listing.specs.Bytes.{Bytes}
 use Rattle.irp_listing.specs.Writing.{BreaksOff}
 use Rattle.irp_listing.specs.declared.writing.Unwritten.{Unwritten}
 use Rattle.irp_listing.specs.declared.writing.Unwritten.TheVariants.{NoMemory}
+use Rattle.irp_view.specs.RefusedCalls.{refused_from, refused_line}
 use Rattle.irp_view.specs.Telling.{AddsText, IsText, SaysNothing, Tells, legal_line, note_line}
 
-pub says_legal : (entries : List Entry) (count : ℕ) (x y : List ℕ) → count ≡ length entries → y ≡ x ++ legal_line count → AddsText entries None x y
+pub says_legal : (entries : List Entry) (count : ℕ) (x y : List ℕ) → count ≡ length entries → y ≡ (x ++ legal_line count) ++ refused_line (refused_from 0 entries) → AddsText entries None x y
 says_legal entries count x y counted put = record {
-  answer = legal_line count;
-  is = ap legal_line counted;
-  put = put;
+  answer = legal_line count ++ refused_line (refused_from 0 entries);
+  is = ap (λ (given : ℕ). legal_line given ++ refused_line (refused_from 0 entries)) counted;
+  put = put ∙ append_assoc x (legal_line count) (refused_line (refused_from 0 entries));
 }
 
 abbrev or_this : Entry → Option Entry → Entry

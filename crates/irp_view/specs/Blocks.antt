@@ -82,8 +82,6 @@ AddsSection section before after = after ≡ before ++ see_row section
 pub record AreRows (entry : Entry) (wrong : Wrong) (rows : List ℕ) : Type 0 where
   pub line : ℕ
   pub line_is : wrong.at + 2 < 2 ^ 64 → line ≡ wrong.at + 2
-  pub part : List ℕ
-  pub part_is : AreWords (part_text wrong.difference) part
   pub given : List ℕ
   pub given_is : AreWords (value_text wrong.difference false entry) given
   pub made : List ℕ
@@ -91,7 +89,7 @@ pub record AreRows (entry : Entry) (wrong : Wrong) (rows : List ℕ) : Type 0 wh
   pub words : List ℕ
   pub whole :
       rows ≡ head_of wrong.at line (caller_text entry.call entry.drained)
-      ++ (row_of differs_in part ++ (row_of says given ++ (row_of manager made ++ row_of rule words)))
+      ++ (row_of differs_in (part_text wrong.difference entry) ++ (row_of says given ++ (row_of manager made ++ row_of rule words)))
 
 -- they were put behind what stood there
 pub record AddsRows (entry : Entry) (wrong : Wrong) (before after : List ℕ) : Type 0 where

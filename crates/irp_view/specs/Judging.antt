@@ -11,6 +11,7 @@ use Rattle.irp_listing.specs.Bytes.{Bytes}
 use Rattle.irp_view.specs.Reading.{Holds, IsTextOf, IsTextOfNone}
 use Rattle.irp_view.specs.Drafts.{AreDrafted}
 use Rattle.irp_view.specs.Feeding.{Fails, IsHopeless}
+use Rattle.irp_view.specs.RefusedCalls.{HasNoted}
 use Rattle.irp_view.specs.declared.judging.Found.{Found}
 use Rattle.irp_view.specs.declared.judging.Judged.{Judged}
 use Rattle.irp_view.specs.declared.judging.Kept.{Kept}
@@ -31,6 +32,7 @@ pub record IsFound (transcript : TranscriptValue) (found : Found) : Type 0 where
   pub judged : IsVerdictOn transcript (verdict_of (length transcript.entries) found.wrong)
   pub entry : IsKept transcript.entries found.wrong found.entry
   pub drafted : AreDrafted found.draft transcript.entries
+  pub noted : HasNoted found.refused transcript.entries
 
 -- the lines of this text were read, and their entries judged
 pub record AreJudged (reader : Reader) (judge : JudgeValue) (kept : Kept) (text : List ℕ) : Type 0 where
@@ -42,6 +44,7 @@ pub record AreJudged (reader : Reader) (judge : JudgeValue) (kept : Kept) (text 
   pub words : kept.words ≡ length transcript.words
   pub few : length transcript.words ≤ length text
   pub drafted : AreDrafted kept.draft transcript.entries
+  pub noted : HasNoted kept.refused transcript.entries
 
 -- what was found in a whole text, or its first line that is refused
 abbrev pub Concludes : Result Found Unread → List ℕ → Type 0

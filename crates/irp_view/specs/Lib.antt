@@ -6,8 +6,10 @@ pub mod Judging
 pub mod Listed
 pub mod Parts
 pub mod Program
+pub mod Questions
 pub mod Reading
 pub mod Refusals
+pub mod RefusedCalls
 pub mod Sections
 pub mod Showing
 pub mod Telling

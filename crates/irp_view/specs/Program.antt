@@ -2,7 +2,9 @@
 use Rattle.std.specs.Prelude.{ℕ, ◌≡◌, ◌⊎◌, List, MatchResult, Option, Result}
 use Rattle.irp_types.specs.declared.names.IrpRef.{IrpRef}
 use Rattle.irp_transcript.specs.Transcripts.{TranscriptValue}
+use Rattle.irp_judge.specs.Checked.{IsExplained}
 use Rattle.irp_judge.specs.declared.verdict.Verdict.{Verdict}
+use Rattle.irp_judge.specs.declared.verdict.Wrong.{Wrong}
 use Rattle.irp_listing.specs.Bytes.{Bytes}
 use Rattle.irp_listing.specs.Writing.{BreaksOff, IsQuiet, Written}
 use Rattle.irp_listing.specs.declared.writing.Unwritten.{Unwritten}
@@ -44,7 +46,7 @@ Helped before after ending =
     × MatchResult result (λ done. Written text before.gone after.gone before.failures after.failures)
     (BreaksOff text before.gone after.gone before.failures after.failures)
 
--- what is told of a transcript, by what is asked
+-- what is told of a transcript, by what is asked; a page marks the first entry that isn't legal, if there is one
 abbrev pub Answers : Task → TranscriptValue → Output → Output → Ending → Type 0
 Answers Why transcript before after ending =
     (result : Result Verdict Unwritten) × (ending ≡ ending_of of_verdict result)
@@ -53,9 +55,11 @@ Answers Why transcript before after ending =
 Answers (Listing only span) transcript before after ending =
     (ending ≡ Done) × Shows only span transcript before.gone after.gone before.failures after.failures
 Answers (Draw choice) transcript before after ending =
-    (result : Result (Unit {0}) Unwritten) × (ending ≡ ending_of (λ done. Done) result)
-    × MatchResult result (λ done. Draws choice transcript before.gone after.gone before.failures after.failures)
-    (DrawsPart choice transcript before.gone after.gone before.failures after.failures)
+    (wrong : Option Wrong) × (result : Result (Unit {0}) Unwritten) × IsExplained transcript wrong
+    × (ending ≡ ending_of (λ done. Done) result)
+    × MatchResult result
+    (λ done. Draws choice wrong transcript before.gone after.gone before.failures after.failures)
+    (DrawsPart choice wrong transcript before.gone after.gone before.failures after.failures)
 
 -- the input holds a transcript, of which this is told
 abbrev pub AnswersRead : Task → Streams → Streams → Ending → Type 0

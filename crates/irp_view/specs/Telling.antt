@@ -12,6 +12,7 @@ use Rattle.irp_listing.specs.Writing.{BreaksOff, IsQuiet, Written}
 use Rattle.irp_listing.specs.declared.writing.Unwritten.{Unwritten}
 use Rattle.irp_listing.specs.declared.writing.Unwritten.TheVariants.{NoMemory}
 use Rattle.irp_view.specs.Blocks.{IsWhy}
+use Rattle.irp_view.specs.RefusedCalls.{refused_from, refused_line}
 
 -- the noun for so many entries
 abbrev pub entry_noun : ℕ → List ℕ
@@ -28,10 +29,10 @@ note_line count =
     if count == 0 then [] else line_of
     (codes "word lines: " ++ (decimal count ++ codes ", read for their form, not judged"))
 
--- what is told of these entries, where this is wrong with them, or nothing: a line, or the block for the entry that is
--- wrong
+-- what is told of these entries, where this is wrong with them, or nothing: a line, and one for the refused calls; or
+-- the block for the entry that is wrong
 abbrev pub IsAnswer : List Entry → Option Wrong → List ℕ → Type 0
-IsAnswer entries None answer = answer ≡ legal_line (length entries)
+IsAnswer entries None answer = answer ≡ legal_line (length entries) ++ refused_line (refused_from 0 entries)
 IsAnswer entries (Some wrong) answer =
     (entry : Entry) → slice_get entries wrong.at ≡ Some entry → IsWhy entry wrong answer
 

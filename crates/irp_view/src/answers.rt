@@ -1,5 +1,8 @@
 //! What closures answered, and which rule an answer breaks (docs/RULES.md, Rules of closures).
 
+ghost use Rattle.std.specs.Prelude.{◌≡◌, Some};
+ghost use Rattle.irp_view.specs.Questions.{answer_text, completion_text, keep_text, mark_text};
+
 use irp_names::{PlanWords, ResultWords};
 use irp_transcript::Header;
 use irp_types::{Answer, Asked, CancelAnswer, CancelId, CancelRule, Plan, RoutineId, Rule, Shown};
@@ -10,13 +13,15 @@ use std::fmt;
 pub struct AnswerParts(pub Asked);
 
 impl fmt::Display for AnswerParts {
+    ghost output = { λ parts. answer_text parts.0 };
+
     fn fmt<W: fmt::Write>(&self, f: &mut fmt::Formatter<W>) -> fmt::Result {
         match self.0 {
             Asked::Dispatch { plan, .. } => write!(f, "{}", PlanWords(plan)),
             Asked::Completion { answer, .. } => write!(f, "{}", CompletionParts(answer)),
             Asked::Cancel { answer, .. } => match answer {
                 CancelAnswer::Finish { information } => {
-                    write!(f, "finish, information {:#x}", information)
+                    write!(f, "finish, information 0x{:x}", information)
                 }
                 CancelAnswer::Leave => f.write_str("leave"),
             },
@@ -29,14 +34,37 @@ impl fmt::Display for AnswerParts {
 struct CompletionParts(Answer);
 
 impl fmt::Display for CompletionParts {
+    ghost output = { λ parts. Some (completion_text parts.0) };
+
     fn fmt<W: fmt::Write>(&self, f: &mut fmt::Formatter<W>) -> fmt::Result {
-        f.write_str(if self.0.keep { "keep" } else { "continue" })?;
-        f.write_str(if self.0.mark { ", mark" } else { ", no mark" })?;
-        match self.0.replacement {
-            Some(put) => write!(f, ", sets {}", ResultWords(put.status, put.information)),
-            None => Ok(()),
+        let Answer {
+            keep,
+            mark,
+            replacement,
+        } = self.0;
+        let (kept, marked) = (keep_text(keep), mark_text(mark));
+        match replacement {
+            Some(put) => {
+                let result = ResultWords(put.status, put.information);
+                write!(f, "{}{}, sets {}", kept, marked, result)
+            }
+            None => write!(f, "{}{}", kept, marked),
         }
     }
+}
+
+/// Whether a completion routine keeps the packet.
+fn keep_text(keep: bool) -> &'static str
+    ensures { result.now ≡ keep_text keep }
+{
+    if keep { "keep" } else { "continue" }
+}
+
+/// Whether it marks the packet pending.
+fn mark_text(mark: bool) -> &'static str
+    ensures { result.now ≡ mark_text mark }
+{
+    if mark { ", mark" } else { ", no mark" }
 }
 
 /// The rule of dispatches that a plan breaks, on condition that it breaks one.

@@ -1,6 +1,8 @@
 //! The word `page`: the page of a transcript is drawn.
 
 ghost use Rattle.std.specs.Prelude.{◌≡◌, ◌+◌, ◌<◌, ◌^◌, length, Some, OnOk};
+ghost use Rattle.std.specs.Option.{option_copied};
+ghost use Rattle.irp_judge.specs.Checked.{IsExplained};
 ghost use Rattle.irp_page.specs.Drafting.{HasDrafted};
 ghost use Rattle.irp_page.specs.declared.choosing.Choice.{Choice};
 ghost use Rattle.irp_text.specs.Fed.{with_line};
@@ -34,9 +36,10 @@ pub fn draft_line(draft: &mut Option<Draft>, line: &Line) -> Result<(), AllocErr
     }
 }
 
-/// Draws the page of a transcript whose entries the draft was given.
+/// Draws the page of a transcript whose entries the draft was given, and in which the judge found what the subject says.
 fn draw_subject<O: Out>(alloc: Global, output: &mut O, subject: &Subject) -> Ending
     ensures { (transcript : TranscriptValue) → HasDrafted subject.now.draft.now transcript.entries
+        → IsExplained transcript (option_copied subject.now.wrong)
         → Answers (Drawing subject.now.draft.now.choice) transcript
         (output_of (O.gone output.old) (O.failures output.old))
         (output_of (O.gone output.new) (O.failures output.new)) result }

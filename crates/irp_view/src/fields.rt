@@ -1,12 +1,13 @@
 //! What closures are shown, field by field (docs/RULES.md, What each closure is shown).
 
-ghost use Rattle.std.specs.Prelude.{◌≡◌, ◌+◌};
-ghost use Rattle.irp_judge.specs.Differences.{place_of};
+ghost use Rattle.std.specs.Prelude.{◌≡◌, ◌+◌, Some};
+ghost use Rattle.irp_judge.specs.Differences.{place_of, shown_of};
 ghost use Rattle.irp_view.specs.Parts.{field_name};
+ghost use Rattle.irp_view.specs.Questions.{bool_text, device_shown, field_text};
 
 use irp_judge::ShownField;
-use irp_names::{DeviceWords, MajorWords, StatusWords, shown_of};
-use irp_types::{Asked, Shown};
+use irp_names::{MajorWords, StatusWords};
+use irp_types::{Asked, DeviceId, Shown};
 use std::fmt;
 
 /// The name of a field.
@@ -57,32 +58,58 @@ pub struct FieldWords {
 }
 
 impl fmt::Display for FieldWords {
+    ghost output = { λ words. Some (field_text words.field (shown_of words.question)) };
+
     fn fmt<W: fmt::Write>(&self, f: &mut fmt::Formatter<W>) -> fmt::Result {
         let shown = shown_of(self.question);
         match self.field {
-            ShownField::Device if shown.device.is_none() => f.write_str("none"),
-            ShownField::Device => write!(f, "{}", DeviceWords(shown.device)),
+            ShownField::Device => write!(f, "{}", ShownDevice(shown.device)),
             ShownField::Slot => write!(f, "{}", shown.irp.slot),
             ShownField::Use => write!(f, "{}", shown.irp.use_no),
             ShownField::Major => write!(f, "{}", MajorWords(shown.major)),
             ShownField::Location => write!(f, "{}", shown.location),
-            ShownField::Word => write!(f, "{:#x}", shown.word),
+            ShownField::Word => write!(f, "0x{:x}", shown.word),
             ShownField::Status => write!(f, "{}", StatusWords(shown.status)),
-            ShownField::Information => write!(f, "{:#x}", shown.information),
-            ShownField::Context => write!(f, "{:#x}", shown.context),
-            other => f.write_str(flag_words(other, shown)),
+            ShownField::Information => write!(f, "0x{:x}", shown.information),
+            ShownField::PendingReturned => f.write_str(bool_text(shown.pending_returned)),
+            ShownField::Cancel => f.write_str(bool_text(shown.cancel)),
+            ShownField::Context => write!(f, "0x{:x}", shown.context),
+            ShownField::HasLower => f.write_str(bool_text(shown.has_lower)),
         }
     }
 }
 
-/// A flag that was shown.
-fn flag_words(field: ShownField, shown: Shown) -> &'static str {
-    let flag = match field {
-        ShownField::PendingReturned => shown.pending_returned,
-        ShownField::Cancel => shown.cancel,
-        _ => shown.has_lower,
-    };
-    if flag { "true" } else { "false" }
+/// The device that was shown, or none.
+#[derive(Clone, Copy)]
+struct ShownDevice(Option<DeviceId>);
+
+impl fmt::Display for ShownDevice {
+    ghost output = { λ words. Some (device_shown words.0) };
+
+    fn fmt<W: fmt::Write>(&self, f: &mut fmt::Formatter<W>) -> fmt::Result {
+        match self.0 {
+            Some(device) => write!(f, "D{}", device.0),
+            None => f.write_str("none"),
+        }
+    }
+}
+
+/// A truth value.
+pub fn bool_text(value: bool) -> &'static str
+    ensures { result.now ≡ bool_text value }
+{
+    if value { "true" } else { "false" }
+}
+
+/// What a question showed.
+pub fn shown_of(question: Asked) -> Shown
+    ensures { result ≡ shown_of question }
+{
+    match question {
+        Asked::Dispatch { shown, .. } => shown,
+        Asked::Completion { shown, .. } => shown,
+        Asked::Cancel { shown, .. } => shown,
+    }
 }
 
 /// What a dispatch is shown in a field.

@@ -15,7 +15,7 @@ Usage: irp_view why [FILE]
        irp_view packet SLOT USE [--entries A..B] [FILE]
        irp_view page [--entries A..B] [--packet SLOT USE] [FILE]
 
-The transcript is read from FILE, or from standard input.
+The transcript is read from FILE, or from standard input. SLOT USE may be written SLOT.USE, as messages tell it.
 
   why     tells the first entry that the manager can't have made, in which part it differs from the manager's own, and
           which rule of docs/RULES.md it breaks; or that nothing is wrong
@@ -34,7 +34,7 @@ Exit status: 0 done (why: nothing is wrong), 1 the transcript is refused, 2 why:
 Examples:
   irpx demo | irp_view why
   irp_view text --entries 10..20 my.transcript
-  irp_view packet 0 1 my.transcript
+  irp_view packet 0.1 my.transcript
   irp_view page my.transcript > page.html
 ";
 

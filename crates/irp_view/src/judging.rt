@@ -13,11 +13,13 @@ ghost use Rattle.irp_view.specs.Reading.{most_bytes};
 ghost use Rattle.irp_view.specs.Drafts.{AreDrafted, choice_of};
 ghost use Rattle.irp_view.specs.Feeding.{Starts};
 ghost use Rattle.irp_view.specs.Judging.{AreJudged, Concludes, Ends, EndsWith, IsKept, JudgesBlock};
+ghost use Rattle.irp_view.specs.RefusedCalls.{HasNoted};
 
 use crate::drawing::draft_line;
 use crate::input::{BLOCK, take_block};
 use crate::lines::Lines;
 use crate::reading::{Start, Unread, read_header, refuse};
+use crate::refused_calls::{RefusedCalls, note_line};
 use irp_judge::{Judge, Wrong};
 use irp_page::Draft;
 use irp_text::{Ahead, Line, count_threads};
@@ -36,6 +38,8 @@ pub struct Kept {
     pub entry: Option<Entry>,
     /// What is kept for a page, where one is drawn.
     pub draft: Option<Draft>,
+    /// The calls that are refused.
+    pub refused: RefusedCalls,
 }
 
 /// What was found in a transcript.
@@ -51,6 +55,8 @@ pub struct Found {
     pub entry: Option<Entry>,
     /// What was kept for a page, where one is drawn.
     pub draft: Option<Draft>,
+    /// The calls that are refused.
+    pub refused: RefusedCalls,
 }
 
 /// A transcript that was judged.
@@ -67,6 +73,7 @@ fn judge_entry(judge: &mut Judge, kept: &mut Kept, entry: Entry) -> Result<(), A
     ensures header { (seen judge.new).header ≡ (seen judge.old).header }
     ensures words { kept.new.words ≡ kept.old.words }
     ensures draft { kept.new.draft ≡ kept.old.draft }
+    ensures refused { kept.new.refused ≡ kept.old.refused }
     ensures judged { (history : List Entry) → HasJudged (seen judge.old) history
         → IsKept history (seen judge.old).wrong kept.old.entry → length history + 1 < 2 ^ 64
         → OnOk result (HasJudged (seen judge.new) (history ++ entry ∷ [])
@@ -84,6 +91,7 @@ fn judge_entry(judge: &mut Judge, kept: &mut Kept, entry: Entry) -> Result<(), A
 fn judge_line(judge: &mut Judge, kept: &mut Kept, line: Line) -> Result<(), AllocError>
     ensures header { (seen judge.new).header ≡ (seen judge.old).header }
     ensures draft { kept.new.draft ≡ kept.old.draft }
+    ensures refused { kept.new.refused ≡ kept.old.refused }
     ensures judged { (before : TranscriptValue) → IsInPlace before line
         → before.header ≡ Some (seen judge.old).header
         → HasJudged (seen judge.old) before.entries → length before.entries + 1 < 2 ^ 64
@@ -103,13 +111,16 @@ fn judge_line(judge: &mut Judge, kept: &mut Kept, line: Line) -> Result<(), Allo
     }
 }
 
-/// Takes a line: gives it to the draft, where there is one, and to the judge.
+/// Takes a line: gives it to the draft, where there is one, to the refused calls and to the judge.
 fn take_line(judge: &mut Judge, kept: &mut Kept, line: Line) -> Result<(), AllocError>
     ensures header { (seen judge.new).header ≡ (seen judge.old).header }
     ensures choice { choice_of kept.new.draft ≡ choice_of kept.old.draft }
     ensures drafted { (before : TranscriptValue) → AreDrafted kept.old.draft before.entries
         → length before.entries + 1 < 2 ^ 64
         → OnOk result (AreDrafted kept.new.draft (with_line before line).entries) }
+    ensures noted { (before : TranscriptValue) → HasNoted kept.old.refused before.entries
+        → length before.entries + 1 < 2 ^ 64
+        → OnOk result (HasNoted kept.new.refused (with_line before line).entries) }
     ensures judged { (before : TranscriptValue) → IsInPlace before line
         → before.header ≡ Some (seen judge.old).header
         → HasJudged (seen judge.old) before.entries → length before.entries + 1 < 2 ^ 64
@@ -120,6 +131,7 @@ fn take_line(judge: &mut Judge, kept: &mut Kept, line: Line) -> Result<(), Alloc
         × (kept.new.words ≡ length (with_line before line).words)) }
 {
     draft_line(&mut kept.draft, &line)?;
+    note_line(&mut kept.refused, &line)?;
     judge_line(judge, kept, line)
 }
 
@@ -166,6 +178,7 @@ fn found_in(lines: &Lines, judge: Judge, kept: Kept) -> Result<Found, Unread>
         wrong: judge.into_wrong(),
         entry: kept.entry,
         draft: kept.draft,
+        refused: kept.refused,
     })
 }
 
@@ -195,6 +208,7 @@ fn judge_rest<R: Read, T: Threads + Sync>(
         words: 0,
         entry: None,
         draft,
+        refused: RefusedCalls::new(alloc),
     };
     let (mut from, mut to, mut left) = (start.from, start.to, start.left);
     loop {
@@ -247,6 +261,7 @@ pub fn judge_input<R: Read, T: Threads + Sync>(
                 wrong: None,
                 entry: None,
                 draft,
+                refused: RefusedCalls::new(alloc),
             },
         });
     };

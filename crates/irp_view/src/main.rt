@@ -17,6 +17,7 @@ mod orders;
 mod parts;
 mod reading;
 mod refusal;
+mod refused_calls;
 mod rules;
 mod sections;
 mod showing;
@@ -178,15 +179,16 @@ fn run_on<O: Out, T: Threads + Sync>(
     }
 }
 
-/// The words that the program was given. `Usage` where they can't be had, and `NoMemory` where memory was missing for
-/// them.
+/// The words that the program was given, where a use of a packet is two words. `Usage` where they can't be had, and
+/// `NoMemory` where memory was missing for them.
 fn words_of(rt: &HostRuntime) -> Result<Vec<String>, Unasked> {
     let words = match env::args(rt) {
         Ok(words) => words,
         Err(error) if error.kind() == io::ErrorKind::OutOfMemory => return Err(Unasked::NoMemory),
         Err(_) => return Err(Unasked::Usage),
     };
-    Ok(words.collect(rt.alloc())?)
+    let words: Vec<String> = words.collect(rt.alloc())?;
+    Ok(words::with_uses(rt.alloc(), words.as_slice())?)
 }
 
 /// Does what the words ask for. `threads` gives the leave to start threads.

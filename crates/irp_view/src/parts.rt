@@ -1,12 +1,13 @@
 //! The part of an entry that differs, and what stands there.
 
-ghost use Rattle.std.specs.Prelude.{◌≡◌, Some};
-ghost use Rattle.irp_view.specs.Parts.{part_text, refusal_told, shown_text, value_text, lock_text, bool_text};
+ghost use Rattle.std.specs.Prelude.{◌≡◌, Some, slice_get};
+ghost use Rattle.irp_view.specs.Parts.{answer_part, lock_text, part_text, refusal_told, shown_text, value_text};
+ghost use Rattle.irp_view.specs.Questions.{answer_told, nobody_text, question_value, who_text};
 
 use crate::answers::AnswerParts;
-use crate::fields::{FieldWords, field_name, field_place};
+use crate::fields::{FieldWords, bool_text, field_name, field_place};
 use irp_judge::{Difference, QuestionPart, ShownField};
-use irp_names::{ClosureWords, DeviceWords, ReplyWords, shown_of};
+use irp_names::{DeviceWords, ReplyWords, RoutineWords};
 use irp_types::{Asked, Call, Entry, LockNo, Reply};
 use std::fmt;
 
@@ -18,7 +19,7 @@ pub struct PartWords<'a> {
 }
 
 impl fmt::Display for PartWords<'_> {
-    ghost output = { λ words. part_text words.difference };
+    ghost output = { λ words. Some (part_text words.difference words.entry.now) };
 
     fn fmt<W: fmt::Write>(&self, f: &mut fmt::Formatter<W>) -> fmt::Result {
         match self.difference {
@@ -42,7 +43,7 @@ impl fmt::Display for PartWords<'_> {
 struct ShownPart(usize, ShownField);
 
 impl fmt::Display for ShownPart {
-    ghost output = { λ part. shown_text part.0 part.1 };
+    ghost output = { λ part. Some (shown_text part.0 part.1) };
 
     fn fmt<W: fmt::Write>(&self, f: &mut fmt::Formatter<W>) -> fmt::Result {
         let ShownPart(at, field) = *self;
@@ -61,12 +62,13 @@ impl fmt::Display for ShownPart {
 struct AnswerPart<'a>(&'a Entry, usize);
 
 impl fmt::Display for AnswerPart<'_> {
+    ghost output = { λ part. Some (answer_part part.1 (slice_get part.0.now.asked part.1)) };
+
     fn fmt<W: fmt::Write>(&self, f: &mut fmt::Formatter<W>) -> fmt::Result {
         let AnswerPart(entry, at) = *self;
-        write!(f, "asked {}, answer", at)?;
         match entry.asked.as_slice().get(at) {
-            Some(question) => write!(f, " of {}", WhoWords(*question)),
-            None => Ok(()),
+            Some(question) => write!(f, "asked {}, answer of {}", at, WhoWords(*question)),
+            None => write!(f, "asked {}, answer", at),
         }
     }
 }
@@ -76,9 +78,25 @@ impl fmt::Display for AnswerPart<'_> {
 struct WhoWords(Asked);
 
 impl fmt::Display for WhoWords {
+    ghost output = { λ words. Some (who_text words.0) };
+
     fn fmt<W: fmt::Write>(&self, f: &mut fmt::Formatter<W>) -> fmt::Result {
-        let device = shown_of(self.0).device;
-        write!(f, "{} for {}", ClosureWords(self.0), DeviceWords(device))
+        match self.0 {
+            Asked::Dispatch { id, shown, .. } => {
+                write!(f, "dispatch {} for {}", id.0, DeviceWords(shown.device))
+            }
+            Asked::Completion { id, shown, .. } => {
+                write!(f, "{} for {}", RoutineWords(id), DeviceWords(shown.device))
+            }
+            Asked::Cancel { id, shown, .. } => {
+                write!(
+                    f,
+                    "cancel routine {} for {}",
+                    id.0,
+                    DeviceWords(shown.device)
+                )
+            }
+        }
     }
 }
 
@@ -95,13 +113,6 @@ impl fmt::Display for LockWords {
             None => f.write_str("none"),
         }
     }
-}
-
-/// A truth value.
-fn bool_text(value: bool) -> &'static str
-    ensures { result.now ≡ bool_text value }
-{
-    if value { "true" } else { "false" }
 }
 
 /// Whether a call is refused, and how.
@@ -172,27 +183,49 @@ impl fmt::Display for ValueWords<'_> {
 struct QuestionValue<'a>(ValueWords<'a>, usize, QuestionPart);
 
 impl fmt::Display for QuestionValue<'_> {
+    ghost output = { λ value. question_value value.1 value.2 value.0.is_made
+        (slice_get value.0.entry.now.asked value.1) };
+
     fn fmt<W: fmt::Write>(&self, f: &mut fmt::Formatter<W>) -> fmt::Result {
         let QuestionValue(words, at, part) = *self;
-        let Some(question) = words.entry.asked.as_slice().get(at) else {
-            return f.write_str(if at == 0 {
-                "asks nobody"
-            } else {
-                "asks nobody any more"
-            });
-        };
-        let question = *question;
-        match part {
-            QuestionPart::Shown(field) => write!(f, "{}", FieldWords { field, question }),
-            QuestionPart::Answer if words.is_made => {
-                write!(
-                    f,
-                    "an answer that is allowed, such as: {}",
-                    AnswerParts(question)
-                )
-            }
-            QuestionPart::Answer => write!(f, "{}", AnswerParts(question)),
-            _ => write!(f, "asks {}", WhoWords(question)),
+        match words.entry.asked.as_slice().get(at) {
+            None => f.write_str(nobody_text(at)),
+            Some(question) => match part {
+                QuestionPart::Shown(field) => {
+                    let question = *question;
+                    write!(f, "{}", FieldWords { field, question })
+                }
+                QuestionPart::Answer => write!(f, "{}", AnswerTold(*question, words.is_made)),
+                _ => write!(f, "asks {}", WhoWords(*question)),
+            },
+        }
+    }
+}
+
+/// That no closure is asked at this place.
+fn nobody_text(at: usize) -> &'static str
+    ensures { result.now ≡ nobody_text at }
+{
+    if at == 0 {
+        "asks nobody"
+    } else {
+        "asks nobody any more"
+    }
+}
+
+/// An answer, and whether the manager's entry has it.
+#[derive(Clone, Copy)]
+struct AnswerTold(Asked, bool);
+
+impl fmt::Display for AnswerTold {
+    ghost output = { λ told. answer_told told.1 told.0 };
+
+    fn fmt<W: fmt::Write>(&self, f: &mut fmt::Formatter<W>) -> fmt::Result {
+        let answer = AnswerParts(self.0);
+        if self.1 {
+            write!(f, "an answer that is allowed, such as: {}", answer)
+        } else {
+            write!(f, "{}", answer)
         }
     }
 }

@@ -5,10 +5,12 @@ ghost use Rattle.irp_types.specs.declared.entry.Entry.{Entry};
 ghost use Rattle.irp_transcript.specs.Transcripts.{TranscriptValue};
 ghost use Rattle.irp_judge.specs.Checked.{verdict_of};
 ghost use Rattle.irp_view.specs.Judging.{IsFound, IsKept};
+ghost use Rattle.irp_view.specs.RefusedCalls.{HasNoted, refused_from, refused_line};
 ghost use Rattle.irp_view.specs.Telling.{AddsText, IsText, Says, SaysNothing, entry_noun, legal_line, note_line};
 
 use crate::block::put_why;
 use crate::judging::{Found, Judged};
+use crate::refused_calls::{RefusedCalls, put_refused};
 use irp_judge::{Verdict, Wrong};
 use irp_listing::{Unwritten, put_line, send};
 use irp_transcript::Header;
@@ -36,6 +38,21 @@ fn put_legal(out: &mut Vec<u8>, words: &mut String, count: u64) -> Result<(), Al
     put_line(out, words.as_str())
 }
 
+/// Puts what is told of a legal history of so many entries, of whose calls these are refused. The one error is want of
+/// memory.
+fn put_sound(
+    out: &mut Vec<u8>,
+    words: &mut String,
+    count: u64,
+    refused: &RefusedCalls,
+) -> Result<(), AllocError>
+    ensures { (entries : List Entry) → HasNoted refused.now entries
+        → OnOk result (out.new.items ≡ (out.old.items ++ legal_line count) ++ refused_line (refused_from 0 entries)) }
+{
+    put_legal(out, words, count)?;
+    put_refused(out, words, refused)
+}
+
 /// Puts the line that tells of word lines, where there are some. The one error is want of memory.
 fn put_note(out: &mut Vec<u8>, words: &mut String, count: u64) -> Result<(), AllocError>
     ensures { OnOk result (out.new.items ≡ out.old.items ++ note_line count) }
@@ -61,11 +78,11 @@ fn put_answer(
     found: &Found,
 ) -> Result<(), AllocError>
     ensures { (entries : List Entry) → found.now.entries ≡ length entries
-        → IsKept entries found.now.wrong found.now.entry
+        → IsKept entries found.now.wrong found.now.entry → HasNoted found.now.refused entries
         → OnOk result (AddsText entries found.now.wrong out.old.items out.new.items) }
 {
     let Some(wrong) = &found.wrong else {
-        return put_legal(out, words, found.entries);
+        return put_sound(out, words, found.entries, &found.refused);
     };
     match &found.entry {
         Some(entry) => put_why(out, words, header, entry, wrong),

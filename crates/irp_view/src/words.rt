@@ -175,6 +175,42 @@ fn asked_by<'a>(error: &Error) -> Result<Asked<'a>, Unasked> {
     }
 }
 
+/// The slot and the use number in a word `SLOT.USE`, as messages tell a use of a packet.
+fn halves(word: &str) -> Option<(&str, &str)> {
+    let (slot, use_no) = word.split_once('.')?;
+    match (slot.parse::<u64>(), use_no.parse::<u64>()) {
+        (Ok(_), Ok(_)) => Some((slot, use_no)),
+        _ => None,
+    }
+}
+
+/// Puts a word behind these, in two where it names a use of a packet and may. The one error is want of memory.
+fn put_word(words: &mut Vec<String>, word: &str, may_name: bool) -> Result<(), AllocError> {
+    let alloc = *words.allocator();
+    match halves(word) {
+        Some((slot, use_no)) if may_name => {
+            words.push(slot.to_string(alloc)?)?;
+            words.push(use_no.to_string(alloc)?)?;
+        }
+        _ => {
+            words.push(word.to_string(alloc)?)?;
+        }
+    }
+    Ok(())
+}
+
+/// These words, where a use that is named as SLOT.USE behind `packet` or `--packet` is two words. The one error is want
+/// of memory.
+pub fn with_uses(alloc: Global, words: &[String]) -> Result<Vec<String>, AllocError> {
+    let mut parted = Vec::new(alloc);
+    let mut may_name = false;
+    for word in words {
+        put_word(&mut parted, word.as_str(), may_name)?;
+        may_name = matches!(word.as_str(), "packet" | "--packet");
+    }
+    Ok(parted)
+}
+
 /// What the words ask for; the first is the program's name (this project's own command line).
 ///
 /// # Errors

@@ -46,6 +46,7 @@ loop-rest-preserved c = record {
       (omega (arith, within.judged.read.taken.few)) within.judged.entry within.judged.words
       (omega (arith, within.judged.few, few, length-append text within.piece, ap length within.whole, length-append within.piece rest)) in
       let drafted = c.in-Ok.ensures.drafted within.judged.transcript within.judged.drafted (omega (arith, within.judged.read.taken.few)) in
+      let noted = c.in-Ok.ensures.noted within.judged.transcript within.judged.noted (omega (arith, within.judged.read.taken.few)) in
       subst (IsWithin c.next.new.self.reader (seen c.take_line.new.judge) c.take_line.new.kept text block) (sym (take_rest rest count))
-      (on_within c.loop-rest.lines.reader c.next.new.self.reader (seen c.loop-rest.judge) c.loop-rest.kept (seen c.take_line.new.judge) c.take_line.new.kept text block rest count line within gives.0 gives.1 gives.2 gives.3 c.take_line.ensures.header fed.0 fed.1 fed.2 drafted));
+      (on_within c.loop-rest.lines.reader c.next.new.self.reader (seen c.loop-rest.judge) c.loop-rest.kept (seen c.take_line.new.judge) c.take_line.new.kept text block rest count line within gives.0 gives.1 gives.2 gives.3 c.take_line.ensures.header fed.0 fed.1 fed.2 drafted noted));
 }

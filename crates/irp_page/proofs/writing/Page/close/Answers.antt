@@ -8,6 +8,6 @@ use Rattle.irp_page.proofs.writing.Page.close.Goals as goal
 pub returns-in-Some : goal.returns-in-Some
 returns-in-Some c =
     on_ok_weaker c.put_piece.result
-    (λ went places stands. stands_close places c.pop.new.self.items _ c.args.self.now.text.items c.put_piece.new.out.items
-    (subst (λ given. Stands places given c.args.self.now.text.items) c.in-Some.ensures.items stands) went)
+    (λ went told stands. stands_close told c.pop.new.self.items _ c.args.self.now.text.items c.put_piece.new.out.items
+    (subst (λ given. Stands told given c.args.self.now.text.items) c.in-Some.ensures.items stands) went)
     c.put_piece.ensures

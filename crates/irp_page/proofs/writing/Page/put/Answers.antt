@@ -9,6 +9,6 @@ use Rattle.irp_page.proofs.writing.Page.put.Goals as goal
 pub returns : goal.returns
 returns c =
     on_ok_weaker c.put_pieces.result
-    (λ went places stands. stands_put places c.args.self.now.opened.items c.args.self.now.text.items c.put_pieces.new.out.items c.in_ok-pieces.pieces.items stands c.in_ok-pieces.ensures
+    (λ went told stands. stands_put told c.args.self.now.opened.items c.args.self.now.text.items c.put_pieces.new.out.items c.in_ok-pieces.pieces.items stands c.in_ok-pieces.ensures
     (went ∙ ap (λ given. c.args.self.now.text.items ++ flat_map piece_bytes given) c.as_slice.ensures.value))
     c.put_pieces.ensures
