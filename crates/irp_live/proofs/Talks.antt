@@ -1,27 +1,21 @@
--- One exchange more.
-use Rattle.std.proofs.Common.{◌≡◌, ℕ, ◌+◌, List, [], ◌∷◌, ◌++◌, length, refl, sym, subst, ap, ◌∙◌, arith, append-nil, length-append}
+-- More exchanges behind some.
+use Rattle.std.proofs.Common.{ℕ, ◌+◌, List, [], ◌∷◌, ◌++◌, length, refl, sym, subst, ◌∙◌, arith, length-append}
 use Rattle.std.proofs.KnownBytes.{Appends-trans, Consumes-trans, Appends-nil, Consumes-nil}
 use Rattle.std.proofs.lemmas.Grind.{flat_map-append}
 use Rattle.std.specs.Io.KnownBytes.{Appends, Consumes}
-use Rattle.std.specs.List.{flat_map}
 use Rattle.irp_live.specs.Sessions.{SessionValue}
 use Rattle.irp_live.specs.Streams.{Streams}
-use Rattle.irp_live.specs.Talking.{Exchange, Exchanged, IsExchange, Talked, Talks, heard_text, said_text}
+use Rattle.irp_live.specs.Talking.{Exchange, Talked, Talks, heard_text, said_text}
 
-talks_more : (first : ℕ) (a b c : SessionValue) (others : List Exchange) (last : Exchange)
-    → Talks first a others b → IsExchange (first + length others) b last c
-    → Talks first a (others ++ last ∷ []) c
-talks_more first a b c [] last same answered =
-    let here : IsExchange first b last c = subst (λ number. IsExchange number b last c) (omega arith) answered in
-    (c, subst (λ session. IsExchange first session last c) (sym same) here, refl)
-talks_more first a b c (one ∷ others) last talks answered =
-    let later : IsExchange (first + 1 + length others) b last c = subst (λ number. IsExchange number b last c) (omega arith) answered in
-    (talks.0, talks.1, talks_more (first + 1) talks.0 b c others last talks.2 later)
-
-text_more : (text : Exchange → List ℕ) (others : List Exchange) (last : Exchange)
-    → flat_map text others ++ text last ≡ flat_map text (others ++ last ∷ [])
-text_more text others last =
-    sym (flat_map-append text others (last ∷ []) ∙ ap (λ end. flat_map text others ++ end) (append-nil (text last)))
+talks_both : (first : ℕ) (a b c : SessionValue) (some others : List Exchange)
+    → Talks first a some b → Talks (first + length some) b others c
+    → Talks first a (some ++ others) c
+talks_both first a b c [] others same talks =
+    let here : Talks first b others c = subst (λ number. Talks number b others c) (omega arith) talks in
+    subst (λ session. Talks first session others c) (sym same) here
+talks_both first a b c (one ∷ some) others before talks =
+    let later : Talks (first + 1 + length some) b others c = subst (λ number. Talks number b others c) (omega arith) talks in
+    (before.0, before.1, talks_both (first + 1) before.0 b c some others before.2 later)
 
 -- nothing was read yet
 pub talked_none : (first : ℕ) (session : SessionValue) (streams : Streams) → Talked first session streams first session streams
@@ -33,22 +27,22 @@ talked_none first session streams = record {
   said = (Appends-nil streams.output.gone, refl);
 }
 
--- one more was read and answered
-pub talked_more : (first next : ℕ) (a b c : SessionValue) (old mid new : Streams)
-    → Talked first a old next b mid → Exchanged next b mid c new → Talked first a old (next + 1) c new
-talked_more first next a b c old mid new talked exchanged =
-    let others : List Exchange = talked.exchanges in
-    let last : Exchange = exchanged.exchange in
+-- some were read and answered, and then others
+pub talked_both : (first next last : ℕ) (a b c : SessionValue) (old mid new : Streams)
+    → Talked first a old next b mid → Talked next b mid last c new → Talked first a old last c new
+talked_both first next last a b c old mid new before behind =
+    let some : List Exchange = before.exchanges in
+    let others : List Exchange = behind.exchanges in
     record {
-      exchanges = others ++ last ∷ [];
-      counted = omega (arith, talked.counted, length-append others (last ∷ []));
-      talks = talks_more first a b c others last talked.talks
-          (subst (λ number. IsExchange number b last c) talked.counted exchanged.is);
-      heard = subst (Consumes old.left new.left) (text_more heard_text others last)
-          (Consumes-trans old.left mid.left new.left _ _ talked.heard exchanged.heard);
+      exchanges = some ++ others;
+      counted = omega (arith, before.counted, behind.counted, length-append some others);
+      talks = talks_both first a b c some others before.talks
+          (subst (λ number. Talks number b others c) before.counted behind.talks);
+      heard = subst (Consumes old.left new.left) (sym (flat_map-append heard_text some others))
+          (Consumes-trans old.left mid.left new.left _ _ before.heard behind.heard);
       said = (
-        subst (Appends old.output.gone new.output.gone) (text_more said_text others last)
-            (Appends-trans old.output.gone mid.output.gone new.output.gone _ _ talked.said.0 exchanged.said.0),
-        exchanged.said.1 ∙ talked.said.1,
+        subst (Appends old.output.gone new.output.gone) (sym (flat_map-append said_text some others))
+            (Appends-trans old.output.gone mid.output.gone new.output.gone _ _ before.said.0 behind.said.0),
+        behind.said.1 ∙ before.said.1,
       );
     }

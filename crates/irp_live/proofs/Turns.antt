@@ -1,8 +1,9 @@
 -- What one turn comes to.
-use Rattle.std.proofs.Common.{◌≡◌, ℕ, List, [], ◌∷◌, ◌++◌, true, false, Some, None, refl, subst, inl, inr}
-use Rattle.irp_live.specs.Sessions.{IsReplyLine, SessionValue}
+use Rattle.std.proofs.Common.{◌≡◌, ℕ, ◌+◌, List, [], ◌∷◌, ◌++◌, append-nil, arith, true, false, Some, None, refl, sym, subst, ◌∙◌, inl, inr}
+use Rattle.std.specs.Io.KnownBytes.{Consumes}
+use Rattle.irp_live.specs.Sessions.{IsReplyLine, SessionValue, Stands}
 use Rattle.irp_live.specs.Streams.{Breaks, Bytes, IsRead, Puts, Streams, TakesSome}
-use Rattle.irp_live.specs.Talking.{Ended, Exchanged, IsStopped}
+use Rattle.irp_live.specs.Talking.{Ended, Exchange, IsStopped, Talked, heard_text, said_text}
 
 -- a line that was read was taken
 pub takes_line : (old new : Bytes) (line : List ℕ) → IsRead old new line true → TakesSome old new
@@ -30,14 +31,19 @@ ended_line number before after old new line read reply quiet =
 
 -- the line was answered
 pub exchanged : (number : ℕ) (before after : SessionValue) (old new : Streams) (line said : List ℕ) → IsRead old.left new.left line true
-    → IsReplyLine number before line (Some said) after → Puts said old.output new.output → Exchanged number before old after new
-exchanged number before after old new line said read reply put = record {
-  exchange = record { line = line; answer = reply.0 };
-  is = (read.0, reply.3);
-  heard = read.2;
-  said = subst (λ (text : List ℕ). Puts text old.output new.output) reply.1 put;
-  stands = reply.2;
-}
+    → IsReplyLine number before line (Some said) after → Puts said old.output new.output
+    → Talked number before old (number + 1) after new × Stands after
+exchanged number before after old new line said read reply put =
+    let one : Exchange = record { line = line; answer = reply.0 } in (
+      record {
+        exchanges = one ∷ [];
+        counted = omega arith;
+        talks = (after, (read.0, reply.3), refl);
+        heard = subst (Consumes old.left new.left) (sym (append-nil (heard_text one))) read.2;
+        said = subst (λ (text : List ℕ). Puts text old.output new.output) (reply.1 ∙ sym (append-nil (said_text one))) put;
+      },
+      reply.2,
+    )
 
 -- the answer to the line broke off
 pub interrupted : (number : ℕ) (before after : SessionValue) (old new : Streams) (line said : List ℕ) → IsRead old.left new.left line true

@@ -65,15 +65,6 @@ pub record Talked (first : ℕ) (before : SessionValue) (old : Streams) (next : 
   pub heard : Consumes old.left new.left (flat_map heard_text exchanges)
   pub said : Puts (flat_map said_text exchanges) old.output new.output
 
--- the next line was read and answered
-pub record Exchanged (number : ℕ) (before : SessionValue) (old : Streams) (after : SessionValue) (new : Streams)
-    : Type 0 where
-  pub exchange : Exchange
-  pub is : IsExchange number before exchange after
-  pub heard : Consumes old.left new.left (heard_text exchange)
-  pub said : Puts (said_text exchange) old.output new.output
-  pub stands : Stands after
-
 -- the last line asks for the verdict; where there is no newline any more there is no line
 abbrev pub IsLastLine : Bool → List ℕ → Type 0
 IsLastLine true line = IsEnd line
@@ -102,7 +93,7 @@ IsStopped number before old new =
 
 -- what came of one turn: the next line was answered; or nothing more is to be answered; or it stopped
 abbrev pub IsTurn : ℕ → SessionValue → Streams → Result Bool StreamFault → SessionValue → Streams → Type 0
-IsTurn number before old (Ok true) after new = Exchanged number before old after new
+IsTurn number before old (Ok true) after new = Talked number before old (number + 1) after new × Stands after
 IsTurn number before old (Ok false) after new = Ended before old after new
 IsTurn number before old (Err fault) after new = IsStopped number before old new
 
