@@ -1,4 +1,5 @@
-/* filter.c: an upper filter in WDM style: passes all on, and counts the bytes of reads in a completion routine. */
+/* filter.c: an upper filter in WDM style: passes all on, and counts the bytes of reads in a completion routine. It has no
+   remove lock: whoever removes it has to wait until no read is in flight. */
 #include <wdm.h>
 
 typedef struct {
