@@ -3,7 +3,7 @@ use Rattle.std.proofs.Common.{◌≡◌, ℕ, ◌+◌, List, [], ◌++◌, lengt
 use Rattle.std.proofs.lemmas.List.{take-append-drop}
 use Rattle.std.specs.Io.KnownBytes.{IsAtEnd}
 use Rattle.irp_types.specs.declared.names.IrpRef.{IrpRef}
-use Rattle.irp_transcript.specs.Transcripts.{TranscriptValue, no_lines}
+use Rattle.irp_transcript.specs.Transcripts.{no_lines}
 use Rattle.irp_transcript.specs.declared.header.Header.{Header}
 use Rattle.irp_transcript_reader.specs.Reading.{cut}
 use Rattle.irp_transcript_writer.proofs.Puts.{appends_none, appends_then}
@@ -16,10 +16,8 @@ use Rattle.irp_listing.specs.Writing.{BreaksOff, Written, count_after}
 use Rattle.irp_listing.specs.declared.writing.Unwritten.{Unwritten}
 use Rattle.irp_view.specs.Feeding.{AreAllBefore, FailsBehind, IsSoFar, StartsNone}
 use Rattle.irp_view.specs.Listed.{AreGathered, AreShown, AreShownBefore, AreShownUpTo, BreaksAt, GathersBlock, IsFresh, IsGathered, ShowsAllBefore, ShowsFirst, ShowsInput, StopsAt}
-use Rattle.irp_view.specs.Reading.{Holds, IsTextOf, IsTextOfNone, TakesAtMost, most_taken}
+use Rattle.irp_view.specs.Reading.{Holds, IsTextOf, IsTextOfNone, TakesAtMost}
 use Rattle.irp_view.specs.Showing.{IsShowing}
-use Rattle.irp_view.specs.declared.listing.Unshown.{Unshown}
-use Rattle.irp_view.specs.declared.listing.Unshown.TheVariants.{Unread as IsUnread, Unwritten as IsUnwritten}
 use Rattle.irp_view.specs.declared.orders.Span.{Span}
 use Rattle.irp_view.specs.declared.reading.Unread.{Unread}
 use Rattle.irp_view.specs.declared.reading.Unread.TheVariants.{Input, NoMemory}

@@ -1,7 +1,5 @@
 -- One more entry came, whose call is refused or not.
-use Rattle.std.proofs.Common.{◌≡◌, ◌+◌, ◌<◌, ◌≤◌, ◌^◌, [], ◌∷◌, ◌++◌, length, Option, None, Some, refl, sym, ap, ◌∙◌, arith, length-append}
-use Rattle.irp_types.specs.declared.refusal.Refusal.{Refusal}
-use Rattle.irp_judge.specs.Differences.{refusal_in}
+use Rattle.std.proofs.Common.{◌≡◌, ◌+◌, ◌<◌, ◌≤◌, ◌^◌, [], ◌∷◌, ◌++◌, length, refl, sym, ap, ◌∙◌, arith, length-append}
 use Rattle.irp_view.specs.RefusedCalls.{most_told, refused_from}
 use Rattle.irp_view.specs.declared.refused_calls.RefusedCalls.{RefusedCalls}
 use Rattle.irp_view.proofs.RefusedCalls.{kept_few, notes_passed, notes_refused, on_ok_both, refused_few}

@@ -1,5 +1,5 @@
 -- What stands for a wanted entry is gathered.
-use Rattle.std.proofs.Common.{Bool, ◌≡◌, ◌+◌, [], ◌∷◌, ◌++◌, length, length-append, refl, subst, arith}
+use Rattle.std.proofs.Common.{Bool, ◌≡◌, [], ◌∷◌, ◌++◌, length-append, refl, subst, arith}
 use Rattle.std.proofs.lemmas.Result.{on_ok_weaker}
 use Rattle.irp_view.specs.Showing.{part_of, with_wanted}
 use Rattle.irp_view.proofs.Gathered.{entry_gathered, entry_passed}
