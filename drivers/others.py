@@ -1,0 +1,68 @@
+"""Two drivers by hands that know WDM and had never seen this host (others/), with twenty mistakes that they have met in code
+reviews and crash dumps. They wrote down what Windows would say of each, and where, before any run. A row has the mistake, the
+WDK's page or rule, the run that tells it first, and how: by which rule, in which function. Who builds with
+`--cflag=-DMISTAKE_N` gets mistake N. The tests try those that a plain run tells."""
+
+import os
+import re
+import subprocess
+
+HERE = os.path.dirname(os.path.abspath(__file__))
+FILTER, FUNCTION = HERE + "/others/rdmeter.c", HERE + "/others/sampler"
+PLAIN, SEEDS, VERIFY, EVERY_ORDER = "plain", "--seeds 1..5 --threads 4", "--verify", "--every-order"
+MISTAKES = [
+    (1, FILTER, "a routine doesn't pass PendingReturned on", "Implementing an IoCompletion Routine", PLAIN, "Mark",
+     "MeterReadDone"),
+    (2, FILTER, "pool isn't looked at", "Low Resources Simulation", VERIFY, "STOPPED", "MeterRead"),
+    (3, FILTER, "a skip, and then a completion routine", "IoSkipCurrentIrpStackLocation", PLAIN, "AfterSkip", "MeterRead"),
+    (4, FILTER, "IoReleaseRemoveLock in a removal", "Using Remove Locks", PLAIN, "NotDrained", "MeterPnp"),
+    (5, FILTER, "IoStatus read after IoCallDriver", "IoCallDriver", PLAIN, "Touched", "MeterRead"),
+    (6, FILTER, "a routine isn't called for errors", "IoSetCompletionRoutine", PLAIN, "NotDrained", "MeterPnp"),
+    (7, FILTER, "a start is completed twice", "bug check 0x44", PLAIN, "CompletedTwice", "MeterPnp"),
+    (8, FILTER, "a fast mutex in a completion routine", "ExAcquireFastMutex", SEEDS, "IrqlTooHigh", "MeterReadDone"),
+    (9, FILTER, "a power request isn't passed down", "Passing Power IRPs", None, None, None),
+    (10, FILTER, "a context is read after ExFreePool", "Special Pool", SEEDS, "UsedAfterFree", "MeterReadDone"),
+    (11, FUNCTION, "Irp->Cancel isn't looked at", "Synchronizing IRP Cancellation", PLAIN, "AlreadyCancelled", "SamplerRead"),
+    (12, FUNCTION, "a cancel routine that has begun isn't minded", "bug check 0x44", SEEDS, "CompletedTwice",
+     "SamplerComplete"),
+    (13, FUNCTION, "OutputBufferLength isn't looked at", "Failure to Check the Size of Buffers", PLAIN, "STOPPED",
+     "SamplerControl"),
+    (14, FUNCTION, "STATUS_PENDING without the mark", "IoMarkIrpPending", PLAIN, "Returned", "SamplerRead"),
+    (15, FUNCTION, "a completion under a spin lock", "IoCompleteRequest", PLAIN, "UnderSpinLock", "SamplerTick"),
+    (16, FUNCTION, "no KeFlushQueuedDpcs before the device goes", "KeFlushQueuedDpcs", EVERY_ORDER, "UsedInFreedMemory",
+     "SamplerTick"),
+    (17, FUNCTION, "the cancel lock is released with another level", "IoReleaseCancelSpinLock", PLAIN, "IrqlReturn",
+     "SamplerCancel"),
+    (18, FUNCTION, "a removal doesn't complete what is queued", "Handling an IRP_MN_REMOVE_DEVICE Request", None, None, None),
+    (19, FUNCTION, "paged pool is touched in a deferred routine", "Force IRQL Checking", None, None, None),
+    (20, FUNCTION, "PoRequestPowerIrp's failure isn't looked at", "bug check 0x9F", None, None, None),
+]
+
+
+def ran(bench, *words):
+    """Returns what `run` prints."""
+    made = subprocess.run([HERE + "/run", "--irpx", bench.irpx, *words], capture_output=True, text=True, check=False)
+    return made.stderr + made.stdout
+
+
+def told(bench, number, source, rule, function):
+    """The plain run tells the mistake first by its rule and in its function."""
+    said = ran(bench, f"--cflag=-DMISTAKE_{number}", source)
+    first = next((it for it in said.splitlines() if re.search("FAULT|STOPPED", it)), "nothing is told")
+    well = re.match(rf"host: (?:FAULT )?{rule}\b.* in {function}\b", first)
+    yield f"a mistake of others, {number}", None if well else f"it isn't {rule} in {function}: {first}"
+
+
+def right(bench, *sources):
+    """A right driver of others is clean."""
+    said = ran(bench, *sources)
+    names = ", ".join(os.path.basename(it) for it in sources)
+    yield f"right drivers of others: {names}", None if "; clean" in said else said[-400:]
+
+
+def tests(bench):
+    """Returns the tests: of each a name, and a call that gives names and complaints."""
+    found = [(f"others {n}", lambda n=n, its=its, rule=rule, where=where: told(bench, n, its, rule, where))
+             for n, its, _, _, run, rule, where in MISTAKES if run == PLAIN]
+    return [*found, *((f"others {len(its)}, right", lambda its=its: right(bench, *its))
+                      for its in ((FILTER,), (FUNCTION, FILTER)))]
