@@ -297,7 +297,7 @@ RIGHT_SHAPES = """
     OtherParameters ChangeUnmarked MarkThenComplete MarkAndSkip SetAndTakenBack LookInRoutine LookAndFinish
     LookAndSkip SkipByHand ForwardAndWait TimedWait WaitElsewhere WaitInVain ForwardSynchronously
     MarkedSynchronously KeepChanged MarksAndKeeps Retry CompleteInRoutine ToAWorker WaitForAWorker OwnAndWait
-    SplitTransfer SendElsewhere SkipElsewhere ElsewhereAndKeep BuiltForNobody
+    MarksByHand RoutineMarksByHand SplitTransfer SendElsewhere SkipElsewhere ElsewhereAndKeep BuiltForNobody
 """.split()
 # Stacks that the host's own test is clean over. The others have no PnP, or want settings that their tests make.
 FOR_OWN_TEST = ["handover", "keyboard", "children", "policy", "power", "removal", "split", "serial", "shared", "late"]

@@ -57,6 +57,18 @@ static bool mark_of(Packet *p, const Frame *f, bool returned, bool had)
     return f->marked;
 }
 
+/* A routine that sets the bit of its device's location by hand marks it. */
+static void take_routines_hand_mark(Packet *p, Frame *f)
+{
+    const int j = f->location + 1;
+    if (f->marked || f->device < 0 || p->at[j].pending || !(raw_at(p, j)->Control & SL_PENDING_RETURNED))
+        return;
+    f->marked = true;
+    set_pending_bit(p, j, true);
+    if (p->at[j].frame)
+        p->at[j].frame->marked_by_routine = true;
+}
+
 /* Asks the routine in location j. Returns whether the unwinding goes on. */
 static bool ask_routine(Packet *p, Entry *e, int j, Location l)
 {
@@ -79,6 +91,7 @@ static bool ask_routine(Packet *p, Entry *e, int j, Location l)
         fault_of("GivenAway", p, &f, "gave the packet away, and then continued with %#x", (unsigned)answer);
     if (f.settled)
         return false;
+    take_routines_hand_mark(p, &f);
     if (answer == STATUS_MORE_PROCESSING_REQUIRED) {
         if (!dispatch_has_it_back(p, &f))
             routine_kept(p, &f);
@@ -218,6 +231,7 @@ VOID WdmIoCompleteRequest(PIRP Irp, WDM_SITE at)
     enter_host(&c, "IoCompleteRequest", at);
     Packet *p = find(Irp);
     await(p);
+    take_hand_mark(p);
     const int by = party_with_location(p);
     const bool live = lives(p);
     const ULONG status = live ? (ULONG)Irp->IoStatus.Status : 0;

@@ -110,7 +110,8 @@ typedef struct Frame {
     int i;
     pthread_t thread;
     bool settled;            /* what it was asked is decided */
-    bool marked;             /* it called IoMarkIrpPending for its packet */
+    bool marked;             /* it called IoMarkIrpPending for its packet, or set the bit by hand */
+    bool bit_came;           /* its location came with the bit */
     bool marked_by_routine;  /* a routine of its device did, for its location */
     bool forced;             /* its location is marked by the host: it counts as one that pended */
     bool passed, finished;   /* it passed the packet down by a plan; it completed the packet */
@@ -346,6 +347,7 @@ void flush_next(Packet *p, int by);
 bool is_filled_by_hand(Packet *p);
 bool is_skipped_by_hand(const Packet *p);
 void take_hand_skip(Packet *p);
+void take_hand_mark(Packet *p);
 void tell_ghost(Packet *p);
 
 /* associated.c */

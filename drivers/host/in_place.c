@@ -242,6 +242,7 @@ static bool forward_in_dispatch(Packet *p, int d, WDM_SITE at)
 {
     KEVENT up;
     Frame *f = dispatching(p);
+    take_hand_mark(p);
     if (!f || f->marked || f->cancel || p->skipped || p->current == 1 || devices[f->device].lower != d)
         return false;
     PIO_STACK_LOCATION next = raw_at(p, p->current - 1);

@@ -108,6 +108,17 @@ void set_pending_bit(Packet *p, int j, bool real)
     raw_at(p, j)->Control |= SL_PENDING_RETURNED;
 }
 
+/* A dispatch that sets the bit in its location by hand does what the WDK's IoMarkIrpPending does. */
+void take_hand_mark(Packet *p)
+{
+    Frame *f = p->asking;
+    if (!f || f->kind != DISPATCH || f->marked || f->bit_came || p->skipped || p->at[f->location].pending ||
+        !(raw_at(p, f->location)->Control & SL_PENDING_RETURNED))
+        return;
+    f->marked = true;
+    set_pending_bit(p, f->location, true);
+}
+
 static void begin_use(Packet *p, NTSTATUS status)
 {
     for (int j = 1; j <= p->size; j++)

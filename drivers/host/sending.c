@@ -33,6 +33,8 @@ static void judge_return(Packet *p, const Frame *f, NTSTATUS answer)
 static NTSTATUS dispatch_returned(Packet *p, Frame *f, NTSTATUS answer)
 {
     Location *l = p->use == f->use && p->at[f->location].frame == f ? &p->at[f->location] : NULL;
+    if (p->asking == f)
+        take_hand_mark(p);
     if (p->asking == f) { /* nothing was decided: it keeps the packet */
         if (!f->marked && answer != STATUS_PENDING) {
             fault_of("Lost", p, f, "neither finishes, keeps nor passes down the packet, and returns %#x",
@@ -77,7 +79,8 @@ NTSTATUS enter_device(Packet *p, int d, Entry *e)
         return STATUS_INVALID_DEVICE_REQUEST;
     }
     Frame f = { .kind = DISPATCH, .p = p, .use = p->use, .fn = (void *)fn, .device = d, .location = p->current,
-                .major = l->major, .e = e, .i = ask(e, p, DISPATCH, (void *)fn, d, p->current) };
+                .major = l->major, .bit_came = raw_at(p, p->current)->Control & SL_PENDING_RETURNED, .e = e,
+                .i = ask(e, p, DISPATCH, (void *)fn, d, p->current) };
     e->asked[f.i].has_lower = devices[d].lower >= 0;
     l->frame = &f;
     enter_frame(&f);
@@ -181,6 +184,7 @@ NTSTATUS WdmIoCallDriver(PDEVICE_OBJECT Target, PIRP Irp, WDM_SITE at)
     touch(&devices, READS);
     await(p);
     take_hand_skip(p);
+    take_hand_mark(p);
     const int by = party(p), d = device_number(Target);
     if (lives(p) && (p->skipped || p->current > 1))
         check_dispatch_level(p, raw_at(p, p->skipped ? p->current : p->current - 1)->MajorFunction, d);

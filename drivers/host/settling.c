@@ -92,6 +92,7 @@ void settle(Packet *p, bool returned)
     Frame *f = p->asking;
     if (!f)
         return;
+    take_hand_mark(p);
     const bool own = !returned && is_this_thread(f->thread);
     n_early += !returned && !own;
     if (f->kind == ROUTINE) {

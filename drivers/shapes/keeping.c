@@ -105,6 +105,27 @@ static NTSTATUS MarksAndKeeps(PEXTENSION Ext, PIRP Irp)
     return STATUS_PENDING;
 }
 
+static NTSTATUS WatchByHand(PDEVICE_OBJECT DeviceObject, PIRP Irp, PVOID Context)
+{
+    UNREFERENCED_PARAMETER(DeviceObject), UNREFERENCED_PARAMETER(Context);
+    if (Irp->PendingReturned)
+        IoGetCurrentIrpStackLocation(Irp)->Control |= SL_PENDING_RETURNED;
+    return STATUS_SUCCESS;
+}
+
+/* Marks as the WDK's macro does. */
+static NTSTATUS MarksByHand(PEXTENSION Ext, PIRP Irp)
+{
+    IoGetCurrentIrpStackLocation(Irp)->Control |= SL_PENDING_RETURNED;
+    ForwardWith(Ext, Irp, WatchByHand, NULL);
+    return STATUS_PENDING;
+}
+
+static NTSTATUS RoutineMarksByHand(PEXTENSION Ext, PIRP Irp)
+{
+    return ForwardWith(Ext, Irp, WatchByHand, NULL);
+}
+
 /* Sends the same packet down again from its routine, once, where it failed. */
 static NTSTATUS RetryOnce(PDEVICE_OBJECT DeviceObject, PIRP Irp, PVOID Context)
 {
@@ -198,6 +219,7 @@ const NAMED_SHAPE KeepingShapes[] = {
     { "WaitInVain", WaitInVain },
     { "ForwardSynchronously", ForwardSynchronously }, { "MarkedSynchronously", MarkedSynchronously },
     { "KeepChanged", KeepChanged }, { "MarksAndKeeps", MarksAndKeeps }, { "Retry", Retry },
+    { "MarksByHand", MarksByHand }, { "RoutineMarksByHand", RoutineMarksByHand },
     { "CompleteInRoutine", CompleteInRoutine }, { "ToAWorker", ToAWorker }, { "WaitForAWorker", WaitForAWorker },
     { NULL, NULL },
 };
