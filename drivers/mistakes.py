@@ -1,10 +1,10 @@
-"""Two drivers that stand for those of a driver writer (written/), and twenty mistakes in them. Whoever wrote them down knew the
-host's rules, and knew nothing of what a run would tell.
+"""Two drivers that stand for those of a driver writer (written/), and twenty mistakes in them. Whoever wrote both knew
+the host's rules: mistakes of somebody else would say more of what the host misses.
 
-Each row has the sentence of the WDK that the mistake breaks, by the page's title, and what follows: the rule, and the
-function in which Windows, or Driver Verifier, would stop. `flags` is the run that comes to it, where the plain one needn't.
-A mistake without a rule isn't told, and its row says why. A race is told by some runs, and not by all: the gate leaves it
-out."""
+Each row has the sentence of the WDK that the mistake breaks, by the page's title, and what follows from it: the rule,
+and the function in which Windows, or Driver Verifier, would stop. `flags` is the run that comes to it, where the plain
+one needn't. A mistake without a rule isn't told, and its row says why. A race is told by some runs, and not by all:
+the tests leave it out."""
 
 import os
 
@@ -69,13 +69,14 @@ MISTAKES = [
             "    if (copy)\n        ExFreePoolWithTag", "    if (copy && read)\n        ExFreePoolWithTag",
             "Pool Tracking: a driver has freed all its pool when it is unloaded (0xC4/0x62)",
             "PoolLeak", "in MailboxWrite"),
-    mailbox("the timer's routine takes a fast mutex", "    InterlockedIncrement((LONG *)&extension->Counts.TimedOut);\n",
+    mailbox("the timer's routine takes a fast mutex",
+            "    InterlockedIncrement((LONG *)&extension->Counts.TimedOut);\n",
             "    ExAcquireFastMutex(&extension->CountsMutex);\n    extension->Counts.TimedOut++;\n"
             "    ExReleaseFastMutex(&extension->CountsMutex);\n",
             "ExAcquireFastMutex: IRQL <= APC_LEVEL; a deferred routine runs at DISPATCH_LEVEL",
             "IrqlTooHigh", "in ReadTimedOut"),
-    # Not told: the timer is armed only by a read that comes while the removal runs. The host's own test sends none then,
-    # as Windows doesn't once the last handle is closed. A test of the driver's own has to.
+    # Not told: the timer is armed only by a read that comes while the removal runs. The host's own test sends none
+    # then, as Windows doesn't once the last handle is closed. A test of the driver's own has to.
     mailbox("the timer is armed when the device goes",
             "    IoReleaseRemoveLockAndWait(&Extension->RemoveLock, Irp);\n    KeCancelTimer(&Extension->Timer);\n"
             "    KeFlushQueuedDpcs();\n", "    IoReleaseRemoveLockAndWait(&Extension->RemoveLock, Irp);\n",
@@ -85,7 +86,8 @@ MISTAKES = [
             "Errors in Buffered I/O: Information is at most the length of the output buffer",
             "InformationTooLong", "in MailboxWrite"),
     mailbox("an empty read keeps the remove lock",
-            "        CompleteRequest(Irp, STATUS_SUCCESS, 0);\n        IoReleaseRemoveLock(&extension->RemoveLock, Irp);\n",
+            "        CompleteRequest(Irp, STATUS_SUCCESS, 0);\n"
+            "        IoReleaseRemoveLock(&extension->RemoveLock, Irp);\n",
             "        CompleteRequest(Irp, STATUS_SUCCESS, 0);\n",
             "IoReleaseRemoveLockAndWait: returns once each IoAcquireRemoveLock has its release",
             "NotDrained", "in RemoveDevice"),
@@ -112,7 +114,8 @@ MISTAKES = [
           "Deadlock Detection: two locks are taken in one order everywhere; transfers come before the control",
           "LockOrder", "in MeterAsk"),
     meter("the routine waits for a mutex", "    KeQuerySystemTime(&now);\n",
-          "    KeQuerySystemTime(&now);\n    KeWaitForSingleObject(&ext->LogMutex, Executive, KernelMode, FALSE, NULL);\n"
+          "    KeQuerySystemTime(&now);\n"
+          "    KeWaitForSingleObject(&ext->LogMutex, Executive, KernelMode, FALSE, NULL);\n"
           "    KeReleaseMutex(&ext->LogMutex, FALSE);\n",
           "KeWaitForSingleObject: IRQL <= APC_LEVEL without a timeout of zero; a completion routine may run at "
           "DISPATCH_LEVEL", "IrqlTooHigh", "in TransferDone", flags={"routines-high": True}),
