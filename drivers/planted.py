@@ -200,6 +200,11 @@ FAULTS = [
     stack("a partial MDL reaches beyond its source", "direct.c",
           [("Irp->MdlAddress, half, half)", "Irp->MdlAddress, half, half + 1)")],
           ["MdlRange", "direct.c:", "ReadPart", "IoBuildPartialMdl"]),
+    stack("an event by handle is dereferenced twice", "settings.c",
+          [("    ObDereferenceObject(Ext->Enough);\n", "    ObDereferenceObject(Ext->Enough);\n" * 2)],
+          ["NotReferenced", "settings.c:", "GiveBackEvent", "ObDereferenceObject"]),
+    stack("an interface's link isn't freed", "settings.c", [("    RtlFreeUnicodeString(&Ext->Link);\n", "")],
+          ["PoolLeak", "settings.c:", "in AddDevice: never freed"]),
     stack("a file's context isn't freed", "direct.c",
           [("    if (stack->MajorFunction == IRP_MJ_CLOSE)\n"
             "        ExFreePoolWithTag(stack->FileObject->FsContext, 'tceD');\n", "    (void)stack;\n")],
@@ -300,7 +305,8 @@ RIGHT_SHAPES = """
     MarksByHand RoutineMarksByHand SplitTransfer SendElsewhere SkipElsewhere ElsewhereAndKeep BuiltForNobody
 """.split()
 # Stacks that the host's own test is clean over. The others have no PnP, or want settings that their tests make.
-FOR_OWN_TEST = ["handover", "keyboard", "children", "policy", "power", "removal", "split", "serial", "shared", "late"]
+FOR_OWN_TEST = ["handover", "keyboard", "children", "policy", "power", "removal", "split", "serial", "shared", "late",
+                "settings"]
 
 # Drivers of hostile/ that the host stops after ten times its patience, so they have more seconds than others.
 SLOW_TO_STOP = {"polls": 40, "arms_again": 40}

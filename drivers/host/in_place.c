@@ -252,6 +252,7 @@ static bool forward_in_dispatch(Packet *p, int d, WDM_SITE at)
     prepare_nothing(p);
     f->sent = true;
     p->sites.sent = at;
+    f->sent = true;
     Packet *r = new_rider(p, p->current - 1, p->at[p->current].major, p->at[p->current].word, &keeper);
     WdmKeInitializeEvent(&up, NotificationEvent, FALSE);
     r->up = &up;
