@@ -41,6 +41,8 @@ static const Check checks[] = {
       "pass IRP_MN_START_DEVICE down first, and wait until it is back" },
     { "NextPowerIrp", "no stop code", "Calling PoStartNextPowerIrp",
       "call it before the packet is passed on, completed, or its routine returns" },
+    { "ListCorrupt", "0x139/0x3", "Bug Check 0x139: KERNEL_SECURITY_CHECK_FAILURE",
+      "remove an entry once, and initialize the head before" },
     { "LockInFreedMemory", "0xC4/0x1006", "Deadlock Detection", "give it back before the memory goes" },
 };
 
@@ -62,6 +64,15 @@ void broken(const char *rule, const Packet *p, const char *how, ...)
     va_end(list);
     const Check *c = check_named(rule);
     fault(rule, p, "%s. Remedy: %s (WDK: %s)", text, c->remedy, c->page);
+}
+
+/* The neighbours of a list's entry don't point to it: it isn't in the list, or the list was written over. */
+VOID WdmListIsCorrupt(PCSTR Name, WDM_SITE at)
+{
+    Call c;
+    enter_quietly(&c, Name, at);
+    broken("ListCorrupt", NULL, "the entry's neighbours don't point to it: it was removed before, or never inserted");
+    leave_host();
 }
 
 /* What a test holds to be true. Where the run takes memory or a request away it may be otherwise. */

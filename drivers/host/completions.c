@@ -60,6 +60,15 @@ static void check_pnp(const Packet *p, const IO_STACK_LOCATION *l, int by, ULONG
                l->MinorFunction);
 }
 
+/* A power request that is set is seen by each driver of the stack. */
+static void check_power(const Packet *p, const IO_STACK_LOCATION *l, int by, ULONG status)
+{
+    const Frame *f = on_top(p);
+    const bool is_first = f && f->kind == DISPATCH && !f->sent, is_last = devices[by].lower < 0;
+    if (l->MinorFunction == IRP_MN_SET_POWER && is_first && !is_last && (NT_SUCCESS(status) || is_unhandled(status)))
+        broken("NotPassedDown", p, "%s completes IRP_MN_SET_POWER, and the drivers below haven't seen it", who(by));
+}
+
 /* A device that has the packet completes it. */
 void check_completion(const Packet *p, int by, ULONG status, uint64_t information)
 {
@@ -69,6 +78,8 @@ void check_completion(const Packet *p, int by, ULONG status, uint64_t informatio
     check_information(p, l, status, information);
     if (l->MajorFunction == IRP_MJ_PNP)
         check_pnp(p, l, by, status);
+    else if (l->MajorFunction == IRP_MJ_POWER)
+        check_power(p, l, by, status);
 }
 
 /* A dispatch passes the packet down. */

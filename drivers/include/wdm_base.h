@@ -21,37 +21,45 @@ ULONG vDbgPrintEx(ULONG Component, ULONG Level, PCSTR Format, va_list List);
 #define DPFLTR_TRACE_LEVEL 2
 #define DPFLTR_INFO_LEVEL 3
 
-/* Lists. */
+/* Where a call stands in a driver's source: the macros of wdm_io.h, wdm_ke.h and wdm_test.h hand it over. */
+typedef struct { const char *file, *function; int line; } WDM_SITE;
+#define WDM_HERE ((WDM_SITE){ __FILE__, __func__, __LINE__ })
+
+/* Lists. Neighbours are checked, as Windows 8 and later do: an entry whose neighbours don't point to it is told. */
 typedef struct _LIST_ENTRY { struct _LIST_ENTRY *Flink, *Blink; } LIST_ENTRY, *PLIST_ENTRY;
 typedef struct _SINGLE_LIST_ENTRY { struct _SINGLE_LIST_ENTRY *Next; } SINGLE_LIST_ENTRY, *PSINGLE_LIST_ENTRY;
+VOID WdmListIsCorrupt(PCSTR Call, WDM_SITE at);
 static inline VOID InitializeListHead(PLIST_ENTRY h) { h->Flink = h->Blink = h; }
 static inline BOOLEAN IsListEmpty(const LIST_ENTRY *h) { return h->Flink == h; }
-static inline BOOLEAN RemoveEntryList(PLIST_ENTRY e)
+static inline BOOLEAN WdmRemoveEntryList(PLIST_ENTRY e, PCSTR call, WDM_SITE at)
 {
-    e->Blink->Flink = e->Flink;
-    e->Flink->Blink = e->Blink;
-    return e->Flink == e->Blink;
+    PLIST_ENTRY next = e->Flink, before = e->Blink;
+    if (next->Blink != e || before->Flink != e)
+        WdmListIsCorrupt(call, at);
+    before->Flink = next;
+    next->Blink = before;
+    return next == before;
 }
-static inline PLIST_ENTRY RemoveHeadList(PLIST_ENTRY h)
+static inline PLIST_ENTRY WdmTakeFromList(PLIST_ENTRY e, PCSTR call, WDM_SITE at)
 {
-    PLIST_ENTRY e = h->Flink;
-    RemoveEntryList(e);
+    WdmRemoveEntryList(e, call, at);
     return e;
 }
-static inline PLIST_ENTRY RemoveTailList(PLIST_ENTRY h)
+static inline VOID WdmInsertTailList(PLIST_ENTRY h, PLIST_ENTRY e, PCSTR call, WDM_SITE at)
 {
-    PLIST_ENTRY e = h->Blink;
-    RemoveEntryList(e);
-    return e;
-}
-static inline VOID InsertTailList(PLIST_ENTRY h, PLIST_ENTRY e)
-{
+    PLIST_ENTRY before = h->Blink;
+    if (before->Flink != h)
+        WdmListIsCorrupt(call, at);
     e->Flink = h;
-    e->Blink = h->Blink;
-    h->Blink->Flink = e;
+    e->Blink = before;
+    before->Flink = e;
     h->Blink = e;
 }
-static inline VOID InsertHeadList(PLIST_ENTRY h, PLIST_ENTRY e) { InsertTailList(h->Flink, e); }
+#define RemoveEntryList(e) WdmRemoveEntryList((e), "RemoveEntryList", WDM_HERE)
+#define RemoveHeadList(h) WdmTakeFromList((h)->Flink, "RemoveHeadList", WDM_HERE)
+#define RemoveTailList(h) WdmTakeFromList((h)->Blink, "RemoveTailList", WDM_HERE)
+#define InsertTailList(h, e) WdmInsertTailList((h), (e), "InsertTailList", WDM_HERE)
+#define InsertHeadList(h, e) WdmInsertTailList((h)->Flink, (e), "InsertHeadList", WDM_HERE)
 static inline VOID PushEntryList(PSINGLE_LIST_ENTRY h, PSINGLE_LIST_ENTRY e) { e->Next = h->Next, h->Next = e; }
 static inline PSINGLE_LIST_ENTRY PopEntryList(PSINGLE_LIST_ENTRY h)
 {
@@ -148,9 +156,6 @@ static inline PVOID WdmInterlockedCompareExchangePointer(PVOID volatile *p, PVOI
 #define InterlockedCompareExchangePointer(p, wanted, expected) \
     WdmInterlockedCompareExchangePointer((PVOID volatile *)(p), (PVOID)(wanted), (PVOID)(expected))
 
-/* Where a call stands in a driver's source: the macros of wdm_io.h, wdm_ke.h and wdm_test.h hand it over. */
-typedef struct { const char *file, *function; int line; } WDM_SITE;
-#define WDM_HERE ((WDM_SITE){ __FILE__, __func__, __LINE__ })
 VOID WdmPagedCode(WDM_SITE at);
 #define PAGED_CODE() WdmPagedCode(WDM_HERE)
 

@@ -233,6 +233,21 @@ static NTSTATUS AsksLater(PEXTENSION Ext, PIRP Irp, BOOLEAN Wrong)
     return Done(Irp);
 }
 
+/* An entry that is removed again after it was taken. */
+static NTSTATUS RemovesTwice(PEXTENSION Ext, PIRP Irp, BOOLEAN Wrong)
+{
+    LIST_ENTRY head, entries[2];
+    UNREFERENCED_PARAMETER(Ext);
+    InitializeListHead(&head);
+    InsertTailList(&head, &entries[0]);
+    InsertHeadList(&head, &entries[1]);
+    PLIST_ENTRY first = RemoveHeadList(&head);
+    if (Wrong)
+        RemoveEntryList(first); /* told: ListCorrupt */
+    RemoveTailList(&head);
+    return Done(Irp);
+}
+
 const CASE_ROW ObjectCases[] = {
     { "MutexKept", KeepsMutex, NULL, NULL }, { "MutexKept_Thread", ThreadKeepsMutex, NULL, NULL },
     { "UsedInFreedMemory_Timer", SetsTimer, NULL, NULL }, { "UsedInFreedMemory_Lock", TakesLock, NULL, NULL },
@@ -241,5 +256,6 @@ const CASE_ROW ObjectCases[] = {
     { "UsedInFreedMemory_RemoveLock", LocksLate, NULL, NULL },
     { "LockInFreedMemory_RemoveLock", FreesRemoveLock, NULL, NULL },
     { "UsedInFreedMemory_Extension", SignalsLate, NULL, NULL }, { "StartedEarly", NULL, StartsEarly, NULL },
-    { "StartedEarly_Asks", AsksLater, AsksEarly, NULL }, { NULL, NULL, NULL, NULL },
+    { "StartedEarly_Asks", AsksLater, AsksEarly, NULL }, { "ListCorrupt", RemovesTwice, NULL, NULL },
+    { NULL, NULL, NULL, NULL },
 };

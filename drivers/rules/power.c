@@ -57,8 +57,20 @@ static NTSTATUS PassesFailure(PEXTENSION Ext, PIRP Irp, BOOLEAN Wrong)
     return IoCallDriver(Ext->Lower, Irp); /* told: PnpStatusChanged_Passed */
 }
 
+static NTSTATUS EndsPower(PEXTENSION Ext, PIRP Irp, BOOLEAN Wrong)
+{
+    PoStartNextPowerIrp(Irp);
+    if (!Wrong) {
+        IoSkipCurrentIrpStackLocation(Irp);
+        return PoCallDriver(Ext->Lower, Irp);
+    }
+    Irp->IoStatus.Status = STATUS_SUCCESS;
+    IoCompleteRequest(Irp, IO_NO_INCREMENT); /* told: NotPassedDown_Power */
+    return STATUS_SUCCESS;
+}
+
 const CASE_ROW PowerCases[] = {
     { "NextPowerIrp", NULL, NULL, PassesPower }, { "NextPowerIrp_Routine", NULL, NULL, PassesPowerWithRoutine },
     { "PnpStatusChanged_Unhandled", NULL, SaysInvalid, NULL }, { "NotPassedDown_Unhandled", NULL, KeepsQuestion, NULL },
-    { "PnpStatusChanged_Passed", NULL, PassesFailure, NULL }, { NULL, NULL, NULL, NULL },
+    { "NotPassedDown_Power", NULL, NULL, EndsPower }, { "PnpStatusChanged_Passed", NULL, PassesFailure, NULL }, { NULL, NULL, NULL, NULL },
 };
