@@ -20,7 +20,7 @@ MISTAKES = [
     (6, FILTER, "a routine isn't called for errors", "IoSetCompletionRoutine", PLAIN, "NotDrained", "MeterPnp"),
     (7, FILTER, "a start is completed twice", "bug check 0x44", PLAIN, "CompletedTwice", "MeterPnp"),
     (8, FILTER, "a fast mutex in a completion routine", "ExAcquireFastMutex", SEEDS, "IrqlTooHigh", "MeterReadDone"),
-    (9, FILTER, "a power request isn't passed down", "Passing Power IRPs", None, None, None),
+    (9, FILTER, "a power request isn't passed down", "Passing Power IRPs", PLAIN, "NotPassedDown", "MeterPower"),
     (10, FILTER, "a context is read after ExFreePool", "Special Pool", SEEDS, "UsedAfterFree", "MeterReadDone"),
     (11, FUNCTION, "Irp->Cancel isn't looked at", "Synchronizing IRP Cancellation", PLAIN, "AlreadyCancelled", "SamplerRead"),
     (12, FUNCTION, "a cancel routine that has begun isn't minded", "bug check 0x44", SEEDS, "CompletedTwice",
