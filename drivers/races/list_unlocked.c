@@ -1,5 +1,6 @@
 /* list_unlocked.c: 1 preemption, ListCorrupt. Two threads put packets into one list, and one of them without its lock. One is
    preempted within the insertion: the other finds neighbours that do not point to each other. */
+#include "race.h"
 
 typedef struct { KSPIN_LOCK Lock; LIST_ENTRY Reads; } EXTENSION, *PEXTENSION;
 static PDEVICE_OBJECT device;
