@@ -1,5 +1,5 @@
-/* list_unlocked.c: 1 preemption, ListCorrupt. Two threads put packets into one list, and one of them without its lock. One is
-   preempted within the insertion: the other finds neighbours that do not point to each other. */
+/* list_unlocked.c: 1 preemption, ListCorrupt. Two threads put packets into one list, one of them without its lock. One is
+   preempted within the insertion: the other finds neighbours that don't point to each other. */
 #include "race.h"
 
 typedef struct { KSPIN_LOCK Lock; LIST_ENTRY Reads; } EXTENSION, *PEXTENSION;

@@ -72,5 +72,6 @@ static NTSTATUS EndsPower(PEXTENSION Ext, PIRP Irp, BOOLEAN Wrong)
 const CASE_ROW PowerCases[] = {
     { "NextPowerIrp", NULL, NULL, PassesPower }, { "NextPowerIrp_Routine", NULL, NULL, PassesPowerWithRoutine },
     { "PnpStatusChanged_Unhandled", NULL, SaysInvalid, NULL }, { "NotPassedDown_Unhandled", NULL, KeepsQuestion, NULL },
-    { "NotPassedDown_Power", NULL, NULL, EndsPower }, { "PnpStatusChanged_Passed", NULL, PassesFailure, NULL }, { NULL, NULL, NULL, NULL },
+    { "NotPassedDown_Power", NULL, NULL, EndsPower }, { "PnpStatusChanged_Passed", NULL, PassesFailure, NULL },
+    { NULL, NULL, NULL, NULL },
 };
