@@ -49,8 +49,9 @@ MISTAKES = [
             "Touched", "in TakeRead"),
     mailbox("a read is completed whose cancel routine runs", "        if (IoSetCancelRoutine(irp, NULL) != NULL)\n",
             "        IoSetCancelRoutine(irp, NULL);\n        if (irp)\n",
-            "IoSetCancelRoutine: where it returns NULL, the cancel routine completes the packet (bug check 0x44)",
-            "CompletedTwice", "in CompleteRequest", flags={"cancel": "2@10"}),
+            "IoSetCancelRoutine: where it returns NULL, the cancel routine takes the packet from the queue, which by then isn't in "
+            "it (bug check 0x139), and completes it (bug check 0x44)",
+            "ListCorrupt", "in CancelRead", flags={"cancel": "2@10"}),
     mailbox("a read that is cancelled already is queued",
             "    if (Irp->Cancel && IoSetCancelRoutine(Irp, NULL) != NULL) {", "    if (0) {",
             "Cancel Routines: Irp->Cancel is looked at once the routine is set, else nobody calls it",
