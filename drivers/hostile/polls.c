@@ -3,7 +3,7 @@
 
 static VOID Poll(PVOID Context)
 {
-    LARGE_INTEGER moment = { .QuadPart = -100000 };
+    LARGE_INTEGER moment = { .QuadPart = -1000000 };
     for (;;)
         KeDelayExecutionThread(KernelMode, FALSE, &moment);
 }
