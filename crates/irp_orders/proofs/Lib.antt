@@ -1,3 +1,5 @@
+mod Grouping
 mod Ranking
+mod Showing
 mod Verdicts
 mod Programs

@@ -24,7 +24,8 @@ use Rattle.irp_orders.specs.Ending.{of_unfound, of_unheard, of_unread}
 use Rattle.irp_orders.specs.Facts.{Meets}
 use Rattle.irp_orders.specs.Founds.{outcomes_of}
 use Rattle.irp_orders.specs.Judging.{IsTold, IsVerdict, verdict_ending}
-use Rattle.irp_orders.specs.Program.{Explores, IsAnswered, IsGivenUp, IsInput, IsRefused, IsUnexplored, IsUnjudged, IsUnread, Judges, most_steps, tells}
+use Rattle.irp_orders.specs.Exploring.{IsUnexplored, most_steps, tells}
+use Rattle.irp_orders.specs.Program.{Explores, IsAnswered, IsGivenUp, IsInput, IsRefused, IsUnjudged, IsUnread, Judges}
 use Rattle.irp_orders.specs.declared.asked.Order.{Order}
 use Rattle.irp_orders.specs.declared.ending.Ending.{Ending}
 use Rattle.irp_orders.specs.declared.ending.Ending.TheVariants as ending
@@ -151,7 +152,7 @@ pub unheard_up : (fault : StreamFault) → IsGivenUp (of_unheard fault)
 unheard_up stream.Failed = tt
 unheard_up stream.NoMemory = tt
 
-pub explored_by : (order : Order) (old new : Option (List ℕ)) (text : List ℕ) (ending : Ending) → IsInput old new text
-    → IsGivenUp ending ⊎ (IsRefused text ending ⊎ IsAnswered order text ending) → Explores order old new ending
-explored_by order old new text ending input (inl given) = inl given
-explored_by order old new text ending input (inr told) = inr (text, input, told)
+pub explored_by : (order : Order) (left rest old new : Option (List ℕ)) (text : List ℕ) (ending : Ending) → IsInput left rest text
+    → IsGivenUp ending ⊎ (IsRefused text ending ⊎ IsAnswered order text old new ending) → Explores order left rest old new ending
+explored_by order left rest old new text ending input (inl given) = inl given
+explored_by order left rest old new text ending input (inr told) = inr (text, input, told)

@@ -1,22 +1,24 @@
 -- What the program does for a script and what is asked of its orders.
-use Rattle.std.specs.Prelude.{ℕ, ◌≡◌, ◌⊎◌, ⊤, Bool, not, List, take, Option, IfSome, Ok, Err, All, Contains}
-use Rattle.std.specs.Io.KnownBytes.{Consumes}
-use Rattle.irp_explore.specs.Counted.{HasManyOrders}
-use Rattle.irp_explore.specs.Nodes.{HasMoreStates, HasOrderOf}
+use Rattle.std.specs.Prelude.{ℕ, ◌≡◌, ◌⊎◌, ◌-◌, ◌<◌, ⊤, Bool, List, length, slice_get, take, Option, Some, IfSome, Ok, Err, All, Contains}
+use Rattle.std.specs.Io.KnownBytes.{Appends, Consumes}
 use Rattle.irp_condition.specs.declared.condition.Condition.{Condition}
-use Rattle.irp_machine.specs.Machine.{place_mark}
-use Rattle.irp_machine.specs.Orders.{AreOutcomesOf, HasMoreEnds, IsMet}
-use Rattle.irp_machine.specs.declared.limits.NotFound.{NotFound}
-use Rattle.irp_machine.specs.declared.limits.NotFound.TheVariants as bound
+use Rattle.irp_machine.specs.Endings.{end_of}
+use Rattle.irp_machine.specs.Orders.{AreOutcomesOf}
+use Rattle.irp_machine.specs.Replays.{IsReplay, told_end}
 use Rattle.irp_machine.specs.declared.outcome.Outcome.{Outcome}
+use Rattle.irp_transcript.specs.Transcripts.{TranscriptValue}
+use Rattle.irp_transcript_writer.specs.Lines.{lines, text_of}
 use Rattle.irp_script_reader.specs.Scripts.{ReadsScript}
 use Rattle.irp_script_reader.specs.declared.refusal.ScriptFault.TheVariants.{Refused}
 use Rattle.irp_script_reader.specs.declared.script.ScriptParts.{ScriptParts}
 use Rattle.irp_orders.specs.Conditions.{Says, SaysNothing}
+use Rattle.irp_orders.specs.Exploring.{IsUnexplored, MeetsBound, tells}
 use Rattle.irp_orders.specs.Facts.{Meets}
+use Rattle.irp_orders.specs.Rows.{AreRowsOf}
 use Rattle.irp_orders.specs.declared.asked.Order.{Order}
 use Rattle.irp_orders.specs.declared.asked.Task.{Task}
-use Rattle.irp_orders.specs.declared.asked.Task.TheVariants.{Never}
+use Rattle.irp_orders.specs.declared.asked.Task.TheVariants.{Never, Show, Table}
+use Rattle.irp_orders.specs.declared.found.Found.{Found}
 use Rattle.irp_orders.specs.declared.ending.Ending.{Ending}
 use Rattle.irp_orders.specs.declared.ending.Ending.TheVariants.{
   Done,
@@ -24,40 +26,13 @@ use Rattle.irp_orders.specs.declared.ending.Ending.TheVariants.{
   NoMemory,
   Met,
   NoOrder,
+  NoOutcome,
   RefusedCondition,
   RefusedScript,
   FaultyWords,
   Differs,
   Failed,
 }
-
--- ---- exploring
-
--- whether the replies of steps tell outcomes apart
-abbrev pub tells : Order → Bool
-tells order = not order.by_ends
-
--- no order of a script that was read has so many atomic steps, with the one that closes it
-abbrev pub most_steps : ℕ
-most_steps = 1000000
-
--- the orders of a script meet this bound: so many states or outcomes as may be, so many steps, or too many orders
-abbrev pub MeetsBound : ScriptParts → Order → NotFound → Type 0
-MeetsBound script order bound.States =
-    IsMet script (tells order) (λ moves seats start. HasMoreStates moves seats place_mark start order.states)
-MeetsBound script order bound.Outcomes =
-    IsMet script (tells order) (λ moves seats start. HasMoreEnds moves seats start order.outcomes)
-MeetsBound script order bound.Steps =
-    IsMet script (tells order) (λ moves seats start. HasOrderOf moves seats start most_steps)
-MeetsBound script order bound.Orders =
-    IsMet script (tells order) (λ moves seats start. HasManyOrders moves seats start)
-MeetsBound script order bound.Memory = ⊥
-
--- why the outcomes of a script aren't told: a bound is met, or memory ran out
-abbrev pub IsUnexplored : ScriptParts → Order → Ending → Type 0
-IsUnexplored script order (Met bound) = MeetsBound script order bound
-IsUnexplored script order NoMemory = ⊤
-IsUnexplored script order other = ⊥
 
 -- ---- judging
 
@@ -105,6 +80,55 @@ Judges script order text NoOrder = ⊤
 Judges script order text Failed = ⊤
 Judges script order text other = ⊥
 
+-- ---- rows
+
+-- a transcript was put whole behind what had gone out, or it isn't written whole
+abbrev pub Writes : TranscriptValue → Option (List ℕ) → Option (List ℕ) → Ending → Type 0
+Writes transcript old new Done = Appends old new (text_of (lines transcript))
+Writes transcript old new Failed = ⊤
+Writes transcript old new NoMemory = ⊤
+Writes transcript old new other = ⊥
+
+-- this transcript shows the row of this number, counted from 1: it makes the order again that the row's outcome keeps,
+-- with a legal history, and ends as that outcome
+pub record IsShown (script : ScriptParts) (order : Order) (number : ℕ) (transcript : TranscriptValue) : Type 0 where
+  pub rows : List Found
+  pub rows_are : AreRowsOf script order rows
+  pub some : 0 < number
+  pub row : Found
+  pub stands : slice_get rows (number - 1) ≡ Some row
+  pub replay : IsReplay script row.outcome.path.items transcript
+  pub ends : row.outcome.end ≡ told_end (tells order) (end_of replay.last)
+
+-- there are so many rows, and none of this number
+pub record IsBeyond (script : ScriptParts) (order : Order) (number count : ℕ) : Type 0 where
+  pub rows : List Found
+  pub rows_are : AreRowsOf script order rows
+  pub counted : count ≡ length rows
+  pub beyond : (number ≡ 0) ⊎ (count < number)
+
+-- why no row of this number is shown: there is none, a bound is met, or memory ran out
+abbrev pub IsUnshown : ScriptParts → Order → ℕ → Ending → Type 0
+IsUnshown script order number (NoOutcome count) = IsBeyond script order number count
+IsUnshown script order number (Met bound) = MeetsBound script order bound
+IsUnshown script order number NoMemory = ⊤
+IsUnshown script order number other = ⊥
+
+-- how the program ends that was asked to show a row: Done only where the transcript that shows it was put behind what
+-- had gone out
+abbrev pub Shows : ScriptParts → Order → ℕ → Option (List ℕ) → Option (List ℕ) → Ending → Type 0
+Shows script order number old new Done =
+    (transcript : TranscriptValue) × IsShown script order number transcript
+    × Appends old new (text_of (lines transcript))
+Shows script order number old new Failed = ⊤
+Shows script order number old new other = IsUnshown script order number other
+
+-- how the program ends that was asked for the table: Done only where there are rows of the script's orders
+abbrev pub Tables : ScriptParts → Order → Ending → Type 0
+Tables script order Done = (rows : List Found) × AreRowsOf script order rows
+Tables script order Failed = ⊤
+Tables script order other = IsUnexplored script order other
+
 -- ---- answering
 
 -- a text isn't written whole
@@ -117,10 +141,11 @@ IsUnwritten other = ⊥
 abbrev pub IsSent : Ending → Ending → Type 0
 IsSent wanted ending = (ending ≡ wanted) ⊎ IsUnwritten ending
 
--- what is answered by what is asked
-abbrev pub Answers : ScriptParts → Order → Task → Ending → Type 0
-Answers script order (Never text) ending = Judges script order text.now ending
-Answers script order other ending = ⊤
+-- what is answered by what is asked; then this has gone out, where that is known
+abbrev pub Answers : ScriptParts → Order → Task → Option (List ℕ) → Option (List ℕ) → Ending → Type 0
+Answers script order (Never text) old new ending = Judges script order text.now ending
+Answers script order (Show number) old new ending = Shows script order number old new ending
+Answers script order Table old new ending = Tables script order ending
 
 -- ---- the whole
 
@@ -145,15 +170,17 @@ IsRefused text (RefusedScript refusal) = ReadsScript (Err (Refused refusal)) tex
 IsRefused text other = ⊥
 
 -- a text is a script's, and this is answered of it
-abbrev pub IsAnswered : Order → List ℕ → Ending → Type 0
-IsAnswered order text ending =
-    (script : ScriptParts) × ReadsScript (Ok script) text × Answers script order order.task ending
+abbrev pub IsAnswered : Order → List ℕ → Option (List ℕ) → Option (List ℕ) → Ending → Type 0
+IsAnswered order text old new ending =
+    (script : ScriptParts) × ReadsScript (Ok script) text × Answers script order order.task old new ending
 
--- what the program does with its input: it gives up; or it refuses the text, or answers what is asked of its script
-abbrev pub Explores : Order → Option (List ℕ) → Option (List ℕ) → Ending → Type 0
-Explores order old new ending =
+-- what the program does with its input and its output: it gives up; or it refuses the text, or answers what is asked of
+-- its script
+abbrev pub Explores :
+    Order → Option (List ℕ) → Option (List ℕ) → Option (List ℕ) → Option (List ℕ) → Ending → Type 0
+Explores order left rest old new ending =
     IsGivenUp ending
-    ⊎ ((text : List ℕ) × IsInput old new text × (IsRefused text ending ⊎ IsAnswered order text ending))
+    ⊎ ((text : List ℕ) × IsInput left rest text × (IsRefused text ending ⊎ IsAnswered order text old new ending))
 
 -- words say no script: each fault is told, or memory ran out
 abbrev pub IsFaulty : Ending → Type 0
@@ -163,10 +190,10 @@ IsFaulty NoMemory = ⊤
 IsFaulty other = ⊥
 
 -- the program does with some text of JSON what it does with its input
-abbrev pub IsToldOfJson : Order → Ending → Type 0
-IsToldOfJson order ending =
-    (json : List ℕ) × (IsGivenUp ending ⊎ (IsRefused json ending ⊎ IsAnswered order json ending))
+abbrev pub IsToldOfJson : Order → Option (List ℕ) → Option (List ℕ) → Ending → Type 0
+IsToldOfJson order old new ending =
+    (json : List ℕ) × (IsGivenUp ending ⊎ (IsRefused json ending ⊎ IsAnswered order json old new ending))
 
 -- what the program does with words: it gives up, or tells their faults; or it takes the JSON that they say
-abbrev pub ExploresWords : Order → Ending → Type 0
-ExploresWords order ending = IsGivenUp ending ⊎ (IsFaulty ending ⊎ IsToldOfJson order ending)
+abbrev pub ExploresWords : Order → Option (List ℕ) → Option (List ℕ) → Ending → Type 0
+ExploresWords order old new ending = IsGivenUp ending ⊎ (IsFaulty ending ⊎ IsToldOfJson order old new ending)

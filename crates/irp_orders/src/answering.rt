@@ -1,6 +1,9 @@
 //! Telling what is asked of the orders of a script.
 
-ghost use Rattle.std.specs.Prelude.{◌⊎◌, IfErr, IfOk};
+ghost use Rattle.std.specs.Prelude.{◌≡◌, ◌⊎◌, ◌<◌, ◌-◌, IfErr, IfOk, IsOk, Some, length, slice_get};
+ghost use Rattle.irp_orders.specs.Exploring.{IsUnexplored};
+ghost use Rattle.irp_orders.specs.Rows.{AreRowsOf};
+ghost use Rattle.irp_orders.specs.declared.ending.Ending.TheVariants.{Done, NoOutcome};
 ghost use Rattle.irp_orders.specs.Judging.{IsTold};
 ghost use Rattle.irp_orders.specs.Program.{
   Answers,
@@ -9,8 +12,13 @@ ghost use Rattle.irp_orders.specs.Program.{
   IsGivenUp,
   IsRefused,
   IsSent,
+  IsShown,
   IsUnjudged,
+  IsUnshown,
   Judges,
+  Shows,
+  Tables,
+  Writes,
 };
 
 use crate::asked::{Order, Task};
@@ -19,19 +27,16 @@ use crate::ending::Ending;
 use crate::exploring::founds_of;
 use crate::found::Found;
 use crate::groups::groups_of;
-use crate::input::read_up_to;
+use crate::input::{TOO_MANY_BYTES, read_up_to};
 use crate::never::{judged, told};
 use crate::table::{Columns, table};
 use irp_listing::send;
-use irp_machine::replay;
+use irp_machine::{paths_can_be_made, replay, replays_end_so};
 use irp_script_reader::{Script, read_script};
 use irp_transcript::Transcript;
 use irp_transcript_writer::{Cause, Out, write_transcript};
 use std::alloc::Global;
 use std::io::Read;
-
-/// One byte more than the text of a script may have.
-const TOO_MANY_BYTES: usize = 1_048_577;
 
 /// Whether a condition holds in some order: the text that tells it, and how the program ends then.
 ///
@@ -105,7 +110,14 @@ fn never<O: Out>(
 }
 
 /// The rows of the table: the outcomes of a script's orders, or groups of them.
-fn rows_of(alloc: Global, script: &Script, order: &Order<'_>) -> Result<Vec<Found>, Ending> {
+///
+/// # Errors
+///
+/// `Met` where a bound is met; `NoMemory` where memory ran out.
+fn rows_of(alloc: Global, script: &Script, order: &Order<'_>) -> Result<Vec<Found>, Ending>
+    ensures rows { IfOk result (λ rows. AreRowsOf script.now order.now rows.items) }
+    ensures met { IfErr result (IsUnexplored script.now order.now) }
+{
     let founds = founds_of(alloc, script, order)?;
     if order.in_groups {
         return Ok(groups_of(alloc, founds)?);
@@ -113,21 +125,34 @@ fn rows_of(alloc: Global, script: &Script, order: &Order<'_>) -> Result<Vec<Foun
     Ok(founds)
 }
 
-/// Writes the table of the outcomes.
-fn tell<O: Out>(
-    alloc: Global,
-    output: &mut O,
-    script: &Script,
-    order: &Order<'_>,
-) -> Result<Ending, Ending> {
+/// The text of the table of the outcomes.
+///
+/// # Errors
+///
+/// Those of `rows_of`.
+fn table_of(alloc: Global, script: &Script, order: &Order<'_>) -> Result<Vec<u8>, Ending>
+    ensures told { IsOk result → Tables script.now order.now Done }
+    ensures untold { IfErr result (IsUnexplored script.now order.now) }
+{
     let rows = rows_of(alloc, script, order)?;
     let columns = Columns::of(alloc, script, rows.as_slice())?;
-    let text = table(alloc, &columns, rows.as_slice())?;
-    Ok(send_text(output, text.as_slice(), Ending::Done))
+    Ok(table(alloc, &columns, rows.as_slice())?)
+}
+
+/// Writes the table of the outcomes.
+fn tell<O: Out>(alloc: Global, output: &mut O, script: &Script, order: &Order<'_>) -> Ending
+    ensures { Tables script.now order.now result }
+{
+    match table_of(alloc, script, order) {
+        Ok(text) => send_text(output, text.as_slice(), Ending::Done),
+        Err(ending) => ending,
+    }
 }
 
 /// Writes a transcript.
-fn write<O: Out>(alloc: Global, output: &mut O, transcript: &Transcript) -> Ending {
+fn write<O: Out>(alloc: Global, output: &mut O, transcript: &Transcript) -> Ending
+    ensures { Writes transcript.now (O.gone output.old) (O.gone output.new) result }
+{
     match write_transcript(alloc, output, transcript) {
         Ok(()) => Ending::Done,
         Err(fault) => match fault.cause {
@@ -137,41 +162,69 @@ fn write<O: Out>(alloc: Global, output: &mut O, transcript: &Transcript) -> Endi
     }
 }
 
-/// Writes a transcript that leads to the outcome of this number, from 1.
+/// The row of a number, counted from 1.
+///
+/// # Errors
+///
+/// `NoOutcome`, with the number of rows, where there is none.
+fn row_at(rows: &[Found], number: u64) -> Result<&Found, Ending>
+    ensures row { IfOk result (λ row. (0 < number)
+        × (slice_get rows.now (number - 1) ≡ Some row.now)) }
+    ensures none { IfErr result (λ ending. (ending ≡ NoOutcome (length rows.now))
+        × ((number ≡ 0) ⊎ (length rows.now < number))) }
+{
+    let count = rows.len() as u64;
+    if number < 1 || number > count {
+        return Err(Ending::NoOutcome(count));
+    }
+    Ok(&rows[(number - 1) as usize])
+}
+
+/// The transcript that leads to the outcome of the row of a number, counted from 1.
+///
+/// # Errors
+///
+/// `NoOutcome`, with the number of rows, where there is none; those of `rows_of`.
+fn shown(
+    alloc: Global,
+    script: &Script,
+    order: &Order<'_>,
+    number: u64,
+) -> Result<Transcript, Ending>
+    ensures shown { IfOk result (IsShown script.now order.now number) }
+    ensures unshown { IfErr result (IsUnshown script.now order.now number) }
+{
+    let rows = rows_of(alloc, script, order)?;
+    let row = row_at(rows.as_slice(), number)?;
+    paths_can_be_made();
+    replays_end_so();
+    Ok(replay(alloc, script, row.outcome.path.as_slice())?)
+}
+
+/// Writes a transcript that leads to the outcome of the row of this number, counted from 1.
 fn show<O: Out>(
     alloc: Global,
     output: &mut O,
     script: &Script,
     order: &Order<'_>,
     number: u64,
-) -> Result<Ending, Ending> {
-    let rows = rows_of(alloc, script, order)?;
-    let count = rows.len() as u64;
-    if number < 1 || number > count {
-        return Err(Ending::NoOutcome(count));
-    }
-    let Some(found) = rows.get((number - 1) as usize) else {
-        return Err(Ending::NoOutcome(count));
-    };
-    let transcript = replay(alloc, script, found.outcome.path.as_slice())?;
-    Ok(write(alloc, output, &transcript))
-}
-
-/// How the program ends, either way.
-fn either(ending: Result<Ending, Ending>) -> Ending {
-    match ending {
-        Ok(ending) => ending,
+) -> Ending
+    ensures { Shows script.now order.now number (O.gone output.old) (O.gone output.new) result }
+{
+    match shown(alloc, script, order, number) {
+        Ok(transcript) => write(alloc, output, &transcript),
         Err(ending) => ending,
     }
 }
 
 /// Tells what is asked of the orders of a script.
 fn answer<O: Out>(alloc: Global, output: &mut O, script: &Script, order: &Order<'_>) -> Ending
-    ensures { Answers script.now order.now order.now.task result }
+    ensures { Answers script.now order.now order.now.task (O.gone output.old)
+        (O.gone output.new) result }
 {
     match order.task {
-        Task::Show(number) => either(show(alloc, output, script, order, number)),
-        Task::Table => either(tell(alloc, output, script, order)),
+        Task::Show(number) => show(alloc, output, script, order, number),
+        Task::Table => tell(alloc, output, script, order),
         Task::Never(text) => never(alloc, output, script, order, text),
     }
 }
@@ -183,7 +236,8 @@ pub fn read_and_answer<O: Out>(
     order: &Order<'_>,
     text: &[u8],
 ) -> Ending
-    ensures { IsGivenUp result ⊎ (IsRefused text.now result ⊎ IsAnswered order.now text.now result) }
+    ensures { IsGivenUp result ⊎ (IsRefused text.now result
+        ⊎ IsAnswered order.now text.now (O.gone output.old) (O.gone output.new) result) }
 {
     match read_script(alloc, text) {
         Ok(script) => answer(alloc, output, &script, order),
@@ -199,7 +253,8 @@ pub fn explore<R: Read, O: Out>(
     output: &mut O,
     order: &Order<'_>,
 ) -> Ending
-    ensures { Explores order.now (R.remaining input.old) (R.remaining input.new) result }
+    ensures { Explores order.now (R.remaining input.old) (R.remaining input.new)
+        (O.gone output.old) (O.gone output.new) result }
 {
     match read_up_to(alloc, input, TOO_MANY_BYTES) {
         Ok(text) => read_and_answer(alloc, output, order, text.as_slice()),

@@ -1,10 +1,11 @@
 //! Exploring the orders of a script.
 
-ghost use Rattle.std.specs.Prelude.{◌≡◌, IfErr, IfOk, not};
+ghost use Rattle.std.specs.Prelude.{◌≡◌, All, IfErr, IfOk, not};
 ghost use Rattle.irp_machine.specs.Limits.{tells_replies};
 ghost use Rattle.irp_machine.specs.Orders.{AreOutcomesOf};
 ghost use Rattle.irp_orders.specs.Founds.{outcomes_of};
-ghost use Rattle.irp_orders.specs.Program.{IsUnexplored, tells};
+ghost use Rattle.irp_orders.specs.Rows.{IsOwn};
+ghost use Rattle.irp_orders.specs.Exploring.{IsUnexplored, tells};
 
 use crate::asked::Order;
 use crate::ending::Ending;
@@ -56,6 +57,7 @@ fn explored(alloc: Global, script: &Script, order: &Order<'_>) -> Result<Vec<Out
 pub fn founds_of(alloc: Global, script: &Script, order: &Order<'_>) -> Result<Vec<Found>, Ending>
     ensures outcomes { IfOk result (λ founds.
         AreOutcomesOf script.now (tells order.now) (outcomes_of founds.items)) }
+    ensures own { IfOk result (λ founds. All IsOwn founds.items) }
     ensures met { IfErr result (IsUnexplored script.now order.now) }
 {
     let outcomes = explored(alloc, script, order)?;

@@ -1,8 +1,9 @@
 //! The outcomes that were found, in the order in which they are told.
 
-ghost use Rattle.std.specs.Prelude.{◌≡◌, IfOk};
+ghost use Rattle.std.specs.Prelude.{◌≡◌, All, IfOk};
 ghost use Rattle.std.specs.List.Sorted.{IsPermutation};
 ghost use Rattle.irp_orders.specs.Founds.{outcomes_of};
+ghost use Rattle.irp_orders.specs.Rows.{IsOwn};
 
 use crate::facts::answers_of;
 use irp_machine::{Answered, Outcome};
@@ -49,7 +50,8 @@ pub fn found_of(
     steps: &[Step],
     mut outcomes: Vec<Outcome>,
 ) -> Result<Vec<Found>, AllocError>
-    ensures { IfOk result (λ founds. outcomes_of founds.items ≡ outcomes.items) }
+    ensures outcomes { IfOk result (λ founds. outcomes_of founds.items ≡ outcomes.items) }
+    ensures own { IfOk result (λ founds. All IsOwn founds.items) }
 {
     let mut founds = Vec::new(alloc);
     while let Some(outcome) = outcomes.pop() {

@@ -1,5 +1,8 @@
 //! Outcomes that differ in the numbers of uses and slots of packets alone.
 
+ghost use Rattle.std.specs.Prelude.{All, IfOk, OnOk, true};
+ghost use Rattle.irp_orders.specs.Rows.{AreGrouped, AreMadeOf, IsOwn, Joins};
+
 use crate::found::Found;
 use irp_machine::{Answered, End, Holder, LiveEnd, LockEnd};
 use irp_transcript::WordReply;
@@ -174,7 +177,9 @@ fn place_of(alloc: Global, groups: &[Found], found: &Found) -> Result<Option<usi
 }
 
 /// Joins an outcome with one that is alike, or puts it behind the others.
-fn join(alloc: Global, groups: &mut Vec<Found>, found: Found) -> Result<(), AllocError> {
+fn join(alloc: Global, groups: &mut Vec<Found>, found: Found) -> Result<(), AllocError>
+    ensures { OnOk result (Joins groups.old.items found groups.new.items) }
+{
     if let Some(place) = place_of(alloc, groups.as_slice(), &found)?
         && let Some(group) = groups.get_mut(place)
     {
@@ -186,13 +191,26 @@ fn join(alloc: Global, groups: &mut Vec<Found>, found: Found) -> Result<(), Allo
     Ok(())
 }
 
-/// The outcomes, those joined that differ in the numbers of uses and slots of packets alone. Of these the most frequent
-/// one stays.
-pub fn groups_of(alloc: Global, founds: Vec<Found>) -> Result<Vec<Found>, AllocError> {
+/// The outcomes, in order, each joined with the first of those before it that is alike, if one is.
+fn joined(alloc: Global, mut founds: Vec<Found>) -> Result<Vec<Found>, AllocError>
+    requires { All IsOwn founds.items }
+    ensures { IfOk result (λ rows. AreGrouped founds.items rows.items) }
+{
+    founds.reverse();
     let mut groups = Vec::new(alloc);
-    for found in founds {
+    while let Some(found) = founds.pop() {
         join(alloc, &mut groups, found)?;
     }
+    Ok(groups)
+}
+
+/// The outcomes, those joined that differ in the numbers of uses and slots of packets alone. Of these the most frequent
+/// one stays.
+pub fn groups_of(alloc: Global, founds: Vec<Found>) -> Result<Vec<Found>, AllocError>
+    requires { All IsOwn founds.items }
+    ensures { IfOk result (λ rows. AreMadeOf true founds.items rows.items) }
+{
+    let mut groups = joined(alloc, founds)?;
     groups.sort_by_key(|group: &Found| u128::MAX - group.orders)?;
     Ok(groups)
 }

@@ -6,14 +6,11 @@ ghost use Rattle.irp_orders.specs.Program.{ExploresWords, IsFaulty, IsGivenUp, I
 use crate::answering::read_and_answer;
 use crate::asked::Order;
 use crate::ending::Ending;
-use crate::input::read_up_to;
+use crate::input::{TOO_MANY_BYTES, read_up_to};
 use irp_grammar::{Told, Untold, fault_lines, json, read_lines};
 use irp_transcript_writer::Out;
 use std::alloc::Global;
 use std::io::Read;
-
-/// One byte more than a text in words may have.
-const TOO_MANY_BYTES: usize = 1_048_577;
 
 /// The JSON of a text in words, with its script.
 fn told_of<'a>(alloc: Global, text: &'a [u8]) -> Result<Told, Untold<'a>> {
@@ -52,7 +49,8 @@ fn json_of(alloc: Global, text: &[u8]) -> Result<String, Ending>
 
 /// Tells what is asked of the orders of the script that words say.
 fn answer_words<O: Out>(alloc: Global, output: &mut O, order: &Order<'_>, text: &[u8]) -> Ending
-    ensures { IsFaulty result ⊎ IsToldOfJson order.now result }
+    ensures { IsFaulty result
+        ⊎ IsToldOfJson order.now (O.gone output.old) (O.gone output.new) result }
 {
     match json_of(alloc, text) {
         Ok(json) => read_and_answer(alloc, output, order, json.as_bytes()),
@@ -68,7 +66,7 @@ pub fn explore_words<R: Read, O: Out>(
     output: &mut O,
     order: &Order<'_>,
 ) -> Ending
-    ensures { ExploresWords order.now result }
+    ensures { ExploresWords order.now (O.gone output.old) (O.gone output.new) result }
 {
     match read_up_to(alloc, input, TOO_MANY_BYTES) {
         Ok(text) => answer_words(alloc, output, order, text.as_slice()),

@@ -6,6 +6,9 @@ ghost use Rattle.std.specs.Io.KnownBytes.{Consumes};
 use std::alloc::Global;
 use std::io::Read;
 
+/// One byte more than the text of a script may have, as JSON or in words.
+pub const TOO_MANY_BYTES: usize = 1_048_577;
+
 /// How many bytes are asked for in one turn, at most.
 const PIECE: usize = 65_536;
 

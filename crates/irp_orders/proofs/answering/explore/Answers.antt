@@ -8,9 +8,9 @@ pub returns-in-Ok : goal.returns-in-Ok
 returns-in-Ok g c =
     let order = c.args.order.now in
     let ending = c.read_and_answer.result in
-    explored_by order _ _ c.in-Ok.text.items ending
+    explored_by order _ _ _ _ c.in-Ok.text.items ending
     (record { front = c.in-Ok.ensures.bytes; took = c.in-Ok.ensures.took })
-    (subst (λ (text : List ℕ). IsGivenUp ending ⊎ (IsRefused text ending ⊎ IsAnswered order text ending))
+    (subst (λ (text : List ℕ). IsGivenUp ending ⊎ (IsRefused text ending ⊎ IsAnswered order text (g.O.Out.gone c.args.output.now) (g.O.Out.gone c.read_and_answer.new.output) ending))
     c.as_slice.ensures.value c.read_and_answer.ensures)
 
 pub returns-in-Err : goal.returns-in-Err

@@ -1,7 +1,8 @@
 use Rattle.std.proofs.Common.{List, subst}
 use Rattle.std.proofs.lemmas.Result.{IfOk-weaker}
 use Rattle.irp_orders.specs.Judging.{IsTold}
-use Rattle.irp_orders.specs.Program.{Judges, tells}
+use Rattle.irp_orders.specs.Exploring.{tells}
+use Rattle.irp_orders.specs.Program.{Judges}
 use Rattle.irp_orders.specs.declared.found.Found.{Found}
 use Rattle.irp_orders.proofs.Programs.{told_judges}
 use Rattle.irp_orders.proofs.answering.explore_and_judge.Goals as goal

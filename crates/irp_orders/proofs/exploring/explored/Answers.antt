@@ -1,7 +1,7 @@
 use Rattle.std.proofs.Common.{Bool, sym, subst}
 use Rattle.irp_machine.specs.Limits.{tells_replies}
 use Rattle.irp_machine.specs.Orders.{AreOutcomesOf}
-use Rattle.irp_orders.specs.Program.{IsUnexplored}
+use Rattle.irp_orders.specs.Exploring.{IsUnexplored}
 use Rattle.irp_orders.specs.declared.ending.Ending.{Ending}
 use Rattle.irp_orders.proofs.Programs.{unexplored_of}
 use Rattle.irp_orders.proofs.exploring.explored.Goals as goal
