@@ -45,7 +45,7 @@ static BOOLEAN is_done_within(Request *r, LONGLONG milliseconds)
 static BOOLEAN is_done_by_timer(Request *r)
 {
     const ULONG left = r->how == PLAIN && !by_schedule ? next_new_timer(MOST_FOR_TIMERS) : 0;
-    return left && is_done_within(r, left + 10);
+    return left && is_done_within(r, left + MOST_FOR_TIMERS);
 }
 
 NTSTATUS end_request(Request *r, int milliseconds)

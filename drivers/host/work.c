@@ -30,8 +30,8 @@ static bool is_new(PKDEFERRED_ROUTINE routine)
     return true;
 }
 
-/* The milliseconds until the next armed timer goes off, where these are at most `most`, and its routine wasn't asked about
-   before; else 0. */
+/* The milliseconds until the next armed timer goes off, at least 1, where these are at most `most`, and its routine wasn't
+   asked about before; else 0. On a busy machine a timer may be due and not have gone off. */
 ULONG next_new_timer(ULONG most)
 {
     PKTIMER next = NULL;
@@ -40,9 +40,9 @@ ULONG next_new_timer(ULONG most)
         if (t->Dpc && (!next || t->Due < next->Due))
             next = t;
     const LONGLONG left = next ? (next->Due - now_in_100ns()) / 10000 + 1 : 0;
-    const bool is_wanted = next && left > 0 && left <= (LONGLONG)most && is_new(next->Dpc->Routine);
+    const bool is_wanted = next && left <= (LONGLONG)most && is_new(next->Dpc->Routine);
     pthread_mutex_unlock(&host_lock);
-    return is_wanted ? (ULONG)left : 0;
+    return is_wanted ? (ULONG)(left > 1 ? left : 1) : 0;
 }
 
 /* Runs a driver's routine that no packet asked for, in its own frame. Under G before and after. */
