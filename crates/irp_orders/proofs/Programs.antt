@@ -23,7 +23,7 @@ use Rattle.irp_orders.specs.Conditions.{IsScopeOf, Says}
 use Rattle.irp_orders.specs.Ending.{of_unfound, of_unheard, of_unread}
 use Rattle.irp_orders.specs.Facts.{Meets}
 use Rattle.irp_orders.specs.Founds.{outcomes_of}
-use Rattle.irp_orders.specs.Judging.{IsTold, IsVerdict, verdict_ending}
+use Rattle.irp_orders.specs.Judging.{IsBreach, IsTold, IsVerdict, verdict_ending}
 use Rattle.irp_orders.specs.Exploring.{IsUnexplored, most_steps, tells}
 use Rattle.irp_orders.specs.Program.{Explores, IsAnswered, IsGivenUp, IsInput, IsRefused, IsUnjudged, IsUnread, Judges}
 use Rattle.irp_orders.specs.declared.asked.Order.{Order}
@@ -78,7 +78,7 @@ unexplored_of script order told found.Orders same steps states orders ends =
 
 -- ---- judging
 
-contained : (founds : List Found) (place : ℕ) (found : Found) → slice_get founds place ≡ Some found
+pub contained : (founds : List Found) (place : ℕ) (found : Found) → slice_get founds place ≡ Some found
     → Contains (outcomes_of founds) found.outcome
 contained founds place found at =
     let outcome : Found → Outcome = λ (found : Found). found.outcome in
@@ -91,7 +91,7 @@ contained founds place found at =
 
 judged_by : (script : ScriptParts) (order : Order) (text : List ℕ) (founds : List Found) (condition : Condition) (shown : Option ℕ)
     → AreOutcomesOf script (tells order) (outcomes_of founds) → Says script (tells order) text condition
-    → IsVerdict script.steps condition founds shown → Judges script order text (verdict_ending shown)
+    → IsVerdict (IsBreach script.steps condition) founds shown → Judges script order text (verdict_ending shown)
 judged_by script order text founds condition None are says none = (
   outcomes_of founds,
   condition,
@@ -125,6 +125,7 @@ unexplored_judges script order text ending.NoMemory un = tt
 unexplored_judges script order text (ending.Met bound) un = un
 unexplored_judges script order text ending.NoOrder un = absurd un
 unexplored_judges script order text ending.OtherWords un = absurd un
+unexplored_judges script order text ending.NotBesideRight un = absurd un
 unexplored_judges script order text (ending.RefusedCondition fault) un = absurd un
 unexplored_judges script order text (ending.NoOutcome count) un = absurd un
 unexplored_judges script order text (ending.NoFile name reason) un = absurd un
@@ -141,6 +142,7 @@ unjudged_judges script order text ending.NoMemory un = tt
 unjudged_judges script order text (ending.Met bound) un = absurd un
 unjudged_judges script order text ending.NoOrder un = tt
 unjudged_judges script order text ending.OtherWords un = absurd un
+unjudged_judges script order text ending.NotBesideRight un = absurd un
 unjudged_judges script order text (ending.RefusedCondition fault) un = un
 unjudged_judges script order text (ending.NoOutcome count) un = absurd un
 unjudged_judges script order text (ending.NoFile name reason) un = absurd un
