@@ -4,7 +4,9 @@
 
 mod behaviours;
 mod between;
+mod conditions;
 mod gate;
+mod heard;
 mod labels;
 mod meeting;
 mod run;
@@ -23,7 +25,9 @@ mod worker_steps;
 
 pub use behaviours::{cancel_rule, table_answer, table_cancel, table_plan};
 pub use between::hand_between;
+pub use conditions::{expects, expects_reply, expects_word, holds, passes};
 pub use gate::{AlwaysOpen, Gate};
+pub use heard::{Answered, Heard};
 /// Whether a history is legal: `irp_judge` judges it.
 pub use irp_judge::{Verdict, check};
 pub use labels::{UNBOUND, label_of, packet_of};
