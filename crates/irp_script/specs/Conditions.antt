@@ -1,7 +1,25 @@
 -- When the condition of a step holds, by what the steps of its seat were answered.
-use Rattle.std.specs.Prelude.{ℕ, ◌==◌, Bool, true, false, not, if◌then◌else◌, Option, Some, None, List, is_some}
-use Rattle.std.specs.List.{find}
-use Rattle.std.specs.Option.{option_map, option_map_or}
+use Rattle.std.specs.Prelude.{
+  ℕ,
+  ◌==◌,
+  Bool,
+  true,
+  false,
+  not,
+  if◌then◌else◌,
+  is_some,
+  Option,
+  Some,
+  None,
+  List,
+  [],
+  length,
+  replicate,
+  slice_get,
+  slice_set,
+}
+use Rattle.std.specs.List.{list_any}
+use Rattle.std.specs.Option.{option_flatten, option_map_or}
 use Rattle.irp_types.specs.Refusal.{refusal_number}
 use Rattle.irp_types.specs.Status.{is_success, success}
 use Rattle.irp_types.specs.declared.names.CancelId.{CancelId}
@@ -18,8 +36,9 @@ use Rattle.irp_script_reader.specs.declared.condition.{
 }
 use Rattle.irp_script_reader.specs.declared.condition.AnswerWord.TheVariants as word
 use Rattle.irp_script_reader.specs.declared.condition.ExpectedAnswer.TheVariants as expected
-use Rattle.irp_script.specs.declared.heard.{Answered.Answered, Heard.Heard}
-use Rattle.irp_script.specs.declared.heard.Answered.TheVariants as answer
+use Rattle.irp_script_reader.specs.declared.act.Step.{Step}
+use Rattle.irp_script.specs.declared.answered.Answered.{Answered}
+use Rattle.irp_script.specs.declared.answered.Answered.TheVariants as answer
 
 -- ---- the manager's replies
 
@@ -115,17 +134,32 @@ abbrev pub expects : ExpectedAnswer → Answered → Bool
 expects wanted (answer.Reply given) = expects_reply wanted given
 expects wanted (answer.Word given) = expects_word wanted given
 
--- what the step of this place was answered, by what a seat heard: none where that wasn't made
-abbrev pub heard_at : List Heard → ℕ → Option Answered
-heard_at heard step = option_map (λ (one : Heard). one.answer) (find (λ (one : Heard). one.step == step) heard)
-
 -- the step that the condition names was made, and its answer is the one that is expected, or isn't, as is wanted
-abbrev pub passes : List Heard → Condition → Bool
-passes heard condition =
-    option_map_or (λ given. is_flag (expects condition.answer given) condition.wanted)
-    (heard_at heard condition.step) false
+abbrev pub allows : Condition → Option Answered → Bool
+allows condition None = false
+allows condition (Some given) = is_flag (expects condition.answer given) condition.wanted
 
--- a step that hangs on this is made, by a seat that heard this
-abbrev pub holds : List Heard → Option Condition → Bool
+-- what steps were answered, by their places: none where a step wasn't made
+abbrev pub Heard : Type 0
+Heard = List (Option Answered)
+
+abbrev pub heard_at : Heard → ℕ → Option Answered
+heard_at heard step = option_flatten (slice_get heard step)
+
+-- the same once the step of this place was answered so, where answers are kept
+abbrev pub with_answer : Heard → ℕ → Answered → Heard
+with_answer heard step given = slice_set heard step (Some given)
+
+-- the condition holds, by what steps were answered. Those of a `Script` name steps of their own seat
+abbrev pub passes : Heard → Condition → Bool
+passes heard condition = allows condition (heard_at heard condition.step)
+
+-- what hangs on this is made: what hangs on nothing is, in any case
+abbrev pub holds : Heard → Option Condition → Bool
 holds heard None = true
 holds heard (Some condition) = passes heard condition
+
+-- nothing was heard yet of these steps. Where none has a condition, no answers are kept
+abbrev pub none_heard : List Step → Heard
+none_heard steps =
+    if list_any (λ (step : Step). is_some step.condition) steps then replicate (length steps) None else []

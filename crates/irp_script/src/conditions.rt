@@ -3,7 +3,7 @@
 ghost use Rattle.std.specs.Prelude.{◌≡◌};
 ghost use Rattle.irp_script.specs.Conditions as spec;
 
-use crate::heard::{Answered, Heard};
+use crate::answered::Answered;
 use irp_script_reader::{AnswerWord, Condition, ExpectedAnswer};
 use irp_shared::WordReply;
 use irp_types::{CancelId, Reply, Status};
@@ -125,32 +125,33 @@ pub fn expects(expected: ExpectedAnswer, answer: Answered) -> bool
     }
 }
 
-/// What the step of this place was answered, by what a seat heard. None where it wasn't made.
-fn heard_at(heard: &[Heard], step: u32) -> Option<Answered>
-    ensures { result ≡ spec.heard_at heard.now step }
+/// Whether the step that the condition names was made, and was answered as is wanted. None is the answer of one that
+/// wasn't made.
+pub fn allows(condition: Condition, answer: Option<Answered>) -> bool
+    ensures { result ≡ spec.allows condition answer }
 {
-    match heard.iter().find(|one| one.step == step) {
-        Some(one) => Some(one.answer),
-        None => None,
-    }
-}
-
-/// Whether the step that the condition names was made, and was answered as is wanted.
-pub fn passes(heard: &[Heard], condition: Condition) -> bool
-    ensures { result ≡ spec.passes heard.now condition }
-{
-    match heard_at(heard, condition.step) {
+    match answer {
         Some(given) => is_flag(expects(condition.answer, given), condition.wanted),
         None => false,
     }
 }
 
-/// Whether a step that hangs on this is made, by a seat that heard this.
-pub fn holds(heard: &[Heard], condition: Option<Condition>) -> bool
+/// What the step of this place was answered. None where it wasn't made.
+fn heard_at(heard: &[Option<Answered>], step: u32) -> Option<Answered>
+    ensures { result ≡ spec.heard_at heard.now step }
+{
+    match heard.get(step as usize) {
+        Some(answer) => *answer,
+        None => None,
+    }
+}
+
+/// Whether what hangs on this is made, by what steps were answered: what hangs on nothing is, in any case.
+pub fn holds(heard: &[Option<Answered>], condition: Option<Condition>) -> bool
     ensures { result ≡ spec.holds heard.now condition }
 {
     match condition {
         None => true,
-        Some(condition) => passes(heard, condition),
+        Some(condition) => allows(condition, heard_at(heard, condition.step)),
     }
 }

@@ -2,6 +2,7 @@
 //! steps, and hands between these; and, as a door to `irp_judge`, the judge of what they recorded.
 #![tactic(auto)]
 
+mod answered;
 mod behaviours;
 mod between;
 mod conditions;
@@ -23,11 +24,11 @@ mod words;
 mod worker;
 mod worker_steps;
 
+pub use answered::Answered;
 pub use behaviours::{cancel_rule, table_answer, table_cancel, table_plan};
 pub use between::hand_between;
-pub use conditions::{expects, expects_reply, expects_word, holds, passes};
+pub use conditions::{allows, expects, expects_reply, expects_word};
 pub use gate::{AlwaysOpen, Gate};
-pub use heard::{Answered, Heard};
 /// Whether a history is legal: `irp_judge` judges it.
 pub use irp_judge::{Verdict, check};
 pub use labels::{UNBOUND, label_of, packet_of};
