@@ -320,7 +320,7 @@ hang_more form steps step has may k d within = elim (eqb_tells k (length steps))
       ap (λ first. may_hang form first (get_or (steps ++ step ∷ []) k d).seat (get_or (steps ++ step ∷ []) k d).condition) before
       ∙ ap (λ (one : Step). may_hang form steps one.seat one.condition) here ∙ may
   | inr other ↦
-      let long : length (steps ++ step ∷ []) ≡ 0 + length steps + 1 = sym (longer steps step 0) in
+      let long = longer steps step 0 in
       let less : k < length steps = omega (arith, within, other.1, long) in
       let before : take k (steps ++ step ∷ []) ≡ take k steps = take-append-le k steps (step ∷ []) (omega (arith, less)) in
       let here : get_or (steps ++ step ∷ []) k d ≡ get_or steps k d = get_or_append_left steps (step ∷ []) d k less in
@@ -541,8 +541,10 @@ script_sound whole =
       completions = obey.0;
       dispatches = subst (λ known. All (IsPlan form known) tables.0) obey.1 named.1;
       drivers = named.2.2;
-      setup = λ k step within. let one = listed.0 k step within in (one.0, (and_parts (suits_setup _) _ one.1).0);
-      unconditioned = λ k step within. unhung _ (and_parts (suits_setup _) _ (listed.0 k step within).1).1;
+      setup = λ k step within. let one = listed.0 k step within in
+          (one.0, (and_parts (suits_setup (get_or steps.0 k step).act) (is_none (get_or steps.0 k step).condition) one.1).0);
+      unconditioned = λ k step within. let one = listed.0 k step within in
+          unhung (get_or steps.0 k step).condition (and_parts (suits_setup (get_or steps.0 k step).act) (is_none (get_or steps.0 k step).condition) one.1).1;
       steps = λ k step within. (listed.1.4 k step within).0;
       conditions = λ k step there.
           let here = listed.1.5 k step (slice_get_within steps.1.steps k step there) in
