@@ -3,6 +3,8 @@
 
 mod act;
 mod acts;
+mod condition;
+mod conditions;
 mod forms;
 mod labels;
 mod lists;
@@ -14,6 +16,7 @@ mod script;
 mod taking;
 
 pub use act::{Named, Step, StepAct};
+pub use condition::{AnswerWord, Condition, ExpectedAnswer};
 pub use labels::Labels;
 pub use read::read_script;
 pub use refusal::{Fault, ScriptFault, ScriptRefusal, Section};
