@@ -18,7 +18,7 @@ use Rattle.irp_script_reader.specs.declared.act.StepAct.TheVariants as does
 use Rattle.irp_script_reader.specs.declared.script.ScriptParts.{ScriptParts}
 use Rattle.irp_plain.specs.Changes.{only, told}
 use Rattle.irp_plain.specs.Lists.{with_item}
-use Rattle.irp_plain.specs.Seats.{SeatValue, new_seat, after_step, one_more, place_after}
+use Rattle.irp_plain.specs.Seats.{SeatValue, new_seat, after_step, made_after, one_more, stage_after}
 use Rattle.irp_plain.specs.declared.answered.Answered.{Answered}
 use Rattle.irp_plain.specs.declared.answered.Answered.TheVariants.{Reply as Replied, Word}
 use Rattle.irp_plain.specs.declared.parts.After.TheVariants.{In, Told}
@@ -198,10 +198,10 @@ module _ (header : Header) (script : ScriptParts) (few : length script.setup < 2
           ∙ ap (λ (given : Option Given). with_given given (with_item step.seat after standing.seats)) ends.2
 
       made_behind : after.made ≡ suc own.made
-      made_behind = ap (λ (after : _). (place_after act.place own.made after).0) ends.1 ∙ made_more
+      made_behind = ap (made_after act.place own.made) ends.1 ∙ made_more
 
       stage_behind : after.stage ≡ Between
-      stage_behind = ap (λ (after : _). (place_after act.place own.made after).1) ends.1
+      stage_behind = ap stage_after ends.1
 
       seat_is : seat_at new step.seat ≡ after
       seat_is = ap (λ (seats : List SeatValue). get_or seats step.seat new_seat) seats_behind ∙ changed_seat standing.seats step.seat after there

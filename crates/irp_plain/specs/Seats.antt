@@ -68,18 +68,25 @@ heard_of Bound place = None
 abbrev pub one_more : ℕ → ℕ
 one_more at = if nat_le (2 ^ 62) at then at else at + 1
 
--- how many of its acts a seat is behind after a step of the act at this place, and how far the present one is
-abbrev pub place_after : ActPlace → ℕ → After → ℕ × Stage
-place_after place made (In stage) = (made, stage)
-place_after place made (IsTold answer) = (one_more place.at, stages.Between)
-place_after place made (Binds answer irp) = (made, stages.Answered irp)
-place_after place made Bound = (one_more place.at, stages.Between)
+-- how many of its acts a seat is behind after a step of the act at this place
+abbrev pub made_after : ActPlace → ℕ → After → ℕ
+made_after place made (In stage) = made
+made_after place made (IsTold answer) = one_more place.at
+made_after place made (Binds answer irp) = made
+made_after place made Bound = one_more place.at
+
+-- how far a seat is in its present act behind a step
+abbrev pub stage_after : After → Stage
+stage_after (In stage) = stage
+stage_after (IsTold answer) = stages.Between
+stage_after (Binds answer irp) = stages.Answered irp
+stage_after Bound = stages.Between
 
 -- a seat behind a step of its own, in the act at this place
 abbrev pub after_step : Change → ActPlace → Bool → SeatValue → SeatValue
 after_step change place tells seat = record {
-  made = (place_after place seat.made change.after).0;
-  stage = (place_after place seat.made change.after).1;
+  made = made_after place seat.made change.after;
+  stage = stage_after change.after;
   held = with_more change.holds (without change.drops seat.held);
   learned = with_more change.learns seat.learned;
   taken = with_more change.takes (without change.spends seat.taken);

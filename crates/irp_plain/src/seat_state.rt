@@ -3,7 +3,7 @@
 ghost use Rattle.std.specs.Prelude.{◌≡◌, [], true, IfOk, OnOk, position};
 ghost use Rattle.std.specs.List.{list_any};
 ghost use mathlib.Core.Logic.{◌↔◌};
-ghost use Rattle.irp_plain.specs.Seats.{is_held, is_taken, is_removed, is_drained, after_step, heard_of, new_seat, told_of, one_more, place_after, with_held};
+ghost use Rattle.irp_plain.specs.Seats.{is_held, is_taken, is_removed, is_drained, after_step, heard_of, new_seat, told_of, made_after, one_more, stage_after, with_held};
 
 use crate::answered::{Answered, Told};
 use crate::lists::changed;
@@ -53,10 +53,9 @@ impl SeatParts {
     {
         let told = told_of(change.after, place.step, tells);
         let heard = heard_of(change.after, place);
-        let (made, stage) = place_after(place, self.made, change.after);
         Ok(SeatParts {
-            made,
-            stage,
+            made: made_after(place, self.made, change.after),
+            stage: stage_after(change.after),
             held: changed(alloc, &self.held, change.drops, change.holds)?,
             learned: changed(alloc, &self.learned, None, change.learns)?,
             taken: changed(alloc, &self.taken, change.spends, change.takes)?,
@@ -214,14 +213,24 @@ fn one_more(at: usize) -> usize
     at + 1
 }
 
-/// How many acts the seat is behind after a step of the act at this place, and how far the present one is.
-fn place_after(place: ActPlace, made: usize, after: After) -> (usize, Stage)
-    ensures { result ≡ place_after place made after }
+/// How many of its acts a seat is behind after a step of the act at this place.
+fn made_after(place: ActPlace, made: usize, after: After) -> usize
+    ensures { result ≡ made_after place made after }
 {
     match after {
-        After::In(stage) => (made, stage),
-        After::Binds(_, irp) => (made, Stage::Answered(irp)),
-        After::Told(_) | After::Bound => (one_more(place.at), Stage::Between),
+        After::In(_) | After::Binds(..) => made,
+        After::Told(_) | After::Bound => one_more(place.at),
+    }
+}
+
+/// How far a seat is in its present act behind a step.
+fn stage_after(after: After) -> Stage
+    ensures { result ≡ stage_after after }
+{
+    match after {
+        After::In(stage) => stage,
+        After::Binds(_, irp) => Stage::Answered(irp),
+        After::Told(_) | After::Bound => Stage::Between,
     }
 }
 
