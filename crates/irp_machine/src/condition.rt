@@ -32,7 +32,8 @@ fn passes(heard: &[Told], condition: Condition) -> bool
     ensures { result ≡ spec.passes heard.now condition }
 {
     match heard_at(heard, condition.step) {
-        Some(given) => expects(condition.answer, given) == condition.wanted,
+        Some(given) if condition.wanted => expects(condition.answer, given),
+        Some(given) => !expects(condition.answer, given),
         None => false,
     }
 }

@@ -1,6 +1,5 @@
 -- The laws of slots.
 use Rattle.std.proofs.Common.{◌≡◌, ℕ, ◌<◌, [], length, get_or, Some, refl, sym, ap, subst}
-use Rattle.std.specs.Prelude.{slice_get}
 use Rattle.irp_script_reader.specs.declared.act.StepAct.{StepAct}
 use Rattle.irp_script_reader.specs.declared.act.StepAct.TheVariants as does
 use Rattle.irp_slots.specs.declared.views.Parties.{Parties}
