@@ -65,7 +65,11 @@ act_of None other = other
 -- the step of a line
 abbrev pub step_of : StepLine → Step
 step_of line =
-    record { seat = line.seat; act = act_of (party_call line.act line.values) (other_act line.act line.values) }
+    record {
+      seat = line.seat;
+      act = act_of (party_call line.act line.values) (other_act line.act line.values);
+      condition = None;
+    }
 
 -- the script is what the lines say, member by member in order; one seat and one lock where they say nothing of them
 pub record Says (said : Said) (script : ScriptParts) : Type 0 where

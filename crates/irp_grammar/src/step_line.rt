@@ -88,6 +88,7 @@ impl StepLine {
         Step {
             seat: self.seat,
             act,
+            condition: None,
         }
     }
 

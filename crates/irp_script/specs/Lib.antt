@@ -4,6 +4,7 @@ pub mod AtSlots
 pub mod Behaviours
 pub mod Between
 pub mod Calling
+pub mod Conditions
 pub mod Labels
 pub mod Made
 pub mod Numbers

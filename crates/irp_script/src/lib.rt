@@ -2,9 +2,12 @@
 //! steps, and hands between these; and, as a door to `irp_judge`, the judge of what they recorded.
 #![tactic(auto)]
 
+mod answered;
 mod behaviours;
 mod between;
+mod conditions;
 mod gate;
+mod heard;
 mod labels;
 mod meeting;
 mod run;
@@ -21,8 +24,10 @@ mod words;
 mod worker;
 mod worker_steps;
 
+pub use answered::Answered;
 pub use behaviours::{cancel_rule, table_answer, table_cancel, table_plan};
 pub use between::hand_between;
+pub use conditions::{allows, expects, expects_reply, expects_word};
 pub use gate::{AlwaysOpen, Gate};
 /// Whether a history is legal: `irp_judge` judges it.
 pub use irp_judge::{Verdict, check};

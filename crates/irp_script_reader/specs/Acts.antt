@@ -1,5 +1,5 @@
 -- What a step does, by its keys. None where the step has another form.
-use Rattle.std.specs.Prelude.{ℕ, List, [], ◌∷◌, codes, Option, Some, if◌then◌else◌}
+use Rattle.std.specs.Prelude.{ℕ, List, [], ◌∷◌, codes, Option, Some, None, if◌then◌else◌}
 use Rattle.std.specs.Bool.{then_some}
 use Rattle.std.proofs.Common.{bytes_eq}
 use Rattle.serde_json.specs.Data.{Data}
@@ -62,4 +62,4 @@ unfoldable pub step_at : ℕ → Data → Option Step
 step_at place form = do
   act ← act_at place form
   seat ← get (codes "seat") form >>= u32_at
-  Some (record { seat = seat; act = act })
+  Some (record { seat = seat; act = act; condition = None })

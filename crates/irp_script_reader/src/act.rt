@@ -1,6 +1,7 @@
 //! The steps of a script. Where no page of the WDK is named, the source is this project's own rule, and of texts its
 //! own format (docs/FORMATS.md).
 
+use crate::condition::Condition;
 use irp_types::{Call, Hand, IrpRef, LockAct};
 
 /// How a step names a packet.
@@ -43,4 +44,6 @@ pub struct Step {
     pub seat: u32,
     /// What it does.
     pub act: StepAct,
+    /// What it hangs on. A step whose condition fails is passed over. None where it is made in any case.
+    pub condition: Option<Condition>,
 }

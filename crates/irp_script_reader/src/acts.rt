@@ -67,5 +67,9 @@ pub fn step_at(place: usize, value: &Value) -> Option<Step>
     ensures { result ≡ spec.step_at place (view value.now) }
 {
     let act = act_at(place, value)?;
-    under("seat", value).map(|seat| Step { seat, act })
+    under("seat", value).map(|seat| Step {
+        seat,
+        act,
+        condition: None,
+    })
 }

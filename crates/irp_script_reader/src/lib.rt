@@ -3,6 +3,7 @@
 
 mod act;
 mod acts;
+mod condition;
 mod forms;
 mod labels;
 mod lists;
@@ -14,6 +15,7 @@ mod script;
 mod taking;
 
 pub use act::{Named, Step, StepAct};
+pub use condition::{AnswerWord, Condition, ExpectedAnswer};
 pub use labels::Labels;
 pub use read::read_script;
 pub use refusal::{Fault, ScriptFault, ScriptRefusal, Section};

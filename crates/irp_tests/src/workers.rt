@@ -40,7 +40,11 @@ const LOOK: StepAct = StepAct::Call(Call::Look {
 
 /// A step of this seat.
 const fn by(seat: u32, act: StepAct) -> Step {
-    Step { seat, act }
+    Step {
+        seat,
+        act,
+        condition: None,
+    }
 }
 
 /// The parts of a script of these steps, sound or not, with one lock and one label. Who is asked is handed in beside
