@@ -10,10 +10,11 @@ use Rattle.irp_script_reader.specs.declared.act.Step.{Step}
 use Rattle.irp_script.specs.Accounts.{Accounts, calls_at, pair_at}
 use Rattle.irp_script.specs.Made.{NoneTwice, SeatCalls, once_made}
 use Rattle.irp_script.specs.Numbers.{AreSame, EachAsOften}
-use Rattle.irp_script.specs.Outcomes.{Outcome, Test, is_own_placed, outcome, outcomes, own_placed}
+use Rattle.irp_script.specs.Outcomes.{Outcome, Made, Ways, is_own_placed, outcome, outcomes, own_placed}
 use Rattle.irp_script.specs.Pairs.{Pair}
 use Rattle.irp_script.specs.Words.{WordStep, told_by, word_steps}
 use Rattle.irp_script.specs.declared.stop.Stop.{Stop}
+use Rattle.irp_script.specs.Conditions.{Heard, none_heard}
 use Rattle.irp_script.specs.Labels.{Known, known_to, none_bound}
 use Rattle.irp_script.specs.Working.{AtWork, IsOwn, Left, MakesOwn, RunsScript, WorkAfter, WorkApart, Working, working}
 use Rattle.irp_script.proofs.Chains.{chained, rising}
@@ -23,42 +24,42 @@ use Rattle.irp_script.proofs.Stopping.{none_stopped}
 use Rattle.irp_script.proofs.Shares.{calls_own, chosen, count_flat, count_words, first_at_most, own_same, part_at_most, shares, weight, whole}
 
 -- how a worker's own steps came out
-record Share (number workers : ℕ) (steps : List Step) (dealt : List AtWork) (one : Left) (tokenless : Test) : Type 0 where
+record Share (number workers : ℕ) (steps : List Step) (dealt : List AtWork) (one : Left) (ways : Ways) : Type 0 where
   reached : ℕ
   all : one.stop ≡ None → reached ≡ length steps
-  told : map told_by one.work.lines ≡ word_steps (map (outcome tokenless) (own_placed number workers (take reached steps)))
+  told : map told_by one.work.lines ≡ word_steps (map (outcome ways) (own_placed number workers (take reached steps)))
   pairs : map pair_at one.work.seats ≡ map pair_at dealt
-  called : NoneTwice (map pair_at dealt) → map calls_at one.work.seats ≡ map (once_made (map (outcome tokenless) (own_placed number workers (take reached steps)))) (map calls_at dealt)
+  called : NoneTwice (map pair_at dealt) → map calls_at one.work.seats ≡ map (once_made (map (outcome ways) (own_placed number workers (take reached steps)))) (map calls_at dealt)
 
-share_of : (count number workers : ℕ) (steps : List Step) (known : Known) (dealt : List AtWork) (one : Left) → MakesOwn count number workers steps (working dealt [] known) one.work one.stop
-    → (tokenless : Test) × Share number workers steps dealt one tokenless
-share_of count number workers steps known dealt one made =
-    let chain = chained count 0 (own_placed number workers (take made.reached steps)) (working dealt [] known) one.work (rising (is_own_placed number workers) 0 (take made.reached steps)) made.each in
-    (chain.tokenless, record { reached = made.reached; all = made.all; told = chain.told; pairs = chain.pairs; called = chain.called })
+share_of : (count number workers : ℕ) (steps : List Step) (known : Known) (heard : Heard) (dealt : List AtWork) (one : Left) → MakesOwn count number workers steps (working dealt [] known heard) one.work one.stop
+    → (ways : Ways) × Share number workers steps dealt one ways
+share_of count number workers steps known heard dealt one made =
+    let chain = chained count 0 (own_placed number workers (take made.reached steps)) (working dealt [] known heard) one.work (rising (is_own_placed number workers) 0 (take made.reached steps)) made.each in
+    (chain.ways, record { reached = made.reached; all = made.all; told = chain.told; pairs = chain.pairs; called = chain.called })
 
 abbrev nothing_left : Left
-nothing_left = record { work = working [] [] (none_bound 0); stop = None }
+nothing_left = record { work = working [] [] (none_bound 0) []; stop = None }
 
-abbrev Shares : (workers : ℕ) (steps : List Step) (dealt : List (List AtWork)) (left : List Left) (each : ℕ → Test) → Type 0
+abbrev Shares : (workers : ℕ) (steps : List Step) (dealt : List (List AtWork)) (left : List Left) (each : ℕ → Ways) → Type 0
 Shares workers steps dealt left each = (k : ℕ) → k < workers → Share k workers steps (get_or dealt k []) (get_or left k nothing_left) (each k)
 
 all_shares : (count workers : ℕ) (steps : List Step) (known : Known) (ready after : List AtWork) (lines : List WordLine) (stopped : Option Stop) (work : WorkApart count workers steps known ready after lines stopped)
-    → (each : ℕ → Test) × Shares workers steps work.dealt work.left each
+    → (each : ℕ → Ways) × Shares workers steps work.dealt work.left each
 all_shares count workers steps known ready after lines stopped work =
-    chosen (λ k tokenless. Share k workers steps (get_or work.dealt k []) (get_or work.left k nothing_left) tokenless) (λ seat place. false) workers
-    (λ k lt. share_of count k workers steps (known_to k workers steps known) (get_or work.dealt k []) (get_or work.left k nothing_left)
+    chosen (λ k ways. Share k workers steps (get_or work.dealt k []) (get_or work.left k nothing_left) ways) (λ seat place. Made) workers
+    (λ k lt. share_of count k workers steps (known_to k workers steps known) (none_heard steps) (get_or work.dealt k []) (get_or work.left k nothing_left)
     (work.made k (get_or work.dealt k []) (get_or work.left k nothing_left)
     (slice_get-get_or work.dealt k [] (omega (arith, lt, work.many.0))) (slice_get-get_or work.left k nothing_left (omega (arith, lt, work.many.1)))))
 
 -- the words of a worker's own first steps
-share_words : (number workers : ℕ) (steps : List Step) (dealt : List AtWork) (one : Left) (each : ℕ → Test) (share : Share number workers steps dealt one (each number)) (test : WordStep → Bool)
+share_words : (number workers : ℕ) (steps : List Step) (dealt : List AtWork) (one : Left) (each : ℕ → Ways) (share : Share number workers steps dealt one (each number)) (test : WordStep → Bool)
     → count_by (λ line. test (told_by line)) one.work.lines ≡ sum_by (weight test (whole each workers)) (own_placed number workers (take share.reached steps))
 share_words number workers steps dealt one each share test =
     sym (count_map told_by test one.work.lines) ∙ ap (count_by test) share.told
     ∙ ap (λ outs. count_by test (word_steps outs)) (own_same each number workers (enumerate_from 0 (take share.reached steps)))
     ∙ count_words test (whole each workers) (own_placed number workers (take share.reached steps))
 
-all_words : (workers : ℕ) (steps : List Step) (each : ℕ → Test) (test : WordStep → Bool) → 0 < workers
+all_words : (workers : ℕ) (steps : List Step) (each : ℕ → Ways) (test : WordStep → Bool) → 0 < workers
     → sum_from (λ number. sum_by (weight test (whole each workers)) (own_placed number workers steps)) 0 workers ≡ count_by test (word_steps (outcomes (whole each workers) steps))
 all_words workers steps each test some =
     shares (weight test (whole each workers)) workers some (enumerate_from 0 steps) ∙ sym (count_words test (whole each workers) (enumerate_from 0 steps))
@@ -77,7 +78,7 @@ at_this k = omega arith
 
 -- no step has two lines
 apart_told : (count workers : ℕ) (steps : List Step) (known : Known) (ready after : List AtWork) (lines : List WordLine) (stopped : Option Stop) (work : WorkApart count workers steps known ready after lines stopped)
-    (each : ℕ → Test) → Shares workers steps work.dealt work.left each → 0 < workers → (test : WordStep → Bool)
+    (each : ℕ → Ways) → Shares workers steps work.dealt work.left each → 0 < workers → (test : WordStep → Bool)
     → count_by test (map told_by lines) ≤ count_by test (word_steps (outcomes (whole each workers) steps))
 apart_told count workers steps known ready after lines stopped work each share some test =
     let w = weight test (whole each workers) in
@@ -98,7 +99,7 @@ apart_told count workers steps known ready after lines stopped work each share s
 
 -- each step has its lines, where none was stopped
 apart_all_told : (count workers : ℕ) (steps : List Step) (known : Known) (ready after : List AtWork) (lines : List WordLine) (stopped : Option Stop) (work : WorkApart count workers steps known ready after lines stopped)
-    (each : ℕ → Test) → Shares workers steps work.dealt work.left each → 0 < workers → stopped ≡ None → (test : WordStep → Bool)
+    (each : ℕ → Ways) → Shares workers steps work.dealt work.left each → 0 < workers → stopped ≡ None → (test : WordStep → Bool)
     → count_by test (map told_by lines) ≡ count_by test (word_steps (outcomes (whole each workers) steps))
 apart_all_told count workers steps known ready after lines stopped work each share some going test =
     let w = weight test (whole each workers) in
@@ -129,18 +130,18 @@ once_dealt count workers steps known ready after lines stopped work k lt once nu
     omega (arith, here, flat, all, few, pairs, all_pairs)
 
 -- a worker's own seats, once all steps are made
-once_all : (tokenless : Test) (number workers : ℕ) (steps : List Step) (seats : List AtWork) → All (IsOwn number workers) seats
-    → map (once_made (map (outcome tokenless) (own_placed number workers steps))) (map calls_at seats) ≡ map (once_made (outcomes tokenless steps)) (map calls_at seats)
-once_all tokenless number workers steps [] own = refl
-once_all tokenless number workers steps (seat ∷ seats) own =
+once_all : (ways : Ways) (number workers : ℕ) (steps : List Step) (seats : List AtWork) → All (IsOwn number workers) seats
+    → map (once_made (map (outcome ways) (own_placed number workers steps))) (map calls_at seats) ≡ map (once_made (outcomes ways steps)) (map calls_at seats)
+once_all ways number workers steps [] own = refl
+once_all ways number workers steps (seat ∷ seats) own =
     let first : IsOwn number workers seat = All-head (IsOwn number workers) seat seats own in
-    let more = once_all tokenless number workers steps seats (All-tail (IsOwn number workers) seat seats own) in
-    let calls = calls_own tokenless seat.seat.number number workers (enumerate_from 0 steps) first in
+    let more = once_all ways number workers steps seats (All-tail (IsOwn number workers) seat seats own) in
+    let calls = calls_own ways seat.seat.number number workers (enumerate_from 0 steps) first in
     λ i. record { pair = pair_at seat; calls = (calls_at seat).calls ++ calls i } ∷ more i
 
 -- the seats of all workers have made the calls of all steps, where none was stopped
 apart_called : (count workers : ℕ) (steps : List Step) (known : Known) (ready after : List AtWork) (lines : List WordLine) (stopped : Option Stop) (work : WorkApart count workers steps known ready after lines stopped)
-    (each : ℕ → Test) → Shares workers steps work.dealt work.left each → stopped ≡ None → NoneTwice (map pair_at ready) → (test : SeatCalls → Bool)
+    (each : ℕ → Ways) → Shares workers steps work.dealt work.left each → stopped ≡ None → NoneTwice (map pair_at ready) → (test : SeatCalls → Bool)
     → count_by test (map calls_at after) ≡ count_by (λ (told : SeatCalls). test (once_made (outcomes (whole each workers) steps) told)) (map calls_at ready)
 apart_called count workers steps known ready after lines stopped work each share going once test =
     let outs = outcomes (whole each workers) steps in
@@ -191,11 +192,11 @@ both_made first last seats test =
     map_twice g f (x ∷ xs) = ap (λ rest. g (f x) ∷ rest) (map_twice g f xs)
 
 -- the setup was made whole
-setup_called : (count : ℕ) (setup : List Step) (known : Known) (before : List AtWork) (ready : Working) (share : MakesOwn count 0 1 setup (working before [] known) ready None)
-    → (tokenless : Test) × (map pair_at ready.seats ≡ map pair_at before)
-    × (NoneTwice (map pair_at before) → map calls_at ready.seats ≡ map (once_made (outcomes tokenless setup)) (map calls_at before))
+setup_called : (count : ℕ) (setup : List Step) (known : Known) (before : List AtWork) (ready : Working) (share : MakesOwn count 0 1 setup (working before [] known []) ready None)
+    → (ways : Ways) × (map pair_at ready.seats ≡ map pair_at before)
+    × (NoneTwice (map pair_at before) → map calls_at ready.seats ≡ map (once_made (outcomes ways setup)) (map calls_at before))
 setup_called count setup known before ready made =
-    let both = share_of count 0 1 setup known before (record { work = ready; stop = None }) made in
+    let both = share_of count 0 1 setup known [] before (record { work = ready; stop = None }) made in
     let share = both.1 in
     let all : length setup ≤ share.reached = omega (arith, share.all refl) in (
       both.0,
@@ -207,11 +208,11 @@ setup_called count setup known before ready made =
     )
 
 accounted_after : (count workers : ℕ) (setup steps : List Step) (known : Known) (before after : List AtWork) (lines : List WordLine) (stopped : Option Stop) (ready : Working) (halted : Option Stop) → 0 < workers
-    → MakesOwn count 0 1 setup (working before [] known) ready halted → WorkAfter halted count workers steps ready.known ready.seats after lines stopped
+    → MakesOwn count 0 1 setup (working before [] known []) ready halted → WorkAfter halted count workers steps ready.known ready.seats after lines stopped
     → Accounts setup steps before after lines stopped
 accounted_after count workers setup steps known before after lines stopped ready (Some told) some first rest = record {
-  tokenless_first = λ seat place. false;
-  tokenless = λ seat place. false;
+  ways_first = λ seat place. Made;
+  ways = λ seat place. Made;
   told = λ test. let none : count_by test (map told_by lines) ≡ 0 = ap (λ some. count_by test (map told_by some)) rest.1 in omega (arith, none);
   all_told = λ going. absurd (none-some told (sym going ∙ rest.2));
   all_called = λ going. absurd (none-some told (sym going ∙ rest.2));
@@ -219,16 +220,16 @@ accounted_after count workers setup steps known before after lines stopped ready
 accounted_after count workers setup steps known before after lines stopped ready None some first rest =
     let shared = all_shares count workers steps ready.known ready.seats after lines stopped rest in
     let begun = setup_called count setup known before ready first in
-    let tokenless = whole shared.0 workers in
+    let ways = whole shared.0 workers in
     record {
-      tokenless_first = begun.0;
-      tokenless = tokenless;
+      ways_first = begun.0;
+      ways = ways;
       told = apart_told count workers steps ready.known ready.seats after lines stopped rest shared.0 shared.1 some;
       all_told = λ going. apart_all_told count workers steps ready.known ready.seats after lines stopped rest shared.0 shared.1 some going;
       all_called = λ going once test.
           apart_called count workers steps ready.known ready.seats after lines stopped rest shared.0 shared.1 going (subst NoneTwice (sym begun.1) once) test
-          ∙ ap (count_by (λ (told : SeatCalls). test (once_made (outcomes tokenless steps) told))) (begun.2 once)
-          ∙ both_made (outcomes begun.0 setup) (outcomes tokenless steps) before test;
+          ∙ ap (count_by (λ (told : SeatCalls). test (once_made (outcomes ways steps) told))) (begun.2 once)
+          ∙ both_made (outcomes begun.0 setup) (outcomes ways steps) before test;
     }
 
 pub accounted : (count workers labels : ℕ) (setup steps : List Step) (before after : List AtWork) (lines : List WordLine) (stopped : Option Stop) → 0 < workers
@@ -259,7 +260,7 @@ after_pairs count workers setup steps before after lines stopped ready None same
 pub same_pairs : (count workers labels : ℕ) (setup steps : List Step) (before after : List AtWork) (lines : List WordLine) (stopped : Option Stop)
     → RunsScript count workers labels setup steps before after lines stopped → EachAsOften (map pair_at before) (map pair_at after)
 same_pairs count workers labels setup steps before after lines stopped ran =
-    let made = share_of count 0 1 setup (none_bound labels) before (record { work = ran.ready; stop = ran.halted }) ran.first in
+    let made = share_of count 0 1 setup (none_bound labels) [] before (record { work = ran.ready; stop = ran.halted }) ran.first in
     after_pairs count workers setup steps before after lines stopped ran.ready ran.halted made.1.pairs ran.rest
 
 -- what is said of seats at work is said of the seats

@@ -6,7 +6,7 @@ use Rattle.std.proofs.lemmas.List.{append-nil, append_assoc}
 use Rattle.irp_script_reader.specs.declared.act.Step.{Step}
 use Rattle.irp_script.specs.Accounts.{calls_at, pair_at}
 use Rattle.irp_script.specs.Made.{NoneTwice, once_made}
-use Rattle.irp_script.specs.Outcomes.{Outcome, Test, outcome}
+use Rattle.irp_script.specs.Outcomes.{Outcome, Way, Made, Ways, outcome, way_of}
 use Rattle.irp_script.specs.Words.{WordStep, told_by, word_step_of, word_steps}
 use Rattle.irp_script.specs.Working.{MakesEach, Working}
 use Rattle.irp_script.proofs.Making.{once_both, once_none}
@@ -29,23 +29,23 @@ pub rising : (test : ℕ × Step → Bool) (n : ℕ) (steps : List Step) → Ris
 rising test n [] = tt
 rising test n (step ∷ steps) = rising_if (test (n, step)) n step (filter test (enumerate_from (n + 1) steps)) (rising test (n + 1) steps)
 
--- two tests that agree from a place on
-agreeing : (one other : Test) (n : ℕ) (all : List (ℕ × Step)) → Rising n all → ((seat place : ℕ) → n ≤ place → one seat place ≡ other seat place) → map (outcome one) all ≡ map (outcome other) all
+-- ways that agree from a place on
+agreeing : (one other : Ways) (n : ℕ) (all : List (ℕ × Step)) → Rising n all → ((seat place : ℕ) → n ≤ place → one seat place ≡ other seat place) → map (outcome one) all ≡ map (outcome other) all
 agreeing one other n [] rises same = refl
 agreeing one other n (each ∷ rest) rises same =
     let here = same each.1.seat each.0 rises.0 in
-    ap (λ tokenless. out_of each.0 each.1 tokenless ∷ map (outcome one) rest) here
+    ap (λ way. out_of each.0 each.1 (way_of each.1.condition way) ∷ map (outcome one) rest) here
     ∙ ap (λ more. outcome other each ∷ more) (agreeing one other (each.0 + 1) rest rises.1 (λ seat place le. same seat place (omega (arith, le, rises.0))))
 
 -- what the seats and the lines tell of some steps
 pub record Chained (all : List (ℕ × Step)) (before after : Working) : Type 0 where
-  pub tokenless : Test
-  pub told : map told_by after.lines ≡ map told_by before.lines ++ word_steps (map (outcome tokenless) all)
+  pub ways : Ways
+  pub told : map told_by after.lines ≡ map told_by before.lines ++ word_steps (map (outcome ways) all)
   pub pairs : map pair_at after.seats ≡ map pair_at before.seats
-  pub called : NoneTwice (map pair_at before.seats) → map calls_at after.seats ≡ map (once_made (map (outcome tokenless) all)) (map calls_at before.seats)
+  pub called : NoneTwice (map pair_at before.seats) → map calls_at after.seats ≡ map (once_made (map (outcome ways) all)) (map calls_at before.seats)
 
-abbrev pub with_first : ℕ → Bool → Test → Test
-with_first here tokenless rest seat place = cond (place == here) tokenless (rest seat place)
+abbrev pub with_first : ℕ → Way → Ways → Ways
+with_first here way rest seat place = cond (place == here) way (rest seat place)
 
 pub one_word : (out : Outcome) (outs : List Outcome) → word_steps (out ∷ outs) ≡ option_to_list (word_step_of out) ++ word_steps outs
 one_word out outs = by (word_step_of out)
@@ -56,7 +56,7 @@ one_word out outs = by (word_step_of out)
 
 pub chained : (count n : ℕ) (all : List (ℕ × Step)) (before after : Working) → Rising n all → MakesEach count all before after → Chained all before after
 chained count n [] before after rises same = record {
-  tokenless = λ seat place. false;
+  ways = λ seat place. Made;
   told = ap (λ work. map told_by work.lines) same ∙ sym (append-nil (map told_by before.lines));
   pairs = ap (λ work. map pair_at work.seats) same;
   called = λ once. ap (λ work. map calls_at work.seats) same ∙ sym (once_none (map calls_at before.seats));
@@ -64,23 +64,24 @@ chained count n [] before after rises same = record {
 chained count n (each ∷ rest) before after rises made =
     let first = comes count each.0 each.1 before made.0 made.1 in
     let later = chained count (each.0 + 1) rest made.0 after rises.1 made.2 in
-    let tokenless = with_first each.0 first.0 later.tokenless in
-    let one : outcome tokenless each ≡ out_of each.0 each.1 first.0 =
-    ap (λ b. out_of each.0 each.1 (cond b first.0 (later.tokenless each.1.seat each.0))) (eq-eqb each.0 each.0 refl) in
-    let more : map (outcome tokenless) rest ≡ map (outcome later.tokenless) rest =
-    agreeing tokenless later.tokenless (each.0 + 1) rest rises.1
-    (λ seat place le. ap (λ b. cond b first.0 (later.tokenless seat place)) (ne_eqb place each.0 (λ is. absurd (omega (arith, is, le))))) in
-    let both : map (outcome tokenless) (each ∷ rest) ≡ out_of each.0 each.1 first.0 ∷ map (outcome later.tokenless) rest = λ i. one i ∷ more i in
+    let ways = with_first each.0 first.0 later.ways in
+    let one : outcome ways each ≡ out_of each.0 each.1 first.0 =
+    ap (λ b. out_of each.0 each.1 (way_of each.1.condition (cond b first.0 (later.ways each.1.seat each.0)))) (eq-eqb each.0 each.0 refl)
+    ∙ ap (out_of each.0 each.1) first.1.own in
+    let more : map (outcome ways) rest ≡ map (outcome later.ways) rest =
+    agreeing ways later.ways (each.0 + 1) rest rises.1
+    (λ seat place le. ap (λ b. cond b first.0 (later.ways seat place)) (ne_eqb place each.0 (λ is. absurd (omega (arith, is, le))))) in
+    let both : map (outcome ways) (each ∷ rest) ≡ out_of each.0 each.1 first.0 ∷ map (outcome later.ways) rest = λ i. one i ∷ more i in
     record {
-      tokenless = tokenless;
-      told = later.told ∙ ap (λ told. told ++ word_steps (map (outcome later.tokenless) rest)) first.1.told
-          ∙ append_assoc (map told_by before.lines) (option_to_list (word_step_of (out_of each.0 each.1 first.0))) (word_steps (map (outcome later.tokenless) rest))
-          ∙ ap (λ more. map told_by before.lines ++ more) (sym (one_word (out_of each.0 each.1 first.0) (map (outcome later.tokenless) rest)) ∙ ap word_steps (sym both));
+      ways = ways;
+      told = later.told ∙ ap (λ told. told ++ word_steps (map (outcome later.ways) rest)) first.1.told
+          ∙ append_assoc (map told_by before.lines) (option_to_list (word_step_of (out_of each.0 each.1 first.0))) (word_steps (map (outcome later.ways) rest))
+          ∙ ap (λ more. map told_by before.lines ++ more) (sym (one_word (out_of each.0 each.1 first.0) (map (outcome later.ways) rest)) ∙ ap word_steps (sym both));
       pairs = later.pairs ∙ first.1.pairs;
       called = λ once.
           later.called (subst NoneTwice (sym first.1.pairs) once)
-          ∙ ap (map (once_made (map (outcome later.tokenless) rest))) (first.1.called once)
-          ∙ sym (once_both (out_of each.0 each.1 first.0 ∷ []) (map (outcome later.tokenless) rest) (map calls_at before.seats))
+          ∙ ap (map (once_made (map (outcome later.ways) rest))) (first.1.called once)
+          ∙ sym (once_both (out_of each.0 each.1 first.0 ∷ []) (map (outcome later.ways) rest) (map calls_at before.seats))
           ∙ ap (λ outs. map (once_made outs) (map calls_at before.seats)) (sym both);
     }
 

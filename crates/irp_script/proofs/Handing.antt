@@ -15,7 +15,9 @@ use Rattle.irp_transcript.specs.declared.word_line.Act.TheVariants as act
 use Rattle.irp_transcript.specs.declared.word_line.WordLine.{WordLine}
 use Rattle.irp_transcript.specs.declared.word_line.WordReply.{WordReply}
 use Rattle.irp_script_reader.specs.declared.act.Step.{Step}
+use Rattle.irp_script.specs.Conditions.{Heard, with_answer}
 use Rattle.irp_script.specs.Labels.{Known}
+use Rattle.irp_script.specs.declared.answered.Answered.TheVariants as answer
 use Rattle.irp_script.specs.Working.{AtWork, HandsBetween, HandsOver, MakesHand, Tells, working}
 
 -- one is taken out and put in again
@@ -137,11 +139,12 @@ named_at f seats at number own is there =
     map_twice g f (x ∷ xs) = ap (λ rest. g (f x) ∷ rest) (map_twice g f xs)
 
 -- a hand of two seats is what a worker makes that has them
-pub makes_hand : {S : Type 0} (f : S → AtWork) (count place : ℕ) (step : Step) (hand : Hand) (from_at to_at : ℕ) (seats new : List S) (lines room longer : List WordLine) (known : Known) (reply : WordReply)
+pub makes_hand : {S : Type 0} (f : S → AtWork) (count place : ℕ) (step : Step) (hand : Hand) (from_at to_at : ℕ) (seats new : List S) (lines room longer : List WordLine) (known : Known) (heard kept : Heard) (reply : WordReply)
     → slice_get (map (λ s. (f s).seat.number) seats) from_at ≡ Some step.seat → slice_get (map (λ s. (f s).seat.number) seats) to_at ≡ Some hand.to → from_at ≢ to_at
     → room ≡ lines → HandsBetween count hand.lock hand.tag from_at to_at (map f seats) (map f new) reply → Tells place step (act.Hand hand) reply room longer
-    → MakesHand count place step hand (working (map f seats) lines known) (working (map f new) longer known)
-makes_hand f count place step hand from_at to_at seats new lines room longer known reply from_found to_found apart roomy hands told = record {
+    → kept ≡ with_answer heard place (answer.Word reply)
+    → MakesHand count place step hand (working (map f seats) lines known heard) (working (map f new) longer known kept)
+makes_hand f count place step hand from_at to_at seats new lines room longer known heard kept reply from_found to_found apart roomy hands told keeps = record {
   from_at = from_at;
   to_at = to_at;
   apart = apart;
@@ -151,4 +154,5 @@ makes_hand f count place step hand from_at to_at seats new lines room longer kno
   taker_named = named_at f seats to_at hand.to hands.taker to_found hands.taker_there;
   told = subst (λ all. Tells place step (act.Hand hand) reply all longer) roomy told;
   unlearnt = refl;
+  heard = keeps;
 }

@@ -16,7 +16,7 @@ with_calls before calls = record { pair = before.pair; calls = calls }
 -- a step of another seat
 other_call : (out : Outcome) (told : SeatCalls) → (told.pair.seat == out.step.seat) ≡ false → once_made (out ∷ []) told ≡ told
 other_call out told other =
-    ap (λ b. with_calls told (told.calls ++ cons_option (cond b (nameless_call (kind_of out.step.act) out.step.act out.tokenless) None) [])) other
+    ap (λ b. with_calls told (told.calls ++ cons_option (cond b (nameless_call (kind_of out.step.act) out.step.act out.way) None) [])) other
     ∙ ap (with_calls told) (append-nil told.calls)
 
 none_counted : (b : Bool) → ◌≡◌ {A = ℕ} (cond b 1 0) 0 → b ≡ false

@@ -11,16 +11,16 @@ use Rattle.std.proofs.lemmas.List.Sums.{sum_by-append, sum_by-cons}
 use Rattle.irp_script_reader.specs.declared.act.Step.{Step}
 use Rattle.irp_script.specs.StepKinds.{kind_of}
 use Rattle.irp_script.specs.Made.{call_by, calls_of}
-use Rattle.irp_script.specs.Outcomes.{Test, is_own_placed, nameless_call, outcome}
+use Rattle.irp_script.specs.Outcomes.{Ways, is_own_placed, nameless_call, outcome, way_of}
 use Rattle.irp_script.specs.Words.{WordStep, word_step_of, word_steps}
 use Rattle.irp_script.proofs.Chains.{enumerate-append, one_word}
 use Rattle.irp_script.proofs.Numbers.{sum_from, sum_from_both, sum_from_none}
 
--- a test of all steps, of one for each worker's own
-abbrev pub whole : (ℕ → Test) → ℕ → Test
+-- the ways of all steps, of those of each worker's own
+abbrev pub whole : (ℕ → Ways) → ℕ → Ways
 whole each workers seat place = each (seat % workers) seat place
 
-pub own_same : (each : ℕ → Test) (number workers : ℕ) (all : List (ℕ × Step))
+pub own_same : (each : ℕ → Ways) (number workers : ℕ) (all : List (ℕ × Step))
     → map (outcome (each number)) (filter (is_own_placed number workers) all) ≡ map (outcome (whole each workers)) (filter (is_own_placed number workers) all)
 own_same each number workers [] = refl
 own_same each number workers (x ∷ xs) =
@@ -35,21 +35,21 @@ own_same each number workers (x ∷ xs) =
     ]
 
 -- the calls of a worker's own seat are all among those of its own steps
-pub calls_own : (tokenless : Test) (seat number workers : ℕ) (all : List (ℕ × Step)) → seat % workers ≡ number
-    → calls_of seat (map (outcome tokenless) (filter (is_own_placed number workers) all)) ≡ calls_of seat (map (outcome tokenless) all)
-calls_own tokenless seat number workers [] own = refl
-calls_own tokenless seat number workers (x ∷ xs) own =
+pub calls_own : (ways : Ways) (seat number workers : ℕ) (all : List (ℕ × Step)) → seat % workers ≡ number
+    → calls_of seat (map (outcome ways) (filter (is_own_placed number workers) all)) ≡ calls_of seat (map (outcome ways) all)
+calls_own ways seat number workers [] own = refl
+calls_own ways seat number workers (x ∷ xs) own =
     let rest = filter (is_own_placed number workers) xs in
-    let more = calls_own tokenless seat number workers xs own in
-    let made = nameless_call (kind_of x.1.act) x.1.act (tokenless x.1.seat x.0) in
-    elim (eqb_tells (x.1.seat % workers) number) as (λ _. calls_of seat (map (outcome tokenless) (cond (x.1.seat % workers == number) (x ∷ rest) rest)) ≡ calls_of seat (map (outcome tokenless) (x ∷ xs))) [
+    let more = calls_own ways seat number workers xs own in
+    let made = nameless_call (kind_of x.1.act) x.1.act (way_of x.1.condition (ways x.1.seat x.0)) in
+    elim (eqb_tells (x.1.seat % workers) number) as (λ _. calls_of seat (map (outcome ways) (cond (x.1.seat % workers == number) (x ∷ rest) rest)) ≡ calls_of seat (map (outcome ways) (x ∷ xs))) [
       | inl is ↦
-          subst (λ b. calls_of seat (map (outcome tokenless) (cond b (x ∷ rest) rest)) ≡ calls_of seat (map (outcome tokenless) (x ∷ xs))) (sym is.0)
-          (ap (cons_option (call_by seat (outcome tokenless x))) more)
+          subst (λ b. calls_of seat (map (outcome ways) (cond b (x ∷ rest) rest)) ≡ calls_of seat (map (outcome ways) (x ∷ xs))) (sym is.0)
+          (ap (cons_option (call_by seat (outcome ways x))) more)
       | inr other ↦
           let apart : (seat == x.1.seat) ≡ false = seat_apart seat x.1.seat number workers own other.1 in
-          subst (λ b. calls_of seat (map (outcome tokenless) (cond b (x ∷ rest) rest)) ≡ calls_of seat (map (outcome tokenless) (x ∷ xs))) (sym other.0)
-          (more ∙ sym (ap (λ b. cons_option (cond b made None) (calls_of seat (map (outcome tokenless) xs))) apart))
+          subst (λ b. calls_of seat (map (outcome ways) (cond b (x ∷ rest) rest)) ≡ calls_of seat (map (outcome ways) (x ∷ xs))) (sym other.0)
+          (more ∙ sym (ap (λ b. cons_option (cond b made None) (calls_of seat (map (outcome ways) xs))) apart))
     ]
   where
     seat_apart : (seat other number workers : ℕ) → seat % workers ≡ number → other % workers ≢ number → (seat == other) ≡ false
@@ -59,16 +59,16 @@ calls_own tokenless seat number workers (x ∷ xs) own =
     ]
 
 -- how often a test passes in the words of one step
-abbrev pub weight : (WordStep → Bool) → Test → ℕ × Step → ℕ
-weight test tokenless each = count_by test (option_to_list (word_step_of (outcome tokenless each)))
+abbrev pub weight : (WordStep → Bool) → Ways → ℕ × Step → ℕ
+weight test ways each = count_by test (option_to_list (word_step_of (outcome ways each)))
 
-pub count_words : (test : WordStep → Bool) (tokenless : Test) (all : List (ℕ × Step)) → count_by test (word_steps (map (outcome tokenless) all)) ≡ sum_by (weight test tokenless) all
-count_words test tokenless [] = refl
-count_words test tokenless (x ∷ xs) =
-    let both : count_by test (word_steps (map (outcome tokenless) (x ∷ xs))) ≡ weight test tokenless x + count_by test (word_steps (map (outcome tokenless) xs)) =
-    ap (count_by test) (one_word (outcome tokenless x) (map (outcome tokenless) xs)) ∙ sum_by-append _ (option_to_list (word_step_of (outcome tokenless x))) (word_steps (map (outcome tokenless) xs)) in
-    let rest = count_words test tokenless xs in
-    let sum = sum_by-cons (weight test tokenless) x xs in
+pub count_words : (test : WordStep → Bool) (ways : Ways) (all : List (ℕ × Step)) → count_by test (word_steps (map (outcome ways) all)) ≡ sum_by (weight test ways) all
+count_words test ways [] = refl
+count_words test ways (x ∷ xs) =
+    let both : count_by test (word_steps (map (outcome ways) (x ∷ xs))) ≡ weight test ways x + count_by test (word_steps (map (outcome ways) xs)) =
+    ap (count_by test) (one_word (outcome ways x) (map (outcome ways) xs)) ∙ sum_by-append _ (option_to_list (word_step_of (outcome ways x))) (word_steps (map (outcome ways) xs)) in
+    let rest = count_words test ways xs in
+    let sum = sum_by-cons (weight test ways) x xs in
     omega (arith, both, rest, sum)
 
 sum-cond : {X : Type 0} (w : X → ℕ) (b : Bool) (x : X) (ys : List X) → sum_by w (cond b (x ∷ ys) ys) ≡ cond b (w x) 0 + sum_by w ys

@@ -96,7 +96,7 @@ when_ok P (Err fault) other holds = absurd (other fault refl)
 -- it stopped in front of a step
 pub stops_own : (count number workers : ℕ) (steps : List Step) (i : ℕ) (d : Step) (before old new : Working) (n w : ℕ) (stop : Stop) (given : Option Stop) → i < length steps
     → MakesEach count (own_placed number workers (take i steps)) before old → n ≡ number → w ≡ workers → new ≡ old
-    → IsStopAt n w i (get_or steps i d) old.seats stop → given ≡ Some stop → MakesOwn count number workers steps before new given
+    → IsStopAt n w i (get_or steps i d) old stop → given ≡ Some stop → MakesOwn count number workers steps before new given
 stops_own count number workers steps i d before old new n w stop given lt made same_number same_workers stays here is = record {
   reached = i;
   within = omega (arith, lt);
@@ -105,10 +105,10 @@ stops_own count number workers steps i d before old new n w stop given lt made s
   next = λ told is_told. (
     get_or steps i d,
     slice_get-get_or steps i d lt,
-    subst (IsStopAt number workers i (get_or steps i d) new.seats) (same_Some stop told (sym is ∙ is_told))
-        (subst (λ (work : Working). IsStopAt number workers i (get_or steps i d) work.seats stop) (sym stays)
-        (subst (λ k. IsStopAt number k i (get_or steps i d) old.seats stop) same_workers
-        (subst (λ k. IsStopAt k w i (get_or steps i d) old.seats stop) same_number here))),
+    subst (IsStopAt number workers i (get_or steps i d) new) (same_Some stop told (sym is ∙ is_told))
+        (subst (λ (work : Working). IsStopAt number workers i (get_or steps i d) work stop) (sym stays)
+        (subst (λ k. IsStopAt number k i (get_or steps i d) old stop) same_workers
+        (subst (λ k. IsStopAt k w i (get_or steps i d) old stop) same_number here))),
   );
 }
 

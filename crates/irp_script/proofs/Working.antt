@@ -11,6 +11,7 @@ use Rattle.std.proofs.lemmas.List.Sums.{sum_by-append, sum_by-cons}
 use Rattle.std.proofs.lemmas.Option.{get_or_from_slice_get, none-some, slice_get-get_or, slice_get-map, slice_get_within}
 use Rattle.irp_types.specs.declared.names.IrpRef.{IrpRef}
 use Rattle.irp_types.specs.declared.names.LockNo.{LockNo}
+use Rattle.irp_types.specs.declared.reply.Reply.{Reply}
 use Rattle.irp_types.specs.declared.status.Status.{Status}
 use Rattle.irp_types.specs.Calls.{Call}
 use Rattle.irp_types.specs.declared.call.Call.TheVariants.{FinishTaken}
@@ -26,13 +27,15 @@ use Rattle.irp_script.specs.declared.step_kind.StepKind.TheVariants.{Calls, OnLo
 use Rattle.irp_script.specs.declared.taken.Taken.{Taken}
 use Rattle.irp_script.specs.AtSlots.{AtSlots, fresh}
 use Rattle.irp_script.specs.Calling.{CallsFor, found_drained}
+use Rattle.irp_script.specs.Conditions.{Heard, none_heard, with_answer}
+use Rattle.irp_script.specs.declared.answered.Answered.{Answered}
 use Rattle.irp_script.specs.Labels.{IsNamed, Known, known_to}
 use Rattle.irp_script.specs.StepKinds.{kind_of}
 use Rattle.irp_script.specs.Stops.{IsUnmade, IsUnrecorded}
 use Rattle.irp_script.specs.declared.stop.Stop.{Stop}
 use Rattle.irp_script.specs.declared.stop.StopReason.{StopReason}
 use Rattle.irp_script.specs.Outcomes.{is_own_placed, own_placed}
-use Rattle.irp_script.specs.Working.{AtWork, Does, FinishesTaken, IsOwn, Left, Makes, MakesAlone, MakesBy, MakesCall, MakesEach, MakesOwn, Stays, StopsBy, WorkApart, Working, at_work, caught_up, first_stop, if_own, news, roomless, working}
+use Rattle.irp_script.specs.Working.{AtWork, Does, FinishesTaken, IsOwn, Left, Makes, MakesAlone, MakesBy, MakesCall, MakesEach, MakesOwn, Stays, StopsBy, TurnsBy, WorkApart, Working, applies, at_work, caught_up, first_stop, if_own, news, roomless, working}
 use Rattle.irp_script.proofs.Chains.{enumerate-append}
 use Rattle.irp_script.proofs.Numbers.{count_map, map_set_same}
 use Rattle.irp_script.proofs.Stopping.{by_unmade, first_map}
@@ -69,14 +72,14 @@ pub call_stays : (before after : Seated) (remove remove_after : Holder) (parties
 call_stays before after remove remove_after parties parties_after same same_remove same_parties =
     λ i. record { seat = roomless_same before after same i; remove = same_remove i; parties = same_parties i }
 
-pub call_made : {T : Type 0} (result : Result T StopReason) (step : Step) (before after : Seated) (remove remove_after : Holder) (parties parties_after : AtSlots) (lines longer : List WordLine) (known learnt : Known)
-    → MatchResult result (λ _. CallsFor step.act remove before after known learnt) (λ why. IsAsBefore before after × IsUnrecorded before.seen why) → remove_after ≡ remove → parties_after ≡ parties → longer ≡ lines
-    → MatchResult result (λ _. MakesCall step (at_work before remove parties) (at_work after remove_after parties_after) lines longer known learnt)
+pub call_made : (result : Result Reply StopReason) (step : Step) (before after : Seated) (remove remove_after : Holder) (parties parties_after : AtSlots) (lines longer : List WordLine) (known learnt : Known)
+    → MatchResult result (λ reply. CallsFor step.act remove before after known learnt reply) (λ why. IsAsBefore before after × IsUnrecorded before.seen why) → remove_after ≡ remove → parties_after ≡ parties → longer ≡ lines
+    → MatchResult result (λ reply. MakesCall step (at_work before remove parties) (at_work after remove_after parties_after) lines longer known learnt reply)
     (λ why. Stays (at_work before remove parties) (at_work after remove_after parties_after) lines longer × IsUnrecorded before.seen why)
 call_made (Err why) step before after remove remove_after parties parties_after lines longer known learnt same same_remove same_parties silent =
     ((call_stays before after remove remove_after parties parties_after same.0 same_remove same_parties, silent), same.1)
 call_made (Ok one) step before after remove remove_after parties parties_after lines longer known learnt calls same_remove same_parties silent = record {
-  called = record { call = calls.call; receipt = calls.receipt; of_act = calls.of_act; recorded = roomless_called before after calls.call (found_drained remove) calls.receipt calls.recorded; bound = calls.bound };
+  called = record { call = calls.call; receipt = calls.receipt; of_act = calls.of_act; recorded = roomless_called before after calls.call (found_drained remove) calls.receipt calls.recorded; told = calls.told; bound = calls.bound };
   rest = λ i. record { seat = roomless after; remove = same_remove i; parties = same_parties i };
   silent = silent;
 }
@@ -100,14 +103,14 @@ put_again slot place parties between after one back given out in_again same =
 
 -- a finish that was recorded
 pub finish_made : (step : Step) (slot : ℕ) (status : Status) (information : ℕ) (before after : Seated) (remove remove_after : Holder) (parties between parties_after : AtSlots) (lines longer : List WordLine) (known : Known)
-    (place : ℕ) (token : Token) (irp : IrpRef) (receipt : Receipted) (back : Option Token)
+    (place : ℕ) (token : Token) (irp : IrpRef) (receipt : Receipted) (back : Option Token) (reply : Reply)
     → slice_get parties.taken place ≡ Some (fresh slot token) → IsNamed known step.act irp → Called before (FinishTaken irp token.use_no status information) (λ lock. false) receipt after
     → back ≡ given_back receipt.reply token → remove_after ≡ remove
     → between ≡ record parties { taken = slice_set parties.taken place (record { slot = slot; token = None }) }
     → parties_after ≡ record between { taken = slice_set between.taken place (record { slot = slot; token = back }) }
-    → longer ≡ lines
-    → FinishesTaken step slot status information (at_work before remove parties) (at_work after remove_after parties_after) lines longer known
-finish_made step slot status information before after remove remove_after parties between parties_after lines longer known place token irp receipt back there named recorded given same_remove out in_again silent =
+    → longer ≡ lines → reply ≡ receipt.reply
+    → FinishesTaken step slot status information (at_work before remove parties) (at_work after remove_after parties_after) lines longer known reply
+finish_made step slot status information before after remove remove_after parties between parties_after lines longer known place token irp receipt back reply there named recorded given same_remove out in_again silent told =
     record {
       place = place;
       token = token;
@@ -116,6 +119,7 @@ finish_made step slot status information before after remove remove_after partie
       there = there;
       named = named;
       recorded = roomless_called before after (FinishTaken irp token.use_no status information) (λ lock. false) receipt recorded;
+      told = told;
       rest =
           let left : parties_after ≡ with_taken parties (slice_set parties.taken place (held_token slot (given_back receipt.reply token))) =
           put_again slot place parties between parties_after None back (given_back receipt.reply token) out in_again given in
@@ -158,17 +162,37 @@ none_learned (own ∷ seats) =
 no_news : (n : ℕ) → news n n ≡ 0
 no_news n = ap (λ b. cond b 0 n) (eq-eqb n n refl)
 
--- what one seat makes of a step, and all have seen what was recorded; one that wasn't made leaves all as they are
-pub made_at : {S T : Type 0} (result : Result T StopReason) (f : S → AtWork) (seats after : List S) (at : ℕ) (new old : S) (lines longer : List WordLine) (known learnt : Known) (count place : ℕ) (step : Step) (shows : ℕ)
+-- what one seat makes of a step, and all have seen what was recorded
+pub made_one : {S : Type 0} (f : S → AtWork) (seats after : List S) (at : ℕ) (new old : S) (lines longer : List WordLine) (known learnt : Known) (heard kept : Heard) (count place : ℕ) (step : Step) (answer : Answered) (shows : ℕ)
     → at < length seats → old ≡ get_or seats at old → (f old).seat.number ≡ step.seat
     → shows ≡ news (f old).seat.seen (f new).seat.seen
     → map f after ≡ map (caught_up shows) (map f (set seats at new))
-    → OnErr result (learnt ≡ known)
-    → MatchResult result (λ _. Does count place step (kind_of step.act) (f old) (f new) lines longer known learnt)
-    (λ why. Stays (f old) (f new) lines longer × IsUnmade (kind_of step.act) (f old).seat.seen (f old).parties why)
-    → MatchResult result (λ _. Makes count place step (working (map f seats) lines known) (working (map f after) longer learnt))
-    (λ why. (working (map f after) longer learnt ≡ working (map f seats) lines known) × StopsBy (kind_of step.act) step (map f seats) why)
-made_at (Err why) f seats after at new old lines longer known learnt count place step shows lt there named shown saw unlearnt unmade =
+    → Does count place step (kind_of step.act) (f old) (f new) lines longer known learnt answer
+    → kept ≡ with_answer heard place answer
+    → Makes count place step (working (map f seats) lines known heard) (working (map f after) longer learnt kept)
+made_one f seats after at new old lines longer known learnt heard kept count place step answer shows lt there named shown saw did keeps = by_alone count place step (kind_of step.act) _ _ record {
+  at = at;
+  old = f old;
+  new = f new;
+  there =
+      slice_get-get_or (map f seats) at (f old) (omega (arith, lt, length-map seats f))
+      ∙ ap Some (get_or-map f seats at old (f old) lt ∙ ap f (sym there));
+  named = named;
+  answer = answer;
+  did = did;
+  heard = keeps;
+  others = saw ∙ ap (λ n. map (caught_up n) (map f (set seats at new))) shown ∙ ap (map (caught_up (news (f old).seat.seen (f new).seat.seen))) (map-set f seats at new);
+}
+
+-- a step that wasn't made leaves all as they are
+pub made_none : {S : Type 0} (f : S → AtWork) (seats after : List S) (at : ℕ) (new old : S) (lines longer : List WordLine) (known learnt : Known) (heard : Heard) (step : Step) (why : StopReason) (shows : ℕ)
+    → at < length seats → old ≡ get_or seats at old → (f old).seat.number ≡ step.seat
+    → shows ≡ news (f old).seat.seen (f new).seat.seen
+    → map f after ≡ map (caught_up shows) (map f (set seats at new))
+    → learnt ≡ known
+    → Stays (f old) (f new) lines longer × IsUnmade (kind_of step.act) (f old).seat.seen (f old).parties why
+    → (working (map f after) longer learnt heard ≡ working (map f seats) lines known heard) × StopsBy (kind_of step.act) step (map f seats) why
+made_none f seats after at new old lines longer known learnt heard step why shows lt there named shown saw unlearnt unmade =
     let stays : Stays (f old) (f new) lines longer = unmade.0 in
     let none : shows ≡ 0 = shown ∙ ap (λ (own : AtWork). news (f old).seat.seen own.seat.seen) stays.0 ∙ no_news (f old).seat.seen in
     let all : map f after ≡ map f seats =
@@ -177,25 +201,23 @@ made_at (Err why) f seats after at new old lines longer known learnt count place
     let here : slice_get (map f seats) at ≡ Some (f old) =
     slice_get-get_or (map f seats) at (f old) (omega (arith, lt, length-map seats f))
     ∙ ap Some (get_or-map f seats at old (f old) lt ∙ ap f (sym there)) in
-    ((λ i. working (all i) (stays.1 i) (unlearnt i)), by_unmade step (kind_of step.act) (map f seats) why at (f old) here named unmade.1)
-made_at (Ok x) f seats after at new old lines longer known learnt count place step shows lt there named shown saw unlearnt did = by_alone count place step (kind_of step.act) _ _ record {
-  at = at;
-  old = f old;
-  new = f new;
-  there =
-      slice_get-get_or (map f seats) at (f old) (omega (arith, lt, length-map seats f))
-      ∙ ap Some (get_or-map f seats at old (f old) lt ∙ ap f (sym there));
-  named = named;
-  did = did;
-  others = saw ∙ ap (λ n. map (caught_up n) (map f (set seats at new))) shown ∙ ap (map (caught_up (news (f old).seat.seen (f new).seat.seen))) (map-set f seats at new);
-}
+    ((λ i. working (all i) (stays.1 i) (unlearnt i) heard), by_unmade step (kind_of step.act) (map f seats) why at (f old) here named unmade.1)
 
--- a turn of the worker: it makes the step if it is its own
+-- a turn of the worker: it makes the step if it is its own and its condition holds
 pub turn_skips : (count number workers place : ℕ) (step : Step) (work : Working) → (step.seat % workers == number) ≡ false → MakesEach count (if_own number workers place step) work work
 turn_skips count number workers place step work other = subst (λ b. MakesEach count (cond b ((place, step) ∷ []) []) work work) (sym other) refl
 
-turn_makes : (count number workers place : ℕ) (step : Step) (before after : Working) → (step.seat % workers == number) ≡ true → Makes count place step before after → MakesEach count (if_own number workers place step) before after
-turn_makes count number workers place step before after own made = subst (λ b. MakesEach count (cond b ((place, step) ∷ []) []) before after) (sym own) (after, made, refl)
+own_turn : (count number workers place : ℕ) (step : Step) (before after : Working) (due : Bool) → (step.seat % workers == number) ≡ true → applies step before ≡ due → TurnsBy due count place step before after
+    → MakesEach count (if_own number workers place step) before after
+own_turn count number workers place step before after due own is turns =
+    subst (λ b. MakesEach count (cond b ((place, step) ∷ []) []) before after) (sym own) (after, subst (λ b. TurnsBy b count place step before after) (sym is) turns, refl)
+
+pub turn_passes : (count number workers place : ℕ) (step : Step) (work : Working) → (step.seat % workers == number) ≡ true → applies step work ≡ false → MakesEach count (if_own number workers place step) work work
+turn_passes count number workers place step work own fails = own_turn count number workers place step work work false own fails refl
+
+pub turn_makes : (count number workers place : ℕ) (step : Step) (before after : Working) → (step.seat % workers == number) ≡ true → applies step before ≡ true → Makes count place step before after
+    → MakesEach count (if_own number workers place step) before after
+turn_makes count number workers place step before after own due made = own_turn count number workers place step before after true own due made
 
 -- some steps and then others
 both_make : (count : ℕ) (xs ys : List (ℕ × Step)) (before between after : Working) → MakesEach count xs before between → MakesEach count ys between after → MakesEach count (xs ++ ys) before after
@@ -231,8 +253,9 @@ own_from count number workers steps before halted other_number other_workers giv
     (subst (λ it. MakesOwn count number it given from after stopped) same_workers
     (subst (λ it. MakesOwn count it other_workers given from after stopped) same_number made))))
 
-pub begun : {S : Type 0} (f : S → AtWork) (seats given : List S) (lines : List WordLine) (known knows : Known) → seats ≡ given → lines ≡ [] → known ≡ knows → working (map f seats) lines known ≡ working (map f given) [] knows
-begun f seats given lines known knows same none knowing = λ i. working (map f (same i)) (none i) (knowing i)
+pub begun : {S : Type 0} (f : S → AtWork) (seats given : List S) (lines : List WordLine) (known knows : Known) (heard hears : Heard) → seats ≡ given → lines ≡ [] → known ≡ knows → heard ≡ hears
+    → working (map f seats) lines known heard ≡ working (map f given) [] knows hears
+begun f seats given lines known knows heard hears same none knowing hearing = λ i. working (map f (same i)) (none i) (knowing i) (hearing i)
 
 -- what is counted in the pieces that some tell
 count_pieces : {W P X : Type 0} (test : X → Bool) (piece : P → List X) (h : W → P) (g : W → ℕ) → ((w : W) → count_by test (piece (h w)) ≡ g w) → (ws : List W)
@@ -257,8 +280,8 @@ All-mapped : {S X : Type 0} (f : S → X) (P : X → Type 0) (xs : List S) → A
 All-mapped f P [] each = All-nil P
 All-mapped f P (x ∷ xs) each = All-cons P (f x) (map f xs) (All-head (λ s. P (f s)) x xs each) (All-mapped f P xs (All-tail (λ s. P (f s)) x xs each))
 
-abbrev left_of : {S W : Type 0} → (S → AtWork) → (W → List S) → (W → List WordLine) → (W → Known) → (W → Option Stop) → W → Left
-left_of f seats_of lines_of known_of stopped_of w = record { work = working (map f (seats_of w)) (lines_of w) (known_of w); stop = stopped_of w }
+abbrev left_of : {S W : Type 0} → (S → AtWork) → (W → List S) → (W → List WordLine) → (W → Known) → (W → Heard) → (W → Option Stop) → W → Left
+left_of f seats_of lines_of known_of heard_of stopped_of w = record { work = working (map f (seats_of w)) (lines_of w) (known_of w) (heard_of w); stop = stopped_of w }
 
 -- what follows of each answer by three facts follows where there is one
 pub if_ok_all : {T E : Type 0} (result : Result T E) {P Q R S : T → Type 0} → ((value : T) → P value → Q value → R value → S value) → IfOk result P → IfOk result Q → IfOk result R → IfOk result S
@@ -266,20 +289,20 @@ if_ok_all (Ok value) step one two three = step value one two three
 if_ok_all (Err fault) step one two three = one
 
 -- workers that seats were dealt to, and what is gathered of what they left
-pub work_apart : {S W : Type 0} (f : S → AtWork) (seats_of : W → List S) (lines_of : W → List WordLine) (known_of : W → Known) (stopped_of : W → Option Stop) (count workers : ℕ) (steps : List Step) (known : Known) (ready : List S) (groups done : List W) (after : List S) (lines : List WordLine) (stopped : Option Stop)
+pub work_apart : {S W : Type 0} (f : S → AtWork) (seats_of : W → List S) (lines_of : W → List WordLine) (known_of : W → Known) (heard_of : W → Heard) (stopped_of : W → Option Stop) (count workers : ℕ) (steps : List Step) (known : Known) (ready : List S) (groups done : List W) (after : List S) (lines : List WordLine) (stopped : Option Stop)
     → length groups ≡ workers → length done ≡ workers
     → ((test : S → Bool) → sum_by (λ worker. count_by test (seats_of worker)) groups ≡ count_by test ready)
     → ((k : ℕ) (one : W) → k < workers → All (λ s. IsOwn k workers (f s)) (seats_of (get_or groups k one)))
-    → ((k : ℕ) (one other : W) → k < workers → MakesOwn count k workers steps (working (map f (seats_of (get_or groups k other))) [] (known_to k workers steps known)) (left_of f seats_of lines_of known_of stopped_of (get_or done k one)).work (stopped_of (get_or done k one)))
+    → ((k : ℕ) (one other : W) → k < workers → MakesOwn count k workers steps (working (map f (seats_of (get_or groups k other))) [] (known_to k workers steps known) (none_heard steps)) (left_of f seats_of lines_of known_of heard_of stopped_of (get_or done k one)).work (stopped_of (get_or done k one)))
     → ((test : S → Bool) → count_by test after ≡ sum_by (λ worker. count_by test (seats_of worker)) done)
     → ((test : WordLine → Bool) → count_by test lines ≡ sum_by (λ worker. count_by test (lines_of worker)) done)
     → stopped ≡ first_stop stopped_of done
     → WorkApart count workers steps known (map f ready) (map f after) lines stopped
-work_apart f seats_of lines_of known_of stopped_of count workers steps known ready groups done after lines stopped grouped counted dealt own made gathered told halted =
+work_apart f seats_of lines_of known_of heard_of stopped_of count workers steps known ready groups done after lines stopped grouped counted dealt own made gathered told halted =
     record {
       dealt = map (λ w. map f (seats_of w)) groups;
-      left = map (left_of f seats_of lines_of known_of stopped_of) done;
-      many = (length-map groups (λ w. map f (seats_of w)) ∙ grouped, length-map done (left_of f seats_of lines_of known_of stopped_of) ∙ counted);
+      left = map (left_of f seats_of lines_of known_of heard_of stopped_of) done;
+      many = (length-map groups (λ w. map f (seats_of w)) ∙ grouped, length-map done (left_of f seats_of lines_of known_of heard_of stopped_of) ∙ counted);
       seats = λ test.
           count_pieces test (λ seats. seats) (λ w. map f (seats_of w)) (λ w. count_by (λ s. test (f s)) (seats_of w)) (λ w. count_map f test (seats_of w)) groups ∙ dealt (λ s. test (f s)) ∙ sym (count_map f test ready);
       own = λ number seats there.
@@ -289,19 +312,19 @@ work_apart f seats_of lines_of known_of stopped_of count workers steps known rea
           (subst (λ w. All (λ s. IsOwn number workers (f s)) (seats_of w)) (get_or_from_slice_get groups number group.0 group.0 group.1) (own number group.0 within)));
       made = λ number seats one there here.
           let group = found_in (λ w. map f (seats_of w)) groups number seats there in
-          let left = found_in (left_of f seats_of lines_of known_of stopped_of) done number one here in
+          let left = found_in (left_of f seats_of lines_of known_of heard_of stopped_of) done number one here in
           let within : number < workers = omega (arith, slice_get_within groups number group.0 group.1, grouped) in
           let first = get_or_from_slice_get groups number group.0 group.0 group.1 in
           let last = get_or_from_slice_get done number left.0 left.0 left.1 in
           let knows = known_to number workers steps known in
-          subst (λ (one : Left). MakesOwn count number workers steps (working seats [] knows) one.work one.stop) left.2
-          (subst (λ seats. MakesOwn count number workers steps (working seats [] knows) (left_of f seats_of lines_of known_of stopped_of left.0).work (stopped_of left.0)) group.2
-          (subst (λ w. MakesOwn count number workers steps (working (map f (seats_of group.0)) [] knows) (left_of f seats_of lines_of known_of stopped_of w).work (stopped_of w)) last
-          (subst (λ w. MakesOwn count number workers steps (working (map f (seats_of w)) [] knows) (left_of f seats_of lines_of known_of stopped_of (get_or done number left.0)).work (stopped_of (get_or done number left.0))) first
+          subst (λ (one : Left). MakesOwn count number workers steps (working seats [] knows (none_heard steps)) one.work one.stop) left.2
+          (subst (λ seats. MakesOwn count number workers steps (working seats [] knows (none_heard steps)) (left_of f seats_of lines_of known_of heard_of stopped_of left.0).work (stopped_of left.0)) group.2
+          (subst (λ w. MakesOwn count number workers steps (working (map f (seats_of group.0)) [] knows (none_heard steps)) (left_of f seats_of lines_of known_of heard_of stopped_of w).work (stopped_of w)) last
+          (subst (λ w. MakesOwn count number workers steps (working (map f (seats_of w)) [] knows (none_heard steps)) (left_of f seats_of lines_of known_of heard_of stopped_of (get_or done number left.0)).work (stopped_of (get_or done number left.0))) first
           (made number left.0 group.0 within))));
       back = λ test.
           count_map f test after ∙ gathered (λ s. test (f s))
-          ∙ sym (count_pieces test (λ (one : Left). one.work.seats) (left_of f seats_of lines_of known_of stopped_of) (λ w. count_by (λ s. test (f s)) (seats_of w)) (λ w. count_map f test (seats_of w)) done);
-      told = λ test. told test ∙ sym (count_pieces test (λ (one : Left). one.work.lines) (left_of f seats_of lines_of known_of stopped_of) (λ w. count_by test (lines_of w)) (λ w. refl) done);
-      halted = halted ∙ sym (first_map (λ (one : Left). one.stop) (left_of f seats_of lines_of known_of stopped_of) done);
+          ∙ sym (count_pieces test (λ (one : Left). one.work.seats) (left_of f seats_of lines_of known_of heard_of stopped_of) (λ w. count_by (λ s. test (f s)) (seats_of w)) (λ w. count_map f test (seats_of w)) done);
+      told = λ test. told test ∙ sym (count_pieces test (λ (one : Left). one.work.lines) (left_of f seats_of lines_of known_of heard_of stopped_of) (λ w. count_by test (lines_of w)) (λ w. refl) done);
+      halted = halted ∙ sym (first_map (λ (one : Left). one.stop) (left_of f seats_of lines_of known_of heard_of stopped_of) done);
     }

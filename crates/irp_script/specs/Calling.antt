@@ -3,6 +3,7 @@ use Rattle.std.specs.Prelude.{◌≡◌, Bool, Some}
 use Rattle.irp_types.specs.declared.names.IrpRef.{IrpRef}
 use Rattle.irp_types.specs.declared.names.LockNo.{LockNo}
 use Rattle.irp_types.specs.Calls.{Call}
+use Rattle.irp_types.specs.declared.reply.Reply.{Reply}
 use Rattle.irp_manager.specs.Booked.{Receipted}
 use Rattle.irp_manager.specs.Seats.{Seated}
 use Rattle.irp_remove.specs.Core.{flag}
@@ -22,11 +23,13 @@ pub record Makes (known : Known) (act : StepAct) (call : Call) : Type 0 where
   pub named : IsNamed known act irp
   pub made : call_of act irp ≡ Some call
 
--- a seat made the call of an act, that one alone, with what a remove seat knows, and keeps its entry. A label that the
--- act binds stands for the packet that it was answered by
-pub record CallsFor (act : StepAct) (remove : Holder) (before after : Seated) (known learnt : Known) : Type 0 where
+-- a seat made the call of an act, that one alone, with what a remove seat knows, keeps its entry, and was answered so. A
+-- label that the act binds stands for the packet that it was answered by
+pub record CallsFor (act : StepAct) (remove : Holder) (before after : Seated) (known learnt : Known) (reply : Reply)
+    : Type 0 where
   pub call : Call
   pub receipt : Receipted
   pub of_act : Makes known act call
   pub recorded : Called before call (found_drained remove) receipt after
+  pub told : reply ≡ receipt.reply
   pub bound : learnt ≡ known_behind known act receipt.reply

@@ -17,7 +17,7 @@ nameless call = call_with call any_packet 0
 abbrev pub call_by : ℕ → Outcome → Option Call
 call_by seat out =
     if seat == out.step.seat
-    then nameless_call (kind_of out.step.act) out.step.act out.tokenless
+    then nameless_call (kind_of out.step.act) out.step.act out.way
     else None
 
 -- the calls of a seat's steps, in order

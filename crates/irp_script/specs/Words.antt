@@ -31,7 +31,7 @@ word_step seat place None = None
 word_step seat place (Some act) = Some (record { seat = seat; place = place; act = act })
 
 abbrev pub word_step_of : Outcome → Option WordStep
-word_step_of out = word_step out.step.seat out.place (told_act (kind_of out.step.act) out.tokenless)
+word_step_of out = word_step out.step.seat out.place (told_act (kind_of out.step.act) out.way)
 
 -- the steps that have word lines, in order
 abbrev pub word_steps : List Outcome → List WordStep

@@ -34,6 +34,7 @@ use Rattle.irp_types.specs.declared.names.LockNo.{LockNo}
 use Rattle.irp_types.specs.declared.seat_act.Hand.{Hand}
 use Rattle.irp_types.specs.declared.seat_act.LockAct.{LockAct}
 use Rattle.irp_types.specs.declared.seat_act.SlotAct.{SlotAct}
+use Rattle.irp_types.specs.declared.reply.Reply.{Reply}
 use Rattle.irp_types.specs.declared.status.Status.{Status}
 use Rattle.irp_types.specs.declared.call.Call.TheVariants.{FinishTaken}
 use Rattle.irp_manager.specs.Booked.{Receipted}
@@ -48,6 +49,8 @@ use Rattle.irp_transcript.specs.declared.word_line.WordLine.{WordLine}
 use Rattle.irp_transcript.specs.declared.word_line.WordReply.{WordReply}
 use Rattle.irp_transcript.specs.declared.word_line.WordReply.TheVariants.{NoToken}
 use Rattle.irp_script_reader.specs.declared.act.Step.{Step}
+use Rattle.irp_script.specs.declared.answered.Answered.{Answered}
+use Rattle.irp_script.specs.declared.answered.Answered.TheVariants as answer
 use Rattle.irp_script.specs.declared.step_kind.StepKind.{StepKind}
 use Rattle.irp_script.specs.declared.step_kind.StepKind.TheVariants.{
   Calls,
@@ -59,6 +62,7 @@ use Rattle.irp_script.specs.declared.step_kind.StepKind.TheVariants.{
 use Rattle.irp_script.specs.Acts.{Acts, HandActs, SlotActs}
 use Rattle.irp_script.specs.AtSlots.{AtSlots, IsSpent, fresh}
 use Rattle.irp_script.specs.Calling.{CallsFor}
+use Rattle.irp_script.specs.Conditions.{Heard, holds, none_heard, with_answer}
 use Rattle.irp_script.specs.Labels.{IsNamed, Known, known_to, none_bound}
 use Rattle.irp_script.specs.StepKinds.{kind_of}
 use Rattle.irp_script.specs.Outcomes.{is_own_step, own_placed}
@@ -80,14 +84,15 @@ roomless seat = record seat { room = 0 }
 abbrev pub at_work : Seated → Holder → AtSlots → AtWork
 at_work seat remove parties = record { seat = roomless seat; remove = remove; parties = parties }
 
--- a worker's seats, the word lines of what they did, and what it knows of the labels
+-- a worker's seats, the word lines of what they did, what it knows of the labels, and what its steps were answered
 pub record Working : Type 0 where
   pub seats : List AtWork
   pub lines : List WordLine
   pub known : Known
+  pub heard : Heard
 
-abbrev pub working : List AtWork → List WordLine → Known → Working
-working seats lines known = record { seats = seats; lines = lines; known = known }
+abbrev pub working : List AtWork → List WordLine → Known → Heard → Working
+working seats lines known heard = record { seats = seats; lines = lines; known = known; heard = heard }
 
 -- the line of a step of this place
 abbrev pub line_of : ℕ → Step → Act → WordReply → WordLine
@@ -101,26 +106,24 @@ Tells place step act reply lines longer = longer ≡ lines ++ line_of place step
 abbrev pub Stays : AtWork → AtWork → List WordLine → List WordLine → Type 0
 Stays before after lines longer = (after ≡ before) × (longer ≡ lines)
 
--- a call, with what the seat's own remove seat knew of the locks
+-- a call that was answered so, with what the seat's own remove seat knew of the locks
 pub record MakesCall (step : Step) (before after : AtWork) (lines longer : List WordLine) (known learnt : Known)
-    : Type 0 where
-  pub called : CallsFor step.act before.remove before.seat after.seat known learnt
+    (reply : Reply) : Type 0 where
+  pub called : CallsFor step.act before.remove before.seat after.seat known learnt reply
   pub rest : after ≡ record before { seat = after.seat }
   pub silent : longer ≡ lines
 
--- an act on one of so many locks, and its line
+-- an act on one of so many locks that was answered so, and its line
 pub record ActsOnLock (count place : ℕ) (step : Step) (on : LockAct) (before after : AtWork)
-    (lines longer : List WordLine) : Type 0 where
-  pub reply : WordReply
+    (lines longer : List WordLine) (reply : WordReply) : Type 0 where
   pub did : Acts count on before.remove after.remove reply
   pub same : IsSameSeat before.remove after.remove
   pub rest : after ≡ record before { remove = after.remove }
   pub told : Tells place step (act.OnLock on) reply lines longer
 
--- an act on a cancel slot, and its line
+-- an act on a cancel slot that was answered so, and its line
 pub record ActsOnSlot (place : ℕ) (step : Step) (on : SlotAct) (before after : AtWork)
-    (lines longer : List WordLine) (known : Known) : Type 0 where
-  pub reply : WordReply
+    (lines longer : List WordLine) (known : Known) (reply : WordReply) : Type 0 where
   pub did : SlotActs known step.act on before.parties after.parties reply
   pub rest : after ≡ record before { parties = after.parties }
   pub told : Tells place step (act.OnSlot on) reply lines longer
@@ -128,7 +131,7 @@ pub record ActsOnSlot (place : ℕ) (step : Step) (on : SlotAct) (before after :
 -- a finish with a token that the seat took from the slot, and has not spent: one call, of this token's number. The
 -- token is left in its place where it comes back
 pub record FinishesTaken (step : Step) (slot : ℕ) (status : Status) (information : ℕ)
-    (before after : AtWork) (lines longer : List WordLine) (known : Known) : Type 0 where
+    (before after : AtWork) (lines longer : List WordLine) (known : Known) (reply : Reply) : Type 0 where
   pub place : ℕ
   pub token : Token
   pub irp : IrpRef
@@ -137,6 +140,7 @@ pub record FinishesTaken (step : Step) (slot : ℕ) (status : Status) (informati
   pub named : IsNamed known step.act irp
   pub recorded : Called before.seat (FinishTaken irp token.use_no status information)
       (λ lock. false) receipt after.seat
+  pub told : reply ≡ receipt.reply
   pub rest : after ≡ record before {
     seat = after.seat;
     parties = record before.parties {
@@ -153,23 +157,27 @@ pub record FindsNoToken (place : ℕ) (step : Step) (slot : ℕ) (before after :
   pub rest : after ≡ before
   pub told : Tells place step (act.FinishTaken slot) NoToken lines longer
 
--- a finish of either kind
-abbrev pub Finishing : ℕ → Step → ℕ → Status → ℕ → AtWork → AtWork → List WordLine → List WordLine → Known → Type 0
-Finishing place step slot status information before after lines longer known =
-    FinishesTaken step slot status information before after lines longer known
-    ⊎ FindsNoToken place step slot before after lines longer
+-- a finish of either kind that was answered so
+abbrev pub Finishing : ℕ → Step → ℕ → Status → ℕ → AtWork → AtWork → List WordLine → List WordLine → Known → Answered
+    → Type 0
+Finishing place step slot status information before after lines longer known (answer.Reply reply) =
+    FinishesTaken step slot status information before after lines longer known reply
+Finishing place step slot status information before after lines longer known (answer.Word reply) =
+    (reply ≡ NoToken) × FindsNoToken place step slot before after lines longer
 
--- what a step of this place does to its own seat, to the lines and to what is known of the labels. A hand does more
-abbrev pub Does : ℕ → ℕ → Step → StepKind → AtWork → AtWork → List WordLine → List WordLine → Known → Known → Type 0
-Does count place step Calls before after lines longer known learnt =
-    MakesCall step before after lines longer known learnt
-Does count place step (OnLock on) before after lines longer known learnt =
-    (learnt ≡ known) × ActsOnLock count place step on before after lines longer
-Does count place step (OnSlot on) before after lines longer known learnt =
-    (learnt ≡ known) × ActsOnSlot place step on before after lines longer known
-Does count place step (Finishes slot status information) before after lines longer known learnt =
-    (learnt ≡ known) × Finishing place step slot status information before after lines longer known
-Does count place step (Hands hand) before after lines longer known learnt = ⊥
+-- What a step of this place does to its own seat, to the lines and to what is known of the labels, where it is answered
+-- so: a call by the manager, others by a remove lock or a cancel slot. A hand does more
+abbrev pub Does : ℕ → ℕ → Step → StepKind → AtWork → AtWork → List WordLine → List WordLine → Known → Known → Answered
+    → Type 0
+Does count place step Calls before after lines longer known learnt (answer.Reply reply) =
+    MakesCall step before after lines longer known learnt reply
+Does count place step (OnLock on) before after lines longer known learnt (answer.Word reply) =
+    (learnt ≡ known) × ActsOnLock count place step on before after lines longer reply
+Does count place step (OnSlot on) before after lines longer known learnt (answer.Word reply) =
+    (learnt ≡ known) × ActsOnSlot place step on before after lines longer known reply
+Does count place step (Finishes slot status information) before after lines longer known learnt given =
+    (learnt ≡ known) × Finishing place step slot status information before after lines longer known given
+Does count place step other before after lines longer known learnt given = ⊥
 
 -- the seat has seen so many entries of the history, or more if it had seen more
 abbrev pub caught_up : ℕ → AtWork → AtWork
@@ -181,8 +189,8 @@ caught_up last own = record own {
 abbrev pub news : ℕ → ℕ → ℕ
 news before after = if before == after then 0 else after
 
--- the seat that the step names made it. All seats of the worker have then seen the entry of its call, if it was one. So
--- the calls of one worker stand in the history in the order of its steps. Nothing else changes
+-- The seat that the step names made it. All seats of the worker have then seen the entry of its call, if it was one. So
+-- the calls of one worker stand in the history in the order of its steps. Its answer is kept. Nothing else changes
 pub record MakesAlone (count place : ℕ) (step : Step) (kind : StepKind) (before after : Working)
     : Type 0 where
   pub at : ℕ
@@ -190,7 +198,9 @@ pub record MakesAlone (count place : ℕ) (step : Step) (kind : StepKind) (befor
   pub new : AtWork
   pub there : slice_get before.seats at ≡ Some old
   pub named : old.seat.number ≡ step.seat
-  pub did : Does count place step kind old new before.lines after.lines before.known after.known
+  pub answer : Answered
+  pub did : Does count place step kind old new before.lines after.lines before.known after.known answer
+  pub heard : after.heard ≡ with_answer before.heard place answer
   pub others : after.seats ≡ map (caught_up (news old.seat.seen new.seat.seen)) (slice_set before.seats at new)
 
 -- a reference to one of so many locks went from the one seat to the other, or was refused
@@ -215,7 +225,8 @@ pub record HandsBetween (count : ℕ) (lock : LockNo) (tag from_at to_at : ℕ)
   pub handed : HandsOver count lock tag giver giver_after taker taker_after reply
   pub others : after ≡ slice_set (slice_set before from_at giver_after) to_at taker_after
 
--- the seat that the step names handed to another one, which has that number, and there is one line more
+-- the seat that the step names handed to another one, which has that number, there is one line more, and the answer is
+-- kept
 pub record MakesHand (count place : ℕ) (step : Step) (hand : Hand)
     (before after : Working) : Type 0 where
   pub from_at : ℕ
@@ -227,6 +238,7 @@ pub record MakesHand (count place : ℕ) (step : Step) (hand : Hand)
   pub taker_named : between.taker.seat.number ≡ hand.to
   pub told : Tells place step (act.Hand hand) reply before.lines after.lines
   pub unlearnt : after.known ≡ before.known
+  pub heard : after.heard ≡ with_answer before.heard place (answer.Word reply)
 
 -- a step of this place was made
 abbrev pub MakesBy : ℕ → ℕ → Step → StepKind → Working → Working → Type 0
@@ -236,11 +248,23 @@ MakesBy count place step alone before after = MakesAlone count place step alone 
 abbrev pub Makes : ℕ → ℕ → Step → Working → Working → Type 0
 Makes count place step before after = MakesBy count place step (kind_of step.act) before after
 
+-- the condition of a step holds, by what the worker's steps before it were answered
+abbrev pub applies : Step → Working → Bool
+applies step before = holds before.heard step.condition
+
+-- a step of this place was made where its condition holds. Else it was passed over, and nothing changed
+abbrev pub TurnsBy : Bool → ℕ → ℕ → Step → Working → Working → Type 0
+TurnsBy true count place step before after = Makes count place step before after
+TurnsBy false count place step before after = after ≡ before
+
+abbrev pub Turns : ℕ → ℕ → Step → Working → Working → Type 0
+Turns count place step before after = TurnsBy (applies step before) count place step before after
+
 -- the same of steps with their places, one after the other
 abbrev pub MakesEach : ℕ → List (ℕ × Step) → Working → Working → Type 0
 MakesEach count [] before after = after ≡ before
 MakesEach count (each ∷ rest) before after =
-    (between : Working) × Makes count each.0 each.1 before between
+    (between : Working) × Turns count each.0 each.1 before between
     × MakesEach count rest between after
 
 -- a step with its place, if it is one of the worker's own
@@ -277,14 +301,15 @@ abbrev pub StopsAt : ℕ → Step → List AtWork → StopReason → Type 0
 StopsAt place step seats reason =
     ((reason ≡ why.TooManySteps) × (2 ^ 32 ≤ place)) ⊎ StopsBy (kind_of step.act) step seats reason
 
--- one of so many workers, with these seats, stopped in front of a step of its own, and tells so
-pub record IsStopAt (number workers place : ℕ) (step : Step) (seats : List AtWork) (stop : Stop) : Type 0 where
+-- one of so many workers stopped in front of a step of its own whose condition holds, and tells so
+pub record IsStopAt (number workers place : ℕ) (step : Step) (work : Working) (stop : Stop) : Type 0 where
   pub own : is_own_step number workers step ≡ true
+  pub applied : applies step work ≡ true
   pub named : stop.seat ≡ step.seat
-  pub why : StopsAt place step seats stop.reason
+  pub why : StopsAt place step work.seats stop.reason
 
--- one of so many workers made its own among the first steps, and among all where it didn't stop; where it did, it was
--- in front of the next step
+-- one of so many workers made its own among the first steps, and among all where it didn't stop, but for those that it
+-- passed over; where it stopped, it was in front of the next step
 pub record MakesOwn (count number workers : ℕ) (steps : List Step) (before after : Working)
     (stop : Option Stop) : Type 0 where
   pub reached : ℕ
@@ -293,7 +318,7 @@ pub record MakesOwn (count number workers : ℕ) (steps : List Step) (before aft
   pub all : stop ≡ None → reached ≡ length steps
   pub next : (told : Stop) → stop ≡ Some told
       → (step : Step) × (slice_get steps reached ≡ Some step)
-      × IsStopAt number workers reached step after.seats told
+      × IsStopAt number workers reached step after told
 
 -- a seat is one of a worker's own
 abbrev pub IsOwn : ℕ → ℕ → AtWork → Type 0
@@ -321,7 +346,8 @@ pub record WorkApart (count workers : ℕ) (steps : List Step) (known : Known) (
       → slice_get dealt number ≡ Some seats → All (IsOwn number workers) seats
   pub made : (number : ℕ) (seats : List AtWork) (one : Left)
       → slice_get dealt number ≡ Some seats → slice_get left number ≡ Some one
-      → MakesOwn count number workers steps (working seats [] (known_to number workers steps known)) one.work one.stop
+      → MakesOwn count number workers steps
+      (working seats [] (known_to number workers steps known) (none_heard steps)) one.work one.stop
   pub back : EachAsOften (flat_map (λ (one : Left). one.work.seats) left) after
   pub told : EachAsOften (flat_map (λ (one : Left). one.work.lines) left) lines
   pub halted : stop ≡ first_stop (λ (one : Left). one.stop) left
@@ -336,10 +362,10 @@ WorkAfter None count workers steps known ready after lines stop =
 
 -- One worker made the setup with all seats, and then, unless it stopped, so many made the steps. All seats have seen
 -- the whole setup then, so each call of the steps stands behind all calls of the setup in the history. At first none of
--- so many labels is bound, and each worker knows what the setup bound
+-- so many labels is bound, and each worker knows what the setup bound. What the setup was answered isn't kept
 pub record RunsScript (count workers labels : ℕ) (setup steps : List Step)
     (before after : List AtWork) (lines : List WordLine) (stop : Option Stop) : Type 0 where
   pub ready : Working
   pub halted : Option Stop
-  pub first : MakesOwn count 0 1 setup (working before [] (none_bound labels)) ready halted
+  pub first : MakesOwn count 0 1 setup (working before [] (none_bound labels) []) ready halted
   pub rest : WorkAfter halted count workers steps ready.known ready.seats after lines stop

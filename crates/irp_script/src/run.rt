@@ -28,6 +28,7 @@ ghost use Rattle.irp_script.specs.Workers.{IsIdle, IsReady, RunsOwn, count_lines
 ghost use Rattle.irp_script.specs.Working.{RunsScript, first_stop};
 
 use crate::gate::{AlwaysOpen, Gate};
+use crate::heard::none_heard;
 use crate::labels::{Known, Labels};
 use crate::meeting::Meeting;
 use crate::run_context::RunContext;
@@ -132,7 +133,8 @@ pub fn script_seats<'a, L: Session>(
     Ok(pairs)
 }
 
-/// So many workers without seats, each with what it is to know of the labels before these steps.
+/// So many workers without seats, each with what it is to know of the labels before these steps, and with room for
+/// their answers.
 fn idle<'a, L: Session>(
     alloc: Global,
     locks: &'a Locks,
@@ -150,7 +152,9 @@ fn idle<'a, L: Session>(
     let mut all = Vec::with_capacity(alloc, workers as usize)?;
     for number in 0..workers {
         let known = known.known_to(alloc, number, workers, steps)?;
-        all.push_reserved(Worker::new(alloc, number, workers, locks, Vec::new(alloc), known));
+        let heard = none_heard(alloc, steps)?;
+        let seats = Vec::new(alloc);
+        all.push_reserved(Worker::new(alloc, number, workers, locks, seats, known, heard));
     }
     Ok(all)
 }
@@ -244,6 +248,9 @@ fn gather<'a, L: Session>(
 /// called before and after each of the script's `steps`, with its seat and its place, outside the session's lock
 /// (tests show it, no clause). A step of the setup on a lock or a slot, which no `Script` has, has no word line.
 ///
+/// A step whose condition fails is passed over: nothing is done, and the gate isn't called. Answers are kept, by the
+/// places of `steps`, only where one of `steps` has a condition; those of the setup aren't, so there each condition fails.
+///
 /// All remove seats were opened with these locks, and all that the seats have at slots with these slots, which are the
 /// conditions of this call.
 ///
@@ -258,13 +265,14 @@ fn gather<'a, L: Session>(
 /// that come back are those that the chains end with.
 ///
 /// Each word line has the seat, the place and the act of one of the script's `steps` on locks and slots. No such step
-/// has two lines, and where nothing stopped, each has its line, a finish of a taken packet only where it found no
-/// token.
+/// has two lines, and where nothing stopped, each that wasn't passed over has its line, a finish of a taken packet only
+/// where it found no token.
 ///
 /// Where nothing stopped, and no two seats have the same number, each seat has made, after the calls that it had
 /// made, those of its own steps of `setup` and then those of its own `steps`, in the order of the script, and no
-/// other. A finish of a taken packet is among them where it found a token: among `steps`, where it has no line. The
-/// clause compares calls but for the packets and the tokens that they name.
+/// other. A finish of a taken packet is among them where it found a token: among `steps`, where it has no line. A step
+/// that was passed over isn't; a step without a condition never is. The clause compares calls but for the packets and the
+/// tokens that they name.
 ///
 /// # Errors
 ///
@@ -306,7 +314,7 @@ pub fn run_workers<
     let known = Known::new(alloc, script.labels.len())?;
     let labels = Labels::new(alloc, &known)?;
     let context = RunContext { shared, labels };
-    let all = Worker::new(alloc, 0, 1, locks, seats, known);
+    let all = Worker::new(alloc, 0, 1, locks, seats, known, Vec::new(alloc));
     let alone = Meeting::new(1);
     let ready = all.run(rt, &context, &alone, &AlwaysOpen, script.setup.as_slice());
     if ready.stop.is_some() {

@@ -11,6 +11,7 @@ ghost use Rattle.irp_script.specs.Seats.{seat_at_work};
 ghost use Rattle.irp_script.specs.Stops.{IsAlone, IsUnacted, IsUnmade, IsUnrecorded};
 ghost use Rattle.irp_script.specs.Working.{ActsOnLock, ActsOnSlot, Does, Finishing, HandsOver, Stays, Tells, caught_up};
 
+use crate::answered::Answered;
 use crate::labels::Known;
 use crate::run_context::RunContext;
 use crate::script_seat::ScriptSeat;
@@ -21,7 +22,7 @@ use irp_remove::{AcquireRefusal, BeginRefusal, DrainRefusal, HandRefusal, Releas
 use irp_routines::Ask;
 use irp_script_reader::Step;
 use irp_shared::{Act, Session, WordLine, WordReply};
-use irp_types::{LockAct, LockNo, SlotAct, Status};
+use irp_types::{LockAct, LockNo, Reply, SlotAct, Status};
 use std::alloc::AllocError;
 use std::sync::Wait;
 
@@ -54,8 +55,8 @@ impl<'a, L: Session> ScriptSeat<'a, L> {
         self.seat.saw(length);
     }
 
-    /// Makes the call of a step once, of the packet that it names, with what the remove seat knows of the locks, and
-    /// binds the label that the step binds.
+    /// Makes the call of a step once, of the packet that it names, with what the remove seat knows of the locks, binds
+    /// the label that the step binds, and answers what the manager replied.
     ///
     /// # Errors
     ///
@@ -66,12 +67,12 @@ impl<'a, L: Session> ScriptSeat<'a, L> {
         context: &RunContext<A, L>,
         known: &mut Known,
         step: Step,
-    ) -> Result<(), StopReason>
+    ) -> Result<Reply, StopReason>
         requires { kind_of step.act ≡ StepKind.Calls }
         ensures remove { self.new.remove ≡ self.old.remove }
         ensures parties { self.new.parties ≡ self.old.parties }
         ensures called { MatchResult result
-            (λ _. CallsFor step.act self.old.remove self.old.seat self.new.seat known.old known.new)
+            (λ reply. CallsFor step.act self.old.remove self.old.seat self.new.seat known.old known.new reply)
             (λ why. IsAsBefore self.old.seat self.new.seat × IsUnrecorded self.old.seat.seen why) }
         ensures unlearnt { OnErr result (known.new ≡ known.old) }
     {
@@ -82,8 +83,9 @@ impl<'a, L: Session> ScriptSeat<'a, L> {
         let seat = &mut self.seat;
         match context.shared.call(rt, seat, call, &self.remove) {
             Ok(receipt) => {
-                known.learn(rt, &context.labels, step.act, receipt.reply());
-                Ok(())
+                let reply = receipt.reply();
+                known.learn(rt, &context.labels, step.act, reply);
+                Ok(reply)
             }
             Err(error) => Err(StopReason::from(error)),
         }
@@ -209,7 +211,7 @@ impl<'a, L: Session> ScriptSeat<'a, L> {
         }
     }
 
-    /// Acts on a remove lock, and adds the line.
+    /// Acts on a remove lock, adds the line, and answers what that tells.
     ///
     /// # Errors
     ///
@@ -220,21 +222,21 @@ impl<'a, L: Session> ScriptSeat<'a, L> {
         step: Step,
         on: LockAct,
         words: &mut Vec<WordLine>,
-    ) -> Result<(), AllocError>
+    ) -> Result<WordReply, AllocError>
         ensures { MatchResult result
-            (λ _. ActsOnLock L.fixed.locks index step on
+            (λ reply. ActsOnLock L.fixed.locks index step on
             (seat_at_work self.old) (seat_at_work self.new)
-            words.old.items words.new.items)
+            words.old.items words.new.items reply)
             (λ _. Stays (seat_at_work self.old) (seat_at_work self.new)
             words.old.items words.new.items) }
     {
         words.reserve(1)?;
         let reply = self.act(on);
         tell(words, index, step, Act::OnLock(on), reply);
-        Ok(())
+        Ok(reply)
     }
 
-    /// Acts on a cancel slot, and adds the line.
+    /// Acts on a cancel slot, adds the line, and answers what that tells.
     ///
     /// # Errors
     ///
@@ -248,18 +250,18 @@ impl<'a, L: Session> ScriptSeat<'a, L> {
         step: Step,
         on: SlotAct,
         words: &mut Vec<WordLine>,
-    ) -> Result<(), StopReason>
+    ) -> Result<WordReply, StopReason>
         ensures { MatchResult result
-            (λ _. ActsOnSlot index step on
+            (λ reply. ActsOnSlot index step on
             (seat_at_work self.old) (seat_at_work self.new)
-            words.old.items words.new.items known.now)
+            words.old.items words.new.items known.now reply)
             (λ why. Stays (seat_at_work self.old) (seat_at_work self.new)
             words.old.items words.new.items × IsUnacted on self.old.parties why) }
     {
         words.reserve(1)?;
         let reply = self.act_at_slot(rt, context, known, step, on)?;
         tell(words, index, step, Act::OnSlot(on), reply);
-        Ok(())
+        Ok(reply)
     }
 
     /// Tells that a finish found no token.
@@ -291,7 +293,7 @@ impl<'a, L: Session> ScriptSeat<'a, L> {
     }
 
     /// Finishes a packet with a token that it took from the slot, and leaves the token in its place where it comes
-    /// back. Where it has none it adds a line, and calls nothing.
+    /// back. Where it has none it adds a line, and calls nothing. It answers what was answered.
     ///
     /// # Errors
     ///
@@ -307,17 +309,17 @@ impl<'a, L: Session> ScriptSeat<'a, L> {
         status: Status,
         information: u64,
         words: &mut Vec<WordLine>,
-    ) -> Result<(), StopReason>
+    ) -> Result<Answered, StopReason>
         ensures { MatchResult result
-            (λ _. Finishing index step slot status information
+            (λ answer. Finishing index step slot status information
             (seat_at_work self.old) (seat_at_work self.new)
-            words.old.items words.new.items known.now)
+            words.old.items words.new.items known.now answer)
             (λ why. Stays (seat_at_work self.old) (seat_at_work self.new)
             words.old.items words.new.items × IsUnrecorded self.old.seat.seen why) }
     {
         let Some((at, token)) = self.parties.take(slot) else {
             self.finish_none(index, step, slot, words)?;
-            return Ok(());
+            return Ok(Answered::Word(WordReply::NoToken));
         };
         let irp = known.packet_of(rt, &context.labels, step.act);
         let seat = &mut self.seat;
@@ -325,9 +327,9 @@ impl<'a, L: Session> ScriptSeat<'a, L> {
             .shared
             .finish_taken(rt, seat, irp, token, status, information)
         {
-            Ok((_receipt, token)) => {
+            Ok((receipt, token)) => {
                 self.parties.put_back(at, slot, token);
-                Ok(())
+                Ok(Answered::Reply(receipt.reply()))
             }
             Err((error, token)) => {
                 self.parties.put_back(at, slot, Some(token));
@@ -338,7 +340,8 @@ impl<'a, L: Session> ScriptSeat<'a, L> {
 
     /// Makes a step of its own, which has this place and isn't a hand: a call, with what its own remove seat knows of
     /// the locks, an act on a remove lock or on a cancel slot, of which it adds a word line, or a finish of a taken
-    /// packet, which is a call where it has a token from the slot, and else has a word line.
+    /// packet, which is a call where it has a token from the slot, and else has a word line. It answers what was
+    /// answered.
     ///
     /// # Errors
     ///
@@ -352,12 +355,12 @@ impl<'a, L: Session> ScriptSeat<'a, L> {
         index: u32,
         step: Step,
         words: &mut Vec<WordLine>,
-    ) -> Result<(), StopReason>
+    ) -> Result<Answered, StopReason>
         requires { IsAlone (kind_of step.act) }
         ensures does { MatchResult result
-            (λ _. Does L.fixed.locks index step (kind_of step.act)
+            (λ answer. Does L.fixed.locks index step (kind_of step.act)
             (seat_at_work self.old) (seat_at_work self.new)
-            words.old.items words.new.items known.old known.new)
+            words.old.items words.new.items known.old known.new answer)
             (λ why. Stays (seat_at_work self.old) (seat_at_work self.new)
             words.old.items words.new.items
             × IsUnmade (kind_of step.act) self.old.seat.seen self.old.parties why) }
@@ -365,9 +368,12 @@ impl<'a, L: Session> ScriptSeat<'a, L> {
         ensures unlearnt { OnErr result (known.new ≡ known.old) }
     {
         match kind_of(step.act) {
-            StepKind::Calls => self.call(rt, context, known, step),
-            StepKind::OnLock(on) => Ok(self.step_on_lock(index, step, on, words)?),
-            StepKind::OnSlot(on) => self.step_on_slot(rt, context, known, index, step, on, words),
+            StepKind::Calls => Ok(Answered::Reply(self.call(rt, context, known, step)?)),
+            StepKind::OnLock(on) => Ok(Answered::Word(self.step_on_lock(index, step, on, words)?)),
+            StepKind::OnSlot(on) => {
+                let reply = self.step_on_slot(rt, context, known, index, step, on, words)?;
+                Ok(Answered::Word(reply))
+            }
             StepKind::Finishes {
                 slot,
                 status,

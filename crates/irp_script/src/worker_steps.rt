@@ -44,7 +44,10 @@ ghost use Rattle.irp_script.specs.Working.{
 };
 ghost use Rattle.irp_script.specs.StepKinds.{kind_of};
 
+use crate::answered::Answered;
+use crate::conditions::holds;
 use crate::gate::Gate;
+use crate::heard::keep;
 use crate::meeting::Meeting;
 use crate::run_context::RunContext;
 use crate::script_seat::ScriptSeat;
@@ -129,6 +132,7 @@ impl<'a, L: Session> Worker<'a, L> {
         ensures same { IsSameWorker self.old self.new }
         ensures words { self.new.words.items ≡ self.old.words.items }
         ensures known { self.new.known ≡ self.old.known }
+        ensures heard { self.new.heard.items ≡ self.old.heard.items }
         ensures seats { IfOk result (λ _. self.new.seats.items
             ≡ self.old.seats.items ++ seat.entry ∷ []) }
     {
@@ -177,6 +181,7 @@ impl<'a, L: Session> Worker<'a, L> {
         let locks = self.locks;
         let reply = hand_between(locks, &mut self.seats, from_at, to_at, hand.lock, hand.tag);
         tell(&mut self.words, index, step, Act::Hand(hand), reply);
+        keep(&mut self.heard, index, Answered::Word(reply));
         Ok(())
     }
 
@@ -210,7 +215,13 @@ impl<'a, L: Session> Worker<'a, L> {
         let made = own.step(rt, context, &mut self.known, index, step, &mut self.words);
         let length = news(before, own.seen());
         all_saw(self.locks, self.seats.as_mut_slice(), length);
-        made
+        match made {
+            Ok(answer) => {
+                keep(&mut self.heard, index, answer);
+                Ok(())
+            }
+            Err(reason) => Err(reason),
+        }
     }
 
     /// Makes a step between the calls of the gate.
@@ -248,7 +259,8 @@ impl<'a, L: Session> Worker<'a, L> {
         step.seat % self.workers == self.number
     }
 
-    /// Makes a step, if it is one of its own, once it has met the other workers.
+    /// Makes a step, if it is one of its own and its condition holds, once it has met the other workers. Another one is
+    /// passed over: nobody is met, and the gate isn't called.
     ///
     /// # Errors
     ///
@@ -267,9 +279,12 @@ impl<'a, L: Session> Worker<'a, L> {
             (MakesEach L.fixed.locks (if_own self.old.number self.old.workers index step)
             (work_of self.old) (work_of self.new)) }
         ensures stayed { IfErr result (λ stop. (work_of self.new ≡ work_of self.old)
-            × IsStopAt self.old.number self.old.workers index step (work_of self.old).seats stop) }
+            × IsStopAt self.old.number self.old.workers index step (work_of self.old) stop) }
     {
         if !self.has(step) {
+            return Ok(());
+        }
+        if !holds(self.heard.as_slice(), step.condition) {
             return Ok(());
         }
         meeting.meet();
@@ -285,8 +300,8 @@ impl<'a, L: Session> Worker<'a, L> {
     /// Runs the steps of its own seats, in the order of the script, up to the first that isn't made, and leaves the
     /// meeting. Its seats come back. Each step was a call, with what the seat's own remove seat knew of the locks, or
     /// an act on remove locks or on a cancel slot, of which a line behind its word lines tells what was answered, or
-    /// a finish of a taken packet, which was either. Its stop says in front of which seat's step it stopped, and why;
-    /// None exactly where all its own steps were made.
+    /// a finish of a taken packet, which was either. A step whose condition fails was passed over: nothing was done. Its
+    /// stop says in front of which seat's step it stopped, and why; None exactly where it stopped nowhere.
     pub fn run<A: Ask, G: Gate>(
         mut self,
         rt: &impl Wait,

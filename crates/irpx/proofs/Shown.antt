@@ -20,7 +20,7 @@ use Rattle.irp_script_reader.specs.declared.script.Script.{Script}
 use Rattle.irp_script.specs.Accounts.{called_once, calls_at, pair_at}
 use Rattle.irp_script.specs.Made.{NoneTwice, SeatCalls, calls_in, calls_of}
 use Rattle.irp_script.specs.Numbers.{EachAsOften, NoneMoreOften}
-use Rattle.irp_script.specs.Outcomes.{Outcome, Test, outcomes}
+use Rattle.irp_script.specs.Outcomes.{Outcome, Ways, outcomes}
 use Rattle.irp_script.specs.Pairs.{Pair}
 use Rattle.irp_script.specs.Ran.{Ran, seats_in}
 use Rattle.irp_script.specs.Words.{told_by, word_steps}
@@ -130,11 +130,11 @@ pub ran_shows : (workers : ℕ) (script : Script) (transcript : TranscriptValue)
 ran_shows workers script transcript stop some ran =
     let accounts = accounted script.locks workers (length script.labels) script.setup script.steps ran.before ran.after transcript.words stop some ran.made in
     record {
-      tokenless_first = accounts.tokenless_first;
-      tokenless = accounts.tokenless;
+      ways_first = accounts.ways_first;
+      ways = accounts.ways;
       told = accounts.told;
       all_told = accounts.all_told;
       all_made = λ going.
-          made_own script.seats (outcomes accounts.tokenless_first script.setup ++ outcomes accounts.tokenless script.steps) ran.before ran.after ran.closed transcript.entries
+          made_own script.seats (outcomes accounts.ways_first script.setup ++ outcomes accounts.ways script.steps) ran.before ran.after ran.closed transcript.entries
           ran.opened.new (accounts.all_called going) ran.back ran.kept;
     }

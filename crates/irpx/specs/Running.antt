@@ -47,7 +47,7 @@ use Rattle.irp_script.specs.Between.{hands_between}
 use Rattle.irp_script.specs.Behaviours.{cancel_rule_of}
 use Rattle.irp_script.specs.Made.{calls_in, calls_of}
 use Rattle.irp_script.specs.Numbers.{EachAsOften, NoneMoreOften}
-use Rattle.irp_script.specs.Outcomes.{Outcome, Test, outcomes}
+use Rattle.irp_script.specs.Outcomes.{Outcome, Ways, outcomes}
 use Rattle.irp_script.specs.Told.{IsTold}
 use Rattle.irp_script.specs.Words.{AreInOrder, told_by, word_steps}
 use Rattle.irp_transcript_writer.specs.Lines.{lines, text_of}
@@ -169,18 +169,19 @@ abbrev pub MakesCalls : ℕ → List Outcome → List Entry → Type 0
 MakesCalls seats outs entries =
     (seat : ℕ) → seat < seats → calls_in (own_entries entries seat) ≡ calls_of seat outs
 
--- Some finishes of taken packets found no token. The word lines tell of these, and of acts on locks and slots: of no
--- step more often than it stands in the script. Where nothing stopped, they tell of each as often as it stands there,
--- and the entries are the calls of all other steps, the setup's and then the others
+-- The steps came out in some ways: some finishes of taken packets found no token, and some steps with a condition were
+-- passed over. The word lines tell of these finishes, and of the acts on locks and slots that were made: of no step more
+-- often than it stands in the script. Where nothing stopped, they tell of each as often as it stands there, and the
+-- entries are the calls of all other steps that were made, the setup's and then the others
 pub record ShowsSteps (script : Script) (transcript : TranscriptValue) (stop : Option Stop) : Type 0 where
-  pub tokenless_first : Test
-  pub tokenless : Test
+  pub ways_first : Ways
+  pub ways : Ways
   pub told : NoneMoreOften
-      (word_steps (outcomes tokenless script.steps)) (map told_by transcript.words)
+      (word_steps (outcomes ways script.steps)) (map told_by transcript.words)
   pub all_told : stop ≡ None
-      → EachAsOften (word_steps (outcomes tokenless script.steps)) (map told_by transcript.words)
+      → EachAsOften (word_steps (outcomes ways script.steps)) (map told_by transcript.words)
   pub all_made : stop ≡ None → MakesCalls script.seats
-      (outcomes tokenless_first script.setup ++ outcomes tokenless script.steps) transcript.entries
+      (outcomes ways_first script.setup ++ outcomes ways script.steps) transcript.entries
 
 -- a transcript of the run of a script with these tables, which shows the script's steps, and comes of what so many
 -- workers ran

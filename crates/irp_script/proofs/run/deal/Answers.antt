@@ -10,7 +10,7 @@ use Rattle.irp_script.proofs.run.deal.Goals as goal
 pub loop-seat-init : goal.loop-seat-init
 loop-seat-init g c = record {
   len = c.in_ok-all.ensures.len;
-  ready = λ k one lt. let new = c.in_ok-all.ensures.ready k one lt in (new.0, new.1, new.2, new.3, subst (All (λ own. number_of own % c.args.workers ≡ k)) (sym new.4) (λ i d within. absurd (omega arith)), new.6);
+  ready = λ k one lt. let new = c.in_ok-all.ensures.ready k one lt in (new.0, new.1, new.2, new.3, subst (All (λ own. number_of own % c.args.workers ≡ k)) (sym new.4) (λ i d within. absurd (omega arith)), new.6, new.7);
   at_locks = λ k one lt. (c.in_ok-all.ensures.ready k one lt).5;
   fits = c.requires.fits;
   seats = λ test. let none = c.in_ok-all.ensures.seats test in omega (arith, none);
@@ -35,7 +35,7 @@ loop-seat-preserved g c =
       ready =
           let was = subst (IsReady c.args.workers c.args.steps.now c.args.known.now (c.number.result % c.args.workers)) (sym c.index_mut-worker.ensures.value) (c.loop-seat.invariant.ready (c.number.result % c.args.workers) c.index_mut-worker.result.now below) in
           each_set (IsReady c.args.workers c.args.steps.now c.args.known.now) c.args.workers c.loop-seat.all.items (c.number.result % c.args.workers) c.give.new.self within c.loop-seat.invariant.ready
-          (c.give.ensures.same.0 ∙ was.0, c.give.ensures.same.1 ∙ was.1, c.give.ensures.words ∙ was.2, c.give.ensures.same.2 ∙ was.3, all_push (λ own. number_of own % c.args.workers ≡ c.number.result % c.args.workers) c.give.new.self.seats.items c.index_mut-worker.result.now.seats.items c.in-Some.seat pushed was.4 (ap (λ n. n % c.args.workers) (sym c.number.ensures)), c.give.ensures.known ∙ was.5);
+          (c.give.ensures.same.0 ∙ was.0, c.give.ensures.same.1 ∙ was.1, c.give.ensures.words ∙ was.2, c.give.ensures.same.2 ∙ was.3, all_push (λ own. number_of own % c.args.workers ≡ c.number.result % c.args.workers) c.give.new.self.seats.items c.index_mut-worker.result.now.seats.items c.in-Some.seat pushed was.4 (ap (λ n. n % c.args.workers) (sym c.number.ensures)), c.give.ensures.known ∙ was.5, c.give.ensures.heard ∙ was.6);
       at_locks =
           let was = subst (λ worker. worker.locks.now ≡ c.args.locks.now) (sym c.index_mut-worker.ensures.value) (c.loop-seat.invariant.at_locks (c.number.result % c.args.workers) c.index_mut-worker.result.now below) in
           each_set (λ k worker. worker.locks.now ≡ c.args.locks.now) c.args.workers c.loop-seat.all.items (c.number.result % c.args.workers) c.give.new.self within c.loop-seat.invariant.at_locks (c.give.ensures.same.3 ∙ was);

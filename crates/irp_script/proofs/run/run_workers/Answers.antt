@@ -1,4 +1,5 @@
 use Rattle.std.proofs.Common.{◌≡◌, None, Some, All, length, ap, refl, subst, sym, ◌∙◌, rules}
+use Rattle.irp_script.specs.Conditions.{none_heard}
 use Rattle.irp_script.specs.Labels.{known_to, none_bound}
 use Rattle.irp_script.specs.Workers.{work_of}
 use Rattle.irp_script.specs.Seats.{IsAtLocks, pair_in, seat_at_work}
@@ -13,23 +14,23 @@ returns-clause-ran g c =
     let grouped : length c.in_ok-groups.groups.items ≡ c.args.workers = search rules in
     let counted : length c.in_ok-done.done.items ≡ c.args.workers = search rules in
     let passed : c.run-ready.result.stop ≡ None = not_some c.run-ready.result.stop (sym c.is_some.ensures ∙ c.if-is_some.false) in
-    let before = begun seat_at_work _ _ _ _ _ (ap (λ seats. seats.items) c.new-all.ensures.seats) c.new-all.ensures.words (c.new-all.ensures.known ∙ c.in_ok-known.ensures ∙ ap none_bound c.len.ensures) in
+    let before = begun seat_at_work _ _ _ _ _ _ _ (ap (λ seats. seats.items) c.new-all.ensures.seats) c.new-all.ensures.words (c.new-all.ensures.known ∙ c.in_ok-known.ensures ∙ ap none_bound c.len.ensures) (search rules) in
     if_ok_all c.gather.result (λ worked gathered lines stopped. record {
       ready = work_of c.run-ready.result;
       halted = None;
       first = own_from _ _ _ _ _ _ _ _ _ _ _ _ c.run-ready.ensures.made c.new-all.ensures.number c.new-all.ensures.workers c.as_slice.ensures before passed;
-      rest = work_apart seat_at_work (λ worker. worker.seats.items) (λ worker. worker.words.items) (λ worker. worker.known) (λ worker. worker.stop) _ c.args.workers c.args.script.now.steps c.run-ready.result.known c.run-ready.result.seats.items
+      rest = work_apart seat_at_work (λ worker. worker.seats.items) (λ worker. worker.words.items) (λ worker. worker.known) (λ worker. worker.heard.items) (λ worker. worker.stop) _ c.args.workers c.args.script.now.steps c.run-ready.result.known c.run-ready.result.seats.items
           c.in_ok-groups.groups.items c.in_ok-done.done.items worked.seats.items worked.words.items worked.stop grouped counted c.in_ok-groups.ensures.seats
           (λ k one lt. (c.in_ok-groups.ensures.ready k one lt).4)
           (λ k one other lt.
           let start = c.in_ok-groups.ensures.ready k other lt in
-          own_from _ _ _ _ _ _ _ _ _ _ _ _ (c.in_ok-done.ensures.made k one other (search rules)) start.0 start.1 c.as_slice-steps.ensures (begun seat_at_work _ _ _ _ _ refl start.2 (start.5 ∙ ap (λ steps. known_to k c.args.workers steps c.run-ready.result.known) c.as_slice-steps.ensures)) refl)
+          own_from _ _ _ _ _ _ _ _ _ _ _ _ (c.in_ok-done.ensures.made k one other (search rules)) start.0 start.1 c.as_slice-steps.ensures (begun seat_at_work _ _ _ _ _ _ _ refl start.2 (start.5 ∙ ap (λ steps. known_to k c.args.workers steps c.run-ready.result.known) c.as_slice-steps.ensures) (start.6 ∙ ap none_heard c.as_slice-steps.ensures)) refl)
           gathered lines stopped;
     }) c.gather.ensures.seats c.gather.ensures.lines c.gather.ensures.stop
 
 pub returns-then-is_some-clause-ran : goal.returns-then-is_some-clause-ran
 returns-then-is_some-clause-ran g c =
-    let before = begun seat_at_work _ _ _ _ _ (ap (λ seats. seats.items) c.new-all.ensures.seats) c.new-all.ensures.words (c.new-all.ensures.known ∙ c.in_ok-known.ensures ∙ ap none_bound c.len.ensures) in
+    let before = begun seat_at_work _ _ _ _ _ _ _ (ap (λ seats. seats.items) c.new-all.ensures.seats) c.new-all.ensures.words (c.new-all.ensures.known ∙ c.in_ok-known.ensures ∙ ap none_bound c.len.ensures) (search rules) in
     let told = some_stop c.run-ready.result.stop (sym c.is_some.ensures ∙ c.if-is_some.true) in
     record {
       ready = work_of c.run-ready.result;

@@ -1,4 +1,4 @@
-use Rattle.std.proofs.Common.{refl, ap, sym, subst, Some, Err, inl}
+use Rattle.std.proofs.Common.{refl, ap, sym, subst, Some, Err}
 use Rattle.irp_script.specs.Stops.{IsUnrecorded}
 use Rattle.irp_script.proofs.Stopping.{unrecorded_so}
 use Rattle.irp_script.proofs.Working.{finish_made, finish_stays}
@@ -6,8 +6,8 @@ use Rattle.irp_script.proofs.script_seat.ScriptSeat.finish.Goals as goal
 
 pub returns-in-Ok : goal.returns-in-Ok
 returns-in-Ok g c =
-    inl (finish_made c.args.step c.args.slot c.args.status c.args.information c.args.self.now.seat _ c.args.self.now.remove _ c.args.self.now.parties c.take.new.self _ _ _ c.args.known.now
-    c.in-Some.at c.in-Some.token c.packet_of-irp.result _ _ c.in-Some.ensures.found c.packet_of-irp.ensures c.in-Ok.ensures.called c.in-Ok.ensures.spent refl c.in-Some.ensures.rest c.put_back.ensures refl)
+    finish_made c.args.step c.args.slot c.args.status c.args.information c.args.self.now.seat _ c.args.self.now.remove _ c.args.self.now.parties c.take.new.self _ _ _ c.args.known.now
+    c.in-Some.at c.in-Some.token c.packet_of-irp.result _ _ _ c.in-Some.ensures.found c.packet_of-irp.ensures c.in-Ok.ensures.called c.in-Ok.ensures.spent refl c.in-Some.ensures.rest c.put_back.ensures refl c.reply.ensures
 
 pub returns-in-Err : goal.returns-in-Err
 returns-in-Err g c = (

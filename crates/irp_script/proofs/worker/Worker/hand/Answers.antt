@@ -9,8 +9,8 @@ use Rattle.irp_script.proofs.worker.Worker.hand.Goals as goal
 pub returns-clause-made : goal.returns-clause-made
 returns-clause-made g c =
     makes_hand seat_at_work _ _ c.args.step c.args.hand c.in-Some.from_at c.in-Some-place_of.to_at
-    c.args.self.now.seats.items c.hand_between-reply.new.seats.items _ _ _ _ _
-    c.in-Some.ensures.some c.in-Some-place_of.ensures.some (search rules) c.reserve.ensures.items c.hand_between-reply.ensures.hands c.tell.ensures
+    c.args.self.now.seats.items c.hand_between-reply.new.seats.items _ _ _ _ _ _ _
+    c.in-Some.ensures.some c.in-Some-place_of.ensures.some (search rules) c.reserve.ensures.items c.hand_between-reply.ensures.hands c.tell.ensures c.keep.ensures
 
 pub returns-in_default-clause-made : goal.returns-in_default-clause-made
 returns-in_default-clause-made g c = (
@@ -41,7 +41,7 @@ pub returns-in_err-reserve-clause-made : goal.returns-in_err-reserve-clause-made
 returns-in_err-reserve-clause-made g c =
     let p = err_from_is_err_and c.from_residual.result c.from_residual.ensures.1 in
     rw p.1 (
-      (λ i. working (seats_at_work c.args.self.now.seats.items) (c.reserve.ensures.items i) c.args.self.now.known),
+      (λ i. working (seats_at_work c.args.self.now.seats.items) (c.reserve.ensures.items i) c.args.self.now.known c.args.self.now.heard.items),
       subst (HandStops c.args.step c.args.hand (map seat_at_work c.args.self.now.seats.items)) (sym p.2) (
         has_seat seat_at_work c.args.self.now.seats.items c.in-Some.from_at c.args.step.seat c.in-Some.ensures.some,
         has_seat seat_at_work c.args.self.now.seats.items c.in-Some-place_of.to_at c.args.hand.to c.in-Some-place_of.ensures.some,
