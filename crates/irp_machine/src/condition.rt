@@ -1,6 +1,7 @@
 //! Which act comes next: one whose condition fails is passed over.
 
 ghost use Rattle.std.specs.Prelude.{◌≡◌};
+ghost use Rattle.std.specs.List.{find};
 ghost use Rattle.irp_machine.specs.Conditions as spec;
 
 use crate::parts::Planned;
@@ -55,13 +56,22 @@ fn is_due(heard: &[Told], act: &Planned) -> bool
     holds(heard, act.condition)
 }
 
+/// Of these acts the first that a seat makes that heard this.
+fn first_due(acts: &[Planned], heard: &[Told]) -> Option<Planned>
+    ensures { result ≡ find (spec.is_due heard.now) acts.now }
+{
+    for act in acts {
+        if is_due(heard, act) {
+            return Some(*act);
+        }
+    }
+    None
+}
+
 /// The act that a seat is in, or its next one: of those that it isn't behind, the first that it makes.
 pub fn act_now(acts: &[Planned], seat: &SeatState) -> Option<Planned>
     ensures { result ≡ spec.act_now acts.now seat.now }
 {
-    let heard = seat.heard();
-    acts.iter()
-        .skip(seat.made())
-        .find(|act| is_due(heard, act))
-        .copied()
+    let left = acts.get(seat.made()..)?;
+    first_due(left, seat.heard())
 }
