@@ -9,6 +9,7 @@ use Rattle.std.specs.Prelude.{
   ◌==◌,
   ◌^◌,
   All,
+  Bool,
   Contains,
   true,
   false,

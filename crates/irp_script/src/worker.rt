@@ -49,7 +49,7 @@ impl<'a, L: Session> Worker<'a, L> {
         ensures words { result.words.items ≡ [] }
         ensures stop { result.stop ≡ None }
         ensures known { result.known ≡ known }
-        ensures heard { result.heard ≡ heard.entry }
+        ensures heard { result.heard ≡ heard }
     {
         Worker {
             number,
